@@ -1,0 +1,11 @@
+pub mod Decide
+pub mod DecideLaws
+pub mod Limits
+pub mod Bytes
+pub mod BytesLaws
+pub mod Put
+pub mod PutLaws
+pub mod CommonInputs
+pub mod CommonInputsLaws
+pub mod Node
+pub mod Packed

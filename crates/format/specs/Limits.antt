@@ -1,0 +1,54 @@
+-- The limits and the refusals of document 01, by name, once.
+-- Assumes nothing.
+use Prim.Native.Nat.{ℕ}
+
+-- the first byte that a node may take: the header ends before it
+abbrev pub firstNode : ℕ
+firstNode = 16
+
+-- the largest length of a file, and the largest F of a node record
+abbrev pub maxLen : ℕ
+maxLen = 16777216
+
+-- the most transitions of a node: one for each byte
+abbrev pub maxTrans : ℕ
+maxTrans = 256
+
+-- a node with more transitions than this has an index, in versions 2 and 3
+abbrev pub indexThreshold : ℕ
+indexThreshold = 32
+
+-- ---- the refusals
+
+abbrev pub SHORT : ℕ
+SHORT = 1
+
+abbrev pub VERSION : ℕ
+VERSION = 2
+
+abbrev pub ROOT : ℕ
+ROOT = 3
+
+abbrev pub LARGE : ℕ
+LARGE = 4
+
+abbrev pub NODE : ℕ
+NODE = 5
+
+abbrev pub DEEP : ℕ
+DEEP = 6
+
+abbrev pub SUM : ℕ
+SUM = 7
+
+abbrev pub SPACE : ℕ
+SPACE = 8
+
+abbrev pub BOUND : ℕ
+BOUND = 9
+
+abbrev pub RECORD : ℕ
+RECORD = 10
+
+abbrev pub STATE : ℕ
+STATE = 11
