@@ -182,15 +182,11 @@ transitionsOf (b ∷ bs) [] ts = []
 transitionsOf (b ∷ bs) (o ∷ os) [] = []
 transitionsOf (b ∷ bs) (o ∷ os) (t ∷ ts) = record { inp = b; out = o; addr = t } ∷ transitionsOf bs os ts
 
--- the meaning of a node of this state, first byte, sizes and input, whose outputs start at the place outputs
-abbrev pub meaningOf : List ℕ → State → ℕ → Bool → ℕ → ℕ → ℕ → ℕ → ℕ → Node
-meaningOf s state first final n tsize osize inp outputs = record {
-  first = first;
-  final = final;
-  finalOutput = le (take (endLen final osize) (drop first s));
-  transitions = transitionsOf (inputsIn state s (inputsAt outputs n osize tsize) n inp) (numbersDown s outputs osize n)
-      (map (targetOf first) (deltasIn state s (deltasAt outputs n osize) tsize n));
-}
+-- the transitions of a node of this state, first byte, count, sizes and input, whose outputs start at the place outputs
+abbrev pub storedTransitions : List ℕ → State → ℕ → ℕ → ℕ → ℕ → ℕ → ℕ → List Transition
+storedTransitions s state first n tsize osize inp outputs =
+    transitionsOf (inputsIn state s (inputsAt outputs n osize tsize) n inp) (numbersDown s outputs osize n)
+    (map (targetOf first) (deltasIn state s (deltasAt outputs n osize) tsize n))
 
 -- the inputs, deltas and index entries of a node of this shape and first byte
 abbrev pub shapeInputs : List ℕ → ℕ → Shape → ℕ → List ℕ
@@ -204,7 +200,12 @@ shapeEntries s h first =
     take 256 (drop (inputsAt (outputsAt first (h .final) (h .osize)) (h .ntrans) (h .osize) (h .tsize) + h .ntrans) s)
 
 abbrev pub shapeNode : List ℕ → ℕ → Shape → ℕ → Node
-shapeNode s a h first = meaningOf s (h .state) first (h .final) (h .ntrans) (h .tsize) (h .osize) (inputOf s a) (outputsAt first (h .final) (h .osize))
+shapeNode s a h first = record {
+  first = first;
+  final = h .final;
+  finalOutput = le (take (endLen (h .final) (h .osize)) (drop first s));
+  transitions = storedTransitions s (h .state) first (h .ntrans) (h .tsize) (h .osize) (inputOf s a) (outputsAt first (h .final) (h .osize));
+}
 
 unfoldable pub nodeOf : List ℕ → ℕ → ℕ → Node
 nodeOf s v a = shapeNode s a (shapeOf s v a) (firstOf s v a)
