@@ -8,4 +8,5 @@ pub mod PutLaws
 pub mod CommonInputs
 pub mod CommonInputsLaws
 pub mod Node
+pub mod StoredLaws
 pub mod Packed
