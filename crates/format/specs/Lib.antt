@@ -9,4 +9,6 @@ pub mod CommonInputs
 pub mod CommonInputsLaws
 pub mod Node
 pub mod NodeLaws
+pub mod StoredLaws
+pub mod TransitionLaws
 pub mod Packed
