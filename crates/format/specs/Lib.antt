@@ -8,5 +8,7 @@ pub mod PutLaws
 pub mod CommonInputs
 pub mod CommonInputsLaws
 pub mod Node
+pub mod StoredLaws
 pub mod NodeLaws
 pub mod Packed
+pub mod PackedLaws
