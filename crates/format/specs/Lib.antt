@@ -12,3 +12,4 @@ pub mod StoredLaws
 pub mod NodeLaws
 pub mod Packed
 pub mod PackedLaws
+pub mod HeadLaws
