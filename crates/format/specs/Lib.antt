@@ -13,3 +13,4 @@ pub mod NodeLaws
 pub mod Packed
 pub mod PackedLaws
 pub mod HeadLaws
+pub mod ReadBack
