@@ -14,3 +14,4 @@ pub mod Packed
 pub mod PackedLaws
 pub mod HeadLaws
 pub mod ReadBack
+pub mod RoundTripNext

@@ -78,7 +78,11 @@ targets-right-of-deltas first ts ok i l =
     let e = length-deltas first ts in
     rw (getD-deltas first ts i) (target-right-of-delta first (getD ts i 0) (ok i (omega arith)))
 
--- ---- a list of one element
+-- ---- lists
+
+-- the last byte of the middle part lies in the whole
+pub last-lt : (pre mid post : List ℕ) (a : ℕ) → a + 1 ≡ length pre + length mid → a < length (pre ++ (mid ++ post))
+last-lt pre mid post a here = simp length-append (omega arith)
 
 pub one-element : (xs : List ℕ) → length xs ≡ 1 → xs ≡ getD xs 0 0 ∷ []
 one-element [] e = absurd (omega arith)
