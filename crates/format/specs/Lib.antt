@@ -15,3 +15,4 @@ pub mod PackedLaws
 pub mod HeadLaws
 pub mod ReadBack
 pub mod RoundTripNext
+pub mod RoundTripOne

@@ -25,6 +25,12 @@ pub number-between : (pre post : List ℕ) (k n at : ℕ) → n < 256 ^ k → le
 number-between pre post k n at h e =
     rw (drop-at pre (bytesOf k n ++ post) at e, take-at (bytesOf k n) post k (length-bytes-of k n), le-bytes-of k n h)
 
+pub one-number : (pre post : List ℕ) (k n at : ℕ) → n < 256 ^ k → length pre ≡ at → numbersDown (pre ++ (bytesOf k n ++ post)) at k 1 ≡ n ∷ []
+unfolding numbersDown downFrom
+one-number pre post k n at h e =
+    let start : length pre ≡ at + 0 * k = omega arith in
+    ap (λ (m : ℕ). m ∷ []) (number-between pre post k n (at + 0 * k) h start)
+
 pub numbers-of-stored : (pre ns post : List ℕ) (k : ℕ) → ((i : ℕ) → i < length ns → getD ns i 0 < 256 ^ k)
     → numbersDown (pre ++ (storedNumbers k ns ++ post)) (length pre) k (length ns) ≡ ns
 unfolding numbersDown downFrom storedNumbers
