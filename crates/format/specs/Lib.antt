@@ -16,3 +16,4 @@ pub mod HeadLaws
 pub mod ReadBack
 pub mod RoundTripNext
 pub mod RoundTripOne
+pub mod RoundTripAny
