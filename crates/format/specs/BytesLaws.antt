@@ -4,7 +4,8 @@ use mathlib.Core.Path.{_≡_, refl, sym, ap, _∙_}
 use mathlib.Core.Bool.{Bool, true, false, cond}
 use mathlib.Core.List.{List, [], _∷_}
 use Prim.Native.Nat.{ℕ, zero, suc, _+_, _-_, _*_, _/_, _%_, _^_, _≤_, _<_}
-use native.Mathlib.Nat.{pow-suc, pow-le-pow-right, div-lt-iff-lt-mul, div-add-mod, add-comm, zero-lt-suc, mul-comm, sub-add-cancel, le-antisymm, le-trans, not-le-of-lt, lt-of-not-le}
+use native.Mathlib.Nat.{pow-suc, pow-le-pow-right, div-lt-iff-lt-mul, div-add-mod, add-comm, zero-lt-suc, mul-comm, sub-add-cancel}
+use native.Mathlib.Nat.{le-antisymm, le-trans, not-le-of-lt, lt-of-not-le}
 use native.Mathlib.Numerals.{add-one, sub-one}
 use native.Mathlib.Omega.{arith}
 use borrow.Author.Tests.{ltb-true, ltb-false}

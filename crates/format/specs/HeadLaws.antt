@@ -162,7 +162,7 @@ any-head-at pre post final n a few =
     go : (t : Bool) → Decides t ((0 < n) × (n < 64)) → (u : Bool) → eqb n 256 ≡ u
         → a + 1 ≡ length pre + length (cond t ((finalFlag final + n) ∷ []) (cond u 1 n ∷ (finalFlag final ∷ [])))
         → AnyHead (pre ++ (cond t ((finalFlag final + n) ∷ []) (cond u 1 n ∷ (finalFlag final ∷ [])) ++ post)) a n final
-          (length (cond t ((finalFlag final + n) ∷ []) (cond u 1 n ∷ (finalFlag final ∷ []))))
+        (length (cond t ((finalFlag final + n) ∷ []) (cond u 1 n ∷ (finalFlag final ∷ []))))
     go true d u is-u here =
         let lt = d .yes refl in
         let s : List ℕ = pre ++ ((finalFlag final + n) ∷ post) in

@@ -17,3 +17,4 @@ pub mod ReadBack
 pub mod RoundTripNext
 pub mod RoundTripOne
 pub mod RoundTripAny
+pub mod RoundTrip

@@ -8,19 +8,19 @@ use Prim.Native.Nat.{ℕ, zero, suc, _+_, _-_, _*_, _^_, _≤_, _<_}
 use native.Mathlib.Nat.{suc-mul, zero-mul, add-zero, zero-add, eq-or-lt-of-le}
 use native.Mathlib.Numerals.{add-one}
 use native.Mathlib.Omega.{arith}
-use borrow.Author.Tests.{eqb-true, eq-eqb, ne-eqb, le-leb, lt-leb}
+use borrow.Author.Tests.{eqb-true, eqb-false, eq-eqb, ne-eqb, le-leb, lt-leb}
 use lib.Dec.{ltb, leb, eqb}
 use lib.ListN.{length, getD, drop, length-append, length-map, List·getD-map}
 use lib.Seq.{drop-cons, drop-length}
 use Rattle.format.specs.Decide.{Decides, allBelow}
-use Rattle.format.specs.DecideLaws.{decides-true, decides-false, decides-le, decides-lt, decides-eq, decides-iff, decides-and, decides-or, decides-implies, decides-below, true-of, false-of}
+use Rattle.format.specs.DecideLaws.{decides-true, decides-false, decides-le, decides-lt, decides-eq, decides-iff, decides-and, decides-or, decides-self, decides-implies, decides-below, true-of, false-of}
 use Rattle.format.specs.Limits.{firstNode, maxLen, maxTrans, indexThreshold, SPACE, RECORD}
 use Rattle.format.specs.Bytes.{bytesOf, packSize, largest}
 use Rattle.format.specs.BytesLaws.{length-bytes-of, size-of-pack, pack-size-low, pack-size-high, largest-ge, largest-lt}
 use Rattle.format.specs.CommonInputs.{commonIdx}
 use Rattle.format.specs.Node.{Ascending, Absent, Indexed, endLen, indexLen}
 use Rattle.format.specs.NodeLaws.{decides-ascending}
-use Rattle.format.specs.Packed.{BuilderNode, Ranges, TargetOk, TargetsOk, RecordOk, targetOkTest, recordTest, deltaOf, storedNumbers, storedBytes, placeFrom, upFrom, indexOf, indexBytes, outputSize, deltaSize, inputBytes, packedNext, packedOne, finalFlag, headOf, packedAny, packsToNothing, hasOne, leadsNext, packed, written, refused, packing}
+use Rattle.format.specs.Packed.{BuilderNode, Ranges, TargetOk, TargetsOk, RecordOk, targetOkTest, recordTest, deltaOf, storedNumbers, storedBytes, placeFrom, upFrom, indexOf, indexBytes, outputSize, deltaSize, inputBytes, packedNext, packedOne, finalFlag, headOf, packedAny, packsToNothing, hasOne, lastAddr, leadsNext, packed, written, refused, packing}
 
 -- ---- RECORD
 
@@ -255,6 +255,30 @@ pub packed-any-is : (first : ℕ) (b : BuilderNode) → packsToNothing b ≡ fal
     ≡ packedAny b (map (deltaOf first) (b .targets)) (outputSize (largest (b .finalOutput ∷ b .outputs))) (deltaSize (map (deltaOf first) (b .targets)))
 unfolding packed
 packed-any-is first b some many = rw (some, many)
+
+-- what the tests say that choose it
+pub nothing-means : (b : BuilderNode) → packsToNothing b ≡ true → (b .final ≡ true) × ((length (b .inputs) ≡ 0) × (b .finalOutput ≡ 0))
+nothing-means b =
+    decides-and (b .final) (eqb (length (b .inputs)) 0 && eqb (b .finalOutput) 0) (decides-self (b .final))
+    (decides-and _ _ (decides-eq (length (b .inputs)) 0) (decides-eq (b .finalOutput) 0)) .yes
+
+pub one-means : (b : BuilderNode) → hasOne b ≡ true → (b .final ≡ false) × (length (b .inputs) ≡ 1)
+one-means b = decides-and (not (b .final)) (eqb (length (b .inputs)) 1) (decides-false-self (b .final)) (decides-eq (length (b .inputs)) 1) .yes
+
+pub leads-next-means : (first : ℕ) (b : BuilderNode) → leadsNext first b ≡ true → (getD (b .targets) 0 0 ≡ lastAddr first) × (getD (b .outputs) 0 0 ≡ 0)
+leads-next-means first b =
+    decides-and (eqb (getD (b .targets) 0 0) (lastAddr first)) (eqb (getD (b .outputs) 0 0) 0) (decides-eq (getD (b .targets) 0 0) (lastAddr first))
+    (decides-eq (getD (b .outputs) 0 0) 0) .yes
+
+-- at 16 no target is the address before
+pub last-addr-ok : (first t : ℕ) → firstNode ≤ first → TargetOk first t → t ≡ lastAddr first → (firstNode < first) × (t ≡ first - 1)
+unfolding TargetOk
+last-addr-ok first t low ok = go (eqb first 16) refl ok
+  where
+    go : (z : Bool) → eqb first 16 ≡ z → (t ≡ 0) ⊎ ((firstNode ≤ t) × (t < first)) → t ≡ cond z 1 (first - 1) → (firstNode < first) × (t ≡ first - 1)
+    go true e (inl z) is = absurd (omega arith)
+    go true e (inr h) is = absurd (omega arith)
+    go false e h is = let ne = eqb-false first 16 e in (omega (arith, ne), is)
 
 -- ---- sizes
 

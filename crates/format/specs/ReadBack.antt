@@ -1,16 +1,13 @@
 -- What reading gives of what was stored: numbers and bytes between other bytes, deltas as targets, and a node by its shape.
 -- Assumes nothing.
-use mathlib.Core.Path.{_≡_, refl, sym, ap, ap₂, subst, _∙_}
-use mathlib.Core.Bool.{Bool, true, false, cond}
-use mathlib.Core.Logic.{_⊎_, inl, inr}
+use mathlib.Core.Path.{_≡_, refl, ap, ap₂, _∙_}
+use mathlib.Core.Logic.{inl, inr}
 use mathlib.Core.List.{List, [], _∷_, _++_, append-assoc, map}
-use Prim.Native.Nat.{ℕ, zero, suc, _+_, _-_, _*_, _^_, _≤_, _<_}
+use Prim.Native.Nat.{ℕ, suc, _+_, _-_, _*_, _^_, _≤_, _<_}
 use native.Mathlib.Omega.{arith}
 use borrow.Author.Tests.{ne-eqb}
-use lib.Dec.{eqb}
 use lib.ListN.{length, getD, take, drop, length-append}
 use lib.Seq.{take-at, drop-at, getD-at}
-use Rattle.format.specs.Limits.{firstNode}
 use Rattle.format.specs.Bytes.{le, bytesOf}
 use Rattle.format.specs.BytesLaws.{length-bytes-of, le-bytes-of}
 use Rattle.format.specs.Node.{Shape, shapeOf, firstOf, downFrom, bytesDown, numbersDown, targetOf, shapeNode, nodeOf, TargetRight, TargetsRight, SoundShape, sound, nodeAt}

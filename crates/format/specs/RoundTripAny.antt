@@ -1,10 +1,10 @@
 -- A node of the forms 00 and 01 reads back: any number of transitions, with whatever sizes hold its numbers.
 --     AnyFits b deltas osize tsize F      what such a node keeps to, with outputs of osize bytes and deltas of tsize bytes
 -- Assumes nothing.
-use mathlib.Core.Path.{_≡_, refl, sym, ap, ap₂, _∙_}
+use mathlib.Core.Path.{_≡_, refl, ap, ap₂, _∙_}
 use mathlib.Core.Bool.{Bool, true, false, cond}
 use mathlib.Core.List.{List, [], _∷_, _++_, append-assoc, map}
-use Prim.Native.Nat.{ℕ, zero, suc, _+_, _-_, _*_, _/_, _%_, _^_, _≤_, _<_}
+use Prim.Native.Nat.{ℕ, _+_, _-_, _*_, _/_, _%_, _^_, _≤_, _<_}
 use native.Mathlib.Omega.{arith}
 use lib.Dec.{ltb}
 use lib.ListN.{length, getD, take, drop, length-append}
@@ -13,7 +13,7 @@ use Rattle.format.specs.declared.State.the-variants.{AnyTrans}
 use Rattle.format.specs.Limits.{firstNode, indexThreshold}
 use Rattle.format.specs.Bytes.{le, bytesOf}
 use Rattle.format.specs.BytesLaws.{length-bytes-of}
-use Rattle.format.specs.Node.{stateForm, isFinal, headLen, ntransOf, sizesByte, indexLen, endLen, Shape, sizeOf, shapeOf, firstOf, outputsAt, deltasAt, inputsAt, bytesDown, numbersDown, targetOf, Node, transitionsOf, Ascending, Indexed, SizesRight, TargetsRight, Useful, SoundShape, sound, nodeAt}
+use Rattle.format.specs.Node.{stateForm, ntransOf, sizesByte, indexLen, endLen, Shape, sizeOf, shapeOf, firstOf, outputsAt, deltasAt, inputsAt, bytesDown, numbersDown, targetOf, transitionsOf, Ascending, SizesRight, TargetsRight, Useful, SoundShape, sound, nodeAt}
 use Rattle.format.specs.NodeLaws.{form-any}
 use Rattle.format.specs.Packed.{BuilderNode, storedNumbers, storedBytes, indexOf, indexBytes, sizesOf, headOf, packedAny}
 use Rattle.format.specs.PackedLaws.{length-stored-numbers, length-stored-bytes, length-index-of, index-len-is, length-index-bytes, length-packed-any, indexed-packed}
@@ -214,12 +214,12 @@ module _ (pre post : List ℕ) (b : BuilderNode) (deltas : List ℕ) (osize tsiz
 
   pub any-read : a ≤ root → Useful (b .final) n a root
       → nodeAt file v root a
-        ≡ sound (record {
-          first = first;
-          final = b .final;
-          finalOutput = b .finalOutput;
-          transitions = transitionsOf (b .inputs) (b .outputs) (map (targetOf first) deltas);
-        })
+      ≡ sound (record {
+        first = first;
+        final = b .final;
+        finalOutput = b .finalOutput;
+        transitions = transitionsOf (b .inputs) (b .outputs) (map (targetOf first) deltas);
+      })
   any-read below useful =
       node-at-shape file v root a shape first (λ z. omega (arith, len-is)) shape-is first-is (is-sound below useful)
       ∙ rw (final-output-read, inputs-read, outputs-read, deltas-read)

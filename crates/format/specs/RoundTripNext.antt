@@ -1,18 +1,17 @@
 -- A node of the form 11 reads back: one transition with output 0, to the node whose last byte stands just below.
 -- Assumes nothing.
-use mathlib.Core.Path.{_≡_, refl, sym, ap, ap₂, _∙_}
-use mathlib.Core.Bool.{Bool, true, false, false≢true}
-use mathlib.Core.Logic.{_⊎_, inl, inr}
+use mathlib.Core.Path.{_≡_, refl, _∙_}
+use mathlib.Core.Bool.{false, false≢true}
+use mathlib.Core.Logic.{inl, inr}
 use mathlib.Core.List.{List, [], _∷_, _++_, append-assoc}
 use Prim.Native.Nat.{ℕ, zero, suc, _+_, _-_, _≤_, _<_}
 use native.Mathlib.Omega.{arith}
-use lib.ListN.{length, getD, length-append}
+use lib.ListN.{length, getD}
 use Rattle.format.specs.declared.State.the-variants.{OneTransNext}
-use Rattle.format.specs.declared.Transition.{Transition}
 use Rattle.format.specs.Limits.{firstNode}
 use Rattle.format.specs.Bytes.{le}
 use Rattle.format.specs.CommonInputs.{commonIdx}
-use Rattle.format.specs.Node.{stateForm, isFinal, Shape, sizeOf, shapeOf, firstOf, downFrom, numbersDown, Node, transitionsOf, shapeNode, Ascending, TargetRight, TargetsRight, Useful, SoundShape, sound, nodeAt}
+use Rattle.format.specs.Node.{stateForm, isFinal, Shape, sizeOf, shapeOf, firstOf, downFrom, numbersDown, transitionsOf, Ascending, TargetRight, TargetsRight, Useful, SoundShape, sound, nodeAt}
 use Rattle.format.specs.NodeLaws.{form-next, not-final}
 use Rattle.format.specs.Packed.{inputBytes, packedNext}
 use Rattle.format.specs.PackedLaws.{length-packed-next}
@@ -69,7 +68,7 @@ module _ (pre post : List ℕ) (first inp v root a : ℕ) (at : length pre ≡ f
 
   pub next-read : a ≤ root
       → nodeAt file v root a
-        ≡ sound (record { first = first; final = false; finalOutput = 0; transitions = transitionsOf (inp ∷ []) (0 ∷ []) ((first - 1) ∷ []) })
+      ≡ sound (record { first = first; final = false; finalOutput = 0; transitions = transitionsOf (inp ∷ []) (0 ∷ []) ((first - 1) ∷ []) })
   unfolding le numbersDown downFrom
   next-read below =
       node-at-shape file v root a shape first (λ z. omega arith) shape-is first-is (is-sound below) ∙ rw (head .input)

@@ -1,8 +1,8 @@
 -- A node of the form 10 reads back: one transition, with its output and its delta in front of the sizes byte.
 -- Assumes nothing.
-use mathlib.Core.Path.{_≡_, refl, sym, ap, ap₂, _∙_}
-use mathlib.Core.Bool.{Bool, true, false}
-use mathlib.Core.Logic.{_⊎_, inl, inr}
+use mathlib.Core.Path.{_≡_, refl, ap, ap₂, _∙_}
+use mathlib.Core.Bool.{false}
+use mathlib.Core.Logic.{inl, inr}
 use mathlib.Core.List.{List, [], _∷_, _++_, append-assoc}
 use Prim.Native.Nat.{ℕ, zero, suc, _+_, _-_, _*_, _/_, _%_, _^_, _≤_, _<_}
 use native.Mathlib.Omega.{arith}
@@ -14,7 +14,7 @@ use Rattle.format.specs.Bytes.{le, bytesOf, packSize}
 use Rattle.format.specs.BytesLaws.{length-bytes-of, size-of-pack, pack-size-low, pack-size-high}
 use Rattle.format.specs.CommonInputs.{commonIdx}
 use Rattle.format.specs.CommonInputsLaws.{common-idx-lt}
-use Rattle.format.specs.Node.{stateForm, isFinal, headLen, sizesByte, Shape, sizeOf, shapeOf, firstOf, outputsAt, deltasAt, numbersDown, targetOf, Node, transitionsOf, Ascending, TargetRight, TargetsRight, Useful, SoundShape, sound, nodeAt}
+use Rattle.format.specs.Node.{stateForm, isFinal, sizesByte, Shape, sizeOf, shapeOf, firstOf, outputsAt, deltasAt, numbersDown, transitionsOf, Ascending, TargetRight, TargetsRight, Useful, SoundShape, sound, nodeAt}
 use Rattle.format.specs.NodeLaws.{form-one, not-final}
 use Rattle.format.specs.Packed.{TargetOk, deltaOf, outputSize, sizesOf, inputBytes, packedOne}
 use Rattle.format.specs.PackedLaws.{length-packed-one, output-size-le, output-size-holds, delta-lt}
@@ -138,7 +138,7 @@ module _ (pre post : List ℕ) (first inp out t v root a : ℕ) (at : length pre
 
   pub one-read : a ≤ root
       → nodeAt file v root a
-        ≡ sound (record { first = first; final = false; finalOutput = 0; transitions = transitionsOf (inp ∷ []) (out ∷ []) (t ∷ []) })
+      ≡ sound (record { first = first; final = false; finalOutput = 0; transitions = transitionsOf (inp ∷ []) (out ∷ []) (t ∷ []) })
   unfolding le
   one-read below =
       node-at-shape file v root a shape first (λ z. omega arith) shape-is first-is (is-sound below)
