@@ -8,7 +8,15 @@ pub mod PutLaws
 pub mod CommonInputs
 pub mod CommonInputsLaws
 pub mod Node
+pub mod StoredLaws
 pub mod NodeLaws
 pub mod StoredLaws
 pub mod TransitionLaws
 pub mod Packed
+pub mod PackedLaws
+pub mod HeadLaws
+pub mod ReadBack
+pub mod RoundTripNext
+pub mod RoundTripOne
+pub mod RoundTripAny
+pub mod RoundTrip
