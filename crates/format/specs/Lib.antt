@@ -10,7 +10,6 @@ pub mod CommonInputsLaws
 pub mod Node
 pub mod StoredLaws
 pub mod NodeLaws
-pub mod StoredLaws
 pub mod TransitionLaws
 pub mod Packed
 pub mod PackedLaws

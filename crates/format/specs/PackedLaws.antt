@@ -20,6 +20,7 @@ use Rattle.format.specs.BytesLaws.{length-bytes-of, size-of-pack, pack-s
 use Rattle.format.specs.CommonInputs.{commonIdx}
 use Rattle.format.specs.Node.{Ascending, Absent, Indexed, endLen, indexLen}
 use Rattle.format.specs.NodeLaws.{decides-ascending}
+use Rattle.format.specs.TransitionLaws.{ascends-by, ascends-lt}
 use Rattle.format.specs.Packed.{BuilderNode, Ranges, TargetOk, TargetsOk, RecordOk, targetOkTest, recordTest, deltaOf, storedNumbers, storedBytes, placeFrom, upFrom, indexOf, indexBytes, outputSize, deltaSize, inputBytes, packedNext, packedOne, finalFlag, headOf, packedAny, packsToNothing, hasOne, lastAddr, leadsNext, packed, written, refused, packing}
 
 -- ---- RECORD
@@ -193,17 +194,6 @@ place-first i (x ∷ xs) b zero l e h = rw (eq-eqb x b e) (omega arith)
 place-first i (x ∷ xs) b (suc j) l e h =
     let s : i + 1 + j ≡ i + suc j = omega arith in
     rw (ne-eqb x b (h 0 (omega arith))) (place-first (i + 1) xs b j (omega arith) e (λ k m. h (suc k) (omega arith)) ∙ s)
-
--- a byte is at least as much above an earlier one as it is behind it
-pub ascends-by : (bs : List ℕ) → Ascending bs → (i d : ℕ) → i + d < length bs → getD bs i 0 + d ≤ getD bs (i + d) 0
-unfolding Ascending
-ascends-by bs asc i zero h = let e : i + 0 ≡ i = omega arith in rw e (omega arith)
-ascends-by bs asc i (suc d) h =
-    let e : i + suc d ≡ i + d + 1 = omega arith in
-    rw e (omega (arith, ascends-by bs asc i d (omega arith), asc (i + d) (omega arith)))
-
-pub ascends-lt : (bs : List ℕ) → Ascending bs → (i j : ℕ) → i < j → j < length bs → getD bs i 0 < getD bs j 0
-ascends-lt bs asc i j h l = let e : i + (j - i) ≡ j = omega arith in omega (arith, rw e at (ascends-by bs asc i (j - i) (omega arith)))
 
 module _ (bs : List ℕ) (asc : Ascending bs) (bytes : (i : ℕ) → i < length bs → getD bs i 0 < 256) where
   -- 256 strictly ascending bytes are all bytes
