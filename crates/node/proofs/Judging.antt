@@ -1,0 +1,135 @@
+-- A node is judged by its shape: what each way out of the judging functions says.
+-- Assumes nothing.
+use mathlib.Core.Path.{_≡_, refl, sym, ap, _∙_}
+use mathlib.Core.Bool.{Bool, true, false, cond, _&&_}
+use mathlib.Core.List.{List, [], _∷_}
+use Prim.Native.Nat.{ℕ, zero, suc, _+_, _-_, _*_, _/_, _%_, _≤_, _<_}
+use native.Mathlib.Nat.{mul-le-mul-right, mul-le-mul-left, le-trans}
+use native.Mathlib.Omega.{arith}
+use lib.Dec.{ltb, leb, eqb}
+use lib.ListN.{length, getD, take, drop}
+use Rattle.format.specs.declared.State.{State}
+use Rattle.format.specs.declared.State.the-variants.{OneTransNext, OneTrans, AnyTrans}
+use Rattle.format.specs.Bytes.{le}
+use Rattle.format.specs.Node as F
+use Rattle.format.specs.Node.{stateForm, isFinal, countOf, headLen, inputOf, ntransIn, ntransOf, sizesIn, sizesByte, sizesLen, inputsLen, indexLen, endLen, sizeOf, shapeOf, firstOf, outputsAt, deltasAt, inputsAt, inputsIn, shapeInputs, shapeDeltas, shapeNode, nodeOf, SoundShape, SoundAt, sound, unsound, nodeAt}
+use Rattle.format.specs.NodeLaws.{node-at-zero, node-at-sound, node-at-unsound}
+use Rattle.node.specs.declared.Node.{Node}
+use Rattle.node.specs.declared.Judged.the-variants.{Sound, Unsound}
+use Rattle.node.specs.Read.{meaning, judgedOf, isAny, Readable, Judges, emptyNode, transitionsIn}
+
+pub mul-small : (n d : ℕ) → n ≤ 256 → d ≤ 15 → n * d ≤ 3840
+mul-small n d hn hd = le-trans (mul-le-mul-right d hn) (mul-le-mul-left 256 hd)
+
+pub end-len-le : (final : Bool) (osize : ℕ) → endLen final osize ≤ osize
+end-len-le true osize = omega arith
+end-len-le false osize = omega arith
+
+-- ---- what a shape's size holds
+
+pub record Parts (h : F.Shape) : Type 0 where
+  pub whole : endLen (h .final) (h .osize) + h .ntrans * h .osize + h .ntrans * h .tsize + inputsLen (h .state) (h .ntrans) + h .indexed + sizesLen (h .state) + 1 ≤ h .size
+  pub entries : ¬ (h .indexed ≡ 0) → h .indexed ≡ 256
+  pub single : isAny (h .state) ≡ false → h .ntrans ≡ 1
+
+pub head-len-pos : (s : List ℕ) (a : ℕ) → 1 ≤ headLen s a
+unfolding headLen
+head-len-pos s a = go (eqb (getD s a 0 % 64) 0)
+  where
+    go : (t : Bool) → 1 ≤ cond {A = ℕ} t 2 1
+    go true = omega arith
+    go false = omega arith
+
+pub parts-of : (s : List ℕ) (v a : ℕ) → Parts (shapeOf s v a)
+unfolding sizeOf indexLen ntransOf
+parts-of s v a = record {
+  whole = omega (arith, head-len-pos s a);
+  entries = few (leb 2 v && ltb 32 (ntransOf s a));
+  single = one (stateForm (getD s a 0));
+}
+  where
+    few : (t : Bool) → ¬ (_≡_ {A = ℕ} (cond t 256 0) 0) → _≡_ {A = ℕ} (cond t 256 0) 256
+    few true ne = refl
+    few false ne = absurd (ne refl)
+
+    one : (st : State) → isAny st ≡ false → ntransIn st s a ≡ 1
+    one OneTransNext e = refl
+    one OneTrans e = refl
+    one AnyTrans e = absurd (let z : _≡_ {A = ℕ} 0 1 = cc in omega arith)
+
+-- a sound node takes at least its state byte, from 16 on
+pub sound-low : (s : List ℕ) (v root a : ℕ) → SoundAt s v root a → 16 ≤ a
+sound-low s v root a h = omega (arith, h .above, parts-of s v a .whole)
+
+-- ---- the two answers
+
+-- the answer for a sound node of the shape h
+abbrev pub codeNode : F.Shape → ℕ → ℕ → ℕ → ℕ → Node
+codeNode h first fo inp outs = record {
+  state = h .state;
+  first = first;
+  «is_final» = h .final;
+  ntrans = h .ntrans;
+  tsize = h .tsize;
+  osize = h .osize;
+  «index_len» = h .indexed;
+  «final_output» = fo;
+  input = inp;
+  outputs = outs;
+}
+
+pub judged-unsound : (s : List ℕ) (v root a : ℕ) → ¬ (a ≡ 0) → ¬ SoundAt s v root a → Judges s v root a Unsound
+judged-unsound s v root a ne not-sound = record {
+  answer = sym (node-at-unsound s v root a ne not-sound);
+  readable = λ m e. absurd (let z : _≡_ {A = ℕ} 0 1 = cc in omega arith);
+}
+
+pub judged-empty : (s : List ℕ) (v root : ℕ) → Judges s v root 0 (Sound emptyNode)
+unfolding F.transitionsOf F.bytesDown F.downFrom F.numbersDown F.Ascending F.TargetsRight
+judged-empty s v root = record {
+  answer = sym (node-at-zero s v root);
+  readable = λ m e. let q : emptyNode ≡ m = cc in rw (← q) (record {
+    room = omega arith;
+    tsize-le = omega arith;
+    osize-le = omega arith;
+    single = λ z. absurd (let y : _≡_ {A = ℕ} 0 1 = cc in omega arith);
+    ascending = empty-ascending;
+    targets = empty-targets;
+    entries-len = λ ne. absurd (ne refl);
+    entries = λ ne. absurd (ne refl);
+  });
+}
+  where
+    empty-ascending : F.Ascending []
+    empty-ascending i l = absurd (omega arith)
+
+    empty-targets : F.TargetsRight 0 []
+    empty-targets i l = absurd (omega arith)
+
+module _ (s : List ℕ) (v root a : ℕ) (h : F.Shape) (is-h : h ≡ shapeOf s v a) (ne : ¬ (a ≡ 0)) where
+  pub parts : Parts h
+  parts = rw is-h (parts-of s v a)
+
+  pub judged-no : ¬ SoundShape s root a h (a + 1 - h .size) → Judges s v root a Unsound
+  judged-no not-sound = judged-unsound s v root a ne (rw is-h at not-sound)
+
+  pub judged-yes : (fo inp outs : ℕ) → SoundShape s root a h (a + 1 - h .size) → fo ≡ le (take (endLen (h .final) (h .osize)) (drop (a + 1 - h .size) s))
+      → inputsIn (h .state) s (inputsAt (outputsAt (a + 1 - h .size) (h .final) (h .osize)) (h .ntrans) (h .osize) (h .tsize)) (h .ntrans) inp ≡ shapeInputs s a h (a + 1 - h .size)
+      → outs ≡ outputsAt (a + 1 - h .size) (h .final) (h .osize) → Judges s v root a (Sound (codeNode h (a + 1 - h .size) fo inp outs))
+  unfolding nodeOf
+  judged-yes fo inp outs is-sound is-fo is-inputs is-outs = rw is-outs (record {
+    answer = ap sound same ∙ sym (node-at-sound s v root a ne (rw is-h at is-sound));
+    readable = λ m e. let q : codeNode h (a + 1 - h .size) fo inp (outputsAt (a + 1 - h .size) (h .final) (h .osize)) ≡ m = cc in rw (← q) (record {
+      room = omega (arith, is-sound .above, is-sound .inside, parts .whole);
+      tsize-le = is-sound .sizes .tsize-le;
+      osize-le = is-sound .sizes .osize-le;
+      single = parts .single;
+      ascending = rw is-inputs (is-sound .ascending);
+      targets = is-sound .targets;
+      entries-len = parts .entries;
+      entries = rw is-inputs (is-sound .entries);
+    });
+  })
+    where
+      same : meaning s (codeNode h (a + 1 - h .size) fo inp (outputsAt (a + 1 - h .size) (h .final) (h .osize))) ≡ nodeOf s v a
+      same = rw (is-fo, is-inputs, is-h)

@@ -1,0 +1,8 @@
+-- Lemmas on plain lists and numbers, for the proofs of this crate.
+mod Ascent
+mod Index
+mod Judging
+mod Shapes
+mod Reading
+mod Targets
+mod Accessors

@@ -1,0 +1,21 @@
+-- `node::target_right` meets its contract.
+-- Assumes nothing.
+use Rattle.format.specs.DecideLaws.{decides-true, decides-false, decides-iff, decides-lt, decides-eq}
+use Rattle.node.proofs.Targets.{target-near, decides-far}
+use borrow.Author.Needs.{needs}
+use native.Mathlib.Omega.{arith}
+use denote.Ref.{now}
+use Rattle.node.proofs.target_right.Statement.{statement}
+use Rattle.node.proofs.target_right.Tie as tie
+
+sub-if1 : tie.Need-sub-if1
+sub-if1 c = search needs
+
+returns : tie.Need-returns
+returns c = let a = c .before .args in decides-true (target-near (a .first) (a .delta) (c .before .pre) (c .if1 .taken))
+
+returns-2 : tie.Need-returns-2
+returns-2 c = let a = c .before .args in decides-far (a .first) (a .delta) (c .before .pre) (c .if1 .left)
+
+pub target-right-spec : {M : Type 1} → statement M
+target-right-spec = tie.close (tie.spec sub-if1 returns returns-2)

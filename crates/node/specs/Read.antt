@@ -1,0 +1,136 @@
+-- What the answers of this crate stand for, and what its functions ask and promise; the format itself is in `format`.
+--     transitionsIn s m       the transitions of the judged node m, out of the file s
+--     judgedOf s r            what an answer says: the node's meaning, or that it is not sound
+--     Readable s m            what reading the judged node m leans on
+--     Judges s v root a r     the answer r is `nodeAt`, and a node that it hands out can be read
+--     placeOf r               what an answer says of the place of an input
+--     Head, AtForm, shapeIs, Probed, below, Finds, LooksUp     parts of the private functions' contracts
+-- Assumes nothing.
+use mathlib.Core.Path.{_≡_}
+use mathlib.Core.Bool.{Bool, true, false, cond}
+use mathlib.Core.List.{List, [], _∷_}
+use Prim.Native.Nat.{ℕ, zero, suc, _+_, _-_, _*_, _≤_, _<_}
+use lib.Dec.{ltb}
+use lib.ListN.{length, getD, take, drop}
+use Rattle.format.specs.declared.State.{State}
+use Rattle.format.specs.declared.State.the-variants.{OneTransNext, OneTrans, AnyTrans}
+use Rattle.format.specs.declared.Transition.{Transition}
+use Rattle.format.specs.Node as F
+use Rattle.format.specs.Node.{headLen, inputsLen, endLen, inputsIn, deltasIn, inputsAt, deltasAt, storedTransitions, Absent, Indexed, SizesRight, TargetsRight, Judgement, sound, unsound, nodeAt, Place, at, absent}
+use Rattle.node.specs.declared.Node.{Node}
+use Rattle.node.specs.declared.Shape.{Shape}
+use Rattle.node.specs.declared.Judged.{Judged}
+use Rattle.node.specs.declared.Judged.the-variants.{Sound, Unsound}
+use Rattle.node.specs.declared.Found.{Found}
+use Rattle.node.specs.declared.Found.the-variants.{At, Absent as Missing}
+
+-- ---- what the answers say
+
+abbrev pub transitionsIn : List ℕ → Node → List Transition
+transitionsIn s m = storedTransitions s (m .state) (m .first) (m .ntrans) (m .tsize) (m .osize) (m .input) (m .outputs)
+
+abbrev pub meaning : List ℕ → Node → F.Node
+meaning s m = record {
+  first = m .first;
+  final = m .«is_final»;
+  finalOutput = m .«final_output»;
+  transitions = transitionsIn s m;
+}
+
+abbrev pub judgedOf : List ℕ → Judged → Judgement
+judgedOf s (Sound m) = sound (meaning s m)
+judgedOf s Unsound = unsound
+
+abbrev pub placeOf : Found → Place
+placeOf (At i) = at i
+placeOf Missing = absent
+
+-- ---- what reading a judged node leans on
+
+abbrev pub nodeInputs : List ℕ → Node → List ℕ
+nodeInputs s m = inputsIn (m .state) s (inputsAt (m .outputs) (m .ntrans) (m .osize) (m .tsize)) (m .ntrans) (m .input)
+
+abbrev pub nodeDeltas : List ℕ → Node → List ℕ
+nodeDeltas s m = deltasIn (m .state) s (deltasAt (m .outputs) (m .ntrans) (m .osize)) (m .tsize) (m .ntrans)
+
+abbrev pub nodeEntries : List ℕ → Node → List ℕ
+nodeEntries s m = take 256 (drop (inputsAt (m .outputs) (m .ntrans) (m .osize) (m .tsize) + m .ntrans) s)
+
+-- a node that is not stored as `AnyTrans` has one transition
+abbrev pub isAny : State → Bool
+isAny OneTransNext = false
+isAny OneTrans = false
+isAny AnyTrans = true
+
+pub record Readable (s : List ℕ) (m : Node) : Type 0 where
+  pub room : inputsAt (m .outputs) (m .ntrans) (m .osize) (m .tsize) + inputsLen (m .state) (m .ntrans) + m .«index_len» ≤ length s
+  pub tsize-le : m .tsize ≤ 8
+  pub osize-le : m .osize ≤ 8
+  pub single : isAny (m .state) ≡ false → m .ntrans ≡ 1
+  pub ascending : F.Ascending (nodeInputs s m)
+  pub targets : TargetsRight (m .first) (nodeDeltas s m)
+  pub entries-len : ¬ (m .«index_len» ≡ 0) → m .«index_len» ≡ 256
+  pub entries : ¬ (m .«index_len» ≡ 0) → Indexed (nodeInputs s m) (nodeEntries s m)
+
+pub record Judges (s : List ℕ) (v root a : ℕ) (r : Judged) : Type 0 where
+  pub answer : judgedOf s r ≡ nodeAt s v root a
+  pub readable : (m : Node) → r ≡ Sound m → Readable s m
+
+-- address 0
+abbrev pub emptyNode : Node
+emptyNode = record {
+  state = AnyTrans;
+  first = 0;
+  «is_final» = true;
+  ntrans = 0;
+  tsize = 0;
+  osize = 0;
+  «index_len» = 0;
+  «final_output» = 0;
+  input = 0;
+  outputs = 0;
+}
+
+-- ---- parts of the private contracts
+
+pub record Head (s : List ℕ) (a r : ℕ) : Type 0 where
+  pub is : r ≡ headLen s a
+  pub low : 1 ≤ r
+  pub high : r ≤ 2
+
+-- the state byte lies from 16 to the root, and in the file
+pub record AtForm (s : List ℕ) (root a : ℕ) : Type 0 where
+  pub low : 16 ≤ a
+  pub below : a ≤ root
+  pub inside : a < length s
+
+-- the shape that the code works out, as the definition has it
+abbrev pub shapeIs : Shape → F.Shape
+shapeIs h = record {
+  state = AnyTrans;
+  final = h .«is_final»;
+  ntrans = h .ntrans;
+  tsize = h .tsize;
+  osize = h .osize;
+  indexed = h .«index_len»;
+  size = h .size;
+}
+
+-- the entry of each byte of bs is its place
+unfoldable pub Probed : List ℕ → List ℕ → Type 0
+Probed bs es = (i : ℕ) → i < length bs → getD es (getD bs i 0) 0 ≡ i
+
+-- how many of es are below n
+unfoldable pub below : ℕ → List ℕ → ℕ
+below n [] = 0
+below n (e ∷ es) = cond (ltb e n) 1 0 + below n es
+
+-- a place of b in bs, or b is absent
+pub record Finds (bs : List ℕ) (b : ℕ) (r : Found) : Type 0 where
+  pub found : (i : ℕ) → r ≡ At i → (i < length bs) × (getD bs i 0 ≡ b)
+  pub missing : r ≡ Missing → Absent b bs
+
+-- the entry of b where it is below n
+pub record LooksUp (es : List ℕ) (n b : ℕ) (r : Found) : Type 0 where
+  pub found : (i : ℕ) → r ≡ At i → (i < n) × (getD es b 0 ≡ i)
+  pub missing : r ≡ Missing → n ≤ getD es b 0
