@@ -1,0 +1,162 @@
+// The comparisons. The Rust is held to the model of document 01 and, where our library is linked, the library to both.
+// A comparison ends at its first difference, which carries the input.
+
+use std::collections::BTreeMap;
+use std::fmt::Debug;
+
+use crate::answers::{Answers, At, Record};
+use crate::generate::INPUTS;
+use crate::given;
+use crate::prng::Prng;
+
+mod numbers;
+mod packing;
+mod reading;
+mod stored;
+
+pub struct Difference {
+    pub what: String,
+    pub input: String,
+    pub answers: Vec<(&'static str, String)>,
+}
+
+pub type Checked = Result<(), Difference>;
+
+fn same<T: PartialEq + Debug>(
+    what: &str,
+    input: impl Fn() -> String,
+    left: (&'static str, T),
+    right: (&'static str, T),
+) -> Checked {
+    if left.1 == right.1 {
+        return Ok(());
+    }
+    Err(Difference {
+        what: what.to_string(),
+        input: input(),
+        answers: vec![(left.0, format!("{:02x?}", left.1)), (right.0, format!("{:02x?}", right.1))],
+    })
+}
+
+fn describe_record(record: &Record, first: usize) -> String {
+    format!(
+        "F {}, final flag {}, final output {}, inputs {:02x?}, outputs {:?}, targets {:?}",
+        first, record.final_flag, record.final_output, record.inputs, record.outputs, record.targets
+    )
+}
+
+fn describe_at(at: At) -> String {
+    let end = at.file.len().min(at.addr.saturating_add(1));
+    let zeros = at.file[..end].iter().take_while(|&&b| b == 0).count();
+    format!(
+        "address {}, version {}, root {}, a file of {} bytes: {} zeros, then {:02x?}, then {} more",
+        at.addr,
+        at.version,
+        at.root,
+        at.file.len(),
+        zeros,
+        &at.file[zeros..end],
+        at.file.len() - end
+    )
+}
+
+// How many random cases of each kind a whole run has.
+const RECORDS: usize = 240_000;
+const REFUSED_RECORDS: usize = 4_000;
+const UNUSUAL: usize = 60_000;
+const DAMAGED: usize = 300_000;
+const NUMBERS: usize = 200_000;
+
+pub struct Run<'a> {
+    // our library, where it is linked
+    ours: Option<&'a dyn Answers>,
+    // a whole run has every random case, another one in so many
+    one_in: usize,
+    prng: Prng,
+    counts: BTreeMap<&'static str, usize>,
+}
+
+const OUTPUT_SIZES: [&str; 9] = [
+    "output size 0",
+    "output size 1",
+    "output size 2",
+    "output size 3",
+    "output size 4",
+    "output size 5",
+    "output size 6",
+    "output size 7",
+    "output size 8",
+];
+const DELTA_SIZES: [&str; 9] = [
+    "delta size 0",
+    "delta size 1",
+    "delta size 2",
+    "delta size 3",
+    "delta size 4",
+    "delta size 5",
+    "delta size 6",
+    "delta size 7",
+    "delta size 8",
+];
+
+impl<'a> Run<'a> {
+    pub fn new(ours: Option<&'a dyn Answers>, one_in: usize) -> Run<'a> {
+        Run { ours, one_in, prng: Prng::new(2), counts: BTreeMap::new() }
+    }
+
+    // Every comparison, with a line or more for each.
+    pub fn all(&mut self, print: bool) -> Checked {
+        let sections: [(&str, fn(&mut Run<'a>) -> Checked); 6] = [
+            ("tables", Run::tables),
+            ("stored numbers", Run::numbers),
+            ("packing, and reading back", Run::packing),
+            ("records refused", Run::refused),
+            ("unusual nodes", Run::unusual),
+            ("damaged nodes, other addresses and roots", Run::damaged),
+        ];
+        for (name, section) in &sections {
+            self.counts.clear();
+            section(self)?;
+            if print {
+                println!("{}", name);
+                for (what, n) in &self.counts {
+                    println!("    {:>8}  {}", n, what);
+                }
+            }
+        }
+        Ok(())
+    }
+
+    fn count(&mut self, what: &'static str) {
+        *self.counts.entry(what).or_insert(0) += 1;
+    }
+
+    // A whole run hits each of these so often.
+    fn require(&self, what: &[&'static str], least: usize) -> Checked {
+        for name in what {
+            let n = self.counts.get(name).copied().unwrap_or(0);
+            if self.one_in == 1 && n < least {
+                return Err(Difference {
+                    what: format!("the run hit \"{}\" {} times, and is to hit it {} times", name, n, least),
+                    input: "the whole run".to_string(),
+                    answers: Vec::new(),
+                });
+            }
+        }
+        Ok(())
+    }
+}
+
+// The inputs at the common table's end are what the comparisons name them.
+pub fn common_inputs_named() -> Checked {
+    for &(place, b) in &[(61, b'H'), (62, b'G'), (63, b'W')] {
+        same(
+            "a common input",
+            || format!("entry {}", place),
+            ("named", b),
+            ("the Rust", given::common_inputs_inv(place)),
+        )?;
+        assert!(INPUTS.contains(&b));
+    }
+    Ok(())
+}

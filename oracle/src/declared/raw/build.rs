@@ -1,0 +1,66 @@
+// What node.rs, registry.rs and mod.rs name of this module: a node record with the fields that node.rs uses, and a
+// builder that is never called. The modules beside this one are private to `raw`, and `Builder` is the one name here
+// that mod.rs makes public, so the harness's way to them is below it.
+
+use crate::raw::common_inputs::{COMMON_INPUTS, COMMON_INPUTS_INV};
+use crate::raw::{CompiledAddr, Fst, Output, Transition};
+
+#[derive(Clone, Debug, Eq, PartialEq)]
+pub struct BuilderNode {
+    pub is_final: bool,
+    pub final_output: Output,
+    pub trans: Vec<Transition>,
+}
+
+impl Default for BuilderNode {
+    fn default() -> BuilderNode {
+        BuilderNode { is_final: false, final_output: Output::zero(), trans: Vec::new() }
+    }
+}
+
+pub struct Builder;
+
+// Named by mod.rs. Document 01 leaves the builder out, so there is nothing to compare.
+impl Builder {
+    pub fn memory() -> Builder {
+        unreachable!("no file is built here")
+    }
+
+    pub fn add<K: AsRef<[u8]>>(&mut self, _: K) -> crate::error::Result<()> {
+        unreachable!("no file is built here")
+    }
+
+    pub fn insert<K: AsRef<[u8]>>(&mut self, _: K, _: u64) -> crate::error::Result<()> {
+        unreachable!("no file is built here")
+    }
+
+    pub fn into_fst(self) -> Fst<Vec<u8>> {
+        unreachable!("no file is built here")
+    }
+}
+
+// The harness's way in.
+impl Builder {
+    // What `compile_to` writes for this record.
+    pub fn pack(
+        is_final: bool,
+        final_output: u64,
+        transitions: impl Iterator<Item = (u8, u64, CompiledAddr)>,
+        last_addr: CompiledAddr,
+        addr: CompiledAddr,
+    ) -> Vec<u8> {
+        let trans = transitions.map(|(inp, out, addr)| Transition { inp, out: Output::new(out), addr }).collect();
+        let node = BuilderNode { is_final, final_output: Output::new(final_output), trans };
+        let mut bytes = Vec::new();
+        node.compile_to(&mut bytes, last_addr, addr).expect("a Vec takes every byte");
+        bytes
+    }
+
+    pub fn common_inputs() -> &'static [u8; 256] {
+        &COMMON_INPUTS
+    }
+
+    pub fn common_inputs_inv() -> &'static [u8; 256] {
+        &COMMON_INPUTS_INV
+    }
+}

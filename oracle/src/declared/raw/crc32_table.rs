@@ -1,0 +1,1 @@
+// mod.rs declares this module and names nothing of it.

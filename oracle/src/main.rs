@@ -1,0 +1,107 @@
+// Compares the given Rust with our static library, and both with a model of document 01 (oracle/README.md).
+// `oracle/run` lays this file and the Rust's beside each other and compiles them.
+
+// The Rust, as it is given.
+#[allow(warnings)]
+mod automaton;
+#[allow(warnings)]
+mod bytes;
+#[allow(warnings)]
+mod raw;
+#[allow(warnings)]
+mod stream;
+
+// What it names and is not given.
+#[allow(dead_code)]
+mod error;
+
+mod answers;
+mod compare;
+mod generate;
+mod given;
+mod model;
+#[cfg(library)]
+mod ours;
+mod prng;
+mod replay;
+mod wrong;
+
+use std::process;
+
+use crate::answers::Answers;
+use crate::compare::{Difference, Run};
+
+#[cfg(library)]
+static LIBRARY: Option<&(dyn Answers + Sync)> = Some(&ours::Library);
+#[cfg(not(library))]
+static LIBRARY: Option<&(dyn Answers + Sync)> = None;
+
+fn report(difference: &Difference) {
+    println!("oracle: a difference: {}", difference.what);
+    println!("  input: {}", difference.input);
+    for (who, answer) in &difference.answers {
+        println!("  {} (hexadecimal): {}", who, answer);
+    }
+}
+
+// The whole comparison, and the kept list held to what would be recorded now.
+fn compare(list: &str) -> bool {
+    let ours = LIBRARY.map(|library| library as &dyn Answers);
+    let mut run = Run::new(ours, 1);
+    if let Err(difference) = compare::common_inputs_named().and_then(|()| run.all(true)) {
+        report(&difference);
+        return false;
+    }
+    if std::fs::read(list).ok() != Some(replay::list().0) {
+        println!("oracle: {} is not the list that `oracle/run record` writes", list);
+        return false;
+    }
+    println!("replay list\n    as recorded");
+    true
+}
+
+// The model in our library's place agrees, and with each slip it does not.
+fn self_test() -> bool {
+    if let Err(difference) = Run::new(Some(&model::Model), 100).all(false) {
+        report(&difference);
+        return false;
+    }
+    for slip in wrong::SLIPS {
+        match Run::new(Some(&wrong::Wrong { slip }), 100).all(false) {
+            Err(difference) => println!("noticed: {}  ({})", slip, difference.what),
+            Ok(()) => {
+                println!("oracle: not noticed: {}", slip);
+                return false;
+            }
+        }
+    }
+    true
+}
+
+fn record(list: &str) -> bool {
+    let (bytes, forms) = replay::list();
+    if let Err(error) = std::fs::write(list, &bytes) {
+        println!("oracle: {}: {}", list, error);
+        return false;
+    }
+    println!("{}: {} bytes, {} records", list, bytes.len(), bytes::read_u32_le(&bytes));
+    for (form, n) in forms {
+        println!("    {:>8}  {}", n, form);
+    }
+    true
+}
+
+fn main() {
+    given::quiet_panics();
+    let args: Vec<String> = std::env::args().collect();
+    let right = match args.get(1).map(String::as_str) {
+        Some("compare") => compare(&args[2]),
+        Some("self-test") => self_test(),
+        Some("record") => record(&args[2]),
+        _ => {
+            println!("oracle: compare, self-test or record");
+            process::exit(2);
+        }
+    };
+    process::exit(if right { 0 } else { 1 });
+}
