@@ -19,3 +19,7 @@ pub mod RoundTripNext
 pub mod RoundTripOne
 pub mod RoundTripAny
 pub mod RoundTrip
+pub mod Opening
+pub mod Paths
+pub mod Admitted
+pub mod Tables

@@ -6,6 +6,10 @@ use Prim.Native.Nat.{ℕ}
 abbrev pub firstNode : ℕ
 firstNode = 16
 
+-- the smallest length of a file
+abbrev pub minLen : ℕ
+minLen = 36
+
 -- the largest length of a file, and the largest F of a node record
 abbrev pub maxLen : ℕ
 maxLen = 16777216
@@ -17,6 +21,14 @@ maxTrans = 256
 -- a node with more transitions than this has an index, in versions 2 and 3
 abbrev pub indexThreshold : ℕ
 indexThreshold = 32
+
+-- the longest path of an admitted file, and the longest key, bound and key buffer that a reading needs
+abbrev pub maxPath : ℕ
+maxPath = 255
+
+-- the largest value, and the largest path sum of an admitted file
+abbrev pub maxSum : ℕ
+maxSum = 18446744073709551615
 
 -- ---- the refusals
 
