@@ -73,3 +73,8 @@ true-of false d p = absurd (d .no refl p)
 pub false-of : {P : Type 0} (r : Bool) → Decides r P → ¬ P → r ≡ false
 false-of true d not-p = absurd (not-p (d .yes refl))
 false-of false d not-p = refl
+
+-- two tests of one claim answer alike
+pub decides-same : {P : Type 0} (r s : Bool) → Decides r P → Decides s P → r ≡ s
+decides-same true s d e = sym (true-of s e (d .yes refl))
+decides-same false s d e = sym (false-of s e (d .no refl))

@@ -20,6 +20,7 @@ pub mod RoundTripOne
 pub mod RoundTripAny
 pub mod RoundTrip
 pub mod Opening
+pub mod OpeningLaws
 pub mod Paths
 pub mod Admitted
 pub mod Tables

@@ -26,6 +26,8 @@ pub const STATE: u8 = 11;
 
 // The first byte of a file that a node may take: the header ends before it.
 pub const FIRST_NODE: usize = 16;
+// The smallest length of a file: a header of 16 bytes, and a trailer of 20 in version 3.
+pub const MIN_LEN: usize = 36;
 // The largest F that a node record may ask for, which is the largest length of a file.
 pub const MAX_LEN: usize = 16_777_216;
 // The most transitions that a node may have: one for each byte.

@@ -1,0 +1,115 @@
+// Opening a file and admitting it (src/raw/mod.rs: `Fst::new`; admission is document 01's own).
+// `open` reads only the header and the trailer.
+ghost use mathlib.Core.Path.{_≡_};
+ghost use Prim.Native.Nat.{_+_, _-_, _≤_, _<_};
+ghost use lib.ListN.{length};
+ghost use mathlib.Core.Bool.{cond};
+ghost use mathlib.Core.Option.{some, none};
+ghost use lib.Dec.{eqb};
+ghost use Rattle.format.specs.Opening.{trailerLen, numberAt, rootTest, opening};
+ghost use Rattle.fst.specs.Open.{openingOf, checksumIs};
+use format::FIRST_NODE;
+use format::LARGE;
+use format::MAX_LEN;
+use format::MIN_LEN;
+use format::ROOT;
+use format::SHORT;
+use format::VERSION;
+use le_bytes::read_u32_le;
+use le_bytes::read_u64_le;
+
+// The checksum of version 3, read and not verified; versions 1 and 2 have none.
+pub enum Checksum {
+    Stored(u32),
+    Missing,
+}
+
+// What the header and the trailer say.
+pub struct Meta {
+    pub version: u64,
+    pub ty: u64,
+    // the number of keys, read and not judged
+    pub len: u64,
+    pub root: usize,
+    pub checksum: Checksum,
+}
+
+// What opening answers: what the file says, or the number of a refusal.
+pub enum Opened {
+    Meta(Meta),
+    Refused(u8),
+}
+
+// How many bytes stand after the root's node.
+fn trailer_len(version: u64) -> usize
+    ensures { λ r. ⌜ (r ≡ trailerLen version) × (r ≤ 20) × (16 ≤ r) ⌝ }
+{
+    // key count and root address, and in version 3 a checksum
+    if version == 3 { 20 } else { 16 }
+}
+
+// The rule on roots.
+fn root_right(version: u64, root: usize, len: usize) -> bool
+    requires { ⌜ (36 ≤ len) × (len ≤ 16777216) ⌝ }
+    ensures { λ r. ⌜ r ≡ rootTest version root len ⌝ }
+{
+    if root == 0 {
+        if version == 3 {
+            return len == MIN_LEN;
+        }
+        return false;
+    }
+    if root < FIRST_NODE {
+        return false;
+    }
+    // the root's address is the last byte before the trailer
+    root == len - trailer_len(version) - 1
+}
+
+// The stored checksum, if the version has one.
+fn checksum_of(file: &[u8], version: u64) -> Checksum
+    requires { ⌜ 4 ≤ length (now file) ⌝ }
+    ensures { λ r. ⌜ checksumIs r ≡ cond (eqb version 3) (some (numberAt (now (file .entry)) (length (now (file .entry)) - 4) 4)) none ⌝ }
+{
+    if version == 3 {
+        let at = file.len() - 4;
+        return Checksum::Stored(read_u32_le(&file[at..]));
+    }
+    Checksum::Missing
+}
+
+// Opens a file: what it says, or SHORT, LARGE, VERSION or ROOT, judged in this order.
+pub fn open(file: &[u8]) -> Opened
+    ensures { λ r. ⌜ openingOf r ≡ opening (now (file .entry)) ⌝ }
+{
+    let n = file.len();
+    if n < MIN_LEN {
+        return Opened::Refused(SHORT);
+    }
+    if MAX_LEN < n {
+        return Opened::Refused(LARGE);
+    }
+    let version = read_u64_le(file);
+    if version < 1 {
+        return Opened::Refused(VERSION);
+    }
+    if 3 < version {
+        return Opened::Refused(VERSION);
+    }
+    let len_at = n - trailer_len(version);
+    let root_at = len_at + 8;
+    let root = read_u64_le(&file[root_at..]) as usize;
+    if root_right(version, root, n) {} else {
+        return Opened::Refused(ROOT);
+    }
+    let ty = read_u64_le(&file[8..]);
+    let len = read_u64_le(&file[len_at..]);
+    let checksum = checksum_of(file, version);
+    Opened::Meta(Meta {
+        version,
+        ty,
+        len,
+        root,
+        checksum,
+    })
+}
