@@ -23,3 +23,4 @@ pub mod Opening
 pub mod Paths
 pub mod Admitted
 pub mod Tables
+pub mod NodeFacts
