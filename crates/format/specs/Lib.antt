@@ -24,3 +24,4 @@ pub mod Paths
 pub mod Admitted
 pub mod Tables
 pub mod NodeFacts
+pub mod PathLaws
