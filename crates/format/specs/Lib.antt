@@ -24,3 +24,5 @@ pub mod OpeningLaws
 pub mod Paths
 pub mod Admitted
 pub mod Tables
+pub mod NodeFacts
+pub mod PathLaws

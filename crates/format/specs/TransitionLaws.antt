@@ -2,11 +2,12 @@
 -- Assumes nothing.
 use mathlib.Core.Path.{_≡_, refl, sym, ap, _∙_}
 use mathlib.Core.Bool.{Bool, true, false, cond}
-use mathlib.Core.List.{List, [], _∷_}
+use mathlib.Core.Logic.{_⊎_, inl, inr}
+use mathlib.Core.List.{List, [], _∷_, List·Memᴰ, List·Memᴰ·head, List·Memᴰ·tail, List·Memᴰ·not-nil, List·Memᴰ·cases-cons}
 use Prim.Native.Nat.{ℕ, zero, suc, _+_, _-_, _≤_, _<_}
 use native.Mathlib.Nat.{zero-add}
 use native.Mathlib.Omega.{arith}
-use borrow.Author.Tests.{eq-eqb, ne-eqb}
+use borrow.Author.Tests.{eq-eqb, ne-eqb, eqb-true, eqb-false}
 use lib.Dec.{eqb}
 use lib.ListN.{length, getD}
 use Rattle.format.specs.declared.Transition.{Transition}
@@ -70,3 +71,54 @@ find-input-at bs os ts b j o t asc l is =
 pub find-input-absent : (bs os ts : List ℕ) (b : ℕ) → length os ≡ length bs → length ts ≡ length bs → Absent b bs → findInput (transitionsOf bs os ts) b ≡ absent
 unfolding Absent
 find-input-absent bs os ts b o t away = find-from-absent 0 bs os ts b o t away
+
+-- ---- members and places
+
+pub member-at : {t : Transition} {ts : List Transition} → List·Memᴰ t ts → (i : ℕ) × (i < length ts) × (transitionAt ts i ≡ t)
+member-at (List·Memᴰ·head e) = (0, omega arith, sym e)
+member-at (List·Memᴰ·tail m) = let r = member-at m in (suc (r .0), omega (arith, r .1), r .2)
+
+pub at-member : (ts : List Transition) (i : ℕ) → i < length ts → List·Memᴰ (transitionAt ts i) ts
+at-member [] i h = absurd (omega arith)
+at-member (t ∷ ts) zero h = List·Memᴰ·head refl
+at-member (t ∷ ts) (suc i) h = List·Memᴰ·tail (at-member ts i (omega arith))
+
+-- where the place of an input is given, the transition there takes that input
+find-from-member : (k : ℕ) (ts : List Transition) (b i : ℕ) → findFrom k ts b ≡ at i
+    → (k ≤ i) × (i < k + length ts) × (transitionAt ts (i - k) .inp ≡ b)
+unfolding findFrom
+find-from-member k [] b i e = absurd (let z : _≡_ {A = ℕ} 0 1 = cc in omega arith)
+find-from-member k (t ∷ ts) b i e = go (eqb (t .inp) b) refl (find-from-member (k + 1) ts b i) e
+  where
+    go : (z : Bool) → eqb (t .inp) b ≡ z
+        → (findFrom (k + 1) ts b ≡ at i → (k + 1 ≤ i) × (i < k + 1 + length ts) × (transitionAt ts (i - (k + 1)) .inp ≡ b))
+        → cond z (at k) (findFrom (k + 1) ts b) ≡ at i
+        → (k ≤ i) × (i < k + suc (length ts)) × (transitionAt (t ∷ ts) (i - k) .inp ≡ b)
+    go true z rest e =
+        let q : k ≡ i = cc in
+        let first : i - k ≡ 0 = omega arith in
+        (omega arith, omega arith, rw first (eqb-true (t .inp) b z))
+    go false z rest e =
+        let r = rest e in
+        let next : i - k ≡ suc (i - (k + 1)) = omega (arith, r .0) in
+        (omega (arith, r .0), omega (arith, r .1), rw next (r .2))
+
+find-from-none : (k : ℕ) (ts : List Transition) (b : ℕ) → findFrom k ts b ≡ absent → (t : Transition) → List·Memᴰ t ts → ¬ (t .inp ≡ b)
+unfolding findFrom
+find-from-none k [] b e t m is = List·Memᴰ·not-nil m
+find-from-none k (u ∷ ts) b e t m is = go (eqb (u .inp) b) refl (find-from-none (k + 1) ts b) e (List·Memᴰ·cases-cons m)
+  where
+    go : (z : Bool) → eqb (u .inp) b ≡ z → (findFrom (k + 1) ts b ≡ absent → (t : Transition) → List·Memᴰ t ts → ¬ (t .inp ≡ b))
+        → cond z (at k) (findFrom (k + 1) ts b) ≡ absent → (t ≡ u) ⊎ List·Memᴰ t ts → ⊥
+    go true z rest e c = let q : _≡_ {A = ℕ} 0 1 = cc in omega arith
+    go false z rest e (inl q) = eqb-false (u .inp) b z (ap (λ (x : Transition). x .inp) (sym q) ∙ is)
+    go false z rest e (inr m) = rest e t m is
+
+pub find-input-member : (ts : List Transition) (b i : ℕ) → findInput ts b ≡ at i → (i < length ts) × (transitionAt ts i .inp ≡ b)
+find-input-member ts b i e =
+    let r = find-from-member 0 ts b i e in
+    let z : i - 0 ≡ i = omega arith in
+    (omega (arith, r .1), rw z at (r .2))
+
+pub find-input-none : (ts : List Transition) (b : ℕ) → findInput ts b ≡ absent → (t : Transition) → List·Memᴰ t ts → ¬ (t .inp ≡ b)
+find-input-none ts b e t m = find-from-none 0 ts b e t m
