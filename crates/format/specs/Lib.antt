@@ -25,3 +25,4 @@ pub mod Admitted
 pub mod Tables
 pub mod NodeFacts
 pub mod PathLaws
+pub mod ChainLaws
