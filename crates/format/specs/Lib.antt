@@ -26,3 +26,4 @@ pub mod Tables
 pub mod NodeFacts
 pub mod PathLaws
 pub mod ChainLaws
+pub mod TableLaws
