@@ -27,3 +27,4 @@ pub mod NodeFacts
 pub mod PathLaws
 pub mod ChainLaws
 pub mod TableLaws
+pub mod LiveLaws
