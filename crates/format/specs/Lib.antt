@@ -27,3 +27,6 @@ pub mod Tables
 pub mod NodeFacts
 pub mod PathLaws
 pub mod Lookup
+pub mod ChainLaws
+pub mod TableLaws
+pub mod LiveLaws
