@@ -1,3 +1,5 @@
 -- Lemmas on plain lists and numbers, for the proofs of this crate.
 mod Ascending
 mod Record
+mod Largest
+mod Sizes

@@ -9,8 +9,9 @@ ghost use lib.Dec.{ltb};
 ghost use lib.ListN.{length};
 ghost use Rattle.format.specs.Decide.{Decides};
 ghost use Rattle.format.specs.Bytes.{largest};
-ghost use Rattle.format.specs.Node.{Ascending};
-ghost use Rattle.format.specs.Packed.{TargetOk, TargetsOk, RecordOk, deltaOf, storedNumbers, storedBytes};
+ghost use Rattle.format.specs.Node.{Ascending, endLen, indexLen};
+ghost use Rattle.format.specs.CommonInputs.{commonIdx};
+ghost use Rattle.format.specs.Packed.{TargetOk, TargetsOk, RecordOk, deltaOf, storedNumbers, storedBytes, indexOf, indexBytes, outputSize, deltaSize, sizesOf, inputBytes, packedNext, packedOne, finalFlag, headOf, packedAny, packsToNothing, hasOne, leadsNext};
 ghost use Rattle.node_compile.specs.Compile.{builderOf, Compiles, Fitted, PutAt};
 use common_inputs::common_idx;
 use format::FIRST_NODE;
@@ -101,4 +102,81 @@ fn record_ok(
         return false;
     }
     is_final || final_output == 0
+}
+
+// ---- sizes
+
+// The larger of a number and the largest of those after it.
+fn larger(n: u64, rest: u64) -> u64
+    ensures { λ r. ⌜ r ≡ cond (ltb n rest) rest n ⌝ }
+{
+    if n < rest { rest } else { n }
+}
+
+// The largest of the numbers, 0 for none.
+fn largest_of(numbers: &[u64]) -> u64
+    ensures { λ r. ⌜ r ≡ largest (now (numbers .entry)) ⌝ }
+{
+    let mut most: u64 = 0;
+    // the last number first: those from i on have been seen
+    let mut i = numbers.len();
+    while 0 < i {
+        i -= 1;
+        most = larger(numbers[i], most);
+    }
+    most
+}
+
+// How far a target lies before F; 0 for target 0.
+fn delta_of(first: usize, target: usize) -> u64
+    requires { ⌜ target ≤ first ⌝ }
+    ensures { λ r. ⌜ r ≡ deltaOf first target ⌝ }
+{
+    if target == 0 {
+        return 0;
+    }
+    (first - target) as u64
+}
+
+// The largest of the targets' deltas, 0 for none.
+fn largest_delta(first: usize, targets: &[usize]) -> u64
+    requires { ⌜ TargetsOk first (now targets) ⌝ }
+    ensures { λ r. ⌜ r ≡ largest (map (deltaOf first) (now (targets .entry))) ⌝ }
+{
+    let mut most: u64 = 0;
+    let mut i = targets.len();
+    while 0 < i {
+        i -= 1;
+        most = larger(delta_of(first, targets[i]), most);
+    }
+    most
+}
+
+// The bytes that each output takes where n is the largest: none where all are 0.
+fn output_size(n: u64) -> usize
+    ensures { λ r. ⌜ r ≡ outputSize n ⌝ }
+{
+    if n == 0 {
+        return 0;
+    }
+    small(pack_size(n))
+}
+
+// The bytes that each delta takes: none where there is no transition.
+fn delta_size(first: usize, targets: &[usize]) -> usize
+    requires { ⌜ TargetsOk first (now targets) ⌝ }
+    ensures { λ r. ⌜ r ≡ deltaSize (map (deltaOf first) (now (targets .entry))) ⌝ }
+{
+    if targets.len() == 0 {
+        return 0;
+    }
+    small(pack_size(largest_delta(first, targets)))
+}
+
+// The delta size in the high four bits, the output size in the low four.
+fn sizes_byte(tsize: usize, osize: usize) -> u8
+    requires { ⌜ (tsize ≤ 8) × (osize ≤ 8) ⌝ }
+    ensures { λ r. ⌜ r ≡ sizesOf tsize osize ⌝ }
+{
+    (tsize * 16 + osize) as u8
 }
