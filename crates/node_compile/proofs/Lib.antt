@@ -3,3 +3,6 @@ mod Ascending
 mod Record
 mod Largest
 mod Sizes
+mod Storing
+mod Marking
+mod Heads
