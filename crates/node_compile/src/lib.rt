@@ -2,17 +2,17 @@
 // A caller gives the node's first byte F and the record as its parts, and gets the number of bytes, or a refusal.
 // Ports `Node::compile` of src/raw/node.rs, and the `compile` of its three states.
 ghost use mathlib.Core.Path.{_≡_};
-ghost use mathlib.Core.Bool.{cond};
+ghost use mathlib.Core.Bool.{cond, not, _&&_};
 ghost use mathlib.Core.List.{[], _∷_, _++_, map};
 ghost use Prim.Native.Nat.{_+_, _≤_, _<_};
 ghost use lib.Dec.{eqb, ltb};
 ghost use lib.ListN.{length};
 ghost use Rattle.format.specs.Decide.{Decides};
-ghost use Rattle.format.specs.Bytes.{largest};
+ghost use Rattle.format.specs.Bytes.{packSize, largest};
 ghost use Rattle.format.specs.Node.{Ascending, endLen, indexLen};
 ghost use Rattle.format.specs.CommonInputs.{commonIdx};
-ghost use Rattle.format.specs.Packed.{TargetOk, TargetsOk, RecordOk, deltaOf, storedNumbers, storedBytes, indexOf, indexBytes, outputSize, deltaSize, sizesOf, inputBytes, packedNext, packedOne, finalFlag, headOf, packedAny, packsToNothing, hasOne, leadsNext};
-ghost use Rattle.node_compile.specs.Compile.{builderOf, Compiles, Fitted, PutAt};
+ghost use Rattle.format.specs.Packed.{TargetOk, TargetsOk, RecordOk, deltaOf, storedNumbers, storedBytes, indexOf, indexBytes, outputSize, deltaSize, sizesOf, inputBytes, packedNext, packedOne, finalFlag, headOf, packedAny, lastAddr};
+ghost use Rattle.node_compile.specs.Compile.{builderOf, Compiles, anyBytes, anyLen, Fitted, PutAt};
 use common_inputs::common_idx;
 use format::FIRST_NODE;
 use format::MAX_LEN;
@@ -322,4 +322,193 @@ fn put_state(out: &mut [u8], at: usize, form: u8, input: u8) -> usize
     }
     out[at] = form + idx;
     at + 1
+}
+
+// ---- the three forms
+
+// Packs a node of the form 11: one transition, with output 0, to the node before.
+fn compile_next(input: u8, out: &mut [u8]) -> Compiled
+    ensures { λ r. ⌜ Fitted (packedNext input) (now (out .entry)) (now (out .exit)) r ⌝ }
+{
+    let len = input_len(input) + 1;
+    if out.len() < len {
+        return Compiled::Refused(SPACE);
+    }
+    put_state(out, 0, 192, input);
+    Compiled::Len(len)
+}
+
+// Writes a node of the form 10 with an output of osize bytes and a delta of tsize bytes; returns its length.
+fn put_one(out: &mut [u8], input: u8, output: u64, osize: usize, delta: u64, tsize: usize) -> usize
+    requires { ⌜ (length (packedOne input output delta) ≤ length (now out)) × (osize ≡ outputSize output) × (tsize ≡ packSize delta) ⌝ }
+    ensures { λ r. ⌜ PutAt (now (out .entry)) 0 (packedOne input output delta) (now (out .exit)) r ⌝ }
+{
+    pack_uint_in(out, 0, output, osize);
+    pack_uint_in(out, osize, delta, tsize);
+    out[osize + tsize] = sizes_byte(tsize, osize);
+    put_state(out, osize + tsize + 1, 128, input)
+}
+
+// Packs a node of the form 10: one transition.
+fn compile_one(first: usize, input: u8, output: u64, target: usize, out: &mut [u8]) -> Compiled
+    requires { ⌜ target ≤ first ⌝ }
+    ensures { λ r. ⌜ Fitted (packedOne input output (deltaOf first target)) (now (out .entry)) (now (out .exit)) r ⌝ }
+{
+    let delta = delta_of(first, target);
+    let osize = output_size(output);
+    let tsize = small(pack_size(delta));
+    // output, delta, sizes byte, input, state
+    let len = osize + tsize + 1 + input_len(input) + 1;
+    if out.len() < len {
+        return Compiled::Refused(SPACE);
+    }
+    put_one(out, input, output, osize, delta, tsize);
+    Compiled::Len(len)
+}
+
+// The bytes of the final output.
+fn end_len(is_final: bool, osize: usize) -> usize
+    ensures { λ r. ⌜ r ≡ endLen «is_final» osize ⌝ }
+{
+    if is_final { osize } else { 0 }
+}
+
+// The bytes of the index.
+fn index_len(n: usize) -> usize
+    ensures { λ r. ⌜ r ≡ indexLen 3 n ⌝ }
+{
+    if TRANS_INDEX_THRESHOLD < n { 256 } else { 0 }
+}
+
+// The bytes of the count, where it has its own, and of the state.
+fn head_len(n: usize) -> usize
+    ensures { λ r. ⌜ r ≡ cond (ltb 0 n && ltb n 64) 1 2 ⌝ }
+{
+    if 0 < n && n < 64 { 1 } else { 2 }
+}
+
+// The bytes of a node of the forms 00 and 01.
+fn any_len(is_final: bool, n: usize, osize: usize, tsize: usize) -> usize
+    requires { ⌜ (n ≤ 256) × (osize ≤ 8) × (tsize ≤ 8) ⌝ }
+    ensures { λ r. ⌜ r ≡ anyLen «is_final» n osize tsize ⌝ }
+{
+    end_len(is_final, osize)
+        + n * osize
+        + n * tsize
+        + n
+        + index_len(n)
+        + 1
+        + head_len(n)
+}
+
+// Writes a node of the forms 00 and 01 with outputs of osize bytes and deltas of tsize bytes; returns its length.
+fn put_any(
+    out: &mut [u8],
+    is_final: bool,
+    final_output: u64,
+    inputs: &[u8],
+    outputs: &[u64],
+    targets: &[usize],
+    first: usize,
+    osize: usize,
+    tsize: usize,
+) -> usize
+    requires { ⌜ RecordOk first (builderOf «is_final» «final_output» (now inputs) (now outputs) (now targets)) × (length (packedAny (builderOf «is_final» «final_output» (now inputs) (now outputs) (now targets)) (map (deltaOf first) (now targets)) osize tsize) ≤ length (now out)) × (osize ≤ 8) × (tsize ≤ 8) ⌝ }
+    ensures { λ r. ⌜ PutAt (now (out .entry)) 0 (packedAny (builderOf «is_final» «final_output» (now (inputs .entry)) (now (outputs .entry)) (now (targets .entry))) (map (deltaOf first) (now (targets .entry))) osize tsize) (now (out .exit)) r ⌝ }
+{
+    let end = end_len(is_final, osize);
+    pack_uint_in(out, 0, final_output, end);
+    let deltas_at = put_numbers(out, end, outputs, osize);
+    let inputs_at = put_deltas(out, deltas_at, targets, first, tsize);
+    let index_at = put_bytes(out, inputs_at, inputs);
+    let sizes_at = put_index(out, index_at, inputs);
+    out[sizes_at] = sizes_byte(tsize, osize);
+    put_head(out, sizes_at + 1, is_final, inputs.len())
+}
+
+// Packs a node of the forms 00 and 01: any number of transitions, final or not.
+fn compile_any(
+    is_final: bool,
+    final_output: u64,
+    inputs: &[u8],
+    outputs: &[u64],
+    targets: &[usize],
+    first: usize,
+    out: &mut [u8],
+) -> Compiled
+    requires { ⌜ RecordOk first (builderOf «is_final» «final_output» (now inputs) (now outputs) (now targets)) ⌝ }
+    ensures { λ r. ⌜ Fitted (anyBytes first (builderOf «is_final» «final_output» (now (inputs .entry)) (now (outputs .entry)) (now (targets .entry)))) (now (out .entry)) (now (out .exit)) r ⌝ }
+{
+    let osize = output_size(larger(final_output, largest_of(outputs)));
+    let tsize = delta_size(first, targets);
+    let len = any_len(is_final, inputs.len(), osize, tsize);
+    if out.len() < len {
+        return Compiled::Refused(SPACE);
+    }
+    put_any(out, is_final, final_output, inputs, outputs, targets, first, osize, tsize);
+    Compiled::Len(len)
+}
+
+// ---- the packer
+
+// Final, with no transitions and output 0.
+fn packs_to_nothing(is_final: bool, n: usize, final_output: u64) -> bool
+    ensures { λ r. ⌜ r ≡ («is_final» && (eqb n 0 && eqb «final_output» 0)) ⌝ }
+{
+    is_final && (n == 0 && final_output == 0)
+}
+
+// One transition, and not final.
+fn has_one(is_final: bool, n: usize) -> bool
+    ensures { λ r. ⌜ r ≡ (not «is_final» && eqb n 1) ⌝ }
+{
+    !is_final && n == 1
+}
+
+// The address that the packer was left with by the node before: F - 1, or 1 where there is none.
+fn last_addr(first: usize) -> usize
+    requires { ⌜ 16 ≤ first ⌝ }
+    ensures { λ r. ⌜ r ≡ lastAddr first ⌝ }
+{
+    if first == FIRST_NODE {
+        return 1;
+    }
+    first - 1
+}
+
+// To the node before, with output 0.
+fn leads_next(first: usize, target: usize, output: u64) -> bool
+    requires { ⌜ 16 ≤ first ⌝ }
+    ensures { λ r. ⌜ r ≡ (eqb target (lastAddr first) && eqb output 0) ⌝ }
+{
+    target == last_addr(first) && output == 0
+}
+
+// Packs the node record of these parts, whose first byte is to stand at first, into out.
+// The record that is final with no transitions and output 0 packs to no bytes: it is address 0.
+pub fn compile(
+    is_final: bool,
+    final_output: u64,
+    inputs: &[u8],
+    outputs: &[u64],
+    targets: &[usize],
+    first: usize,
+    out: &mut [u8],
+) -> Compiled
+    ensures { λ r. ⌜ Compiles (builderOf «is_final» «final_output» (now (inputs .entry)) (now (outputs .entry)) (now (targets .entry))) first (now (out .entry)) (now (out .exit)) r ⌝ }
+{
+    if record_ok(is_final, final_output, inputs, outputs, targets, first) {
+    } else {
+        return Compiled::Refused(RECORD);
+    }
+    if packs_to_nothing(is_final, inputs.len(), final_output) {
+        return Compiled::Len(0);
+    }
+    if has_one(is_final, inputs.len()) {
+        if leads_next(first, targets[0], outputs[0]) {
+            return compile_next(inputs[0], out);
+        }
+        return compile_one(first, inputs[0], outputs[0], targets[0], out);
+    }
+    compile_any(is_final, final_output, inputs, outputs, targets, first, out)
 }
