@@ -31,3 +31,8 @@ largest-step {ns} {m} {i} m′ x pos is-x is-m w =
 
 pub largest-all : {ns : List ℕ} {m i : ℕ} → i ≤ 0 → LargestFrom ns m i → m ≡ largest ns
 largest-all {ns} {m} {i} none w = let z : i ≡ 0 = omega arith in w .is ∙ rw z
+
+-- the largest of a number and a list
+pub largest-cons : (n : ℕ) (ns : List ℕ) (m l : ℕ) → m ≡ largest ns → l ≡ cond (ltb n m) m n → l ≡ largest (n ∷ ns)
+unfolding largest
+largest-cons n ns m l is-m is-l = rw (← is-m) is-l

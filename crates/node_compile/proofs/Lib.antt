@@ -6,3 +6,4 @@ mod Sizes
 mod Storing
 mod Marking
 mod Heads
+mod Whole

@@ -25,6 +25,10 @@ module _ (bs out₀ : List ℕ) where
     buffer = rw (le-leb (length bs) (length out₀) room) (put-is ∙ put-zero out₀ bs);
   }
 
+-- the bytes by another name
+pub fitted-same : {bs bs′ out₀ out : List ℕ} {r : Compiled} → bs ≡ bs′ → Fitted bs out₀ out r → Fitted bs′ out₀ out r
+fitted-same e f = rw (← e) f
+
 module _ (first : ℕ) (b : BuilderNode) (out₀ : List ℕ) where
   pub compiles-record : ¬ RecordOk first b → Compiles b first out₀ out₀ (Refused RECORD)
   compiles-record not-ok = record {

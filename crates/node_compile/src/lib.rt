@@ -392,13 +392,7 @@ fn any_len(is_final: bool, n: usize, osize: usize, tsize: usize) -> usize
     requires { ⌜ (n ≤ 256) × (osize ≤ 8) × (tsize ≤ 8) ⌝ }
     ensures { λ r. ⌜ r ≡ anyLen «is_final» n osize tsize ⌝ }
 {
-    end_len(is_final, osize)
-        + n * osize
-        + n * tsize
-        + n
-        + index_len(n)
-        + 1
-        + head_len(n)
+    end_len(is_final, osize) + n * osize + n * tsize + n + index_len(n) + 1 + head_len(n)
 }
 
 // Writes a node of the forms 00 and 01 with outputs of osize bytes and deltas of tsize bytes; returns its length.
@@ -445,7 +439,17 @@ fn compile_any(
     if out.len() < len {
         return Compiled::Refused(SPACE);
     }
-    put_any(out, is_final, final_output, inputs, outputs, targets, first, osize, tsize);
+    put_any(
+        out,
+        is_final,
+        final_output,
+        inputs,
+        outputs,
+        targets,
+        first,
+        osize,
+        tsize,
+    );
     Compiled::Len(len)
 }
 
@@ -497,8 +501,7 @@ pub fn compile(
 ) -> Compiled
     ensures { λ r. ⌜ Compiles (builderOf «is_final» «final_output» (now (inputs .entry)) (now (outputs .entry)) (now (targets .entry))) first (now (out .entry)) (now (out .exit)) r ⌝ }
 {
-    if record_ok(is_final, final_output, inputs, outputs, targets, first) {
-    } else {
+    if record_ok(is_final, final_output, inputs, outputs, targets, first) {} else {
         return Compiled::Refused(RECORD);
     }
     if packs_to_nothing(is_final, inputs.len(), final_output) {
