@@ -280,10 +280,7 @@ fn count_byte(n: usize) -> u8
     requires { ⌜ n ≤ 256 ⌝ }
     ensures { λ r. ⌜ r ≡ cond (eqb n 256) 1 n ⌝ }
 {
-    if n == 256 {
-        return 1;
-    }
-    n as u8
+    if n == MAX_TRANS { 1 } else { n as u8 }
 }
 
 // Writes the state byte, and the count byte before it where it is not 1 to 63; returns the place past them.

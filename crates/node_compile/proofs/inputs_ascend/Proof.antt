@@ -4,6 +4,7 @@
 use mathlib.Core.List.{List}
 use Prim.Native.Nat.{ℕ, _-_, _≤_}
 use native.Mathlib.Nat.{le-refl}
+use native.Mathlib.Omega.{arith}
 use borrow.Author.Needs.{needs}
 use borrow.Author.Count.{falls}
 use denote.Ref.{now}
@@ -42,7 +43,7 @@ shared-slice-read-if1-2 c = search needs
 returns : tie.Need-returns Inv-loop μ-loop
 returns c =
     let body = c .before .before .before in
-    decides-false (not-ascending (bytes body) (i body) (body .before .loop .inv .0) (body .loop-test .taken) (c .if1 .taken))
+    decides-false (not-ascending (bytes body) (i body) (body .before .loop .inv .0) (body .loop-test .taken) (omega arith))
 
 add-i : tie.Need-add-i Inv-loop μ-loop
 add-i c = search needs
