@@ -27,6 +27,7 @@ pub mod Tables
 pub mod NodeFacts
 pub mod PathLaws
 pub mod Lookup
+pub mod LookupLaws
 pub mod ChainLaws
 pub mod TableLaws
 pub mod LiveLaws
