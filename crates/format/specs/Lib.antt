@@ -31,3 +31,5 @@ pub mod LookupLaws
 pub mod ChainLaws
 pub mod TableLaws
 pub mod LiveLaws
+pub mod ReachedLaws
+pub mod LookupHeld
