@@ -33,3 +33,4 @@ pub mod TableLaws
 pub mod LiveLaws
 pub mod ReachedLaws
 pub mod LookupHeld
+pub mod FoundLaws
