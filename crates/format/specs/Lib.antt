@@ -34,3 +34,4 @@ pub mod LiveLaws
 pub mod ReachedLaws
 pub mod LookupHeld
 pub mod FoundLaws
+pub mod NumberedLaws
