@@ -7,10 +7,10 @@
 --     held-found                 from a node that a path from the root reaches
 --     KeyExact, get-key-exact    of a whole search; numbered-unique: one value, one key
 -- Assumes nothing.
-use mathlib.Core.Path.{_≡_, refl, sym, ap, _∙_}
+use mathlib.Core.Path.{_≡_, refl, ap, _∙_}
 use mathlib.Core.Bool.{Bool, true, false, _&&_}
-use mathlib.Core.Logic.{_⊎_, inl, inr}
-use mathlib.Core.List.{List, [], _∷_, _++_, List·Memᴰ}
+use mathlib.Core.Logic.{inl, inr}
+use mathlib.Core.List.{List, [], _∷_, _++_}
 use Prim.Native.Nat.{ℕ, zero, suc, _+_, _-_, _≤_, _<_}
 use native.Mathlib.Decide.{ℕ-discrete}
 use native.Mathlib.Omega.{arith}
@@ -25,9 +25,9 @@ use Rattle.format.specs.Tables.{largestSum}
 use Rattle.format.specs.TableLaws.{largest-bound}
 use Rattle.format.specs.PathLaws.{path-append, path-snoc}
 use Rattle.format.specs.ReachedLaws.{Reached, path-reached, HeldFrom, held-from, held-nil, held-step, held-input}
-use Rattle.format.specs.Lookup.{KeyAnswer, lastFitting, withByte, getKeyFrom, getKey, NumberedNode, Numbered}
+use Rattle.format.specs.Lookup.{KeyAnswer, withByte, getKeyFrom, getKey, NumberedNode, Numbered}
 use Rattle.format.specs.LookupLaws.{Fitting, fitting-at, key-goes-on-value, key-goes-on-final, get-key-from-end, get-key-from-step, get-key-opened}
-use Rattle.format.specs.FoundLaws.{FoundFrom, admitted-found-path, get-key-not-refused}
+use Rattle.format.specs.FoundLaws.{admitted-found-path, get-key-not-refused}
 
 -- ---- at a numbered node
 
