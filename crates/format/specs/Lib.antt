@@ -28,6 +28,7 @@ pub mod NodeFacts
 pub mod PathLaws
 pub mod Lookup
 pub mod LookupLaws
+pub mod LookupWalks
 pub mod ChainLaws
 pub mod TableLaws
 pub mod LiveLaws
