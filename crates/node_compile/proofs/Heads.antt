@@ -9,13 +9,11 @@ use borrow.Author.Tests.{lt-ltb, le-ltb, eq-eqb, ne-eqb}
 use lib.Dec.{ltb, eqb}
 use lib.ListN.{length, set, length-set}
 use Rattle.format.specs.Limits.{indexThreshold}
-use Rattle.format.specs.Decide.{Decides}
 use Rattle.format.specs.DecideLaws.{decides-and, decides-lt, false-of}
-use Rattle.format.specs.Put.{put}
 use Rattle.format.specs.PutLaws.{put-nil, set-put, put-next}
 use Rattle.format.specs.CommonInputs.{commonIdx}
 use Rattle.format.specs.Packed.{indexOf, indexBytes, inputBytes, finalFlag, headOf}
-use Rattle.node_compile.specs.Compile.{PutAt}
+use Rattle.node_compile.specs.Parts.{stateBytes, PutAt}
 
 -- ---- no byte, one byte, two bytes
 
@@ -35,6 +33,10 @@ put-two-bytes out at a b room =
     }
 
 -- ---- the head
+
+pub final-flag-le : (final : Bool) → finalFlag final ≤ 64
+final-flag-le true = omega arith
+final-flag-le false = omega arith
 
 module _ (final : Bool) (n : ℕ) where
   -- 1 to 63 go into the state byte
@@ -61,7 +63,7 @@ module _ (out : List ℕ) (at : ℕ) (final : Bool) (n : ℕ) (room : at + lengt
   head-long-put long count flag is-count is-flag =
       rw (head-long final n long, ← is-count, ← is-flag) (put-two-bytes out at count flag (head-long-room long))
 
--- ---- the input
+-- ---- the input, and the state byte of a node with one transition
 
 module _ (inp idx : ℕ) (is : idx ≡ commonIdx inp) where
   -- past place 62
@@ -72,10 +74,6 @@ module _ (inp idx : ℕ) (is : idx ≡ commonIdx inp) where
   pub input-common : ¬ (idx ≡ 0) → inputBytes inp ≡ []
   unfolding inputBytes
   input-common ne = rw (← is, ne-eqb idx 0 ne)
-
--- the state byte of a node with one transition, and the input before it
-abbrev pub stateBytes : ℕ → ℕ → List ℕ
-stateBytes form inp = inputBytes inp ++ ((form + commonIdx inp) ∷ [])
 
 module _ (out : List ℕ) (at form inp idx : ℕ) (is : idx ≡ commonIdx inp) (room : at + length (stateBytes form inp) ≤ length out) where
   pub state-rare-room : idx ≡ 0 → at + 2 ≤ length out

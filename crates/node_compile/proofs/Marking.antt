@@ -1,7 +1,7 @@
 -- The index filled with 255 and then marked, one input after the other.
 --     run v bs k      v after the loop's first k turns: the loop itself, as a function on lists
 -- Assumes nothing.
-use mathlib.Core.Path.{_≡_, refl, sym, ap, _∙_}
+use mathlib.Core.Path.{_≡_, refl, sym, _∙_}
 use mathlib.Core.Bool.{Bool, true, false}
 use mathlib.Core.Logic.{_⊎_, inl, inr, ⊎-elim}
 use mathlib.Core.List.{List}

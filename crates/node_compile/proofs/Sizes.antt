@@ -3,7 +3,7 @@
 use mathlib.Core.Path.{_≡_, refl, ap, _∙_}
 use mathlib.Core.Bool.{Bool, true, false, cond, _&&_}
 use mathlib.Core.List.{List, [], _∷_, map}
-use Prim.Native.Nat.{ℕ, _+_, _*_, _≤_}
+use Prim.Native.Nat.{ℕ, _*_, _≤_}
 use native.Mathlib.Nat.{le-trans, mul-le-mul-right, mul-le-mul-left}
 use native.Mathlib.Omega.{arith}
 use lib.Dec.{ltb, leb, eqb}
@@ -13,7 +13,7 @@ use Rattle.format.specs.Node.{endLen, indexLen}
 use Rattle.format.specs.CommonInputs.{commonIdx}
 use Rattle.format.specs.Packed.{BuilderNode, RecordOk, deltaOf, inputBytes, deltaSize, packedAny}
 use Rattle.format.specs.PackedLaws.{length-deltas, length-index-bytes, length-input-bytes, length-packed-any}
-use Rattle.node_compile.specs.Compile.{anyLen}
+use Rattle.node_compile.specs.Parts.{anyLen}
 
 -- no transition
 pub delta-size-none : (ds : List ℕ) → length ds ≡ 0 → deltaSize ds ≡ 0

@@ -14,7 +14,7 @@ use Rattle.format.specs.Put.{put}
 use Rattle.format.specs.PutLaws.{put-nil, put-next, set-put, length-put}
 use Rattle.format.specs.Packed.{storedNumbers, storedBytes}
 use Rattle.format.specs.PackedLaws.{length-stored-numbers, length-stored-bytes, stored-numbers-drop, stored-bytes-drop, stored-numbers-none, stored-bytes-none}
-use Rattle.node_compile.specs.Compile.{PutAt}
+use Rattle.node_compile.specs.Parts.{PutAt}
 
 -- ---- bytes
 

@@ -12,8 +12,7 @@ use Rattle.format.specs.Put.{put}
 use Rattle.format.specs.PutLaws.{put-nil, put-next, length-put}
 use Rattle.format.specs.Node.{endLen}
 use Rattle.format.specs.Packed.{BuilderNode, storedNumbers, storedBytes, indexBytes, outputSize, sizesOf, packedNext, packedOne, headOf, packedAny}
-use Rattle.node_compile.specs.Compile.{PutAt}
-use Rattle.node_compile.proofs.Heads.{stateBytes}
+use Rattle.node_compile.specs.Parts.{stateBytes, PutAt}
 
 pub record Writing (out₀ whole rest out : List ℕ) (p : ℕ) : Type 0 where
   pub done : List ℕ
@@ -36,11 +35,11 @@ pub writing-room : {out₀ whole rest out : List ℕ} {p : ℕ} → Writing out�
 writing-room {out₀} {whole} {rest} {out} {p} w =
     omega (arith, w .room, w .len, w .is .next, length-append (w .done) rest, ap length (w .split))
 
--- so has the next part
+-- and so has the next part
 pub part-room : {out₀ whole out : List ℕ} {p : ℕ} (v rest : List ℕ) → Writing out₀ whole (v ++ rest) out p → p + length v ≤ length out
 part-room v rest w = omega (arith, writing-room w, length-append v rest)
 
--- the place past it is in the buffer or at its end
+-- the next part is written
 pub part-written : {out₀ whole out : List ℕ} {p : ℕ} (v rest out′ : List ℕ) (p′ : ℕ) → Writing out₀ whole (v ++ rest) out p → PutAt out p v out′ p′
     → Writing out₀ whole rest out′ p′
 part-written {out₀} {whole} {out} {p} v rest out′ p′ w put-is =
@@ -90,38 +89,22 @@ next-parts inp = refl
 
 -- ---- the form 10
 
-module _ (inp out delta : ℕ) where
-  abbrev pub one-from-sizes : List ℕ
-  one-from-sizes = (sizesOf (packSize delta) (outputSize out) ∷ []) ++ stateBytes 128 inp
-
-  abbrev pub one-from-delta : List ℕ
-  one-from-delta = bytesOf (packSize delta) delta ++ one-from-sizes
-
-  pub one-parts : bytesOf (outputSize out) out ++ one-from-delta ≡ packedOne inp out delta
-  unfolding packedOne
-  one-parts = refl
+pub one-parts : (inp out delta : ℕ)
+    → bytesOf (outputSize out) out
+    ++ (bytesOf (packSize delta) delta ++ ((sizesOf (packSize delta) (outputSize out) ∷ []) ++ stateBytes 128 inp))
+    ≡ packedOne inp out delta
+unfolding packedOne
+one-parts inp out delta = refl
 
 -- ---- the forms 00 and 01
 
-module _ (b : BuilderNode) (deltas : List ℕ) (osize tsize : ℕ) where
-  abbrev pub any-from-head : List ℕ
-  any-from-head = headOf (b .final) (length (b .inputs))
-
-  abbrev pub any-from-sizes : List ℕ
-  any-from-sizes = (sizesOf tsize osize ∷ []) ++ any-from-head
-
-  abbrev pub any-from-index : List ℕ
-  any-from-index = indexBytes (b .inputs) ++ any-from-sizes
-
-  abbrev pub any-from-inputs : List ℕ
-  any-from-inputs = storedBytes (b .inputs) ++ any-from-index
-
-  abbrev pub any-from-deltas : List ℕ
-  any-from-deltas = storedNumbers tsize deltas ++ any-from-inputs
-
-  abbrev pub any-from-outputs : List ℕ
-  any-from-outputs = storedNumbers osize (b .outputs) ++ any-from-deltas
-
-  pub any-parts : bytesOf (endLen (b .final) osize) (b .finalOutput) ++ any-from-outputs ≡ packedAny b deltas osize tsize
-  unfolding packedAny
-  any-parts = refl
+pub any-parts : (b : BuilderNode) (deltas : List ℕ) (osize tsize : ℕ)
+    → bytesOf (endLen (b .final) osize) (b .finalOutput)
+    ++ (storedNumbers osize (b .outputs)
+    ++ (storedNumbers tsize deltas
+    ++ (storedBytes (b .inputs)
+    ++ (indexBytes (b .inputs)
+    ++ ((sizesOf tsize osize ∷ []) ++ headOf (b .final) (length (b .inputs)))))))
+    ≡ packedAny b deltas osize tsize
+unfolding packedAny
+any-parts b deltas osize tsize = refl

@@ -1,6 +1,6 @@
--- Laws of `Compile`: how the answer and the buffer of a whole node follow from its bytes, and those from the parts.
+-- Laws of `Compile` and `Parts`: what a whole node answers and leaves follows from its bytes, once they are written.
 -- Assumes nothing.
-use mathlib.Core.Path.{_≡_, refl, _∙_}
+use mathlib.Core.Path.{_≡_, _∙_}
 use mathlib.Core.List.{List}
 use Prim.Native.Nat.{ℕ, _≤_, _<_}
 use borrow.Author.Tests.{le-leb, lt-leb}
@@ -11,7 +11,8 @@ use Rattle.format.specs.PutLaws.{put-zero}
 use Rattle.format.specs.DecideLaws.{true-of}
 use Rattle.format.specs.Packed.{BuilderNode, RecordOk, recordTest, packed, packing}
 use Rattle.format.specs.PackedLaws.{decides-record, packing-record}
-use Rattle.node_compile.specs.Compile.{Compiles, Fitted}
+use Rattle.node_compile.specs.Compile.{Compiles}
+use Rattle.node_compile.specs.Parts.{Fitted}
 use Rattle.node_compile.specs.declared.Compiled.{Compiled}
 use Rattle.node_compile.specs.declared.Compiled.the-variants.{Len, Refused}
 

@@ -1,18 +1,20 @@
 // The packer: a node record, written into a lent buffer in the layout of version 3.
-// A caller gives the node's first byte F and the record as its parts, and gets the number of bytes, or a refusal.
+// A caller gives the node's first byte F and the record as its parts, and gets the number of bytes,
+// or a refusal.
 // Ports `Node::compile` of src/raw/node.rs, and the `compile` of its three states.
 ghost use mathlib.Core.Path.{_≡_};
 ghost use mathlib.Core.Bool.{cond, not, _&&_};
-ghost use mathlib.Core.List.{[], _∷_, _++_, map};
+ghost use mathlib.Core.List.{map};
 ghost use Prim.Native.Nat.{_+_, _≤_, _<_};
 ghost use lib.Dec.{eqb, ltb};
 ghost use lib.ListN.{length};
 ghost use Rattle.format.specs.Decide.{Decides};
 ghost use Rattle.format.specs.Bytes.{packSize, largest};
 ghost use Rattle.format.specs.Node.{Ascending, endLen, indexLen};
-ghost use Rattle.format.specs.CommonInputs.{commonIdx};
-ghost use Rattle.format.specs.Packed.{TargetOk, TargetsOk, RecordOk, deltaOf, storedNumbers, storedBytes, indexOf, indexBytes, outputSize, deltaSize, sizesOf, inputBytes, packedNext, packedOne, finalFlag, headOf, packedAny, lastAddr};
-ghost use Rattle.node_compile.specs.Compile.{builderOf, Compiles, anyBytes, anyLen, Fitted, PutAt};
+ghost use Rattle.format.specs.Packed.{TargetOk, TargetsOk, RecordOk, deltaOf, storedNumbers, storedBytes, indexOf, indexBytes};
+ghost use Rattle.format.specs.Packed.{outputSize, deltaSize, sizesOf, inputBytes, packedNext, packedOne, finalFlag, headOf, lastAddr};
+ghost use Rattle.node_compile.specs.Compile.{builderOf, Compiles};
+ghost use Rattle.node_compile.specs.Parts.{stateBytes, anyIn, anyBytes, AnyFits, anyLen, Fitted, PutAt};
 use common_inputs::common_idx;
 use format::FIRST_NODE;
 use format::MAX_LEN;
@@ -78,7 +80,8 @@ fn record_ok(
     targets: &[usize],
     first: usize,
 ) -> bool
-    ensures { λ r. ⌜ Decides r (RecordOk first (builderOf «is_final» «final_output» (now (inputs .entry)) (now (outputs .entry)) (now (targets .entry)))) ⌝ }
+    ensures { λ r. ⌜ Decides r (RecordOk first
+        (builderOf «is_final» «final_output» (now (inputs .entry)) (now (outputs .entry)) (now (targets .entry)))) ⌝ }
 {
     if MAX_TRANS < inputs.len() {
         return false;
@@ -198,10 +201,13 @@ fn put_numbers(out: &mut [u8], at: usize, numbers: &[u64], size: usize) -> usize
     p
 }
 
-// Writes the delta of each target in size bytes, last first, from place at on; returns the place past them.
+// Writes the delta of each target in size bytes, last first, from place at on; returns the place past
+// them.
 fn put_deltas(out: &mut [u8], at: usize, targets: &[usize], first: usize, size: usize) -> usize
-    requires { ⌜ (at + length (storedNumbers size (map (deltaOf first) (now targets))) ≤ length (now out)) × TargetsOk first (now targets) ⌝ }
-    ensures { λ r. ⌜ PutAt (now (out .entry)) at (storedNumbers size (map (deltaOf first) (now (targets .entry)))) (now (out .exit)) r ⌝ }
+    requires { ⌜ (at + length (storedNumbers size (map (deltaOf first) (now targets))) ≤ length (now out))
+        × TargetsOk first (now targets) ⌝ }
+    ensures { λ r. ⌜ PutAt (now (out .entry)) at (storedNumbers size (map (deltaOf first) (now (targets .entry))))
+        (now (out .exit)) r ⌝ }
 {
     let mut p = at;
     let mut i = targets.len();
@@ -256,9 +262,11 @@ fn put_all(out: &mut [u8], at: usize, bytes: &[u8]) -> usize
     at + i
 }
 
-// Writes the index of a node with more than 32 transitions from place at on; returns the place past it.
+// Writes the index of a node with more than 32 transitions from place at on; returns the place past
+// it.
 fn put_index(out: &mut [u8], at: usize, inputs: &[u8]) -> usize
-    requires { ⌜ (at + length (indexBytes (now inputs)) ≤ length (now out)) × (length (now inputs) ≤ 256) × Ascending (now inputs) ⌝ }
+    requires { ⌜ (at + length (indexBytes (now inputs)) ≤ length (now out)) × (length (now inputs) ≤ 256)
+        × Ascending (now inputs) ⌝ }
     ensures { λ r. ⌜ PutAt (now (out .entry)) at (indexBytes (now (inputs .entry))) (now (out .exit)) r ⌝ }
 {
     if TRANS_INDEX_THRESHOLD < inputs.len() {
@@ -270,7 +278,7 @@ fn put_index(out: &mut [u8], at: usize, inputs: &[u8]) -> usize
 
 // 64 for a final node.
 fn flag_of(is_final: bool) -> u8
-    ensures { λ r. ⌜ (r ≡ finalFlag «is_final») × (r ≤ 64) ⌝ }
+    ensures { λ r. ⌜ r ≡ finalFlag «is_final» ⌝ }
 {
     if is_final { 64 } else { 0 }
 }
@@ -283,7 +291,8 @@ fn count_byte(n: usize) -> u8
     if n == MAX_TRANS { 1 } else { n as u8 }
 }
 
-// Writes the state byte, and the count byte before it where it is not 1 to 63; returns the place past them.
+// Writes the state byte, and the count byte before it where it is not 1 to 63; returns the place
+// past them.
 fn put_head(out: &mut [u8], at: usize, is_final: bool, n: usize) -> usize
     requires { ⌜ (at + length (headOf «is_final» n) ≤ length (now out)) × (n ≤ 256) ⌝ }
     ensures { λ r. ⌜ PutAt (now (out .entry)) at (headOf «is_final» n) (now (out .exit)) r ⌝ }
@@ -305,11 +314,11 @@ fn input_len(input: u8) -> usize
     if common_idx(input) == 0 { 1 } else { 0 }
 }
 
-// Writes the state byte of a node with one transition, and the input before it where the state byte does not keep it;
-// returns the place past them. The top two bits are given as form: 128, or 192.
+// Writes the state byte of a node with one transition, and the input before it where the state byte
+// does not keep it; returns the place past them. The top two bits are given as form: 128, or 192.
 fn put_state(out: &mut [u8], at: usize, form: u8, input: u8) -> usize
-    requires { ⌜ (at + length (inputBytes input ++ ((form + commonIdx input) ∷ [])) ≤ length (now out)) × (form ≤ 192) ⌝ }
-    ensures { λ r. ⌜ PutAt (now (out .entry)) at (inputBytes input ++ ((form + commonIdx input) ∷ [])) (now (out .exit)) r ⌝ }
+    requires { ⌜ (at + length (stateBytes form input) ≤ length (now out)) × (form ≤ 192) ⌝ }
+    ensures { λ r. ⌜ PutAt (now (out .entry)) at (stateBytes form input) (now (out .exit)) r ⌝ }
 {
     let idx = common_idx(input);
     if idx == 0 {
@@ -335,9 +344,11 @@ fn compile_next(input: u8, out: &mut [u8]) -> Compiled
     Compiled::Len(len)
 }
 
-// Writes a node of the form 10 with an output of osize bytes and a delta of tsize bytes; returns its length.
+// Writes a node of the form 10 with an output of osize bytes and a delta of tsize bytes; returns its
+// length.
 fn put_one(out: &mut [u8], input: u8, output: u64, osize: usize, delta: u64, tsize: usize) -> usize
-    requires { ⌜ (length (packedOne input output delta) ≤ length (now out)) × (osize ≡ outputSize output) × (tsize ≡ packSize delta) ⌝ }
+    requires { ⌜ (length (packedOne input output delta) ≤ length (now out)) × (osize ≡ outputSize output)
+        × (tsize ≡ packSize delta) ⌝ }
     ensures { λ r. ⌜ PutAt (now (out .entry)) 0 (packedOne input output delta) (now (out .exit)) r ⌝ }
 {
     pack_uint_in(out, 0, output, osize);
@@ -392,7 +403,8 @@ fn any_len(is_final: bool, n: usize, osize: usize, tsize: usize) -> usize
     end_len(is_final, osize) + n * osize + n * tsize + n + index_len(n) + 1 + head_len(n)
 }
 
-// Writes a node of the forms 00 and 01 with outputs of osize bytes and deltas of tsize bytes; returns its length.
+// Writes a node of the forms 00 and 01 with outputs of osize bytes and deltas of tsize bytes; returns
+// its length.
 fn put_any(
     out: &mut [u8],
     is_final: bool,
@@ -404,8 +416,11 @@ fn put_any(
     osize: usize,
     tsize: usize,
 ) -> usize
-    requires { ⌜ RecordOk first (builderOf «is_final» «final_output» (now inputs) (now outputs) (now targets)) × (length (packedAny (builderOf «is_final» «final_output» (now inputs) (now outputs) (now targets)) (map (deltaOf first) (now targets)) osize tsize) ≤ length (now out)) × (osize ≤ 8) × (tsize ≤ 8) ⌝ }
-    ensures { λ r. ⌜ PutAt (now (out .entry)) 0 (packedAny (builderOf «is_final» «final_output» (now (inputs .entry)) (now (outputs .entry)) (now (targets .entry))) (map (deltaOf first) (now (targets .entry))) osize tsize) (now (out .exit)) r ⌝ }
+    requires { ⌜ AnyFits first (builderOf «is_final» «final_output» (now inputs) (now outputs) (now targets))
+        osize tsize (length (now out)) ⌝ }
+    ensures { λ r. ⌜ PutAt (now (out .entry)) 0
+        (anyIn first (builderOf «is_final» «final_output» (now (inputs .entry)) (now (outputs .entry)) (now (targets .entry)))
+        osize tsize) (now (out .exit)) r ⌝ }
 {
     let end = end_len(is_final, osize);
     pack_uint_in(out, 0, final_output, end);
@@ -428,7 +443,9 @@ fn compile_any(
     out: &mut [u8],
 ) -> Compiled
     requires { ⌜ RecordOk first (builderOf «is_final» «final_output» (now inputs) (now outputs) (now targets)) ⌝ }
-    ensures { λ r. ⌜ Fitted (anyBytes first (builderOf «is_final» «final_output» (now (inputs .entry)) (now (outputs .entry)) (now (targets .entry)))) (now (out .entry)) (now (out .exit)) r ⌝ }
+    ensures { λ r. ⌜ Fitted
+        (anyBytes first (builderOf «is_final» «final_output» (now (inputs .entry)) (now (outputs .entry)) (now (targets .entry))))
+        (now (out .entry)) (now (out .exit)) r ⌝ }
 {
     let osize = output_size(larger(final_output, largest_of(outputs)));
     let tsize = delta_size(first, targets);
@@ -496,7 +513,9 @@ pub fn compile(
     first: usize,
     out: &mut [u8],
 ) -> Compiled
-    ensures { λ r. ⌜ Compiles (builderOf «is_final» «final_output» (now (inputs .entry)) (now (outputs .entry)) (now (targets .entry))) first (now (out .entry)) (now (out .exit)) r ⌝ }
+    ensures { λ r. ⌜ Compiles
+        (builderOf «is_final» «final_output» (now (inputs .entry)) (now (outputs .entry)) (now (targets .entry))) first
+        (now (out .entry)) (now (out .exit)) r ⌝ }
 {
     if record_ok(is_final, final_output, inputs, outputs, targets, first) {} else {
         return Compiled::Refused(RECORD);

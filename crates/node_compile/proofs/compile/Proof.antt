@@ -1,17 +1,18 @@
 -- `node_compile::compile` meets its contract: RECORD is judged first, and then each form's function answers for the record's bytes.
 -- Assumes nothing.
-use native.Mathlib.Omega.{arith}
-use borrow.Author.Needs.{needs}
 use mathlib.Core.Path.{_≡_, refl, sym, _∙_}
-use mathlib.Core.Bool.{true, false}
+use mathlib.Core.Bool.{true}
 use mathlib.Core.List.{[]}
 use Prim.Native.Nat.{_<_}
+use native.Mathlib.Omega.{arith}
+use borrow.Author.Needs.{needs}
 use denote.Ref.{now}
 use lib.ListN.{length, getD}
 use Rattle.format.specs.PutLaws.{put-nil}
-use Rattle.format.specs.Packed.{BuilderNode, RecordOk, packsToNothing, hasOne, leadsNext, deltaOf, packedNext, packedOne}
+use Rattle.format.specs.Packed.{BuilderNode, RecordOk, hasOne, leadsNext, deltaOf, packedNext, packedOne}
 use Rattle.format.specs.PackedLaws.{packed-nothing, packed-next-is, packed-one-is, packed-any-is, one-means}
-use Rattle.node_compile.specs.Compile.{builderOf, anyBytes}
+use Rattle.node_compile.specs.Compile.{builderOf}
+use Rattle.node_compile.specs.Parts.{anyBytes}
 use Rattle.node_compile.specs.CompileLaws.{fitted-written, compiles-record, compiles-fitted}
 use Rattle.node_compile.proofs.Record.{targets-le}
 use Rattle.node_compile.proofs.compile.Statement.{statement}
@@ -19,6 +20,7 @@ use Rattle.node_compile.proofs.compile.Tie as tie
 
 -- ---- the record, and what its tests showed
 
+-- the entry, seen from the judgement
 abbrev s : tie.After-record-ok → tie.Start
 s c = c .before .before .before .before .before
 
@@ -38,8 +40,9 @@ t₃ c = s (judged c .before)
 has-one-is : (c : tie.Then3) → hasOne (node (t₃ c)) ≡ true
 has-one-is c = sym (c .before .has-one .ensures) ∙ c .if3 .taken
 
-rooms : (c : tie.Then3) → (0 < length (now (t₃ c .args .inputs))) × (0 < length (now (t₃ c .args .outputs))) × (0 < length (now (t₃ c .args .targets)))
-rooms c =
+-- one transition, so each list has a first element
+not-empty : (c : tie.Then3) → (0 < length (now (t₃ c .args .inputs))) × (0 < length (now (t₃ c .args .outputs))) × (0 < length (now (t₃ c .args .targets)))
+not-empty c =
     let ok = record-is (judged c) in
     let one = one-means (node (t₃ c)) (has-one-is c) .1 in
     let outputs = ok .outputs-len in
@@ -82,16 +85,16 @@ has-one-requires : tie.Need-has-one-requires
 has-one-requires c κs = search needs
 
 shared-slice-read-leads-next : tie.Need-shared-slice-read-leads-next
-shared-slice-read-leads-next c = rooms (c .before) .2
+shared-slice-read-leads-next c = not-empty (c .before) .2
 
 shared-slice-read-leads-next-2 : tie.Need-shared-slice-read-leads-next-2
-shared-slice-read-leads-next-2 c = rooms (c .before .before) .1
+shared-slice-read-leads-next-2 c = not-empty (c .before .before) .1
 
 leads-next-requires : tie.Need-leads-next-requires
 leads-next-requires c κs = record-is (judged (c .before .before)) .first-low
 
 shared-slice-read-compile-next : tie.Need-shared-slice-read-compile-next
-shared-slice-read-compile-next c = rooms (one (c .before .before)) .0
+shared-slice-read-compile-next c = not-empty (one (c .before .before)) .0
 
 compile-next-requires : tie.Need-compile-next-requires
 compile-next-requires c κs = search needs
@@ -111,19 +114,19 @@ returns-3 c =
     (packed-next-is (t .args .first) (node t) (has-one-is o) (leads-next-is (test .before) ∙ test .if4 .taken)) (call .compile-next .ensures)
 
 shared-slice-read-compile-one : tie.Need-shared-slice-read-compile-one
-shared-slice-read-compile-one c = rooms (one (c .before .before)) .0
+shared-slice-read-compile-one c = not-empty (one (c .before .before)) .0
 
 shared-slice-read-compile-one-2 : tie.Need-shared-slice-read-compile-one-2
-shared-slice-read-compile-one-2 c = rooms (one (c .before .before .before)) .1
+shared-slice-read-compile-one-2 c = not-empty (one (c .before .before .before)) .1
 
 shared-slice-read-compile-one-3 : tie.Need-shared-slice-read-compile-one-3
-shared-slice-read-compile-one-3 c = rooms (one (c .before .before .before .before)) .2
+shared-slice-read-compile-one-3 c = not-empty (one (c .before .before .before .before)) .2
 
 compile-one-requires : tie.Need-compile-one-requires
 compile-one-requires c κs =
     let o = one (c .before .before .before .before .before) in
     let t = t₃ o in
-    targets-le (t .args .first) (now (t .args .targets)) (record-is (judged o) .targets-ok) 0 (rooms o .2)
+    targets-le (t .args .first) (now (t .args .targets)) (record-is (judged o) .targets-ok) 0 (not-empty o .2)
 
 same-length-2 : tie.Need-same-length-2
 same-length-2 c = search needs

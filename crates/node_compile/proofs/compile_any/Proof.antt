@@ -1,16 +1,17 @@
 -- `node_compile::compile_any` meets its contract.
 -- Assumes nothing.
-use native.Mathlib.Omega.{arith}
-use borrow.Author.Needs.{needs}
 use mathlib.Core.Path.{_≡_, ap, _∙_}
 use mathlib.Core.List.{List, _∷_, map}
 use Prim.Native.Nat.{ℕ, _≤_}
+use native.Mathlib.Omega.{arith}
+use borrow.Author.Needs.{needs}
 use denote.Ref.{now}
 use lib.ListN.{length}
 use Rattle.format.specs.Bytes.{largest}
-use Rattle.format.specs.Packed.{BuilderNode, deltaOf, outputSize, deltaSize, packedAny}
+use Rattle.format.specs.Packed.{BuilderNode, deltaOf, outputSize}
 use Rattle.format.specs.PackedLaws.{output-size-le, delta-size-le}
-use Rattle.node_compile.specs.Compile.{builderOf, anyBytes}
+use Rattle.node_compile.specs.Compile.{builderOf}
+use Rattle.node_compile.specs.Parts.{anyIn, anyBytes}
 use Rattle.node_compile.specs.CompileLaws.{fitted-space, fitted-written, fitted-same}
 use Rattle.node_compile.proofs.Largest.{largest-cons}
 use Rattle.node_compile.proofs.Sizes.{any-len-is}
@@ -19,6 +20,7 @@ use Rattle.node_compile.proofs.compile_any.Tie as tie
 
 -- ---- the record, the sizes, the node's bytes and their length
 
+-- the entry, seen from where the sizes are known
 abbrev s : tie.After-delta-size → tie.Start
 s c = c .before .before .before .before .before .before .before .before
 
@@ -43,12 +45,12 @@ sizes-le c = (
 )
 
 abbrev bytes : tie.After-delta-size → List ℕ
-bytes c = packedAny (node (s c)) (deltas (s c)) (c .before .output-size .result) (c .delta-size .result)
+bytes c = anyIn (s c .args .first) (node (s c)) (c .before .output-size .result) (c .delta-size .result)
 
 bytes-is : (c : tie.After-delta-size) → bytes c ≡ anyBytes (s c .args .first) (node (s c))
 bytes-is c =
-    ap (λ (o : ℕ). packedAny (node (s c)) (deltas (s c)) o (c .delta-size .result)) (osize-is c)
-    ∙ ap (packedAny (node (s c)) (deltas (s c)) (outputSize (largest (s c .args .final-output ∷ now (s c .args .outputs))))) (c .delta-size .ensures)
+    ap (λ (o : ℕ). anyIn (s c .args .first) (node (s c)) o (c .delta-size .result)) (osize-is c)
+    ∙ ap (anyIn (s c .args .first) (node (s c)) (outputSize (largest (s c .args .final-output ∷ now (s c .args .outputs))))) (c .delta-size .ensures)
 
 len-is : (c : tie.After-any-len) → c .any-len .result ≡ length (bytes (c .before))
 len-is c =
@@ -82,7 +84,7 @@ put-any-requires : tie.Need-put-any-requires
 put-any-requires c κs =
     let sized = c .before .before in
     let b = sizes-le (sized .before) in
-    (s (sized .before) .pre, omega (arith, len-is sized), b .0, b .1)
+    record { ok = s (sized .before) .pre; osize-le = b .0; tsize-le = b .1; fits = omega (arith, len-is sized) }
 
 same-length : tie.Need-same-length
 same-length c = search needs

@@ -1,9 +1,9 @@
 -- `node_compile::compile_next` meets its contract.
 -- Assumes nothing.
+use mathlib.Core.Path.{_≡_, ap}
+use Prim.Native.Nat.{_+_}
 use native.Mathlib.Omega.{arith}
 use borrow.Author.Needs.{needs}
-use mathlib.Core.Path.{_≡_, sym, ap, _∙_}
-use Prim.Native.Nat.{_+_}
 use denote.Ref.{now}
 use lib.ListN.{length}
 use Rattle.format.specs.Packed.{packedNext}

@@ -1,13 +1,12 @@
 -- `node_compile::compile_one` meets its contract.
 -- Assumes nothing.
-use native.Mathlib.Omega.{arith}
-use borrow.Author.Needs.{needs}
 use mathlib.Core.Path.{_≡_, ap, _∙_}
 use mathlib.Core.List.{List}
 use Prim.Native.Nat.{ℕ, _+_, _≤_}
+use native.Mathlib.Omega.{arith}
+use borrow.Author.Needs.{needs}
 use denote.Ref.{now}
 use lib.ListN.{length}
-use Rattle.format.specs.Bytes.{packSize}
 use Rattle.format.specs.Packed.{deltaOf, packedOne}
 use Rattle.format.specs.PackedLaws.{output-size-le, length-packed-one}
 use Rattle.node_compile.specs.CompileLaws.{fitted-space, fitted-written, fitted-same}
@@ -17,6 +16,7 @@ use Rattle.node_compile.proofs.compile_one.Tie as tie
 
 -- ---- the sizes, the node's bytes and their length
 
+-- the entry, seen from where the sizes are known
 abbrev s : tie.After-small → tie.Start
 s c = c .before .before .before .before .before
 

@@ -1,11 +1,10 @@
 -- `node_compile::delta_size` meets its contract.
 -- Assumes nothing.
-use mathlib.Core.Path.{_≡_, sym, _∙_}
+use mathlib.Core.Path.{sym, _∙_}
 use mathlib.Core.List.{map}
 use native.Mathlib.Omega.{arith}
 use borrow.Author.Needs.{needs}
 use denote.Ref.{now}
-use lib.ListN.{length}
 use Rattle.format.specs.Packed.{deltaOf}
 use Rattle.format.specs.PackedLaws.{length-deltas, delta-size-is}
 use Rattle.node_compile.proofs.Sizes.{delta-size-none}

@@ -1,8 +1,8 @@
 -- `node_compile::index_len` meets its contract.
 -- Assumes nothing.
+use borrow.Author.Tests.{lt-ltb, le-ltb}
 use Rattle.format.specs.Node.{indexLen}
 use Rattle.format.specs.Limits.{indexThreshold}
-use borrow.Author.Tests.{lt-ltb, le-ltb}
 use Rattle.node_compile.proofs.index_len.Statement.{statement}
 use Rattle.node_compile.proofs.index_len.Tie as tie
 

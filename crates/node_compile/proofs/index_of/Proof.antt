@@ -1,9 +1,9 @@
 -- `node_compile::index_of` meets its contract. The loop's invariant: the first i inputs have their places in the index. The measure is
 -- the length less i.
 -- Assumes nothing.
+use Prim.Native.Nat.{_-_}
 use native.Mathlib.Omega.{arith}
 use borrow.Author.Needs.{needs}
-use Prim.Native.Nat.{_-_}
 use denote.Ref.{now}
 use lib.ListN.{length}
 use Rattle.node_compile.proofs.Marking.{Marked, marked-none, marked-step, marked-all}

@@ -1,7 +1,7 @@
 -- `node_compile::input_len` meets its contract.
 -- Assumes nothing.
-use borrow.Author.Needs.{needs}
 use mathlib.Core.Path.{ap, sym}
+use borrow.Author.Needs.{needs}
 use lib.ListN.{length}
 use Rattle.node_compile.proofs.Heads.{input-rare, input-common}
 use Rattle.node_compile.proofs.input_len.Statement.{statement}

@@ -1,9 +1,9 @@
 -- `node_compile::put_all` meets its contract. The loop's invariant: the first i bytes are written from place at on. The measure is the
 -- length less i.
 -- Assumes nothing.
+use Prim.Native.Nat.{_-_}
 use native.Mathlib.Omega.{arith}
 use borrow.Author.Needs.{needs}
-use Prim.Native.Nat.{_-_}
 use denote.Ref.{now}
 use lib.ListN.{length}
 use Rattle.node_compile.proofs.Storing.{AllTo, all-none, all-step, all-done}

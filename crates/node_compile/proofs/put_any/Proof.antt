@@ -1,7 +1,7 @@
 -- `node_compile::put_any` meets its contract: the parts are written one after the other. A stage says what is still to be written at
 -- a place of the code.
 -- Assumes nothing.
-use mathlib.Core.Path.{_≡_, sym, _∙_}
+use mathlib.Core.Path.{_∙_}
 use mathlib.Core.List.{List, [], _∷_, _++_, map}
 use Prim.Native.Nat.{ℕ, _+_, _≤_}
 use native.Mathlib.Omega.{arith}
@@ -10,8 +10,9 @@ use denote.Ref.{now}
 use lib.ListN.{length, set}
 use Rattle.format.specs.Bytes.{bytesOf}
 use Rattle.format.specs.Node.{endLen}
-use Rattle.format.specs.Packed.{BuilderNode, deltaOf, storedNumbers, storedBytes, indexBytes, sizesOf, headOf, packedAny}
+use Rattle.format.specs.Packed.{BuilderNode, deltaOf, storedNumbers, storedBytes, indexBytes, sizesOf, headOf}
 use Rattle.node_compile.specs.Compile.{builderOf}
+use Rattle.node_compile.specs.Parts.{anyIn}
 use Rattle.node_compile.proofs.Heads.{put-one-byte}
 use Rattle.node_compile.proofs.Whole.{Writing, writing-none, writing-room, part-room, part-written, last-written, number-written, number-room, any-parts}
 use Rattle.node_compile.proofs.put_any.Statement.{statement}
@@ -67,14 +68,15 @@ fromEnd s = partEnd s ++ fromOutputs s
 -- ---- the stages
 
 abbrev Stage : tie.Start → List ℕ → List ℕ → ℕ → Type 0
-Stage s rest out p = Writing (now (s .args .out)) (packedAny (node s) (deltas s) (s .args .osize) (s .args .tsize)) rest out p
+Stage s rest out p = Writing (now (s .args .out)) (anyIn (s .args .first) (node s) (s .args .osize) (s .args .tsize)) rest out p
 
 at-end : (s : tie.Start) → Stage s (fromEnd s) (now (s .args .out)) 0
 at-end s =
     let a = s .args in
-    writing-none (now (a .out)) (packedAny (node s) (deltas s) (a .osize) (a .tsize)) (fromEnd s)
-    (any-parts (node s) (deltas s) (a .osize) (a .tsize)) (s .pre .1)
+    writing-none (now (a .out)) (anyIn (a .first) (node s) (a .osize) (a .tsize)) (fromEnd s)
+    (any-parts (node s) (deltas s) (a .osize) (a .tsize)) (s .pre .fits)
 
+-- the entry, seen from each place
 abbrev s₀ : tie.After-end-len → tie.Start
 s₀ c = c .before .before .before .before .before
 
@@ -155,7 +157,7 @@ put-numbers-requires c κs =
 put-deltas-requires : tie.Need-put-deltas-requires
 put-deltas-requires c κs =
     let written = c .before .before .before in
-    (part-room (partDeltas (s₂ written)) (fromInputs (s₂ written)) (at-deltas written), s₂ written .pre .0 .targets-ok)
+    (part-room (partDeltas (s₂ written)) (fromInputs (s₂ written)) (at-deltas written), s₂ written .pre .ok .targets-ok)
 
 put-bytes-requires : tie.Need-put-bytes-requires
 put-bytes-requires c κs =
@@ -165,13 +167,13 @@ put-bytes-requires c κs =
 put-index-requires : tie.Need-put-index-requires
 put-index-requires c κs =
     let written = c .before .before .before in
-    let ok = s₄ written .pre .0 in
+    let ok = s₄ written .pre .ok in
     (part-room (partIndex (s₄ written)) (fromSizes (s₄ written)) (at-index written), ok .few, ok .ascending)
 
 sizes-byte-requires : tie.Need-sizes-byte-requires
 sizes-byte-requires c κs =
     let s = s₅ (c .before .before) in
-    (s .pre .3, s .pre .2)
+    (s .pre .tsize-le, s .pre .osize-le)
 
 slice-write-out : tie.Need-slice-write-out
 slice-write-out c = omega (arith, sizes-room (c .before .before .before))
@@ -182,7 +184,7 @@ add-put-head c =
     omega (arith, s₆ (c .before) .good .0, writing-room stage, stage .len)
 
 put-head-requires : tie.Need-put-head-requires
-put-head-requires c κs = (writing-room (at-head (c .before)), s₆ (c .before) .pre .0 .few)
+put-head-requires c κs = (writing-room (at-head (c .before)), s₆ (c .before) .pre .ok .few)
 
 same-length : tie.Need-same-length
 same-length c =

@@ -1,10 +1,10 @@
 -- `node_compile::put_deltas` meets its contract. The loop's invariant: the deltas from i on are written, last first, up to place p.
 -- The measure is i.
 -- Assumes nothing.
-use native.Mathlib.Omega.{arith}
-use borrow.Author.Needs.{needs}
 use mathlib.Core.Path.{sym, _∙_}
 use mathlib.Core.List.{map}
+use native.Mathlib.Omega.{arith}
+use borrow.Author.Needs.{needs}
 use denote.Ref.{now}
 use lib.ListN.{length}
 use Rattle.format.specs.Packed.{deltaOf}

@@ -1,14 +1,14 @@
 -- `node_compile::put_head` meets its contract.
 -- Assumes nothing.
-use native.Mathlib.Omega.{arith}
-use borrow.Author.Needs.{needs}
 use mathlib.Core.Logic.{⊎-elim}
 use Prim.Native.Nat.{_<_}
+use native.Mathlib.Omega.{arith}
 use native.Mathlib.Nat.{not-le-of-lt}
+use borrow.Author.Needs.{needs}
 use borrow.Author.Tests.{ltb-true, ltb-false}
 use denote.Ref.{now}
 use lib.ListN.{length-set}
-use Rattle.node_compile.proofs.Heads.{head-short-room, head-short-put, head-long-room, head-long-put}
+use Rattle.node_compile.proofs.Heads.{final-flag-le, head-short-room, head-short-put, head-long-room, head-long-put}
 use Rattle.node_compile.proofs.put_head.Statement.{statement}
 use Rattle.node_compile.proofs.put_head.Tie as tie
 
@@ -25,7 +25,7 @@ cast-out : tie.Need-cast-out
 cast-out c = search needs
 
 add-out : tie.Need-add-out
-add-out c = omega (arith, ltb-true)
+add-out c = omega (arith, ltb-true, final-flag-le (c .before .before .before .before .args .is-final))
 
 slice-write-out : tie.Need-slice-write-out
 slice-write-out c =
@@ -46,7 +46,7 @@ returns c =
     let start = c .before .before .before .before in
     let a = start .args in
     head-short-put (now (a .out)) (a .at) (a .is-final) (a .n) (start .pre .0) (c .before .if1 .taken) (ltb-true (a .n) 64 (c .if2 .taken))
-    (flag .result) (flag .ensures .0)
+    (flag .result) (flag .ensures)
 
 count-byte-requires : tie.Need-count-byte-requires
 count-byte-requires c κs = search needs
@@ -79,7 +79,7 @@ returns-2 c =
     let start = c .before .before .before .before in
     let a = start .args in
     head-long-put (now (a .out)) (a .at) (a .is-final) (a .n) (start .pre .0) (not-short c) (c .count-byte .result) (flag .result)
-    (c .count-byte .ensures) (flag .ensures .0)
+    (c .count-byte .ensures) (flag .ensures)
 
 pub put-head-spec : {M : Type 1} → statement M
 put-head-spec =

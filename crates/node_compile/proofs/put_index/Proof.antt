@@ -1,8 +1,8 @@
 -- `node_compile::put_index` meets its contract.
 -- Assumes nothing.
+use mathlib.Core.Path.{ap}
 use native.Mathlib.Omega.{arith}
 use borrow.Author.Needs.{needs}
-use mathlib.Core.Path.{ap}
 use denote.Ref.{now}
 use lib.ListN.{length}
 use Rattle.node_compile.proofs.Heads.{index-many, index-few, put-none}

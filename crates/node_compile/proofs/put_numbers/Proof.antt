@@ -1,9 +1,9 @@
 -- `node_compile::put_numbers` meets its contract. The loop's invariant: the numbers from i on are written, last first, up to place p.
 -- The measure is i.
 -- Assumes nothing.
+use mathlib.Core.Path.{refl}
 use native.Mathlib.Omega.{arith}
 use borrow.Author.Needs.{needs}
-use mathlib.Core.Path.{refl}
 use denote.Ref.{now}
 use lib.ListN.{length}
 use Rattle.node_compile.proofs.Storing.{NumbersFrom, numbers-none, numbers-room, numbers-step, numbers-all}

@@ -1,18 +1,18 @@
 -- `node_compile::put_one` meets its contract: output, delta, sizes byte and state are written one after the other. A stage says what
 -- is still to be written at a place of the code.
 -- Assumes nothing.
-use mathlib.Core.Path.{_≡_, refl, sym, _∙_}
+use mathlib.Core.Path.{_≡_, refl, _∙_}
 use mathlib.Core.List.{List, [], _∷_, _++_}
 use Prim.Native.Nat.{ℕ, _+_}
 use native.Mathlib.Omega.{arith}
-use borrow.Author.Needs.{needs}
 use denote.Ref.{now}
-use lib.ListN.{length, set, length-set}
+use lib.ListN.{set}
 use Rattle.format.specs.Bytes.{bytesOf, packSize}
 use Rattle.format.specs.BytesLaws.{pack-size-high}
 use Rattle.format.specs.Packed.{outputSize, sizesOf, packedOne}
 use Rattle.format.specs.PackedLaws.{output-size-le}
-use Rattle.node_compile.proofs.Heads.{stateBytes, put-one-byte}
+use Rattle.node_compile.specs.Parts.{stateBytes}
+use Rattle.node_compile.proofs.Heads.{put-one-byte}
 use Rattle.node_compile.proofs.Whole.{Writing, writing-none, writing-room, part-room, part-written, last-written, number-written, number-room, one-parts}
 use Rattle.node_compile.proofs.put_one.Statement.{statement}
 use Rattle.node_compile.proofs.put_one.Tie as tie
@@ -39,6 +39,7 @@ at-output s =
     let a = s .args in
     writing-none (now (a .out)) (packedOne (a .input) (a .output) (a .delta)) _ (one-parts (a .input) (a .output) (a .delta)) (s .pre .0)
 
+-- the entry, seen from each place
 abbrev s₁ : tie.After-pack-uint-in → tie.Start
 s₁ c = c .before .before .before
 

@@ -3,10 +3,7 @@
 use mathlib.Core.Bool.{true≢false}
 use native.Mathlib.Nat.{not-le-of-lt}
 use borrow.Author.Needs.{needs}
-use denote.Ref.{now}
-use Rattle.format.specs.Packed.{BuilderNode, RecordOk}
 use Rattle.format.specs.DecideLaws.{decides-true, decides-false, decides-eq, decides-iff}
-use Rattle.node_compile.specs.Compile.{builderOf}
 use Rattle.node_compile.proofs.record_ok.Statement.{statement}
 use Rattle.node_compile.proofs.record_ok.Tie as tie
 

@@ -1,0 +1,59 @@
+-- What the functions under `compile` answer and write: the bytes of a form, and the part of a buffer.
+--     stateBytes form inp              the end of a node with one transition, whose top two bits are given as form: 128, or 192
+--     anyIn F b osize tsize            the bytes of b in the forms 00 and 01, with outputs of osize bytes and deltas of tsize bytes
+--     anyBytes F b                     the same, with the sizes that b's outputs and deltas need
+--     anyLen f n osize tsize           how many they are, of n transitions, final or not by f
+--     AnyFits F b osize tsize room     what writing them asks: b is as RECORD asks, and they have room
+--     Fitted bs out₀ out r             what writing a node's bytes bs answers and leaves, where only SPACE can refuse
+--     PutAt out₀ at v out r            out is out₀ with v from place at on, and r is the place past v
+-- Assumes nothing.
+use mathlib.Core.Path.{_≡_}
+use mathlib.Core.Bool.{Bool, cond}
+use mathlib.Core.List.{List, [], _∷_, _++_, map}
+use Prim.Native.Nat.{ℕ, _+_, _*_, _≤_}
+use lib.Dec.{leb}
+use lib.ListN.{length}
+use Rattle.format.specs.Limits.{SPACE}
+use Rattle.format.specs.Put.{put}
+use Rattle.format.specs.Bytes.{largest}
+use Rattle.format.specs.CommonInputs.{commonIdx}
+use Rattle.format.specs.Node.{endLen, indexLen}
+use Rattle.format.specs.Packed.{BuilderNode, RecordOk, deltaOf, inputBytes, outputSize, deltaSize, headOf, packedAny, Packing, written, refused}
+use Rattle.node_compile.specs.declared.Compiled.{Compiled}
+use Rattle.node_compile.specs.Compile.{answerOf, bufferOf}
+
+-- ---- a node's bytes
+
+-- the input where the state byte does not keep it, and the state byte
+abbrev pub stateBytes : ℕ → ℕ → List ℕ
+stateBytes form inp = inputBytes inp ++ ((form + commonIdx inp) ∷ [])
+
+abbrev pub anyIn : ℕ → BuilderNode → ℕ → ℕ → List ℕ
+anyIn first b osize tsize = packedAny b (map (deltaOf first) (b .targets)) osize tsize
+
+abbrev pub anyBytes : ℕ → BuilderNode → List ℕ
+anyBytes first b = anyIn first b (outputSize (largest (b .finalOutput ∷ b .outputs))) (deltaSize (map (deltaOf first) (b .targets)))
+
+pub record AnyFits (first : ℕ) (b : BuilderNode) (osize tsize room : ℕ) : Type 0 where
+  pub ok : RecordOk first b
+  pub osize-le : osize ≤ 8
+  pub tsize-le : tsize ≤ 8
+  pub fits : length (anyIn first b osize tsize) ≤ room
+
+-- final output, outputs, deltas, inputs, index, sizes byte, head
+abbrev pub anyLen : Bool → ℕ → ℕ → ℕ → ℕ
+anyLen final n osize tsize = endLen final osize + n * osize + n * tsize + n + indexLen 3 n + 1 + length (headOf final n)
+
+-- ---- the buffer
+
+-- bs where there is room for it, else SPACE
+abbrev pub fitting : List ℕ → ℕ → Packing
+fitting bs room = cond (leb (length bs) room) (written bs) (refused SPACE)
+
+pub record Fitted (bs out₀ out : List ℕ) (r : Compiled) : Type 0 where
+  pub answer : r ≡ answerOf (fitting bs (length out₀))
+  pub buffer : out ≡ bufferOf (fitting bs (length out₀)) out₀
+
+pub record PutAt (out₀ : List ℕ) (at : ℕ) (v out : List ℕ) (r : ℕ) : Type 0 where
+  pub is : out ≡ put out₀ at v
+  pub next : r ≡ at + length v
