@@ -27,6 +27,12 @@ pub mod Tables
 pub mod NodeFacts
 pub mod PathLaws
 pub mod Lookup
+pub mod LookupLaws
+pub mod LookupWalks
 pub mod ChainLaws
 pub mod TableLaws
 pub mod LiveLaws
+pub mod ReachedLaws
+pub mod LookupHeld
+pub mod FoundLaws
+pub mod NumberedLaws
