@@ -2,13 +2,14 @@
 --     fstIs s v root          a file by its bytes, version and root
 --     answerIs r              what a lookup by key answered
 --     keyIs r path            what a search by value answered, its key at the front of path
---     KeyFits r path          a found key fits path
+--     KeyFits r path          path has 255 bytes, and a found key fits it
 --     KeyWritten w ..         the answer and the buffer of a search whose definition answers w
 -- Assumes nothing.
 use mathlib.Core.Path.{_≡_}
 use mathlib.Core.List.{List, [], _∷_, _++_}
 use Prim.Native.Nat.{ℕ, _≤_}
 use lib.ListN.{length, take, drop}
+use Rattle.format.specs.Limits.{maxPath}
 use Rattle.format.specs.Paths.{Fst}
 use Rattle.format.specs.Lookup as L
 use Rattle.format.specs.Lookup.{value, found}
@@ -30,10 +31,14 @@ keyIs (Key n) path = found (take n path)
 keyIs NoKey path = L.KeyAnswer.none
 keyIs (KeyRefused n) path = L.KeyAnswer.refused n
 
-abbrev pub KeyFits : KeyAnswer → List ℕ → Type 0
-KeyFits (Key n) path = n ≤ length path
-KeyFits NoKey path = 0 ≤ 0
-KeyFits (KeyRefused n) path = 0 ≤ 0
+abbrev pub keyLen : KeyAnswer → ℕ
+keyLen (Key n) = n
+keyLen NoKey = 0
+keyLen (KeyRefused n) = 0
+
+pub record KeyFits (r : KeyAnswer) (path : List ℕ) : Type 0 where
+  pub len : length path ≡ maxPath
+  pub fits : keyLen r ≤ maxPath
 
 -- a key is written from the buffer's first byte, the rest as given; after none or a refusal the buffer is as given
 abbrev pub keyAnswerOf : L.KeyAnswer → KeyAnswer

@@ -90,7 +90,7 @@ enum-told c = search needs
 
 returns : tie.Need-returns Inv-loop μ-loop
 returns c = let call = c .before .before in
-    (sym (searching-unsound (call .before .loop .inv .rest) (answer-unsound (call .node-at .ensures) (c .enum-told .given .1))), omega arith)
+    (sym (searching-unsound (call .before .loop .inv .rest) (answer-unsound (call .node-at .ensures) (c .enum-told .given .1))), record { len = call .before .loop .inv .len; fits = omega arith })
 
 ends-requires : tie.Need-ends-requires Inv-loop μ-loop
 ends-requires c κs = search needs
@@ -98,7 +98,7 @@ ends-requires c κs = search needs
 returns-2 : tie.Need-returns-2 Inv-loop μ-loop
 returns-2 c = let q = c .before .before in
     let e = ends-both (at-loop q .loop .left) (m q .«is_final») (sym (c .before .ends .ensures) ∙ c .if1 .taken) in
-    (sym (searching-found (at-loop q .loop .inv .rest) (meaning (file q) (m q)) (node-is q) (e .0) (e .1)), omega (arith, at-loop q .loop .inv .len, at-loop q .loop .inv .within))
+    (sym (searching-found (at-loop q .loop .inv .rest) (meaning (file q) (m q)) (node-is q) (e .0) (e .1)), record { len = at-loop q .loop .inv .len; fits = at-loop q .loop .inv .within })
 
 last-fitting-requires : tie.Need-last-fitting-requires Inv-loop μ-loop
 last-fitting-requires c κs = readable (c .before .before)
@@ -112,12 +112,12 @@ enum-told-2 c = search needs
 returns-3 : tie.Need-returns-3 Inv-loop μ-loop
 returns-3 c = let call = c .before .before in
     let q = call .before .before .before in
-    (sym (searching-stuck (at-loop q .loop .inv .rest) (meaning (file q) (m q)) (node-is q) (goes-on (call .before)) (place-none _ (call .last-fitting .result) (call .last-fitting .ensures) (c .enum-told2 .given .1))), omega arith)
+    (sym (searching-stuck (at-loop q .loop .inv .rest) (meaning (file q) (m q)) (node-is q) (goes-on (call .before)) (place-none _ (call .last-fitting .result) (call .last-fitting .ensures) (c .enum-told2 .given .1))), record { len = at-loop q .loop .inv .len; fits = omega arith })
 
 returns-4 : tie.Need-returns-4 Inv-loop μ-loop
 returns-4 c = let w = c .before in
     let q = q-of w in
-    (sym (searching-deep (at-loop q .loop .inv .rest) (meaning (file q) (m q)) (node-is q) (goes-on (w .before .before .before .before)) (omega arith) (i w) (place w)), omega arith)
+    (sym (searching-deep (at-loop q .loop .inv .rest) (meaning (file q) (m q)) (node-is q) (goes-on (w .before .before .before .before)) (omega arith) (i w) (place w)), record { len = at-loop q .loop .inv .len; fits = omega arith })
 
 input-requires : tie.Need-input-requires Inv-loop μ-loop
 input-requires c κs = (readable (q-of (c .before)), low (c .before))
