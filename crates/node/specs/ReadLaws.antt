@@ -12,15 +12,15 @@ use lib.Dec.{eqb}
 use lib.ListN.{length, getD, length-map, List·getD-map}
 use Rattle.format.specs.declared.State.{State}
 use Rattle.format.specs.declared.State.the-variants.{OneTransNext, OneTrans, AnyTrans}
-use Rattle.format.specs.Node.{bytesDown, numbersDown, inputsAt, deltasAt, inputsIn, deltasIn, targetOf, Absent, Indexed, transitionAt, findInput}
+use Rattle.format.specs.Node.{bytesDown, numbersDown, inputsAt, deltasAt, inputsIn, deltasIn, targetOf, Absent, Indexed, transitionAt, findInput, Place, at, absent, sound, unsound, nodeAt}
 use Rattle.format.specs.StoredLaws.{length-bytes-down, length-numbers-down}
-use Rattle.format.specs.TransitionLaws.{length-transitions-of, transition-at-of, find-input-at, find-input-absent}
+use Rattle.format.specs.TransitionLaws.{length-transitions-of, transition-at-of, find-input-at, find-input-absent, find-input-member}
 use Rattle.node.specs.declared.Node.{Node}
 use Rattle.node.specs.declared.Judged.{Judged}
 use Rattle.node.specs.declared.Judged.the-variants.{Sound, Unsound}
 use Rattle.node.specs.declared.Found.{Found}
 use Rattle.node.specs.declared.Found.the-variants.{At, Absent as Missing}
-use Rattle.node.specs.Read.{transitionsIn, nodeInputs, nodeDeltas, isAny, Readable, placeOf, Finds, LooksUp}
+use Rattle.node.specs.Read.{meaning, judgedOf, Judges, transitionsIn, nodeInputs, nodeDeltas, isAny, Readable, placeOf, Finds, LooksUp}
 
 -- ---- a place or none
 
@@ -124,3 +124,22 @@ module _ (s : List ℕ) (m : Node) (r : Readable s m) where
   node-find b Missing h =
       sym (find-input-absent (nodeInputs s m) (numbersDown s (m .outputs) (m .osize) (m .ntrans)) (map (targetOf (m .first)) (nodeDeltas s m)) b outputs-len targets-len
       (h .missing refl))
+
+-- ---- what an answer says to a caller
+
+module _ {s : List ℕ} {v root a : ℕ} {r : Judged} (j : Judges s v root a r) where
+  pub answer-sound : (m : Node) → r ≡ Sound m → nodeAt s v root a ≡ sound (meaning s m)
+  answer-sound m e = sym (j .answer) ∙ ap (judgedOf s) e
+
+  pub answer-unsound : r ≡ Unsound → nodeAt s v root a ≡ unsound
+  answer-unsound e = sym (j .answer) ∙ ap (judgedOf s) e
+
+-- the place that `find_input` and the like answered
+pub place-is : (p : Place) (f : Found) → placeOf f ≡ p → (i : ℕ) → f ≡ At i → p ≡ at i
+place-is p f e i is = sym e ∙ ap placeOf is
+
+pub place-none : (p : Place) (f : Found) → placeOf f ≡ p → f ≡ Missing → p ≡ absent
+place-none p f e is = sym e ∙ ap placeOf is
+
+pub place-lt : (s : List ℕ) (m : Node) (r : Readable s m) (b i : ℕ) → findInput (transitionsIn s m) b ≡ at i → i < m .ntrans
+place-lt s m r b i e = omega (arith, find-input-member (transitionsIn s m) b i e .0, length-node-transitions s m r)

@@ -1,0 +1,18 @@
+-- `lookup::ends` meets its contract.
+-- Assumes nothing.
+use mathlib.Core.Path.{_≡_, refl, sym, ap, _∙_}
+use borrow.Author.Tests.{eq-eqb, ne-eqb}
+use borrow.Author.Needs.{needs}
+use native.Mathlib.Omega.{arith}
+use denote.Ref.{now}
+use Rattle.lookup.proofs.ends.Statement.{statement}
+use Rattle.lookup.proofs.ends.Tie as tie
+
+returns : tie.Need-returns
+returns c = rw (eq-eqb (c .before .args .left) 0 (c .if1 .taken))
+
+returns-2 : tie.Need-returns-2
+returns-2 c = rw (ne-eqb (c .before .args .left) 0 (c .if1 .left))
+
+pub ends-spec : {M : Type 1} → statement M
+ends-spec = tie.close (tie.spec returns returns-2)

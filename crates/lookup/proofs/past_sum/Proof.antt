@@ -1,0 +1,38 @@
+-- `lookup::past_sum` meets its contract: the node is judged, and then the sum.
+-- Assumes nothing.
+use mathlib.Core.Path.{_≡_, refl, sym, ap, _∙_}
+use Rattle.node.specs.ReadLaws.{answer-sound, answer-unsound}
+use Rattle.format.specs.LookupLaws.{get-from-unsound, get-from-sum}
+use Rattle.node.specs.Read.{meaning}
+use Rattle.lookup.specs.Answers.{fstIs}
+use borrow.Author.Needs.{needs}
+use native.Mathlib.Omega.{arith}
+use denote.Ref.{now}
+use Rattle.lookup.proofs.past_sum.Statement.{statement}
+use Rattle.lookup.proofs.past_sum.Tie as tie
+
+node-at-requires : tie.Need-node-at-requires
+node-at-requires c κs = search needs
+
+enum-told : tie.Need-enum-told
+enum-told c = search needs
+
+enum-told-2 : tie.Need-enum-told-2
+enum-told-2 c = search needs
+
+returns : tie.Need-returns
+returns c = λ k sum h.
+    let call = c .before .before in
+    let a = call .before .before .args in
+    sym (get-from-unsound (fstIs (now (a .file)) (a .version) (a .root)) k (a .addr) sum (answer-unsound (call .node-at .ensures) (c .enum-told .given .1)))
+
+returns-2 : tie.Need-returns-2
+returns-2 c = λ k sum h.
+    let call = c .before .before in
+    let a = call .before .before .args in
+    let s = now (a .file) in
+    let m = c .enum-told2 .given .0 .0 in
+    sym (get-from-sum (fstIs s (a .version) (a .root)) (a .addr) sum (meaning s m) (answer-sound (call .node-at .ensures) m (c .enum-told2 .given .1)) k h)
+
+pub past-sum-spec : {M : Type 1} → statement M
+past-sum-spec = tie.close (tie.spec node-at-requires enum-told enum-told-2 returns returns-2)

@@ -1,0 +1,205 @@
+// A value for a key, a key for a value (src/raw/mod.rs: `get`, `get_key_into`), on any file, admitted or not.
+// Each node is judged once, as it is entered; the last is entered too.
+ghost use mathlib.Core.Path.{_≡_};
+ghost use Prim.Native.Nat.{ℕ, _+_, _≤_, _<_};
+ghost use lib.ListN.{length, take, drop};
+ghost use lib.Dec.{eqb};
+ghost use mathlib.Core.Bool.{_&&_};
+ghost use mathlib.Core.List.{List, [], _++_};
+ghost use Rattle.format.specs.Limits.{maxSum};
+ghost use Rattle.format.specs.Lookup as L;
+ghost use Rattle.format.specs.Lookup.{getFrom, getKeyFrom, lastFitting};
+ghost use Rattle.node.specs.Read.{transitionsIn, Readable, placeOf};
+ghost use Rattle.lookup.specs.Answers.{fstIs, answerIs, keyIs, KeyFits, KeyWritten};
+use format::DEEP;
+use format::NODE;
+use format::SPACE;
+use format::SUM;
+use fst::Opened;
+use node::Found;
+use node::Judged;
+use node::Node;
+
+// What a lookup by key answers: the key's value, that the key is not held, or the number of a refusal.
+pub enum Answer {
+    Value(u64),
+    None,
+    Refused(u8),
+}
+
+// What a lookup by value answers: the length of the key that was found, that none was, or the number of a refusal.
+pub enum KeyAnswer {
+    Key(usize),
+    None,
+    Refused(u8),
+}
+
+// ---- by key
+
+// The answer where the sum that leads to the node at addr passes 2^64 - 1: the node is judged first.
+fn past_sum(file: &[u8], version: u64, root: usize, addr: usize) -> Answer
+    ensures { λ r. ⌜ ((k : List ℕ) (sum : ℕ) → maxSum < sum → answerIs r ≡ getFrom (fstIs (now (file .entry)) version root) k addr sum) ⌝ }
+{
+    let judged = node::node_at(file, version, root, addr);
+    match judged {
+        Judged::Unsound => Answer::Refused(NODE),
+        Judged::Sound(_) => Answer::Refused(SUM),
+    }
+}
+
+// The answer where the key ends at the node at addr, with this running sum.
+fn at_end(file: &[u8], version: u64, root: usize, addr: usize, sum: u64) -> Answer
+    ensures { λ r. ⌜ answerIs r ≡ getFrom (fstIs (now (file .entry)) version root) [] addr sum ⌝ }
+{
+    let Judged::Sound(m) = node::node_at(file, version, root, addr) else {
+        return Answer::Refused(NODE);
+    };
+    if m.is_final {
+        let out = m.final_output;
+        if u64::MAX - sum < out {
+            return Answer::Refused(SUM);
+        }
+        return Answer::Value(sum + out);
+    }
+    Answer::None
+}
+
+// Follows the key from the root of a file that opens.
+fn get_from(file: &[u8], version: u64, root: usize, key: &[u8]) -> Answer
+    ensures { λ r. ⌜ answerIs r ≡ getFrom (fstIs (now (file .entry)) version root) (now (key .entry)) root 0 ⌝ }
+{
+    let mut addr = root;
+    let mut sum: u64 = 0;
+    let mut i = 0;
+    while i < key.len() {
+        let Judged::Sound(m) = node::node_at(file, version, root, addr) else {
+            return Answer::Refused(NODE);
+        };
+        let b = key[i];
+        let Found::At(p) = node::find_input(file, m, b) else {
+            return Answer::None;
+        };
+        let out = node::output(file, m, p);
+        addr = node::transition_addr(file, m, p);
+        if u64::MAX - sum < out {
+            return past_sum(file, version, root, addr);
+        }
+        sum += out;
+        i += 1;
+    }
+    at_end(file, version, root, addr, sum)
+}
+
+// The value of a key of any length. Opening's refusals; then for each node as it is entered, the last included, NODE for the node and
+// SUM for the running sum up to it; at the end SUM with the final output.
+pub fn get(file: &[u8], key: &[u8]) -> Answer
+    ensures { λ r. ⌜ answerIs r ≡ L.get (now (file .entry)) (now (key .entry)) ⌝ }
+{
+    let opened = fst::open(file);
+    match opened {
+        Opened::Refused(why) => Answer::Refused(why),
+        Opened::Meta(m) => get_from(file, m.version, m.root, key),
+    }
+}
+
+// ---- by value
+
+// The last of the leading transitions whose output is not above what is left.
+fn last_fitting(file: &[u8], node: Node, left: u64) -> Found
+    requires { ⌜ Readable (now file) node ⌝ }
+    ensures { λ r. ⌜ placeOf r ≡ lastFitting (transitionsIn (now (file .entry)) node) left ⌝ }
+{
+    let n = node.ntrans;
+    let mut i = 0;
+    while i < n {
+        if left < node::output(file, node, i) {
+            if i == 0 {
+                return Found::Absent;
+            }
+            return Found::At(i - 1);
+        }
+        i += 1;
+    }
+    if n == 0 {
+        Found::Absent
+    } else {
+        Found::At(n - 1)
+    }
+}
+
+// Searches from the root of a file that opens; the key's bytes stand at the front of path where a key is found.
+fn find_key(file: &[u8], version: u64, root: usize, value: u64, path: &mut [u8; 255]) -> KeyAnswer
+    requires { ⌜ length (now path) ≡ 255 ⌝ }
+    ensures { λ r. ⌜ keyIs r (now (path .exit)) ≡ getKeyFrom 255 (fstIs (now (file .entry)) version root) root value ⌝ }
+    ensures { λ r. ⌜ KeyFits r (now (path .exit)) ⌝ }
+{
+    let mut addr = root;
+    let mut left = value;
+    let mut n = 0;
+    loop {
+        let Judged::Sound(m) = node::node_at(file, version, root, addr) else {
+            return KeyAnswer::Refused(NODE);
+        };
+        if ends(left, m.is_final) {
+            return KeyAnswer::Key(n);
+        }
+        let Found::At(i) = last_fitting(file, m, left) else {
+            return KeyAnswer::None;
+        };
+        // a key has at most 255 bytes
+        if 255 <= n {
+            return KeyAnswer::Refused(DEEP);
+        }
+        path[n] = node::input(file, m, i);
+        left -= node::output(file, m, i);
+        addr = node::transition_addr(file, m, i);
+        n += 1;
+    }
+}
+
+// Whether the search ends at a node: nothing is left, and it is final.
+fn ends(left: u64, is_final: bool) -> bool
+    ensures { λ r. ⌜ r ≡ (eqb left 0 && «is_final») ⌝ }
+{
+    if left == 0 { is_final } else { false }
+}
+
+// Copies the first n bytes of path to the front of key.
+fn put_key(path: &[u8; 255], n: usize, key: &mut [u8])
+    requires { ⌜ (length (now path) ≡ 255) × (n ≤ 255) × (255 ≤ length (now key)) ⌝ }
+    ensures { λ _. ⌜ now (key .exit) ≡ take n (now (path .entry)) ++ drop n (now (key .entry)) ⌝ }
+{
+    let mut i = 0;
+    while i < n {
+        key[i] = path[i];
+        i += 1;
+    }
+}
+
+// A key with this value. Opening's refusals, then SPACE for a buffer under 255; then NODE for each node entered, and DEEP before a
+// 256th byte. Final outputs are ignored, as in the Rust. The buffer is written only where a key is found: the key from its first
+// byte on. On a numbered file a found key has the value, and none comes exactly when no held key has it; on any other admitted file
+// the outputs on a found key's path add up to the value, and a key that has it may be missed.
+pub fn get_key(file: &[u8], value: u64, key: &mut [u8]) -> KeyAnswer
+    ensures { λ r. ⌜ KeyWritten (L.getKey (now (file .entry)) value (length (now (key .entry)))) (now (key .entry)) (now (key .exit)) r ⌝ }
+{
+    let opened = fst::open(file);
+    match opened {
+        Opened::Refused(why) => KeyAnswer::Refused(why),
+        Opened::Meta(m) => {
+            if key.len() < 255 {
+                return KeyAnswer::Refused(SPACE);
+            }
+            let mut path = [0u8; 255];
+            let found = find_key(file, m.version, m.root, value, &mut path);
+            match found {
+                KeyAnswer::Key(n) => {
+                    put_key(&path, n, key);
+                    KeyAnswer::Key(n)
+                }
+                KeyAnswer::None => KeyAnswer::None,
+                KeyAnswer::Refused(why) => KeyAnswer::Refused(why),
+            }
+        }
+    }
+}
