@@ -26,3 +26,6 @@ pub mod Admitted
 pub mod Tables
 pub mod NodeFacts
 pub mod PathLaws
+pub mod ChainLaws
+pub mod TableLaws
+pub mod LiveLaws
