@@ -70,11 +70,12 @@ abbrev pub orOver : Bool → Total → Bool
 orOver heavy (Is x) = heavy
 orOver heavy Over = true
 
--- the targets lie within the tables, and their entries are small
-pub record Surveyable (d s : List ℕ) (ts : List Transition) : Type 0 where
+-- the targets lie within the tables, and their entries and the final output are small
+pub record Surveyable (d s : List ℕ) (out : ℕ) (ts : List Transition) : Type 0 where
   pub in-depths : (t : Transition) → List·Memᴰ t ts → t .addr < length d
   pub in-sums : (t : Transition) → List·Memᴰ t ts → t .addr < length s
   pub small : (t : Transition) → List·Memᴰ t ts → childDepth d (t .addr) ≤ maxPath + 2
+  pub out-le : out ≤ maxSum
 
 -- a target without an entry
 pub record LostTarget (d : List ℕ) (ts : List Transition) : Type 0 where

@@ -131,7 +131,7 @@ fn raised(t: Total, w: u64, s: u64) -> Total
 
 // The entries of a node's targets, in one pass over its transitions.
 fn survey_node(file: &[u8], node: Node, depths: &[u16], sums: &[u64]) -> Survey
-    requires { ⌜ Readable (now file) node × Surveyable (now depths) (now sums) (transitionsIn (now file) node) ⌝ }
+    requires { ⌜ Readable (now file) node × Surveyable (now depths) (now sums) (node .«final_output») (transitionsIn (now file) node) ⌝ }
     ensures { λ r. ⌜ Surveyed (now (depths .entry)) (now (sums .entry)) (node .«final_output») (transitionsIn (now (file .entry)) node) r ⌝ }
 {
     let n = node.ntrans;
