@@ -2,3 +2,5 @@
 mod Stores
 mod Totals
 mod Surveying
+mod Judging
+mod Walking
