@@ -4,3 +4,6 @@ mod Totals
 mod Surveying
 mod Judging
 mod Walking
+mod HalfFilled
+mod Children
+mod Filling

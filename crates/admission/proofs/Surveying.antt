@@ -125,3 +125,7 @@ surveyed-all {d} {s} {out} {ts} {i} {best} {total} h l =
           let t-is : total ≡ t = cc in
           sym t-is ∙ h .total-is ∙ ap (λ u. totalOf (heaviest s out u)) all;
     }
+
+-- the answer by another name
+pub surveyed-as : {d s : List ℕ} {out : ℕ} {ts : List Transition} {r r′ : Survey} → r ≡ r′ → Surveyed d s out ts r → Surveyed d s out ts r′
+surveyed-as {d} {s} {out} {ts} e h = subst (λ r. Surveyed d s out ts r) e h
