@@ -7,3 +7,4 @@ mod Walking
 mod HalfFilled
 mod Children
 mod Filling
+mod Verdicts

@@ -127,7 +127,6 @@ pub record SumEntry (f : Fst) (d₀ : List ℕ) (j x : ℕ) : Type 0 where
 pub record Fillable (f : Fst) (d s : List ℕ) : Type 0 where
   pub room-depths : length (f .bytes) ≤ length d
   pub room-sums : length (f .bytes) ≤ length s
-  pub marks-small : (j : ℕ) → j < length (f .bytes) → getD d j 0 ≤ 1
   pub sounds : SoundMarks f d
   pub zeros : (j : ℕ) → j < length (f .bytes) → getD s j 0 ≡ 0
 
