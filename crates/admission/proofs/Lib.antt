@@ -8,3 +8,4 @@ mod HalfFilled
 mod Children
 mod Filling
 mod Verdicts
+mod Answers
