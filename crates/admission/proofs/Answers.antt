@@ -8,14 +8,14 @@ use Prim.Native.Nat.{ℕ, _≤_, _<_}
 use native.Mathlib.Omega.{arith}
 use lib.ListN.{length}
 use Rattle.format.specs.Limits.{NODE, DEEP, SUM, SPACE}
-use Rattle.format.specs.Opening.{refused, opening}
+use Rattle.format.specs.Opening.{opening}
 use Rattle.format.specs.Paths.{Fst, fstOf}
 use Rattle.fst.specs.declared.Meta.{Meta}
 use Rattle.fst.specs.declared.Opened.{Opened}
 use Rattle.fst.specs.declared.Opened.the-variants.{Meta as Read, Refused as Turned}
 use Rattle.fst.specs.Open.{metaIs, openingOf}
 use Rattle.admission.specs.declared.Admission.{Admission}
-use Rattle.admission.specs.declared.Admission.the-variants.{Admitted as Yes, Refused}
+use Rattle.admission.specs.declared.Admission.the-variants.{Refused}
 use Rattle.admission.specs.declared.Verdict.{Verdict}
 use Rattle.admission.specs.declared.Verdict.the-variants.{Good, Lost, Deep, Heavy}
 use Rattle.admission.specs.Passes.{fstIs, Kept}

@@ -1,10 +1,9 @@
 -- What the tables say of a target, and that a node's numbers follow from those of its targets.
 -- Assumes nothing.
-use mathlib.Core.Path.{_≡_, refl, sym, ap, _∙_}
+use mathlib.Core.Path.{_≡_, sym, ap, _∙_}
 use mathlib.Core.List.{List, List·Memᴰ}
 use Prim.Native.Nat.{ℕ, suc, _+_, _≤_, max}
 use native.Mathlib.Decide.{ℕ-discrete}
-use native.Mathlib.Numerals.{add-one}
 use native.Mathlib.Omega.{arith}
 use borrow.Author.Tests.{eq-eqb, ne-eqb}
 use lib.ListN.{getD}
@@ -12,7 +11,7 @@ use Rattle.format.specs.declared.Transition.{Transition}
 use Rattle.format.specs.Limits.{maxPath}
 use Rattle.format.specs.Node.{Node, sound}
 use Rattle.format.specs.Paths.{Fst, nodeIn}
-use Rattle.format.specs.Tables.{maxOf, longest, largestSum}
+use Rattle.format.specs.Tables.{longest, largestSum}
 use Rattle.format.specs.TableLaws.{max-same, longest-of, largest-of, longest-zero, largest-zero}
 use Rattle.admission.specs.Passes.{childDepth, childSum, deepest, heaviest, Marked}
 

@@ -7,8 +7,7 @@
 use mathlib.Core.Path.{_≡_, refl, sym, ap, _∙_, subst}
 use mathlib.Core.Bool.{Bool, true, false, cond}
 use mathlib.Core.List.{List, List·Memᴰ}
-use mathlib.Core.Logic.{_⊎_, inl, inr, ⊎-elim}
-use Prim.Native.Nat.{ℕ, _+_, _-_, _^_, _≤_, _<_, min}
+use Prim.Native.Nat.{ℕ, _+_, _≤_, _<_, min}
 use native.Mathlib.Omega.{arith}
 use native.Mathlib.Decide.{ℕ-discrete}
 use native.Mathlib.Nat.{not-suc-le-zero}
@@ -23,9 +22,8 @@ use Rattle.format.specs.Paths.{Fst, nodeIn}
 use Rattle.format.specs.NodeFacts.{node-target-lt, node-final-lt}
 use Rattle.format.specs.Tables.{longest, largestSum}
 use Rattle.admission.specs.declared.Total.{Total}
-use Rattle.admission.specs.declared.Total.the-variants.{Is, Over}
 use Rattle.admission.specs.declared.Survey.the-variants.{Lost as NoEntry, Found}
-use Rattle.admission.specs.Passes.{Kept, Marked, deepest, heaviest, totalOf, entryOf, orOver, Surveyable, LostTarget, MarkedTargets, Surveyed, SoundMarks, ClosedMarks, LostOne, DeepOne, HeavyOne, GoodAll, HeavyCase}
+use Rattle.admission.specs.Passes.{Kept, Marked, heaviest, entryOf, orOver, Surveyable, LostTarget, MarkedTargets, Surveyed, SoundMarks, ClosedMarks, LostOne, DeepOne, HeavyOne, GoodAll, HeavyCase}
 use Rattle.admission.proofs.Stores.{kept-none, kept-set}
 use Rattle.admission.proofs.Totals.{total-cases}
 use Rattle.admission.proofs.HalfFilled.{Half, half-none, half-skip, half-store, half-map}

@@ -1,6 +1,6 @@
 -- What an answer of `node_at` says of the node at its address.
 -- Assumes nothing.
-use mathlib.Core.Path.{_≡_, refl, sym, ap, _∙_}
+use mathlib.Core.Path.{_≡_, sym, ap, _∙_}
 use mathlib.Core.List.{List}
 use Prim.Native.Nat.{ℕ}
 use Rattle.format.specs.Node.{sound, unsound}

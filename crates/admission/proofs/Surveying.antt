@@ -4,21 +4,21 @@
 use mathlib.Core.Path.{_≡_, refl, sym, ap, _∙_, subst}
 use mathlib.Core.Logic.{⊎-elim}
 use mathlib.Core.List.{List, [], _∷_, _++_, List·Memᴰ, List·Memᴰ·not-nil, List·Memᴰ·append-cases, List·Memᴰ·eq-of-singleton}
-use Prim.Native.Nat.{ℕ, zero, suc, _+_, _≤_, _<_, max}
+use Prim.Native.Nat.{ℕ, _+_, _≤_, _<_, max}
 use native.Mathlib.Numerals.{add-one}
 use native.Mathlib.Omega.{arith}
 use lib.ListN.{length, take}
 use lib.Seq.{take-suc, take-all}
 use Rattle.format.specs.declared.Transition.{Transition}
-use Rattle.format.specs.Limits.{maxPath, maxSum}
+use Rattle.format.specs.Limits.{maxPath}
 use Rattle.format.specs.Node.{transitionAt}
 use Rattle.format.specs.TransitionLaws.{at-member}
 use Rattle.format.specs.Tables.{maxOf}
 use Rattle.admission.specs.declared.Total.{Total}
-use Rattle.admission.specs.declared.Total.the-variants.{Is, Over}
+use Rattle.admission.specs.declared.Total.the-variants.{Is}
 use Rattle.admission.specs.declared.Survey.{Survey}
 use Rattle.admission.specs.declared.Survey.the-variants.{Lost as NoEntry, Found}
-use Rattle.admission.specs.Passes.{childDepth, childSum, deepest, heaviest, totalOf, raisedBy, Surveyable, LostTarget, MarkedTargets, Surveyed}
+use Rattle.admission.specs.Passes.{childDepth, childSum, deepest, heaviest, totalOf, raisedBy, Surveyable, MarkedTargets, Surveyed}
 use Rattle.admission.proofs.Totals.{total-of-le, raised-total}
 
 -- ---- the largest over one transition more

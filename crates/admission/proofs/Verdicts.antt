@@ -2,11 +2,10 @@
 --     Marks f d l         the table d marks the addresses of the file's chain l, and no other within the file
 --     filled-judges       what the pass up the file found, over the chain and over paths
 -- Assumes nothing.
-use mathlib.Core.Path.{_≡_, refl, sym, ap, _∙_, subst}
-use mathlib.Core.Bool.{Bool, true, false}
+use mathlib.Core.Path.{_≡_, sym, _∙_, subst}
 use mathlib.Core.Logic.{⊎-elim}
-use mathlib.Core.List.{List, [], _∷_, List·Memᴰ, List·Memᴰ·not-nil}
-use Prim.Native.Nat.{ℕ, _+_, _≤_, _<_}
+use mathlib.Core.List.{List, [], List·Memᴰ, List·Memᴰ·not-nil}
+use Prim.Native.Nat.{ℕ, _≤_, _<_}
 use native.Mathlib.Omega.{arith}
 use lib.ListN.{length, getD}
 use Rattle.format.specs.declared.Transition.{Transition}
@@ -14,7 +13,7 @@ use Rattle.format.specs.Limits.{maxPath, maxSum}
 use Rattle.format.specs.Node.{Node, sound}
 use Rattle.format.specs.Paths.{Fst, nodeIn}
 use Rattle.format.specs.NodeFacts.{node-inside, node-target-lt}
-use Rattle.format.specs.Admitted.{Chain, RootChain, empty, rooted, Nodes, Shallow, Light}
+use Rattle.format.specs.Admitted.{Chain, empty, rooted, Nodes, Shallow, Light}
 use Rattle.format.specs.ChainLaws.{chain-sound, chain-low, root-chain-cases, root-chain-unique, dec-mem}
 use Rattle.format.specs.Tables.{longest, largestSum}
 use Rattle.format.specs.TableLaws.{longest-bound, largest-bound, longest-attained, largest-attained}

@@ -6,9 +6,9 @@
 --     Outcome s ..            the answer of admission
 -- Assumes nothing.
 use mathlib.Core.Path.{_≡_}
-use mathlib.Core.List.{List, [], _∷_, _++_, List·Memᴰ}
+use mathlib.Core.List.{List, _++_, List·Memᴰ}
 use mathlib.Core.Logic.{_⊎_}
-use Prim.Native.Nat.{ℕ, suc, _+_, _≤_, _<_}
+use Prim.Native.Nat.{ℕ, _+_, _≤_, _<_}
 use lib.ListN.{length, getD, drop, replicate}
 use Rattle.format.specs.Limits.{maxPath, maxSum, NODE, DEEP, SUM, SPACE}
 use Rattle.format.specs.Node.{Node, sound}

@@ -2,13 +2,8 @@
 -- Assumes nothing.
 use Rattle.admission.proofs.Answers.{opening-refused, opening-opens}
 use borrow.Author.Needs.{needs}
-use native.Mathlib.Omega.{arith}
 use Rattle.admission.proofs.admit.Statement.{statement}
 use Rattle.admission.proofs.admit.Tie as tie
-use Rattle.admission.proofs.admit.Reads as reads
-use Rattle.admission.proofs.admit.Lts as lts
-use Rattle.admission.proofs.admit_opened.Reads as admit-opened-reads
-use Rattle.fst.proofs.open.Reads as open-reads
 
 open-requires : tie.Need-open-requires
 open-requires c κs = search needs

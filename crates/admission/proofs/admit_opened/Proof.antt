@@ -1,22 +1,13 @@
 -- `admission::admit_opened` meets its contract: room in the tables, both cleared, all nodes judged, and an answer for each verdict.
 -- Assumes nothing.
-use mathlib.Core.Path.{_≡_, refl}
-use mathlib.Core.List.{List}
 use mathlib.Core.Logic.{inl, inr}
-use Prim.Native.Nat.{ℕ, _≤_}
+use Prim.Native.Nat.{_≤_}
 use denote.Ref.{now}
 use lib.ListN.{length}
-use Rattle.admission.proofs.Answers.{space-refused, wiped-cleared, Judging, depths-kept, sums-kept, good-admits, lost-refused, deep-refused, heavy-refused, refused-outcome}
+use Rattle.admission.proofs.Answers.{space-refused, wiped-cleared, Judging, good-admits, lost-refused, deep-refused, heavy-refused, refused-outcome}
 use borrow.Author.Needs.{needs}
-use native.Mathlib.Omega.{arith}
 use Rattle.admission.proofs.admit_opened.Statement.{statement}
 use Rattle.admission.proofs.admit_opened.Tie as tie
-use Rattle.admission.proofs.admit_opened.Reads as reads
-use Rattle.admission.proofs.admit_opened.Lts as lts
-use Rattle.admission.proofs.clear16.Reads as clear16-reads
-use Rattle.admission.proofs.clear64.Reads as clear64-reads
-use Rattle.admission.proofs.judge.Reads as judge-reads
-use Rattle.admission.proofs.refused.Reads as refused-reads
 
 -- ---- the tables cleared
 
@@ -100,7 +91,7 @@ same-length-4 : tie.Need-same-length-4
 same-length-4 c = search needs
 
 returns-4 : tie.Need-returns-4
-returns-4 c = 
+returns-4 c =
     let call = c .before .before .before .before in
     let told = call .before .before .before in
     let j = judging (told .before .before .before .before .before .before) in
@@ -113,7 +104,7 @@ same-length-6 : tie.Need-same-length-6
 same-length-6 c = search needs
 
 returns-5 : tie.Need-returns-5
-returns-5 c = 
+returns-5 c =
     let call = c .before .before .before .before in
     let told = call .before .before .before in
     let j = judging (told .before .before .before .before .before .before) in
@@ -126,7 +117,7 @@ same-length-8 : tie.Need-same-length-8
 same-length-8 c = search needs
 
 returns-6 : tie.Need-returns-6
-returns-6 c = 
+returns-6 c =
     let call = c .before .before .before .before in
     let told = call .before .before .before in
     let j = judging (told .before .before .before .before .before .before) in

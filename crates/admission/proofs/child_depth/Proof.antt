@@ -1,10 +1,9 @@
+-- `admission::child_depth` meets its contract: both ways out are a test of the definition.
+-- Assumes nothing.
 use borrow.Author.Needs.{needs}
-use native.Mathlib.Omega.{arith}
 use borrow.Author.Tests.{eq-eqb, ne-eqb}
 use Rattle.admission.proofs.child_depth.Statement.{statement}
 use Rattle.admission.proofs.child_depth.Tie as tie
-use Rattle.admission.proofs.child_depth.Reads as reads
-use Rattle.admission.proofs.child_depth.Lts as lts
 
 returns : tie.Need-returns
 returns c = simp (eq-eqb _ _ (c .if1 .taken))

@@ -1,32 +1,21 @@
 -- `admission::fill` meets its contract. The loop's invariant: the addresses below `a` are filled in at the marks of the entry, as
 -- `Filling` says, with the two flags. The measure is what is left of the file. Assumes nothing.
-use mathlib.Core.Path.{_≡_, refl, sym, ap, _∙_, subst}
-use mathlib.Core.List.{List}
+use mathlib.Core.Path.{_≡_, ap, _∙_}
 use mathlib.Core.Logic.{⊎-elim}
-use Prim.Native.Nat.{ℕ, _-_, _≤_, _<_}
+use Prim.Native.Nat.{_-_, _≤_, _<_}
 use denote.Ref.{now}
-use lib.ListN.{length, getD, set}
+use lib.ListN.{length, set}
 use Rattle.format.specs.Node.{Node, sound}
 use Rattle.format.specs.Paths.{Fst, nodeIn}
 use Rattle.node.specs.Read.{meaning}
-use Rattle.admission.specs.declared.Survey.{Survey}
-use Rattle.admission.specs.declared.Survey.the-variants.{Lost as NoEntry, Found}
-use Rattle.admission.specs.Passes.{fstIs, Marked, Surveyable, Surveyed}
+use Rattle.admission.specs.Passes.{fstIs, Surveyable}
 use Rattle.admission.proofs.Judging.{judged-sound, judged-unsound}
 use Rattle.admission.proofs.Surveying.{surveyed-as}
-use Rattle.admission.proofs.Filling.{Filling, filling-none, was-marked, filling-skip, not-unsound, surveyable, filling-lost, filling-store, filling-as, closed-all, filled-heavy, filled-good}
+use Rattle.admission.proofs.Filling.{Filling, filling-none, filling-skip, not-unsound, surveyable, filling-lost, filling-store, filling-as, closed-all, filled-heavy, filled-good}
 use borrow.Author.Needs.{needs}
 use native.Mathlib.Omega.{arith}
 use Rattle.admission.proofs.fill.Statement.{statement}
 use Rattle.admission.proofs.fill.Tie as tie
-use Rattle.admission.proofs.fill.Reads as reads
-use Rattle.admission.proofs.fill.Lts as lts
-use Rattle.admission.proofs.clamped.Reads as clamped-reads
-use Rattle.admission.proofs.entry_of.Reads as entry-of-reads
-use Rattle.admission.proofs.or_deep.Reads as or-deep-reads
-use Rattle.admission.proofs.or_over.Reads as or-over-reads
-use Rattle.admission.proofs.survey_node.Reads as survey-node-reads
-use Rattle.node.proofs.node_at.Reads as node-at-reads
 
 abbrev Inv-loop : tie.InvT-loop
 Inv-loop file version root depths₀ sums₀ deep₀ heavy₀ a₀ depths sums deep heavy a =
@@ -113,7 +102,7 @@ same-length-4 : tie.Need-same-length-4 Inv-loop μ-loop
 same-length-4 c = filling (turn (c .before .before .before .before .before) .before .before .before) .sums-kept .long
 
 returns-2 : tie.Need-returns-2 Inv-loop μ-loop
-returns-2 c = 
+returns-2 c =
     let node = c .before .before .before .before .before in
     let h = filling (at-node node) in
     record {
@@ -155,7 +144,7 @@ loop-less : tie.Need-loop-less Inv-loop μ-loop
 loop-less c = search needs
 
 loop-again : tie.Need-loop-again Inv-loop μ-loop
-loop-again c = 
+loop-again c =
     let at = c .before .before .before in
     let h = filling at in
     let l = c .before .before .loop-test .taken in (
@@ -180,7 +169,7 @@ same-length-6 : tie.Need-same-length-6 Inv-loop μ-loop
 same-length-6 c = filling (c .before .before) .sums-kept .long
 
 returns-3 : tie.Need-returns-3 Inv-loop μ-loop
-returns-3 c = 
+returns-3 c =
     let h = filling (c .before .before) in
     record {
       depths-kept = h .depths-kept;
@@ -195,7 +184,7 @@ same-length-8 : tie.Need-same-length-8 Inv-loop μ-loop
 same-length-8 c = filling (c .before .before .before) .sums-kept .long
 
 returns-4 : tie.Need-returns-4 Inv-loop μ-loop
-returns-4 c = 
+returns-4 c =
     let h = filling (c .before .before .before) in
     record {
       depths-kept = h .depths-kept;
@@ -210,7 +199,7 @@ same-length-10 : tie.Need-same-length-10 Inv-loop μ-loop
 same-length-10 c = filling (c .before .before .before) .sums-kept .long
 
 returns-5 : tie.Need-returns-5 Inv-loop μ-loop
-returns-5 c = 
+returns-5 c =
     let h = filling (c .before .before .before) in
     record {
       depths-kept = h .depths-kept;

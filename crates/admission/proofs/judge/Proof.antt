@@ -1,23 +1,18 @@
 -- `admission::judge` meets its contract: root 0 has no chain; a chain that breaks; or what the pass up the file found at the marks.
 -- Assumes nothing.
-use mathlib.Core.Path.{_≡_, refl, subst}
+use mathlib.Core.Path.{_≡_, subst}
 use mathlib.Core.Bool.{Bool, true, false}
 use mathlib.Core.List.{List}
-use Prim.Native.Nat.{ℕ, _≤_}
+use Prim.Native.Nat.{ℕ}
 use denote.Ref.{now}
-use lib.ListN.{length}
 use Rattle.format.specs.Paths.{Fst}
-use Rattle.admission.specs.Passes.{fstIs, Kept, Walked}
+use Rattle.admission.specs.Passes.{fstIs, Walked}
 use Rattle.admission.proofs.Stores.{kept-none}
 use Rattle.admission.proofs.Verdicts.{root-zero-judges, broken-nodes, Marks, marks-of, marks-fillable, filled-judges}
 use borrow.Author.Needs.{needs}
 use native.Mathlib.Omega.{arith}
 use Rattle.admission.proofs.judge.Statement.{statement}
 use Rattle.admission.proofs.judge.Tie as tie
-use Rattle.admission.proofs.judge.Reads as reads
-use Rattle.admission.proofs.judge.Lts as lts
-use Rattle.admission.proofs.fill.Reads as fill-reads
-use Rattle.admission.proofs.walk.Reads as walk-reads
 
 -- ---- the file, and the depths after the walk
 
@@ -53,7 +48,7 @@ same-length : tie.Need-same-length
 same-length c = search needs
 
 returns-2 : tie.Need-returns-2
-returns-2 c = 
+returns-2 c =
     let w = c .before .before .before in
     record {
       depths-kept = w .walk .ensures .0;
@@ -62,7 +57,7 @@ returns-2 c =
     }
 
 fill-requires : tie.Need-fill-requires
-fill-requires c κs = 
+fill-requires c κs =
     let w = called (c .before .before) in
     marks-fillable (marks (c .before .before) .1) (omega (arith, start w .pre .room-depths, w .walk .ensures .0 .long)) (start w .pre .room-sums) (start w .pre .sums)
 
@@ -73,7 +68,7 @@ same-length-3 : tie.Need-same-length-3
 same-length-3 c = search needs
 
 returns-3 : tie.Need-returns-3
-returns-3 c = 
+returns-3 c =
     let filled = c .before .before .before .before in
     let q = filled .before .before .before in
     filled-judges (marks q .1) (called q .walk .ensures .0) (filled .fill .ensures)

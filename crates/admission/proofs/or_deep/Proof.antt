@@ -1,10 +1,8 @@
-use borrow.Author.Needs.{needs}
-use native.Mathlib.Omega.{arith}
+-- `admission::or_deep` meets its contract: both ways out are a test of the definition.
+-- Assumes nothing.
 use borrow.Author.Tests.{lt-ltb, le-ltb}
 use Rattle.admission.proofs.or_deep.Statement.{statement}
 use Rattle.admission.proofs.or_deep.Tie as tie
-use Rattle.admission.proofs.or_deep.Reads as reads
-use Rattle.admission.proofs.or_deep.Lts as lts
 
 returns : tie.Need-returns
 returns c = simp (lt-ltb _ _ (c .if1 .taken))

@@ -1,11 +1,10 @@
+-- `admission::raised` meets its contract: w + s passes the limit exactly where u64::MAX - s is below w.
+-- Assumes nothing.
 use borrow.Author.Needs.{needs}
 use native.Mathlib.Omega.{arith}
 use Rattle.admission.proofs.Totals.{raised-over, raised-is}
 use Rattle.admission.proofs.raised.Statement.{statement}
 use Rattle.admission.proofs.raised.Tie as tie
-use Rattle.admission.proofs.raised.Reads as reads
-use Rattle.admission.proofs.raised.Lts as lts
-use Rattle.admission.proofs.larger64.Reads as larger64-reads
 
 enum-told : tie.Need-enum-told
 enum-told c = search needs

@@ -1,7 +1,7 @@
 -- `admission::survey_node` meets its contract. The loop's invariant: the transitions passed have entries, and `best` and `total` are
 -- their largest depth and sum, the final output included. The measure is the number of transitions left. Assumes nothing.
 use mathlib.Core.Path.{_≡_}
-use Prim.Native.Nat.{ℕ, _-_, _<_}
+use Prim.Native.Nat.{_-_, _<_}
 use Rattle.admission.specs.Passes.{Surveyable}
 use mathlib.Core.List.{List}
 use denote.Ref.{now}
@@ -14,14 +14,6 @@ use borrow.Author.Needs.{needs}
 use native.Mathlib.Omega.{arith}
 use Rattle.admission.proofs.survey_node.Statement.{statement}
 use Rattle.admission.proofs.survey_node.Tie as tie
-use Rattle.admission.proofs.survey_node.Reads as reads
-use Rattle.admission.proofs.survey_node.Lts as lts
-use Rattle.admission.proofs.child_depth.Reads as child-depth-reads
-use Rattle.admission.proofs.child_sum.Reads as child-sum-reads
-use Rattle.admission.proofs.larger16.Reads as larger16-reads
-use Rattle.admission.proofs.raised.Reads as raised-reads
-use Rattle.node.proofs.output.Reads as output-reads
-use Rattle.node.proofs.transition_addr.Reads as transition-addr-reads
 
 abbrev Inv-loop : tie.InvT-loop
 Inv-loop file node depths sums n best₀ total₀ i₀ best total i = SurveyedTo depths sums (node .«final_output») (transitionsIn file node) i best total
@@ -75,7 +67,7 @@ loop-less : tie.Need-loop-less Inv-loop μ-loop
 loop-less c = search needs
 
 loop-again : tie.Need-loop-again Inv-loop μ-loop
-loop-again c = 
+loop-again c =
     let summed = c .before .before .before in
     let targeted = summed .before .before .before in
     let turn = targeted .before in

@@ -1,8 +1,8 @@
 -- `admission::walk` meets its contract. The loop's invariant: the addresses passed are marked, and what is left of the chain is the
 -- chain from `a`. The measure is `a`, since the next node lies below. Assumes nothing.
-use mathlib.Core.Path.{_≡_, refl, sym, ap, _∙_}
+use mathlib.Core.Path.{_≡_, refl}
 use mathlib.Core.List.{List, []}
-use Prim.Native.Nat.{ℕ, _-_, _≤_, _<_}
+use Prim.Native.Nat.{ℕ, _<_}
 use denote.Ref.{now}
 use lib.ListN.{length, set}
 use Rattle.format.specs.Node.{sound}
@@ -16,9 +16,6 @@ use borrow.Author.Needs.{needs}
 use native.Mathlib.Omega.{arith}
 use Rattle.admission.proofs.walk.Statement.{statement}
 use Rattle.admission.proofs.walk.Tie as tie
-use Rattle.admission.proofs.walk.Reads as reads
-use Rattle.admission.proofs.walk.Lts as lts
-use Rattle.node.proofs.node_at.Reads as node-at-reads
 
 abbrev Inv-loop : tie.InvT-loop
 Inv-loop file version root depths₀ a₀ depths a =
