@@ -1,0 +1,11 @@
+-- Lemmas on plain lists and numbers, for the proofs of this crate.
+mod Stores
+mod Totals
+mod Surveying
+mod Judging
+mod Walking
+mod HalfFilled
+mod Children
+mod Filling
+mod Verdicts
+mod Answers

@@ -1,0 +1,60 @@
+-- A table after a store, entry by entry; a table cleared from the front; a table kept beyond the file.
+-- Assumes nothing.
+use mathlib.Core.Path.{_≡_, refl, sym, ap, _∙_, subst}
+use mathlib.Core.List.{List, _++_}
+use Prim.Native.Nat.{ℕ, _+_, _≤_, _<_}
+use native.Mathlib.Omega.{arith}
+use native.Mathlib.Decide.{ℕ-discrete}
+use borrow.Author.Fill.{fill-more}
+use lib.ListN.{length, getD, set, drop, replicate, length-set, length-append, length-replicate, length-drop, List·getD-append, getD-replicate}
+use lib.Seq.{getD-set-same, getD-set-other, drop-set-lt, drop-at}
+use Rattle.admission.specs.Passes.{Kept}
+use Rattle.admission.specs.Outcome.{Wiped}
+
+-- ---- what holds of the stored entry and of each other entry holds of every entry after the store
+
+pub at-set : (P : ℕ → ℕ → Type 0) (d : List ℕ) (i v : ℕ) → i < length d → P i v → ((j : ℕ) → ¬ (j ≡ i) → P j (getD d j 0))
+    → (j : ℕ) → P j (getD (set d i v) j 0)
+at-set P d i v l here there j =
+    elim (ℕ-discrete j i) [
+      | yes q ↦ subst (λ k. P k (getD (set d i v) k 0)) (sym q) (rw (getD-set-same d i v 0 l) here)
+      | no q ↦ rw (getD-set-other d i j v 0 q) (there j q)
+    ]
+
+-- ---- cleared from the front
+
+pub cleared-step : (t t₀ : List ℕ) (i : ℕ) → t ≡ replicate i 0 ++ drop i t₀ → i < length t₀ → set t i 0 ≡ replicate (i + 1) 0 ++ drop (i + 1) t₀
+cleared-step t t₀ i e h = ap (λ l. set l i 0) e ∙ fill-more i 0 t₀ h
+
+pub cleared-all : (t t₀ : List ℕ) (i n : ℕ) → t ≡ replicate i 0 ++ drop i t₀ → i ≡ n → t ≡ replicate n 0 ++ drop n t₀
+cleared-all t t₀ i n e p = e ∙ ap (λ k. replicate k 0 ++ drop k t₀) p
+
+-- ---- kept beyond the first n entries
+
+pub kept-none : (n : ℕ) (d : List ℕ) → Kept n d d
+kept-none n d = record { long = refl; beyond = refl }
+
+pub kept-set : {n : ℕ} {d₀ d : List ℕ} (i v : ℕ) → i < n → Kept n d₀ d → Kept n d₀ (set d i v)
+kept-set {n} {d = d} i v h k = record { long = length-set d i v ∙ k .long; beyond = drop-set-lt n d i v h ∙ k .beyond }
+
+pub kept-then : {n : ℕ} {a b c : List ℕ} → Kept n a b → Kept n b c → Kept n a c
+kept-then p q = record { long = q .long ∙ p .long; beyond = q .beyond ∙ p .beyond }
+
+-- ---- wiped
+
+pub length-wiped : (n : ℕ) (d₀ d : List ℕ) → n ≤ length d₀ → Wiped n d₀ d → length d ≡ length d₀
+length-wiped n d₀ d h e = ap length e ∙ simp (length-append, length-replicate, length-drop) (omega arith)
+
+pub wiped-kept : (n : ℕ) (d₀ d : List ℕ) → n ≤ length d₀ → Wiped n d₀ d → Kept n d₀ d
+wiped-kept n d₀ d h e =
+    record {
+      long = length-wiped n d₀ d h e;
+      beyond = ap (drop n) e ∙ drop-at (replicate n 0) (drop n d₀) n (length-replicate n 0);
+    }
+
+pub wiped-at : (n : ℕ) (d₀ d : List ℕ) → Wiped n d₀ d → (j : ℕ) → j < n → getD d j 0 ≡ 0
+wiped-at n d₀ d e j h =
+    ap (λ x. getD x j 0) e ∙ List·getD-append (replicate n 0) (drop n d₀) 0 j (rw (length-replicate {A = ℕ} n 0) h) ∙ getD-replicate n j 0 0 h
+
+pub wiped-after : {n : ℕ} {d₀ d e : List ℕ} → Kept n d₀ d → Wiped n d e → Wiped n d₀ e
+wiped-after {n} k w = w ∙ ap (λ x. replicate n 0 ++ x) (k .beyond)

@@ -1,0 +1,101 @@
+-- `admission::survey_node` meets its contract. The loop's invariant: the transitions passed have entries, and `best` and `total` are
+-- their largest depth and sum, the final output included. The measure is the number of transitions left. Assumes nothing.
+use mathlib.Core.Path.{_≡_}
+use Prim.Native.Nat.{_-_, _<_}
+use Rattle.admission.specs.Passes.{Surveyable}
+use mathlib.Core.List.{List}
+use denote.Ref.{now}
+use lib.ListN.{length}
+use Rattle.format.specs.declared.Transition.{Transition}
+use Rattle.node.specs.Read.{transitionsIn}
+use Rattle.node.specs.ReadLaws.{length-node-transitions}
+use Rattle.admission.proofs.Surveying.{SurveyedTo, surveyed-none, target-in-depths, target-in-sums, surveyed-lost, surveyed-step, surveyed-all}
+use borrow.Author.Needs.{needs}
+use native.Mathlib.Omega.{arith}
+use Rattle.admission.proofs.survey_node.Statement.{statement}
+use Rattle.admission.proofs.survey_node.Tie as tie
+
+abbrev Inv-loop : tie.InvT-loop
+Inv-loop file node depths sums n best₀ total₀ i₀ best total i = SurveyedTo depths sums (node .«final_output») (transitionsIn file node) i best total
+
+abbrev μ-loop : tie.MeasureT-loop
+μ-loop file node depths sums n best₀ total₀ i₀ best total i = n - i
+
+abbrev start : tie.At-loop Inv-loop μ-loop → tie.Start Inv-loop μ-loop
+start q = q .before .before .before .before
+
+abbrev transitions : tie.At-loop Inv-loop μ-loop → List Transition
+transitions q = transitionsIn (now (start q .args .file)) (start q .args .node)
+
+count : (q : tie.At-loop Inv-loop μ-loop) → length (transitions q) ≡ start q .args .node .ntrans
+count q = length-node-transitions (now (start q .args .file)) (start q .args .node) (start q .pre .0)
+
+ready : (q : tie.At-loop Inv-loop μ-loop) → Surveyable (now (start q .args .depths)) (now (start q .args .sums)) (start q .args .node .«final_output») (transitions q)
+ready q = start q .pre .1
+
+in-list : (q : tie.In-loop Inv-loop μ-loop) → q .before .loop .i < length (transitions (q .before))
+in-list q = omega (arith, count (q .before))
+
+loop-holds : tie.Need-loop-holds Inv-loop μ-loop
+loop-holds c = surveyed-none (c .before .before .before .pre .1)
+
+transition-addr-requires : tie.Need-transition-addr-requires Inv-loop μ-loop
+transition-addr-requires c κs = search needs
+
+child-depth-requires : tie.Need-child-depth-requires Inv-loop μ-loop
+child-depth-requires c κs = target-in-depths (ready (c .before .before)) (c .before .before .loop .i) (in-list (c .before)) _ (c .transition-addr .ensures)
+
+returns : tie.Need-returns Inv-loop μ-loop
+returns c = let turn = c .before .before .before in surveyed-lost (ready (turn .before)) (turn .before .loop .i) (in-list turn) _ (c .before .before .transition-addr .ensures) _ (c .before .child-depth .ensures) (c .if1 .taken)
+
+child-sum-requires : tie.Need-child-sum-requires Inv-loop μ-loop
+child-sum-requires c κs = target-in-sums (ready (c .before .before .before .before)) (c .before .before .before .before .loop .i) (in-list (c .before .before .before)) _ (c .before .before .transition-addr .ensures)
+
+output-requires : tie.Need-output-requires Inv-loop μ-loop
+output-requires c κs = search needs
+
+larger16-requires : tie.Need-larger16-requires Inv-loop μ-loop
+larger16-requires c κs = search needs
+
+raised-requires : tie.Need-raised-requires Inv-loop μ-loop
+raised-requires c κs = search needs
+
+add-i : tie.Need-add-i Inv-loop μ-loop
+add-i c = search needs
+
+loop-less : tie.Need-loop-less Inv-loop μ-loop
+loop-less c = search needs
+
+loop-again : tie.Need-loop-again Inv-loop μ-loop
+loop-again c =
+    let summed = c .before .before .before in
+    let targeted = summed .before .before .before in
+    let turn = targeted .before in
+    surveyed-step (ready (turn .before)) (turn .before .loop .i) (in-list turn) _ (targeted .transition-addr .ensures) _ (summed .before .before .child-depth .ensures)
+    _ _ _ _ (turn .before .loop .inv) (summed .before .if1 .left) (summed .child-sum .ensures) (c .before .before .output .ensures) (c .before .larger16 .ensures) (c .raised .ensures)
+
+add-t14 : tie.Need-add-t14 Inv-loop μ-loop
+add-t14 c = search needs
+
+returns-2 : tie.Need-returns-2 Inv-loop μ-loop
+returns-2 c = surveyed-all (c .before .loop .inv) (omega (arith, count (c .before)))
+
+pub survey-node-spec : {M : Type 1} → statement M
+survey-node-spec =
+    tie.close
+    (tie.spec
+    Inv-loop
+    μ-loop
+    loop-holds
+    transition-addr-requires
+    child-depth-requires
+    returns
+    child-sum-requires
+    output-requires
+    larger16-requires
+    raised-requires
+    add-i
+    loop-less
+    loop-again
+    add-t14
+    returns-2)
