@@ -1,15 +1,18 @@
 -- Document 01's bench table: one theorem that holds all of its rows, each by computation.
---     a, G, W          the inputs of the rows
 --     one, ending      a record with one transition; a record without any
+--     D                the 50-byte file of document 01's listing
 -- Assumes nothing.
 use mathlib.Core.Path.{_≡_, refl}
 use mathlib.Core.Bool.{Bool, true, false}
-use mathlib.Core.List.{List, [], _∷_}
+use mathlib.Core.List.{List, [], _∷_, _++_}
 use Prim.Native.Nat.{ℕ}
-use lib.ListN.{length, getD}
-use Rattle.format.specs.Bytes.{bytesOf, sizeUpTo, packSize, largest}
+use lib.ListN.{replicate}
+use Rattle.format.specs.Bytes.{le, bytesOf, sizeUpTo, packSize, largest}
 use Rattle.format.specs.CommonInputs.{commonInputs, commonInputsInv, commonIdx, commonInput}
-use Rattle.format.specs.Packed.{BuilderNode, recordTest, storedNumbers, storedBytes, placeFrom, upFrom, indexOf, indexBytes, outputSize, deltaSize, inputBytes, packedNext, packedOne, headOf, packedAny, packed, Packing, written, packing}
+use Rattle.format.specs.Packed.{BuilderNode, recordTest, storedNumbers, storedBytes, placeFrom, upFrom, indexOf, indexBytes, outputSize, deltaSize, inputBytes, packedNext, packedOne, headOf, packedAny, packed, written, packing}
+use Rattle.format.specs.Node.{headLen, inputOf, ntransOf, sizesByte, indexLen, sizeOf, downFrom, bytesDown, numbersDown, transitionsOf, nodeOf, soundTest, nodeAt, findFrom}
+use Rattle.format.specs.Opening.{metaOf, rootTest, opening}
+use Rattle.format.specs.Lookup.{value, getFrom, get, found, fittingFrom, lastFitting, getKeyFrom, getKey, KeyAnswer}
 
 abbrev one : ℕ → ℕ → ℕ → BuilderNode
 one inp out target =
@@ -21,6 +24,12 @@ ending final out = record { final = final; finalOutput = out; inputs = []; outpu
 -- the buffer of each row has 16 bytes, which is more than any of them needs
 abbrev packs : ℕ → BuilderNode → List ℕ → Type 0
 packs first b bytes = packing first b 16 ≡ written bytes
+
+-- version 3, type 0, the nodes, count 3, root 29, checksum 0
+abbrev D : List ℕ
+D =
+    bytesOf 8 3 ++ bytesOf 8 0 ++ (0 ∷ 2 ∷ 0 ∷ 116 ∷ 17 ∷ 65 ∷ 4 ∷ 1 ∷ 0 ∷ 1 ∷ 101 ∷ 97 ∷ 17 ∷ 2 ∷ []) ++ bytesOf 8 3 ++ bytesOf 8 29
+    ++ replicate 4 0
 
 pub record BenchTable : Type 0 where
   -- a/0 to 18 at F 19 is C5
@@ -37,9 +46,16 @@ pub record BenchTable : Type 0 where
   pub final-0 : packs 16 (ending true 0) []
   -- not final, none is 00 00 00
   pub not-final : packs 16 (ending false 0) (0 ∷ 0 ∷ 0 ∷ [])
+  -- the lines of D's listing, by lookup: "a" 1, "at" 3, "e" 4
+  pub D-a : get D (97 ∷ []) ≡ value 1
+  pub D-at : get D (97 ∷ 116 ∷ []) ≡ value 3
+  pub D-e : get D (101 ∷ []) ≡ value 4
+  -- D by value 3 is "at", by value 2 none
+  pub D-3 : getKey D 3 255 ≡ found (97 ∷ 116 ∷ [])
+  pub D-2 : getKey D 2 255 ≡ KeyAnswer.none
 
 pub bench-table : BenchTable
-unfolding bytesOf sizeUpTo packSize largest commonInputs commonInputsInv commonIdx recordTest storedNumbers storedBytes placeFrom upFrom indexOf indexBytes outputSize deltaSize inputBytes packedNext packedOne headOf packedAny packed packing
+unfolding bytesOf sizeUpTo packSize largest commonInputs commonInputsInv commonIdx recordTest storedNumbers storedBytes placeFrom upFrom indexOf indexBytes outputSize deltaSize inputBytes packedNext packedOne headOf packedAny packed packing le headLen inputOf ntransOf sizesByte indexLen sizeOf downFrom bytesDown numbersDown transitionsOf nodeOf soundTest nodeAt findFrom metaOf rootTest opening getFrom get fittingFrom lastFitting getKeyFrom getKey
 bench-table = record {
   a-next = refl;
   a-zero = refl;
@@ -48,4 +64,9 @@ bench-table = record {
   final-7 = refl;
   final-0 = refl;
   not-final = refl;
+  D-a = refl;
+  D-at = refl;
+  D-e = refl;
+  D-3 = refl;
+  D-2 = refl;
 }
