@@ -47,19 +47,19 @@ fn past_sum(file: &[u8], version: u64, root: usize, addr: usize) -> Answer
     }
 }
 
-// The answer where the key ends at the node at addr, with this running sum.
-fn at_end(file: &[u8], version: u64, root: usize, addr: usize, sum: u64) -> Answer
-    ensures { λ r. ⌜ answerIs r ≡ getFrom (fstIs (now (file .entry)) version root) [] addr sum ⌝ }
+// The answer where the key ends at the node at last, with this running sum.
+fn at_end(file: &[u8], version: u64, root: usize, last: usize, sum: u64) -> Answer
+    ensures { λ r. ⌜ answerIs r ≡ getFrom (fstIs (now (file .entry)) version root) [] last sum ⌝ }
 {
-    let Judged::Sound(m) = node::node_at(file, version, root, addr) else {
+    let Judged::Sound(m) = node::node_at(file, version, root, last) else {
         return Answer::Refused(NODE);
     };
     if m.is_final {
-        let out = m.final_output;
-        if u64::MAX - sum < out {
+        let end = m.final_output;
+        if u64::MAX - sum < end {
             return Answer::Refused(SUM);
         }
-        return Answer::Value(sum + out);
+        return Answer::Value(sum + end);
     }
     Answer::None
 }

@@ -24,7 +24,7 @@ enum-told c = search needs
 returns : tie.Need-returns
 returns c = let call = c .before .before in
     let a = call .before .before .args in
-    sym (get-from-unsound (fstIs (now (a .file)) (a .version) (a .root)) [] (a .addr) (a .sum) (answer-unsound (call .node-at .ensures) (c .enum-told .given .1)))
+    sym (get-from-unsound (fstIs (now (a .file)) (a .version) (a .root)) [] (a .last) (a .sum) (answer-unsound (call .node-at .ensures) (c .enum-told .given .1)))
 
 sub-if2 : tie.Need-sub-if2
 sub-if2 c = search needs
@@ -37,7 +37,7 @@ returns-2 c = let call = c .before .before .before .before .before in
     let f = fstIs s (a .version) (a .root) in
     let m = c .before .before .before .m .given .0 .0 in
     let e = answer-sound (call .node-at .ensures) m (c .before .before .before .m .given .1) in
-    sym (get-from-end-sum f (a .addr) (a .sum) (meaning s m) e (omega (arith, start .fits .sum)) (c .before .if1 .taken) (omega arith))
+    sym (get-from-end-sum f (a .last) (a .sum) (meaning s m) e (omega (arith, start .fits .sum)) (c .before .if1 .taken) (omega arith))
 
 add-t10 : tie.Need-add-t10
 add-t10 c = search needs
@@ -50,7 +50,7 @@ returns-3 c = let call = c .before .before .before .before .before in
     let f = fstIs s (a .version) (a .root) in
     let m = c .before .before .before .m .given .0 .0 in
     let e = answer-sound (call .node-at .ensures) m (c .before .before .before .m .given .1) in
-    sym (get-from-end-value f (a .addr) (a .sum) (meaning s m) e (omega (arith, start .fits .sum)) (c .before .if1 .taken) (omega arith))
+    sym (get-from-end-value f (a .last) (a .sum) (meaning s m) e (omega (arith, start .fits .sum)) (c .before .if1 .taken) (omega arith))
 
 returns-4 : tie.Need-returns-4
 returns-4 c = let call = c .before .before .before .before in
@@ -60,7 +60,7 @@ returns-4 c = let call = c .before .before .before .before in
     let f = fstIs s (a .version) (a .root) in
     let m = c .before .before .m .given .0 .0 in
     let e = answer-sound (call .node-at .ensures) m (c .before .before .m .given .1) in
-    sym (get-from-end-none f (a .addr) (a .sum) (meaning s m) e (omega (arith, start .fits .sum)) (c .if1 .left))
+    sym (get-from-end-none f (a .last) (a .sum) (meaning s m) e (omega (arith, start .fits .sum)) (c .if1 .left))
 
 pub at-end-spec : {M : Type 1} → statement M
 at-end-spec =
