@@ -36,3 +36,5 @@ pub mod ReachedLaws
 pub mod LookupHeld
 pub mod FoundLaws
 pub mod NumberedLaws
+pub mod Strings
+pub mod StringLaws
