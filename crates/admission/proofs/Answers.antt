@@ -1,5 +1,5 @@
 -- From what judging all nodes ensures to what admission answers.
---     Judging s ..        a file that opens, tables with room, cleared, and the nodes judged with the verdict v
+--     AllJudged s ..      a file that opens, tables with room, cleared, and the nodes judged with the verdict v
 -- Assumes nothing.
 use mathlib.Core.Path.{_≡_, refl, sym, ap, _∙_, subst}
 use mathlib.Core.Logic.{_⊎_}
@@ -45,7 +45,7 @@ wiped-cleared {s} {d} {t} d₀ s₀ rd rs wd ws =
       sums = wiped-at (length s) s₀ t ws;
     }
 
-pub record Judging (s : List ℕ) (version root : ℕ) (d₀ s₀ d₁ s₁ d t : List ℕ) (v : Verdict) : Type 0 where
+pub record AllJudged (s : List ℕ) (version root : ℕ) (d₀ s₀ d₁ s₁ d t : List ℕ) (v : Verdict) : Type 0 where
   pub open-file : Opens s version root
   pub room-depths : length s ≤ length d₀
   pub room-sums : length s ≤ length s₀
@@ -59,7 +59,7 @@ opens-fst o = rw (o .version, o .root-is)
 holds-after : {g : ℕ → ℕ} {l : List ℕ} {n : ℕ} {d₀ d₁ d : List ℕ} → Kept n d₀ d₁ → Holds g l n d₁ d → Holds g l n d₀ d
 holds-after k h = record { on = h .on; off = h .off; kept = kept-then k (h .kept) }
 
-module _ {s : List ℕ} {version root : ℕ} {d₀ s₀ d₁ s₁ d t : List ℕ} {v : Verdict} (j : Judging s version root d₀ s₀ d₁ s₁ d t v) where
+module _ {s : List ℕ} {version root : ℕ} {d₀ s₀ d₁ s₁ d t : List ℕ} {v : Verdict} (j : AllJudged s version root d₀ s₀ d₁ s₁ d t v) where
   depths-cleared : Kept (length s) d₀ d₁
   depths-cleared = wiped-kept (length s) d₀ d₁ (j .room-depths) (j .depths-wiped)
 

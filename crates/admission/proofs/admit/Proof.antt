@@ -14,9 +14,11 @@ enum-known-why c = search needs
 enum-known-m : tie.Need-enum-known-m
 enum-known-m c = search needs
 
+-- the file opens
 admit-opened-requires : tie.Need-admit-opened-requires
 admit-opened-requires c κs = opening-opens (c .before .before .before .before .before .«open» .ensures) (c .before .before .before .m .given .0 .0) (c .before .before .before .m .given .1)
 
+-- refused by opening
 returns : tie.Need-returns
 returns c = opening-refused (c .before .before .before .«open» .ensures) _ _ (c .before .why .given .0 .0) (c .before .why .given .1)
 

@@ -4,7 +4,7 @@ use mathlib.Core.Logic.{inl, inr}
 use Prim.Native.Nat.{_≤_}
 use denote.Ref.{now}
 use lib.ListN.{length}
-use Rattle.admission.proofs.Answers.{space-refused, wiped-cleared, Judging, good-admits, lost-refused, deep-refused, heavy-refused, refused-outcome}
+use Rattle.admission.proofs.Answers.{space-refused, wiped-cleared, AllJudged, good-admits, lost-refused, deep-refused, heavy-refused, refused-outcome}
 use borrow.Author.Needs.{needs}
 use Rattle.admission.proofs.admit_opened.Statement.{statement}
 use Rattle.admission.proofs.admit_opened.Tie as tie
@@ -25,7 +25,7 @@ room-sums q = q .before .before .before .before .before .before .if2 .left
 abbrev cleared : tie.After-judge → tie.After-clear64
 cleared c = c .before .before .before .before .before
 
-judging : (c : tie.After-judge) → Judging (now (start (cleared c) .args .file)) (start (cleared c) .args .version) (start (cleared c) .args .root)
+judging : (c : tie.After-judge) → AllJudged (now (start (cleared c) .args .file)) (start (cleared c) .args .version) (start (cleared c) .args .root)
     (now (start (cleared c) .args .depths)) (now (start (cleared c) .args .sums)) (cleared c .before .before .before .before .clear16 .last .0) (cleared c .clear64 .last .0)
     (c .judge .last .1 .1 .1 .0) (c .judge .last .1 .1 .1 .1 .0) (c .judge .result)
 judging c =
@@ -39,9 +39,11 @@ judging c =
       judged = c .judge .ensures;
     }
 
+-- no room in the depths
 returns : tie.Need-returns
 returns c = space-refused _ _ (c .before .before .before .before .pre) (inl (c .if1 .taken))
 
+-- no room in the sums
 returns-2 : tie.Need-returns-2
 returns-2 c = space-refused _ _ (c .before .before .before .before .before .pre) (inr (c .if2 .taken))
 
@@ -52,7 +54,10 @@ clear64-requires : tie.Need-clear64-requires
 clear64-requires c κs = search needs
 
 judge-requires : tie.Need-judge-requires
-judge-requires c κs = let q = c .before .before .before .before in wiped-cleared (now (start q .args .depths)) (now (start q .args .sums)) (room-depths q) (room-sums q) (q .before .before .before .before .clear16 .ensures) (q .clear64 .ensures)
+judge-requires c κs =
+    let q = c .before .before .before .before in
+    wiped-cleared (now (start q .args .depths)) (now (start q .args .sums)) (room-depths q) (room-sums q) (q .before .before .before .before .clear16 .ensures)
+    (q .clear64 .ensures)
 
 enum-told : tie.Need-enum-told
 enum-told c = search needs
@@ -81,6 +86,7 @@ same-length c = search needs
 same-length-2 : tie.Need-same-length-2
 same-length-2 c = search needs
 
+-- admitted
 returns-3 : tie.Need-returns-3
 returns-3 c = good-admits (judging (c .before .before .before .before .before .before)) (c .enum-told .given .1)
 
@@ -90,12 +96,14 @@ same-length-3 c = search needs
 same-length-4 : tie.Need-same-length-4
 same-length-4 c = search needs
 
+-- NODE
 returns-4 : tie.Need-returns-4
 returns-4 c =
     let call = c .before .before .before .before in
     let told = call .before .before .before in
     let j = judging (told .before .before .before .before .before .before) in
-    refused-outcome (call .refused .result) (call .refused .ensures .0) (lost-refused j (call .refused .ensures .1) (call .refused .ensures .2) (told .enum-told2 .given .1))
+    refused-outcome (call .refused .result) (call .refused .ensures .0)
+    (lost-refused j (call .refused .ensures .1) (call .refused .ensures .2) (told .enum-told2 .given .1))
 
 same-length-5 : tie.Need-same-length-5
 same-length-5 c = search needs
@@ -103,12 +111,14 @@ same-length-5 c = search needs
 same-length-6 : tie.Need-same-length-6
 same-length-6 c = search needs
 
+-- DEEP
 returns-5 : tie.Need-returns-5
 returns-5 c =
     let call = c .before .before .before .before in
     let told = call .before .before .before in
     let j = judging (told .before .before .before .before .before .before) in
-    refused-outcome (call .refused2 .result) (call .refused2 .ensures .0) (deep-refused j (call .refused2 .ensures .1) (call .refused2 .ensures .2) (told .enum-told3 .given .1))
+    refused-outcome (call .refused2 .result) (call .refused2 .ensures .0)
+    (deep-refused j (call .refused2 .ensures .1) (call .refused2 .ensures .2) (told .enum-told3 .given .1))
 
 same-length-7 : tie.Need-same-length-7
 same-length-7 c = search needs
@@ -116,12 +126,14 @@ same-length-7 c = search needs
 same-length-8 : tie.Need-same-length-8
 same-length-8 c = search needs
 
+-- SUM
 returns-6 : tie.Need-returns-6
 returns-6 c =
     let call = c .before .before .before .before in
     let told = call .before .before .before in
     let j = judging (told .before .before .before .before .before .before) in
-    refused-outcome (call .refused3 .result) (call .refused3 .ensures .0) (heavy-refused j (call .refused3 .ensures .1) (call .refused3 .ensures .2) (told .enum-told4 .given .1))
+    refused-outcome (call .refused3 .result) (call .refused3 .ensures .0)
+    (heavy-refused j (call .refused3 .ensures .1) (call .refused3 .ensures .2) (told .enum-told4 .given .1))
 
 pub admit-opened-spec : {M : Type 1} → statement M
 admit-opened-spec =

@@ -58,6 +58,10 @@ ready : (c : tie.After-known-told Inv-loop μ-loop) → Surveyable (at-node c .l
 ready c =
     surveyable (filling (at-node c)) (node c) (judged c) (λ i. at-node c .before .before .before .shared-slice-known .given i .fits) (room-depths c) (room-sums c)
 
+-- where the entries are stored
+abbrev at-store : tie.After-clamped Inv-loop μ-loop → tie.After-known-told Inv-loop μ-loop
+at-store c = c .before .before .before .before .before .before .before .before .before
+
 loop-holds : tie.Need-loop-holds Inv-loop μ-loop
 loop-holds c = (search needs, filling-none _ _ _)
 
@@ -82,12 +86,19 @@ same-length c = filling (c .before .before .before .before .before .before) .dep
 same-length-2 : tie.Need-same-length-2 Inv-loop μ-loop
 same-length-2 c = filling (c .before .before .before .before .before .before) .sums-kept .long
 
+-- never: the node of a marked address is sound
 returns : tie.Need-returns Inv-loop μ-loop
-returns c = let turn = c .before .before .before in
-    absurd (not-unsound (filling (turn .before .before .before)) (start (turn .before .before .before) .pre .sounds) (turn .before .before .loop-test .taken) (turn .if1 .taken) (judged-unsound (c .before .before .node-at .ensures) (c .enum-told .given .1)))
+returns c =
+    let marked = c .before .before .before in
+    let at = marked .before .before .before in
+    absurd (not-unsound (filling at) (start at .pre .sounds) (marked .before .before .loop-test .taken) (marked .if1 .taken)
+    (judged-unsound (c .before .before .node-at .ensures) (c .enum-told .given .1)))
 
+-- the targets lie below the node, where entries are small
 survey-node-requires : tie.Need-survey-node-requires Inv-loop μ-loop
-survey-node-requires c κs = (c .before .before .before .before .before .node-at .ensures .readable _ (c .before .before .before .m .given .1), ready (c .before .before))
+survey-node-requires c κs =
+    let node = c .before .before in
+    (node .before .before .before .node-at .ensures .readable _ (node .before .m .given .1), ready node)
 
 enum-known-d : tie.Need-enum-known-d Inv-loop μ-loop
 enum-known-d c = search needs
@@ -96,11 +107,12 @@ enum-told-2 : tie.Need-enum-told-2 Inv-loop μ-loop
 enum-told-2 c = search needs
 
 same-length-3 : tie.Need-same-length-3 Inv-loop μ-loop
-same-length-3 c = filling (turn (c .before .before .before .before .before) .before .before .before) .depths-kept .long
+same-length-3 c = filling (at-node (c .before .before .before .before .before)) .depths-kept .long
 
 same-length-4 : tie.Need-same-length-4 Inv-loop μ-loop
-same-length-4 c = filling (turn (c .before .before .before .before .before) .before .before .before) .sums-kept .long
+same-length-4 c = filling (at-node (c .before .before .before .before .before)) .sums-kept .long
 
+-- a target without an entry
 returns-2 : tie.Need-returns-2 Inv-loop μ-loop
 returns-2 c =
     let node = c .before .before .before .before .before in
@@ -123,19 +135,23 @@ clamped-requires : tie.Need-clamped-requires Inv-loop μ-loop
 clamped-requires c κs = search needs
 
 mul-depths : tie.Need-mul-depths Inv-loop μ-loop
-mul-depths c = let node = c .before .before .before .before .before .before .before .before .before in omega (arith, room-depths node, filling (at-node node) .depths-kept .long, start (at-node node) .good .1 .1 .1 .0 .1)
+mul-depths c =
+    let node = at-store c in
+    omega (arith, room-depths node, filling (at-node node) .depths-kept .long, start (at-node node) .good .1 .1 .1 .0 .1)
 
 slice-write-depths : tie.Need-slice-write-depths Inv-loop μ-loop
-slice-write-depths c = room-depths (c .before .before .before .before .before .before .before .before .before)
+slice-write-depths c = room-depths (at-store c)
 
 entry-of-requires : tie.Need-entry-of-requires Inv-loop μ-loop
 entry-of-requires c κs = search needs
 
 mul-sums : tie.Need-mul-sums Inv-loop μ-loop
-mul-sums c = let node = c .before .before .before .before .before .before .before .before .before .before in omega (arith, room-sums node, filling (at-node node) .sums-kept .long, start (at-node node) .good .1 .1 .1 .1 .0 .1)
+mul-sums c =
+    let node = at-store (c .before) in
+    omega (arith, room-sums node, filling (at-node node) .sums-kept .long, start (at-node node) .good .1 .1 .1 .1 .0 .1)
 
 slice-write-sums : tie.Need-slice-write-sums Inv-loop μ-loop
-slice-write-sums c = room-sums (c .before .before .before .before .before .before .before .before .before .before)
+slice-write-sums c = room-sums (at-store (c .before))
 
 add-a : tie.Need-add-a Inv-loop μ-loop
 add-a c = search needs
@@ -143,6 +159,7 @@ add-a c = search needs
 loop-less : tie.Need-loop-less Inv-loop μ-loop
 loop-less c = search needs
 
+-- a marked address with its entries stored, or an address with no mark
 loop-again : tie.Need-loop-again Inv-loop μ-loop
 loop-again c =
     let at = c .before .before .before in
@@ -168,6 +185,7 @@ same-length-5 c = filling (c .before .before) .depths-kept .long
 same-length-6 : tie.Need-same-length-6 Inv-loop μ-loop
 same-length-6 c = filling (c .before .before) .sums-kept .long
 
+-- a path over the limit
 returns-3 : tie.Need-returns-3 Inv-loop μ-loop
 returns-3 c =
     let h = filling (c .before .before) in
@@ -183,6 +201,7 @@ same-length-7 c = filling (c .before .before .before) .depths-kept .long
 same-length-8 : tie.Need-same-length-8 Inv-loop μ-loop
 same-length-8 c = filling (c .before .before .before) .sums-kept .long
 
+-- no path, but a sum over the limit
 returns-4 : tie.Need-returns-4 Inv-loop μ-loop
 returns-4 c =
     let h = filling (c .before .before .before) in
@@ -198,6 +217,7 @@ same-length-9 c = filling (c .before .before .before) .depths-kept .long
 same-length-10 : tie.Need-same-length-10 Inv-loop μ-loop
 same-length-10 c = filling (c .before .before .before) .sums-kept .long
 
+-- neither
 returns-5 : tie.Need-returns-5 Inv-loop μ-loop
 returns-5 c =
     let h = filling (c .before .before .before) in

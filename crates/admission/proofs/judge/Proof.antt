@@ -38,6 +38,7 @@ marks q =
     let r = walked w true (q .if2 .taken) in
     (r .0, marks-of (w .before .before .if1 .left) (start w .pre) (r .1))
 
+-- root 0
 returns : tie.Need-returns
 returns c = root-zero-judges (c .if1 .taken) (c .before .before .before .before .pre)
 
@@ -47,6 +48,7 @@ walk-requires c κs = search needs
 same-length : tie.Need-same-length
 same-length c = search needs
 
+-- a broken chain
 returns-2 : tie.Need-returns-2
 returns-2 c =
     let w = c .before .before .before in
@@ -56,10 +58,12 @@ returns-2 c =
       found = broken-nodes (w .before .before .if1 .left) (walked w false (c .if2 .left));
     }
 
+-- the marks are those of the chain
 fill-requires : tie.Need-fill-requires
 fill-requires c κs =
     let w = called (c .before .before) in
-    marks-fillable (marks (c .before .before) .1) (omega (arith, start w .pre .room-depths, w .walk .ensures .0 .long)) (start w .pre .room-sums) (start w .pre .sums)
+    marks-fillable (marks (c .before .before) .1) (omega (arith, start w .pre .room-depths, w .walk .ensures .0 .long))
+    (start w .pre .room-sums) (start w .pre .sums)
 
 same-length-2 : tie.Need-same-length-2
 same-length-2 c = search needs
@@ -67,6 +71,7 @@ same-length-2 c = search needs
 same-length-3 : tie.Need-same-length-3
 same-length-3 c = search needs
 
+-- what the pass up the file found
 returns-3 : tie.Need-returns-3
 returns-3 c =
     let filled = c .before .before .before .before in

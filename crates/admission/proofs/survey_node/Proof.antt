@@ -16,7 +16,8 @@ use Rattle.admission.proofs.survey_node.Statement.{statement}
 use Rattle.admission.proofs.survey_node.Tie as tie
 
 abbrev Inv-loop : tie.InvT-loop
-Inv-loop file node depths sums n best₀ total₀ i₀ best total i = SurveyedTo depths sums (node .«final_output») (transitionsIn file node) i best total
+Inv-loop file node depths sums n best₀ total₀ i₀ best total i =
+    SurveyedTo depths sums (node .«final_output») (transitionsIn file node) i best total
 
 abbrev μ-loop : tie.MeasureT-loop
 μ-loop file node depths sums n best₀ total₀ i₀ best total i = n - i
@@ -30,7 +31,8 @@ transitions q = transitionsIn (now (start q .args .file)) (start q .args .node)
 count : (q : tie.At-loop Inv-loop μ-loop) → length (transitions q) ≡ start q .args .node .ntrans
 count q = length-node-transitions (now (start q .args .file)) (start q .args .node) (start q .pre .0)
 
-ready : (q : tie.At-loop Inv-loop μ-loop) → Surveyable (now (start q .args .depths)) (now (start q .args .sums)) (start q .args .node .«final_output») (transitions q)
+ready : (q : tie.At-loop Inv-loop μ-loop)
+    → Surveyable (now (start q .args .depths)) (now (start q .args .sums)) (start q .args .node .«final_output») (transitions q)
 ready q = start q .pre .1
 
 in-list : (q : tie.In-loop Inv-loop μ-loop) → q .before .loop .i < length (transitions (q .before))
@@ -43,13 +45,22 @@ transition-addr-requires : tie.Need-transition-addr-requires Inv-loop μ-loop
 transition-addr-requires c κs = search needs
 
 child-depth-requires : tie.Need-child-depth-requires Inv-loop μ-loop
-child-depth-requires c κs = target-in-depths (ready (c .before .before)) (c .before .before .loop .i) (in-list (c .before)) _ (c .transition-addr .ensures)
+child-depth-requires c κs =
+    target-in-depths (ready (c .before .before)) (c .before .before .loop .i) (in-list (c .before)) _ (c .transition-addr .ensures)
 
+-- a target without an entry
 returns : tie.Need-returns Inv-loop μ-loop
-returns c = let turn = c .before .before .before in surveyed-lost (ready (turn .before)) (turn .before .loop .i) (in-list turn) _ (c .before .before .transition-addr .ensures) _ (c .before .child-depth .ensures) (c .if1 .taken)
+returns c =
+    let targeted = c .before .before in
+    let turn = targeted .before in
+    surveyed-lost (ready (turn .before)) (turn .before .loop .i) (in-list turn) _ (targeted .transition-addr .ensures) _ (c .before .child-depth .ensures)
+    (c .if1 .taken)
 
 child-sum-requires : tie.Need-child-sum-requires Inv-loop μ-loop
-child-sum-requires c κs = target-in-sums (ready (c .before .before .before .before)) (c .before .before .before .before .loop .i) (in-list (c .before .before .before)) _ (c .before .before .transition-addr .ensures)
+child-sum-requires c κs =
+    let targeted = c .before .before in
+    let turn = targeted .before in
+    target-in-sums (ready (turn .before)) (turn .before .loop .i) (in-list turn) _ (targeted .transition-addr .ensures)
 
 output-requires : tie.Need-output-requires Inv-loop μ-loop
 output-requires c κs = search needs
@@ -66,17 +77,20 @@ add-i c = search needs
 loop-less : tie.Need-loop-less Inv-loop μ-loop
 loop-less c = search needs
 
+-- one transition more
 loop-again : tie.Need-loop-again Inv-loop μ-loop
 loop-again c =
     let summed = c .before .before .before in
     let targeted = summed .before .before .before in
     let turn = targeted .before in
     surveyed-step (ready (turn .before)) (turn .before .loop .i) (in-list turn) _ (targeted .transition-addr .ensures) _ (summed .before .before .child-depth .ensures)
-    _ _ _ _ (turn .before .loop .inv) (summed .before .if1 .left) (summed .child-sum .ensures) (c .before .before .output .ensures) (c .before .larger16 .ensures) (c .raised .ensures)
+    _ _ _ _ (turn .before .loop .inv) (summed .before .if1 .left) (summed .child-sum .ensures) (c .before .before .output .ensures)
+    (c .before .larger16 .ensures) (c .raised .ensures)
 
 add-t14 : tie.Need-add-t14 Inv-loop μ-loop
 add-t14 c = search needs
 
+-- all transitions have entries
 returns-2 : tie.Need-returns-2 Inv-loop μ-loop
 returns-2 c = surveyed-all (c .before .loop .inv) (omega (arith, count (c .before)))
 

@@ -62,8 +62,11 @@ enum-told c = search needs
 same-length : tie.Need-same-length Inv-loop μ-loop
 same-length c = c .before .before .before .loop .inv .0 .long
 
+-- an unsound node
 returns : tie.Need-returns Inv-loop μ-loop
-returns c = let at = c .before .before .before in (at .loop .inv .0, walking-broken (at .loop .inv .1 .1) (judged-unsound (c .before .before .node-at .ensures) (c .enum-told .given .1)))
+returns c =
+    let at = c .before .before .before in
+    (at .loop .inv .0, walking-broken (at .loop .inv .1 .1) (judged-unsound (c .before .before .node-at .ensures) (c .enum-told .given .1)))
 
 mul-depths : tie.Need-mul-depths Inv-loop μ-loop
 mul-depths c = let r = room c in omega arith
@@ -74,15 +77,18 @@ slice-write-depths c = room c
 same-length-2 : tie.Need-same-length-2 Inv-loop μ-loop
 same-length-2 c = kept-now (c .before) .long
 
+-- the first byte is 16: the chain is whole
 returns-2 : tie.Need-returns-2 Inv-loop μ-loop
 returns-2 c = (kept-now (c .before), (_, walking-last (walked (c .before)) _ (judged (c .before)) (room (c .before)) (c .if1 .taken)))
 
+-- the first byte is 16 at least
 sub-a : tie.Need-sub-a Inv-loop μ-loop
 sub-a c = omega (arith, walked-first-low (walked (c .before)) _ (judged (c .before)))
 
 loop-less : tie.Need-loop-less Inv-loop μ-loop
 loop-less c = walked-below (walked (c .before)) _ (judged (c .before))
 
+-- the node that ends just below is next
 loop-again : tie.Need-loop-again Inv-loop μ-loop
 loop-again c = (kept-now (c .before), (_, walking-next (walked (c .before)) _ (judged (c .before)) (room (c .before)) _ (c .if1 .left) refl))
 
