@@ -18,7 +18,8 @@ use Rattle.admission.specs.declared.Admission.{Admission}
 use Rattle.admission.specs.declared.Admission.the-variants.{Refused}
 use Rattle.admission.specs.declared.Verdict.{Verdict}
 use Rattle.admission.specs.declared.Verdict.the-variants.{Good, Lost, Deep, Heavy}
-use Rattle.admission.specs.Passes.{fstIs, Kept}
+use Rattle.admission.specs.Passes.{Kept}
+use Rattle.format.specs.Paths.{fstIs}
 use Rattle.admission.specs.Outcome.{Holds, Wiped, RefusedFor, not-opened, no-space, no-nodes, too-deep, too-heavy, Admits, Outcome, Opens, Cleared, JudgeCase, Judges}
 use Rattle.admission.proofs.Stores.{kept-then, length-wiped, wiped-kept, wiped-at, wiped-after}
 

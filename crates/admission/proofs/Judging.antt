@@ -9,7 +9,7 @@ use Rattle.node.specs.declared.Node.{Node}
 use Rattle.node.specs.declared.Judged.{Judged}
 use Rattle.node.specs.declared.Judged.the-variants.{Sound, Unsound}
 use Rattle.node.specs.Read.{meaning, judgedOf, Judges}
-use Rattle.admission.specs.Passes.{fstIs}
+use Rattle.format.specs.Paths.{fstIs}
 
 module _ {s : List ℕ} {v root a : ℕ} {r : Judged} (j : Judges s v root a r) where
   pub judged-sound : (m : Node) → r ≡ Sound m → nodeIn (fstIs s v root) a ≡ sound (meaning s m)

@@ -1,5 +1,4 @@
 -- What each pass over the tables ensures; what admission itself promises is in `Outcome`.
---     fstIs s v root          a file by its bytes, version and root
 --     Kept n d₀ d             the table d is as long as d₀, and the same from n on
 --     Marked d a              the table d has an entry for a
 --     childDepth, childSum    what the tables say of a target
@@ -25,9 +24,6 @@ use Rattle.admission.specs.declared.Survey.{Survey}
 use Rattle.admission.specs.declared.Survey.the-variants.{Lost as NoEntry, Found}
 use Rattle.admission.specs.declared.Verdict.{Verdict}
 use Rattle.admission.specs.declared.Verdict.the-variants.{Good, Lost, Deep, Heavy}
-
-abbrev pub fstIs : List ℕ → ℕ → ℕ → Fst
-fstIs s v root = record { bytes = s; version = v; root = root }
 
 pub record Kept (n : ℕ) (d₀ d : List ℕ) : Type 0 where
   pub long : length d ≡ length d₀

@@ -1,5 +1,4 @@
 -- What the answers of lookup stand for: document 01's number and values for each case, and the key buffer afterwards.
---     fstIs s v root          a file by its bytes, version and root
 --     answerIs r              what a lookup by key answered
 --     keyIs r path            what a search by value answered, its key at the front of path
 --     KeyFits r path          path has 255 bytes, and a found key fits it
@@ -17,9 +16,6 @@ use Rattle.lookup.specs.declared.Answer.{Answer}
 use Rattle.lookup.specs.declared.Answer.the-variants.{Value, None, Refused}
 use Rattle.lookup.specs.declared.KeyAnswer.{KeyAnswer}
 use Rattle.lookup.specs.declared.KeyAnswer.the-variants.{Key, None as NoKey, Refused as KeyRefused}
-
-abbrev pub fstIs : List ℕ → ℕ → ℕ → Fst
-fstIs s v root = record { bytes = s; version = v; root = root }
 
 abbrev pub answerIs : Answer → L.Answer
 answerIs (Value v) = value v

@@ -8,7 +8,8 @@ use lib.ListN.{length, set}
 use Rattle.format.specs.Node.{Node, sound}
 use Rattle.format.specs.Paths.{Fst, nodeIn}
 use Rattle.node.specs.Read.{meaning}
-use Rattle.admission.specs.Passes.{fstIs, Surveyable}
+use Rattle.admission.specs.Passes.{Surveyable}
+use Rattle.format.specs.Paths.{fstIs}
 use Rattle.admission.proofs.Judging.{judged-sound, judged-unsound}
 use Rattle.admission.proofs.Surveying.{surveyed-as}
 use Rattle.admission.proofs.Filling.{Filling, filling-none, filling-skip, not-unsound, surveyable, filling-lost, filling-store, filling-as, closed-all, filled-heavy, filled-good}

@@ -6,7 +6,8 @@ use mathlib.Core.List.{List}
 use Prim.Native.Nat.{ℕ}
 use denote.Ref.{now}
 use Rattle.format.specs.Paths.{Fst}
-use Rattle.admission.specs.Passes.{fstIs, Walked}
+use Rattle.admission.specs.Passes.{Walked}
+use Rattle.format.specs.Paths.{fstIs}
 use Rattle.admission.proofs.Stores.{kept-none}
 use Rattle.admission.proofs.Verdicts.{root-zero-judges, broken-nodes, Marks, marks-of, marks-fillable, filled-judges}
 use borrow.Author.Needs.{needs}

@@ -8,7 +8,8 @@ use lib.ListN.{length, set}
 use Rattle.format.specs.Node.{sound}
 use Rattle.format.specs.Paths.{Fst, nodeIn}
 use Rattle.node.specs.Read.{meaning}
-use Rattle.admission.specs.Passes.{fstIs, Kept}
+use Rattle.admission.specs.Passes.{Kept}
+use Rattle.format.specs.Paths.{fstIs}
 use Rattle.admission.proofs.Stores.{kept-none, kept-set}
 use Rattle.admission.proofs.Judging.{judged-sound, judged-unsound}
 use Rattle.admission.proofs.Walking.{Walking, walking-none, walking-broken, walked-inside, walked-below, walked-first-low, walking-last, walking-next}

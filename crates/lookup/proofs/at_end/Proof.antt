@@ -5,7 +5,7 @@ use mathlib.Core.List.{[]}
 use Rattle.node.specs.ReadLaws.{answer-sound, answer-unsound}
 use Rattle.format.specs.LookupLaws.{get-from-unsound, get-from-end-value, get-from-end-sum, get-from-end-none}
 use Rattle.node.specs.Read.{meaning}
-use Rattle.lookup.specs.Answers.{fstIs}
+use Rattle.format.specs.Paths.{fstIs}
 use borrow.Author.Needs.{needs}
 use native.Mathlib.Omega.{arith}
 use denote.Ref.{now}

@@ -15,7 +15,7 @@ use Rattle.format.specs.LookupWalks.{searching-unsound, searching-found, search
 use Rattle.node.specs.ReadLaws.{answer-sound, answer-unsound, place-is, place-none, length-node-transitions}
 use Rattle.node.specs.declared.Node.{Node}
 use Rattle.node.specs.Read.{meaning, transitionsIn, Readable}
-use Rattle.lookup.specs.Answers.{fstIs}
+use Rattle.format.specs.Paths.{fstIs}
 use Rattle.lookup.proofs.Searching.{SearchTo, search-none, search-step, ends-both}
 use borrow.Author.Needs.{needs}
 use native.Mathlib.Omega.{arith}

@@ -13,7 +13,7 @@ use Rattle.format.specs.Lookup.{getFrom}
 use Rattle.node.specs.ReadLaws.{answer-sound, answer-unsound, place-is, place-none, place-lt, length-node-transitions}
 use Rattle.node.specs.declared.Node.{Node}
 use Rattle.node.specs.Read.{meaning, transitionsIn, Readable}
-use Rattle.lookup.specs.Answers.{fstIs}
+use Rattle.format.specs.Paths.{fstIs}
 use lib.ListN.{drop, drop-of-length-le}
 use borrow.Author.Needs.{needs}
 use native.Mathlib.Omega.{arith}

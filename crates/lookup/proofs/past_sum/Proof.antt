@@ -4,7 +4,7 @@ use mathlib.Core.Path.{_≡_, refl, sym, ap, _∙_}
 use Rattle.node.specs.ReadLaws.{answer-sound, answer-unsound}
 use Rattle.format.specs.LookupLaws.{get-from-unsound, get-from-sum}
 use Rattle.node.specs.Read.{meaning}
-use Rattle.lookup.specs.Answers.{fstIs}
+use Rattle.format.specs.Paths.{fstIs}
 use borrow.Author.Needs.{needs}
 use native.Mathlib.Omega.{arith}
 use denote.Ref.{now}
