@@ -1,0 +1,13 @@
+-- `node_compile::has_one` meets its contract.
+-- Assumes nothing.
+use Rattle.node_compile.proofs.has_one.Statement.{statement}
+use Rattle.node_compile.proofs.has_one.Tie as tie
+
+returns : tie.Need-returns
+returns c = rw (c .if1 .taken)
+
+returns-2 : tie.Need-returns-2
+returns-2 c = rw (c .if1 .left)
+
+pub has-one-spec : {M : Type 1} → statement M
+has-one-spec = tie.close (tie.spec returns returns-2)
