@@ -3,7 +3,7 @@
 use mathlib.Core.Path.{_≡_, refl, sym, ap, _∙_}
 use mathlib.Core.Bool.{Bool, true, false, cond, _&&_}
 use mathlib.Core.List.{List, [], _∷_}
-use Prim.Native.Nat.{ℕ, _≤_, _<_}
+use Prim.Native.Nat.{ℕ, _+_, _≤_, _<_}
 use native.Mathlib.Omega.{arith}
 use borrow.Author.Tests.{lt-ltb, le-ltb, le-leb, lt-leb}
 use lib.Dec.{ltb, leb}
@@ -11,6 +11,7 @@ use lib.ListN.{length, take}
 use Rattle.format.specs.declared.Transition.{Transition}
 use Rattle.format.specs.Bytes.{le}
 use Rattle.format.specs.Node.{Judgement, sound, unsound, nodeAt, transitionAt, findInput, at, absent}
+use Rattle.format.specs.Packed.{BuilderNode, Packing, written, refused, packing}
 use Rattle.node.specs.declared.Node.{Node}
 use Rattle.node.specs.declared.Judged.{Judged}
 use Rattle.node.specs.declared.Judged.the-variants.{Sound, Unsound}
@@ -18,8 +19,11 @@ use Rattle.node.specs.declared.Found.{Found}
 use Rattle.node.specs.declared.Found.the-variants.{At, Absent as Missing}
 use Rattle.node.specs.Read.{transitionsIn, meaning, judgedOf, placeOf, Readable, Judges}
 use Rattle.node.specs.ReadLaws.{length-node-transitions}
+use Rattle.node_compile.specs.declared.Compiled.{Compiled}
+use Rattle.node_compile.specs.declared.Compiled.the-variants.{Len, Refused}
+use Rattle.node_compile.specs.Compile.{answerOf, bufferOf, Compiles}
 use Rattle.oracle_node.proofs.Front.{front-short}
-use Rattle.oracle_node.specs.Answers.{unpacked, flagOf, front, transitionNumbers, placeNumber, NodeTold, TransitionTold, foundOf}
+use Rattle.oracle_node.specs.Answers.{unpacked, flagOf, front, transitionNumbers, placeNumber, packingNumber, packingBuffer, PackingTold, NodeTold, TransitionTold, foundOf}
 
 -- ---- stored numbers
 
@@ -34,6 +38,33 @@ unpacked-past s k small past = rw (le-leb k 8 small, lt-leb k (length s) past)
 pub unpacked-within : (s : List ℕ) (k : ℕ) → k ≤ 8 → k ≤ length s → le (take k s) ≡ unpacked s k
 unfolding unpacked
 unpacked-within s k small within = rw (le-leb k 8 small, le-leb k (length s) within)
+
+-- ---- packing
+
+buffer-is : (p : Packing) (out : List ℕ) → bufferOf p out ≡ packingBuffer p out
+buffer-is (written bs) out = refl
+buffer-is (refused k) out = refl
+
+module _ {b : BuilderNode} {first : ℕ} {out₀ out : List ℕ} {r : Compiled} (compiles : Compiles b first out₀ out r) where
+  pub packed-told : (n : ℕ) → r ≡ Len n → PackingTold (packing first b (length out₀)) out₀ out n
+  packed-told n e = record {
+    answer = len (packing first b (length out₀)) (compiles .answer);
+    buffer = compiles .buffer ∙ buffer-is (packing first b (length out₀)) out₀;
+  }
+    where
+      len : (p : Packing) → r ≡ answerOf p → n ≡ packingNumber p
+      len (written bs) is = cc
+      len (refused k) is = absurd (let z : _≡_ {A = ℕ} 0 1 = cc in omega arith)
+
+  pub refused-told : (k : ℕ) → r ≡ Refused k → PackingTold (packing first b (length out₀)) out₀ out (4294967296 + k)
+  refused-told k e = record {
+    answer = number (packing first b (length out₀)) (compiles .answer);
+    buffer = compiles .buffer ∙ buffer-is (packing first b (length out₀)) out₀;
+  }
+    where
+      number : (p : Packing) → r ≡ answerOf p → 4294967296 + k ≡ packingNumber p
+      number (written bs) is = absurd (let z : _≡_ {A = ℕ} 0 1 = cc in omega arith)
+      number (refused j) is = let same : k ≡ j = cc in rw same
 
 -- ---- a judged node
 

@@ -4,17 +4,19 @@
 --     front v out              out with v at its front where it has room for v, else out as it was
 --     NodeTold j out₀ out r    what is told of the judgement j of a node
 --     TransitionTold j i out₀ out r     what is told of transition i of that node
+--     PackingTold p out₀ out r          what is told of the packing p of a node record
 --     foundOf j b              the place of the input b in that node, 256 for an absent one, 257 for an unsound node
 -- Assumes nothing.
 use mathlib.Core.Path.{_≡_}
-use mathlib.Core.Bool.{Bool, cond, _&&_}
+use mathlib.Core.Bool.{Bool, cond, not, _&&_}
 use mathlib.Core.List.{List, [], _∷_, _++_}
-use Prim.Native.Nat.{ℕ}
-use lib.Dec.{ltb, leb}
+use Prim.Native.Nat.{ℕ, _+_}
+use lib.Dec.{ltb, leb, eqb}
 use lib.ListN.{length, take, drop}
 use Rattle.format.specs.declared.Transition.{Transition}
 use Rattle.format.specs.Bytes.{le}
 use Rattle.format.specs.Node.{Node, Judgement, sound, unsound, Place, at, absent, findInput, transitionAt}
+use Rattle.format.specs.Packed.{Packing, written, refused}
 
 unfoldable pub unpacked : List ℕ → ℕ → ℕ
 unpacked s k = cond (leb k 8 && leb k (length s)) (le (take k s)) 0
@@ -24,6 +26,25 @@ flagOf b = cond b 1 0
 
 unfoldable pub front : List ℕ → List ℕ → List ℕ
 front v out = cond (leb (length v) (length out)) (v ++ drop (length v) out) out
+
+-- any number but 0 is true
+abbrev pub isSet : ℕ → Bool
+isSet n = not (eqb n 0)
+
+-- ---- packing: how many bytes, or 2 ^ 32 and the refusal
+
+abbrev pub packingNumber : Packing → ℕ
+packingNumber (written bs) = length bs
+packingNumber (refused k) = 4294967296 + k
+
+-- the bytes at the buffer's front; a refusal leaves it as it was
+abbrev pub packingBuffer : Packing → List ℕ → List ℕ
+packingBuffer (written bs) out = bs ++ drop (length bs) out
+packingBuffer (refused k) out = out
+
+pub record PackingTold (p : Packing) (out₀ out : List ℕ) (r : ℕ) : Type 0 where
+  pub answer : r ≡ packingNumber p
+  pub buffer : out ≡ packingBuffer p out₀
 
 -- ---- a node: 1 and its numbers, or 0
 

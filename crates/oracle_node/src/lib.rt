@@ -3,13 +3,16 @@
 // lent buffer holds afterwards. A slice is passed as its pointer and then its length.
 ghost use mathlib.Core.Path.{_≡_};
 ghost use mathlib.Core.List.{[], _∷_};
-ghost use lib.ListN.{getD};
+ghost use lib.ListN.{length, getD};
 ghost use Rattle.format.specs.Bytes.{packSize};
 ghost use Rattle.format.specs.CommonInputs.{commonInputs, commonInputsInv, commonIdx};
 ghost use Rattle.format.specs.Node.{nodeAt};
-ghost use Rattle.oracle_node.specs.Answers.{unpacked, flagOf, front, NodeTold, TransitionTold, foundOf};
+ghost use Rattle.format.specs.Packed.{packing};
+ghost use Rattle.node_compile.specs.Compile.{builderOf};
+ghost use Rattle.oracle_node.specs.Answers.{unpacked, flagOf, isSet, PackingTold, front, NodeTold, TransitionTold, foundOf};
 use node::Found;
 use node::Judged;
+use node_compile::Compiled;
 
 // ---- stored numbers (src/bytes.rs)
 
@@ -62,6 +65,34 @@ pub extern "C" fn baxhiso_common_idx(i: u8) -> u8
 }
 
 // ---- nodes (src/raw/node.rs)
+
+// Packs a node record for F, here `first`, into out: the number of its bytes, which stand at the front of out; or
+// 2^32 plus the refusal, out as it was. Any number but 0 is final.
+#[no_mangle]
+pub extern "C" fn baxhiso_compile(
+    is_final: u8,
+    final_output: u64,
+    inputs: &[u8],
+    outputs: &[u64],
+    targets: &[usize],
+    first: usize,
+    out: &mut [u8],
+) -> u64
+    ensures { λ r. ⌜ PackingTold (packing first (builderOf (isSet «is_final») «final_output» (now (inputs .entry)) (now (outputs .entry)) (now (targets .entry))) (length (now (out .entry)))) (now (out .entry)) (now (out .exit)) r ⌝ }
+{
+    match node_compile::compile(
+        is_final != 0,
+        final_output,
+        inputs,
+        outputs,
+        targets,
+        first,
+        out,
+    ) {
+        Compiled::Len(n) => n as u64,
+        Compiled::Refused(k) => 4_294_967_296 + (k as u64),
+    }
+}
 
 // 1 for true, 0 for false.
 fn flag(b: bool) -> u64
