@@ -1,0 +1,50 @@
+// A node as a view over the lent file beside its numbers (src/raw/node.rs, `Node<'f>`).
+// The view judges nothing when it is made. Each function takes it apart and calls a plain one on the slice and the
+// numbers, which judges the node. `transition_at` has plain parameters, so that its callers need no view.
+ghost use mathlib.Core.Path.{_≡_};
+ghost use Rattle.format.specs.Node.{nodeAt};
+ghost use Rattle.node.specs.Read.{Judges, placeOf};
+ghost use Rattle.node_view.specs.View.{transitionIn, placeIn};
+use format::Transition;
+use node::Found;
+use node::Judged;
+
+// The node at addr, in a file of this version and root.
+pub struct Node<'f> {
+    pub data: &'f [u8],
+    pub version: u64,
+    pub root: usize,
+    pub addr: usize,
+}
+
+// A transition of a node, or none: the node is not sound, or it has no such transition.
+pub enum TransitionAnswer {
+    Is(Transition),
+    None,
+}
+
+// ---- the plain functions
+
+// Transition i of the node at addr.
+fn transition_of(file: &[u8], version: u64, root: usize, addr: usize, i: usize) -> TransitionAnswer
+    ensures { λ r. ⌜ r ≡ transitionIn (nodeAt (now (file .entry)) version root addr) i ⌝ }
+{
+    let Judged::Sound(m) = node::node_at(file, version, root, addr) else {
+        return TransitionAnswer::None;
+    };
+    let n = m.ntrans;
+    if i < n {
+        return TransitionAnswer::Is(node::transition(file, m, i));
+    }
+    TransitionAnswer::None
+}
+
+// The place of the input b in the node at addr; absent too where the node is not sound.
+fn place_of(file: &[u8], version: u64, root: usize, addr: usize, b: u8) -> Found
+    ensures { λ r. ⌜ placeOf r ≡ placeIn (nodeAt (now (file .entry)) version root addr) b ⌝ }
+{
+    let Judged::Sound(m) = node::node_at(file, version, root, addr) else {
+        return Found::Absent;
+    };
+    node::find_input(file, m, b)
+}
