@@ -4,7 +4,7 @@
 ghost use mathlib.Core.Path.{_≡_};
 ghost use Rattle.format.specs.Node.{nodeAt};
 ghost use Rattle.node.specs.Read.{Judges, placeOf};
-ghost use Rattle.node_view.specs.View.{transitionIn, placeIn};
+ghost use Rattle.node_view.specs.View.{viewOf, transitionIn, placeIn};
 use format::Transition;
 use node::Found;
 use node::Judged;
@@ -47,4 +47,18 @@ fn place_of(file: &[u8], version: u64, root: usize, addr: usize, b: u8) -> Found
         return Found::Absent;
     };
     node::find_input(file, m, b)
+}
+
+// ---- the view
+
+// The view of the node at addr.
+pub fn new<'f>(data: &'f [u8], version: u64, root: usize, addr: usize) -> Node<'f>
+    ensures { λ r. ⌜ r ≡ viewOf («data» .entry) version root addr ⌝ }
+{
+    Node {
+        data,
+        version,
+        root,
+        addr,
+    }
 }
