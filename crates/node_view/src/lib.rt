@@ -62,3 +62,10 @@ pub fn new<'f>(data: &'f [u8], version: u64, root: usize, addr: usize) -> Node<'
         addr,
     }
 }
+
+// What judging the node says.
+pub fn judged<'f>(v: Node<'f>) -> Judged
+    ensures { λ r. ⌜ Judges (now (v .entry .«data»)) (v .entry .version) (v .entry .root) (v .entry .addr) r ⌝ }
+{
+    node::node_at(v.data, v.version, v.root, v.addr)
+}
