@@ -69,3 +69,10 @@ pub fn judged<'f>(v: Node<'f>) -> Judged
 {
     node::node_at(v.data, v.version, v.root, v.addr)
 }
+
+// Transition i of the node.
+pub fn transition<'f>(v: Node<'f>, i: usize) -> TransitionAnswer
+    ensures { λ r. ⌜ r ≡ transitionIn (nodeAt (now (v .entry .«data»)) (v .entry .version) (v .entry .root) (v .entry .addr)) i ⌝ }
+{
+    transition_of(v.data, v.version, v.root, v.addr, i)
+}
