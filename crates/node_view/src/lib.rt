@@ -76,3 +76,10 @@ pub fn transition<'f>(v: Node<'f>, i: usize) -> TransitionAnswer
 {
     transition_of(v.data, v.version, v.root, v.addr, i)
 }
+
+// The place of the input b in the node.
+pub fn find_input<'f>(v: Node<'f>, b: u8) -> Found
+    ensures { λ r. ⌜ placeOf r ≡ placeIn (nodeAt (now (v .entry .«data»)) (v .entry .version) (v .entry .root) (v .entry .addr)) b ⌝ }
+{
+    place_of(v.data, v.version, v.root, v.addr, b)
+}
