@@ -83,3 +83,18 @@ pub fn find_input<'f>(v: Node<'f>, b: u8) -> Found
 {
     place_of(v.data, v.version, v.root, v.addr, b)
 }
+
+// ---- for callers that have no view
+
+// Transition i of the node at addr.
+pub fn transition_at(
+    file: &[u8],
+    version: u64,
+    root: usize,
+    addr: usize,
+    i: usize,
+) -> TransitionAnswer
+    ensures { λ r. ⌜ r ≡ transitionIn (nodeAt (now (file .entry)) version root addr) i ⌝ }
+{
+    transition(new(file, version, root, addr), i)
+}
