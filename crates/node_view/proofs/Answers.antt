@@ -1,6 +1,6 @@
 -- What a judged node says of one of its transitions and of the place of an input, for the plain functions.
 -- Assumes nothing.
-use mathlib.Core.Path.{_≡_, refl, sym, ap, _∙_}
+use mathlib.Core.Path.{_≡_, ap}
 use mathlib.Core.List.{List}
 use Prim.Native.Nat.{ℕ, _≤_, _<_}
 use native.Mathlib.Omega.{arith}
@@ -15,7 +15,6 @@ use Rattle.node.specs.declared.Found.{Found}
 use Rattle.node.specs.declared.Found.the-variants.{Absent as Missing}
 use Rattle.node.specs.Read.{Judges, transitionsIn, placeOf}
 use Rattle.node.specs.ReadLaws.{answer-sound, answer-unsound, length-node-transitions}
-use Rattle.node_view.specs.declared.TransitionAnswer.{TransitionAnswer}
 use Rattle.node_view.specs.declared.TransitionAnswer.the-variants.{Is, None}
 use Rattle.node_view.specs.View.{transitionIn, placeIn}
 

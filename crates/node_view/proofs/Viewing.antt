@@ -32,7 +32,6 @@ use denote.Steps.{owned}
 use denote.Struct.Declared.{Declared}
 use denote.Struct.Laws as LL
 use denote.Struct.Rest.{all-own, ownAt, rest, own-open, own-out}
-use denote.Struct.Values.{Values}
 use Rattle.node_view.specs.declared.Node.{Node}
 use Rattle.node_view.proofs.Node as T
 use Rattle.node_view.proofs.Node.Laws as T′

@@ -1,6 +1,7 @@
 // A node as a view over the lent file beside its numbers (src/raw/node.rs, `Node<'f>`).
 // The view judges nothing when it is made. Each function takes it apart and calls a plain one on the slice and the
 // numbers, which judges the node. `transition_at` has plain parameters, so that its callers need no view.
+// (In contracts the field is «data»: the word alone is a keyword there.)
 ghost use mathlib.Core.Path.{_≡_};
 ghost use Rattle.format.specs.Node.{nodeAt};
 ghost use Rattle.node.specs.Read.{Judges, placeOf};
@@ -17,16 +18,17 @@ pub struct Node<'f> {
     pub addr: usize,
 }
 
-// A transition of a node, or none: the node is not sound, or it has no such transition.
+// What asking a node for transition i says.
 pub enum TransitionAnswer {
     Is(Transition),
+    // the node is not sound, or it has no transition i
     None,
 }
 
 // ---- the plain functions
 
 // Transition i of the node at addr.
-fn transition_of(file: &[u8], version: u64, root: usize, addr: usize, i: usize) -> TransitionAnswer
+fn transition_in(file: &[u8], version: u64, root: usize, addr: usize, i: usize) -> TransitionAnswer
     ensures { λ r. ⌜ r ≡ transitionIn (nodeAt (now (file .entry)) version root addr) i ⌝ }
 {
     let Judged::Sound(m) = node::node_at(file, version, root, addr) else {
@@ -40,7 +42,7 @@ fn transition_of(file: &[u8], version: u64, root: usize, addr: usize, i: usize) 
 }
 
 // The place of the input b in the node at addr; absent too where the node is not sound.
-fn place_of(file: &[u8], version: u64, root: usize, addr: usize, b: u8) -> Found
+fn place_in(file: &[u8], version: u64, root: usize, addr: usize, b: u8) -> Found
     ensures { λ r. ⌜ placeOf r ≡ placeIn (nodeAt (now (file .entry)) version root addr) b ⌝ }
 {
     let Judged::Sound(m) = node::node_at(file, version, root, addr) else {
@@ -70,18 +72,18 @@ pub fn judged<'f>(v: Node<'f>) -> Judged
     node::node_at(v.data, v.version, v.root, v.addr)
 }
 
-// Transition i of the node.
+// Transition i of the node, for any i.
 pub fn transition<'f>(v: Node<'f>, i: usize) -> TransitionAnswer
     ensures { λ r. ⌜ r ≡ transitionIn (nodeAt (now (v .entry .«data»)) (v .entry .version) (v .entry .root) (v .entry .addr)) i ⌝ }
 {
-    transition_of(v.data, v.version, v.root, v.addr, i)
+    transition_in(v.data, v.version, v.root, v.addr, i)
 }
 
-// The place of the input b in the node.
+// The place of the input b in the node; absent too where the node is not sound.
 pub fn find_input<'f>(v: Node<'f>, b: u8) -> Found
     ensures { λ r. ⌜ placeOf r ≡ placeIn (nodeAt (now (v .entry .«data»)) (v .entry .version) (v .entry .root) (v .entry .addr)) b ⌝ }
 {
-    place_of(v.data, v.version, v.root, v.addr, b)
+    place_in(v.data, v.version, v.root, v.addr, b)
 }
 
 // ---- for callers that have no view

@@ -1,5 +1,5 @@
--- `node_view::find_input` meets its contract: a walk of its MIR, by hand. The view is taken apart, and `place_of` is called on
--- the slice, the numbers and b. All that the proof knows of `place_of` is that it meets its contract.
+-- `node_view::find_input` meets its contract: a walk of its MIR, by hand. The view is taken apart, and `place_in` is called on
+-- the slice, the numbers and b. All that the proof knows of `place_in` is that it meets its contract.
 -- What the view owns is kept for the exit. What its slice owns goes to the callee, beside the lifetime's token, which comes back.
 -- Assumes nothing.
 use mathlib.Core.Path.{_≡_, refl}
@@ -46,10 +46,10 @@ use Rattle.node_view.specs.View.{placeIn}
 use Rattle.node_view.specs.declared.Node.{Node}
 use Rattle.node_view.proofs.Node.Laws as T′
 use Rattle.node_view.proofs.Viewing.{B, D, L, Fit, Then, then, thenVals, SliceOwn, Own, with-numbers, slice-out}
-use Rattle.node_view.proofs.place_of as plain
-use Rattle.node_view.proofs.place_of.Symbol as plain-def
-use Rattle.node_view.proofs.place_of.Symbol.{name as #node-view·place-of}
-use Rattle.node_view.proofs.place_of.Met as plain-thm
+use Rattle.node_view.proofs.place_in as plain
+use Rattle.node_view.proofs.place_in.Symbol as plain-def
+use Rattle.node_view.proofs.place_in.Symbol.{name as #node-view·place-in}
+use Rattle.node_view.proofs.place_in.Met as plain-thm
 use Rattle.node_view.proofs.find_input.Key.{name as #node-view·find-input}
 use Rattle.node_view.proofs.find_input as viewed
 use Rattle.node_view.proofs.find_input.Statement as stated
@@ -60,8 +60,8 @@ stayed = (stay-none B yes, (stay-none (λ _. u8) yes, tt))
 
 module _ {M : Type 1} (𝓤 : URA M) (H : Heap 𝓤) (A : Atoms 𝓤) (mem : Memory → SProp 𝓤) (run : Routine → Fun 𝓤) where
   -- the contract that the proof cites
-  abbrev PlaceOf : Contract 𝓤
-  PlaceOf = tripleOf 𝓤 H A plain.signature (plain.spec 𝓤 H A mem run)
+  abbrev Plain : Contract 𝓤
+  Plain = tripleOf 𝓤 H A plain.signature (plain.spec 𝓤 H A mem run)
 
 module _ {M : Type 1} (𝓤 : URA M) (H : Heap 𝓤) (A : Atoms 𝓤) (W : Given 𝓤 H A) (mem : Memory → SProp 𝓤) (run : Routine → Fun 𝓤) (κ : Lft) (q : Share) (d : Node) (b : ℕ) where
   abbrev mach : Val
@@ -91,11 +91,11 @@ module _ {M : Type 1} (𝓤 : URA M) (H : Heap 𝓤) (A : Atoms 𝓤) (W : Given
   abbrev passed-at : Vals plain.signature (κ, tt)
   passed-at = thenVals (d .«data») (d .version) (d .root) (d .addr) (vint w8 b ∷ [], tt)
 
-  abbrev to : PlaceOf 𝓤 H A mem run .Ghost
+  abbrev to : Plain 𝓤 H A mem run .Ghost
   to = (((κ, tt), (q, tt), tt, passed, passed-at), tt)
 
   abbrev Asks : SProp 𝓤
-  Asks = PlaceOf 𝓤 H A mem run .pre to
+  Asks = Plain 𝓤 H A mem run .pre to
 
   abbrev Ensured : Found → SProp 𝓤
   Ensured r = ensured 𝓤 H A plain.ended (plain.clauses 𝓤 H A mem run) (κ, tt) passed tt r
@@ -126,7 +126,7 @@ module _ {M : Type 1} (𝓤 : URA M) (H : Heap 𝓤) (A : Atoms 𝓤) (W : Given
       says ! e $ move ! (1 ∷ []) $ frame ! $ nothing ! $ owned ! u8 (Is u8) (uint-makes 𝓤 H A W w8) b _ (refl, fits) $ fjoin ! $
       move ! (2 ∷ 0 ∷ []) $ fjoin ! $ frame ! $ done !
 
-  module _ (C : Calls 𝓤 H) (Λ : Loops 𝓤 H) (fm : FmC 𝓤 H (W .laws) C) (known : Triple 𝓤 (C #node-view·place-of) (PlaceOf 𝓤 H A mem run)) where
+  module _ (C : Calls 𝓤 H) (Λ : Loops 𝓤 H) (fm : FmC 𝓤 H (W .laws) C) (known : Triple 𝓤 (C #node-view·place-in) (Plain 𝓤 H A mem run)) where
     walk : Holds (hasTy (T′.mir (named 0)) mach) × WT mach → b < 2 ^ 8 → ent 𝓤 Entry (WpFn 𝓤 H C Λ code.function (mach ∷ vint w8 b ∷ []) Post)
     walk wt fits =
         qed W (raw Entry ∷ []) ∵ enter ! C Λ code.function (mach ∷ vint w8 b ∷ []) _ $
@@ -144,7 +144,7 @@ module _ {M : Type 1} (𝓤 : URA M) (H : Heap 𝓤) (A : Atoms 𝓤) (W : Given
         move ! (14 ∷ []) $ use1 W (raw Asks ⊛ ‵ (Own κ d))
         (apart (record { version-lt = wt .1 .1 .0 .fits; root-lt = wt .1 .1 .1 .0 .fits; addr-lt = wt .1 .1 .1 .1 .0 .fits })) $ split ! $
         -- [what the callee asks; what the view owns; _6; …; _5; …; _4; …; _3; …; _2; …; _1; …; room for _0; …]
-        calls-at ! fm (PlaceOf 𝓤 H A mem run) known to
+        calls-at ! fm (Plain 𝓤 H A mem run) known to
         (and-then ! (load ! (from ! (stop !)) (look ! 8 refl))
         (and-then ! (load ! (from ! (stop !)) (look ! 6 refl))
         (and-then ! (load ! (from ! (stop !)) (look ! 4 refl))
@@ -160,7 +160,7 @@ module _ {M : Type 1} (𝓤 : URA M) (H : Heap 𝓤) (A : Atoms 𝓤) (W : Given
         move ! (7 ∷ 8 ∷ []) $ free1 ! $ move ! (5 ∷ 6 ∷ []) $ free1 ! $ move ! (3 ∷ 4 ∷ []) $ free1 ! $ free0 ! $ by ! (exits r u fits e))))))))))))
 
 module _ {M : Type 1} (𝓤 : URA M) (H : Heap 𝓤) (A : Atoms 𝓤) (W : Given 𝓤 H A) (mem : Memory → SProp 𝓤) (run : Routine → Fun 𝓤) where
-  find-input-walks : (C : Calls 𝓤 H) (Λ : Loops 𝓤 H) → FmC 𝓤 H (W .laws) C → Triple 𝓤 (C #node-view·place-of) (PlaceOf 𝓤 H A mem run)
+  find-input-walks : (C : Calls 𝓤 H) (Λ : Loops 𝓤 H) → FmC 𝓤 H (W .laws) C → Triple 𝓤 (C #node-view·place-in) (Plain 𝓤 H A mem run)
       → Walks 𝓤 H A viewed.ended stayed (WpFn 𝓤 H C Λ code.function) (viewed.clauses 𝓤 H A mem run)
   find-input-walks C Λ fm known =
       walked 𝓤 H A viewed.ended stayed (viewed.clauses 𝓤 H A mem run) (WpFn 𝓤 H C Λ code.function)
@@ -169,7 +169,7 @@ module _ {M : Type 1} (𝓤 : URA M) (H : Heap 𝓤) (A : Atoms 𝓤) (W : Given
       (walk 𝓤 H A W mem run (κs .0) (qs .0) (a .0) (a .1 .0) C Λ fm known (LL.lawful (D κs) (L κs) 𝓤 H A W .typed (a .0) _ (are .0) .0) (are .1 .0 .1)))
 
 find-input-meets : {M : Type 1} (𝓤 : URA M) (H : Heap 𝓤) (A : Atoms 𝓤) (W : Given 𝓤 H A) (mem : Memory → SProp 𝓤) (run : Routine → Fun 𝓤) (𝓣 : Tables 𝓤 H)
-    → Triple 𝓤 (𝓣 .C #node-view·place-of) (PlaceOf 𝓤 H A mem run)
+    → Triple 𝓤 (𝓣 .C #node-view·place-in) (Plain 𝓤 H A mem run)
     → Meets 𝓤 H A viewed.signature (WpFn 𝓤 H (𝓣 .C) (𝓣 .Λ) code.function) (viewed.spec 𝓤 H A mem run)
 find-input-meets 𝓤 H A W mem run 𝓣 known =
     walk-meets 𝓤 H A viewed.ended stayed W
@@ -183,5 +183,5 @@ find-input-spec 𝓤 H 𝓜 𝓖 𝓡 =
     entered 𝓤 H (tripleOf 𝓤 H (𝓖 .A) viewed.signature (viewed.spec 𝓤 H (𝓖 .A) (𝓜 .mem) (𝓡 .run)))
     (tables 𝓤 H 𝓜 𝓡 code.env .C) (tables 𝓤 H 𝓜 𝓡 code.env .Λ) #node-view·find-input code.function (code.unfolded 𝓤 H 𝓜 𝓡)
     (find-input-meets 𝓤 H (𝓖 .A) (givenOf 𝓤 H 𝓜 𝓖) (𝓜 .mem) (𝓡 .run) (tablesOf 𝓤 H 𝓜 (tables 𝓤 H 𝓜 𝓡 code.env))
-    (cited 𝓤 H (PlaceOf 𝓤 H (𝓖 .A) (𝓜 .mem) (𝓡 .run)) 𝓜 𝓡 code.env #node-view·place-of plain-def.routine code.calls-node-view·place-of
+    (cited 𝓤 H (Plain 𝓤 H (𝓖 .A) (𝓜 .mem) (𝓡 .run)) 𝓜 𝓡 code.env #node-view·place-in plain-def.routine code.calls-node-view·place-in
     (plain-thm.met 𝓤 H 𝓜 𝓖 𝓡)))

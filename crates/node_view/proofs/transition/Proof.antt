@@ -1,5 +1,5 @@
--- `node_view::transition` meets its contract: a walk of its MIR, by hand. The view is taken apart, and `transition_of` is called on
--- the slice, the numbers and i. All that the proof knows of `transition_of` is that it meets its contract.
+-- `node_view::transition` meets its contract: a walk of its MIR, by hand. The view is taken apart, and `transition_in` is called on
+-- the slice, the numbers and i. All that the proof knows of `transition_in` is that it meets its contract.
 -- What the view owns is kept for the exit. What its slice owns goes to the callee, beside the lifetime's token, which comes back.
 -- Assumes nothing.
 use mathlib.Core.Path.{_≡_, refl}
@@ -45,10 +45,10 @@ use Rattle.node_view.proofs.TransitionAnswer.Laws as S′
 use Rattle.node_view.specs.declared.Node.{Node}
 use Rattle.node_view.proofs.Node.Laws as T′
 use Rattle.node_view.proofs.Viewing.{B, D, L, Fit, Then, then, thenVals, SliceOwn, Own, with-numbers, slice-out}
-use Rattle.node_view.proofs.transition_of as plain
-use Rattle.node_view.proofs.transition_of.Symbol as plain-def
-use Rattle.node_view.proofs.transition_of.Symbol.{name as #node-view·transition-of}
-use Rattle.node_view.proofs.transition_of.Met as plain-thm
+use Rattle.node_view.proofs.transition_in as plain
+use Rattle.node_view.proofs.transition_in.Symbol as plain-def
+use Rattle.node_view.proofs.transition_in.Symbol.{name as #node-view·transition-in}
+use Rattle.node_view.proofs.transition_in.Met as plain-thm
 use Rattle.node_view.proofs.transition.Key.{name as #node-view·transition}
 use Rattle.node_view.proofs.transition as viewed
 use Rattle.node_view.proofs.transition.Statement as stated
@@ -59,8 +59,8 @@ stayed = (stay-none B yes, (stay-none (λ _. usize) yes, tt))
 
 module _ {M : Type 1} (𝓤 : URA M) (H : Heap 𝓤) (A : Atoms 𝓤) (mem : Memory → SProp 𝓤) (run : Routine → Fun 𝓤) where
   -- the contract that the proof cites
-  abbrev TransitionOf : Contract 𝓤
-  TransitionOf = tripleOf 𝓤 H A plain.signature (plain.spec 𝓤 H A mem run)
+  abbrev Plain : Contract 𝓤
+  Plain = tripleOf 𝓤 H A plain.signature (plain.spec 𝓤 H A mem run)
 
 module _ {M : Type 1} (𝓤 : URA M) (H : Heap 𝓤) (A : Atoms 𝓤) (W : Given 𝓤 H A) (mem : Memory → SProp 𝓤) (run : Routine → Fun 𝓤) (κ : Lft) (q : Share) (d : Node) (i : ℕ) where
   abbrev mach : Val
@@ -90,11 +90,11 @@ module _ {M : Type 1} (𝓤 : URA M) (H : Heap 𝓤) (A : Atoms 𝓤) (W : Given
   abbrev passed-at : Vals plain.signature (κ, tt)
   passed-at = thenVals (d .«data») (d .version) (d .root) (d .addr) (vint w64 i ∷ [], tt)
 
-  abbrev to : TransitionOf 𝓤 H A mem run .Ghost
+  abbrev to : Plain 𝓤 H A mem run .Ghost
   to = (((κ, tt), (q, tt), tt, passed, passed-at), tt)
 
   abbrev Asks : SProp 𝓤
-  Asks = TransitionOf 𝓤 H A mem run .pre to
+  Asks = Plain 𝓤 H A mem run .pre to
 
   abbrev Ensured : TransitionAnswer → SProp 𝓤
   Ensured r = ensured 𝓤 H A plain.ended (plain.clauses 𝓤 H A mem run) (κ, tt) passed tt r
@@ -125,7 +125,7 @@ module _ {M : Type 1} (𝓤 : URA M) (H : Heap 𝓤) (A : Atoms 𝓤) (W : Given
       says ! e $ move ! (1 ∷ []) $ frame ! $ nothing ! $ owned ! usize (Is usize) (uint-makes 𝓤 H A W w64) i _ (refl, fits) $ fjoin ! $
       move ! (2 ∷ 0 ∷ []) $ fjoin ! $ frame ! $ done !
 
-  module _ (C : Calls 𝓤 H) (Λ : Loops 𝓤 H) (fm : FmC 𝓤 H (W .laws) C) (known : Triple 𝓤 (C #node-view·transition-of) (TransitionOf 𝓤 H A mem run)) where
+  module _ (C : Calls 𝓤 H) (Λ : Loops 𝓤 H) (fm : FmC 𝓤 H (W .laws) C) (known : Triple 𝓤 (C #node-view·transition-in) (Plain 𝓤 H A mem run)) where
     walk : Holds (hasTy (T′.mir (named 0)) mach) × WT mach → i < 2 ^ 64 → ent 𝓤 Entry (WpFn 𝓤 H C Λ code.function (mach ∷ vint w64 i ∷ []) Post)
     walk wt fits =
         qed W (raw Entry ∷ []) ∵ enter ! C Λ code.function (mach ∷ vint w64 i ∷ []) _ $
@@ -143,7 +143,7 @@ module _ {M : Type 1} (𝓤 : URA M) (H : Heap 𝓤) (A : Atoms 𝓤) (W : Given
         move ! (14 ∷ []) $ use1 W (raw Asks ⊛ ‵ (Own κ d))
         (apart (record { version-lt = wt .1 .1 .0 .fits; root-lt = wt .1 .1 .1 .0 .fits; addr-lt = wt .1 .1 .1 .1 .0 .fits })) $ split ! $
         -- [what the callee asks; what the view owns; _6; …; _5; …; _4; …; _3; …; _2; …; _1; …; room for _0; …]
-        calls-at ! fm (TransitionOf 𝓤 H A mem run) known to
+        calls-at ! fm (Plain 𝓤 H A mem run) known to
         (and-then ! (load ! (from ! (stop !)) (look ! 8 refl))
         (and-then ! (load ! (from ! (stop !)) (look ! 6 refl))
         (and-then ! (load ! (from ! (stop !)) (look ! 4 refl))
@@ -159,7 +159,7 @@ module _ {M : Type 1} (𝓤 : URA M) (H : Heap 𝓤) (A : Atoms 𝓤) (W : Given
         move ! (7 ∷ 8 ∷ []) $ free1 ! $ move ! (5 ∷ 6 ∷ []) $ free1 ! $ move ! (3 ∷ 4 ∷ []) $ free1 ! $ free0 ! $ by ! (exits r u fits e))))))))))))
 
 module _ {M : Type 1} (𝓤 : URA M) (H : Heap 𝓤) (A : Atoms 𝓤) (W : Given 𝓤 H A) (mem : Memory → SProp 𝓤) (run : Routine → Fun 𝓤) where
-  transition-walks : (C : Calls 𝓤 H) (Λ : Loops 𝓤 H) → FmC 𝓤 H (W .laws) C → Triple 𝓤 (C #node-view·transition-of) (TransitionOf 𝓤 H A mem run)
+  transition-walks : (C : Calls 𝓤 H) (Λ : Loops 𝓤 H) → FmC 𝓤 H (W .laws) C → Triple 𝓤 (C #node-view·transition-in) (Plain 𝓤 H A mem run)
       → Walks 𝓤 H A viewed.ended stayed (WpFn 𝓤 H C Λ code.function) (viewed.clauses 𝓤 H A mem run)
   transition-walks C Λ fm known =
       walked 𝓤 H A viewed.ended stayed (viewed.clauses 𝓤 H A mem run) (WpFn 𝓤 H C Λ code.function)
@@ -168,7 +168,7 @@ module _ {M : Type 1} (𝓤 : URA M) (H : Heap 𝓤) (A : Atoms 𝓤) (W : Given
       (walk 𝓤 H A W mem run (κs .0) (qs .0) (a .0) (a .1 .0) C Λ fm known (LL.lawful (D κs) (L κs) 𝓤 H A W .typed (a .0) _ (are .0) .0) (are .1 .0 .1)))
 
 transition-meets : {M : Type 1} (𝓤 : URA M) (H : Heap 𝓤) (A : Atoms 𝓤) (W : Given 𝓤 H A) (mem : Memory → SProp 𝓤) (run : Routine → Fun 𝓤) (𝓣 : Tables 𝓤 H)
-    → Triple 𝓤 (𝓣 .C #node-view·transition-of) (TransitionOf 𝓤 H A mem run)
+    → Triple 𝓤 (𝓣 .C #node-view·transition-in) (Plain 𝓤 H A mem run)
     → Meets 𝓤 H A viewed.signature (WpFn 𝓤 H (𝓣 .C) (𝓣 .Λ) code.function) (viewed.spec 𝓤 H A mem run)
 transition-meets 𝓤 H A W mem run 𝓣 known =
     walk-meets 𝓤 H A viewed.ended stayed W
@@ -182,5 +182,5 @@ transition-spec 𝓤 H 𝓜 𝓖 𝓡 =
     entered 𝓤 H (tripleOf 𝓤 H (𝓖 .A) viewed.signature (viewed.spec 𝓤 H (𝓖 .A) (𝓜 .mem) (𝓡 .run)))
     (tables 𝓤 H 𝓜 𝓡 code.env .C) (tables 𝓤 H 𝓜 𝓡 code.env .Λ) #node-view·transition code.function (code.unfolded 𝓤 H 𝓜 𝓡)
     (transition-meets 𝓤 H (𝓖 .A) (givenOf 𝓤 H 𝓜 𝓖) (𝓜 .mem) (𝓡 .run) (tablesOf 𝓤 H 𝓜 (tables 𝓤 H 𝓜 𝓡 code.env))
-    (cited 𝓤 H (TransitionOf 𝓤 H (𝓖 .A) (𝓜 .mem) (𝓡 .run)) 𝓜 𝓡 code.env #node-view·transition-of plain-def.routine code.calls-node-view·transition-of
+    (cited 𝓤 H (Plain 𝓤 H (𝓖 .A) (𝓜 .mem) (𝓡 .run)) 𝓜 𝓡 code.env #node-view·transition-in plain-def.routine code.calls-node-view·transition-in
     (plain-thm.met 𝓤 H 𝓜 𝓖 𝓡)))

@@ -1,9 +1,9 @@
--- `node_view::transition_of` meets its contract: an unsound node has no transition, and a sound one has those below its count.
+-- `node_view::transition_in` meets its contract: an unsound node has no transition, and a sound one has those below its count.
 -- Assumes nothing.
 use borrow.Author.Needs.{needs}
 use Rattle.node_view.proofs.Answers.{transition-in-unsound, transition-in-at, transition-in-past}
-use Rattle.node_view.proofs.transition_of.Statement.{statement}
-use Rattle.node_view.proofs.transition_of.Tie as tie
+use Rattle.node_view.proofs.transition_in.Statement.{statement}
+use Rattle.node_view.proofs.transition_in.Tie as tie
 
 node-at-requires : tie.Need-node-at-requires
 node-at-requires c κs = search needs
@@ -35,8 +35,8 @@ returns-3 c = let told = c .before .before in
     let call = told .before .before in
     transition-in-past (call .node-at .ensures) _ (told .m .given .1) _ (c .if1 .left)
 
-pub transition-of-spec : {M : Type 1} → statement M
-transition-of-spec =
+pub transition-in-spec : {M : Type 1} → statement M
+transition-in-spec =
     tie.close
     (tie.spec
     node-at-requires

@@ -1,9 +1,9 @@
--- `node_view::place_of` meets its contract: an unsound node has no input, and of a sound one `find_input` answers.
+-- `node_view::place_in` meets its contract: an unsound node has no input, and of a sound one `find_input` answers.
 -- Assumes nothing.
 use borrow.Author.Needs.{needs}
 use Rattle.node_view.proofs.Answers.{place-in-unsound, place-in-sound}
-use Rattle.node_view.proofs.place_of.Statement.{statement}
-use Rattle.node_view.proofs.place_of.Tie as tie
+use Rattle.node_view.proofs.place_in.Statement.{statement}
+use Rattle.node_view.proofs.place_in.Tie as tie
 
 node-at-requires : tie.Need-node-at-requires
 node-at-requires c κs = search needs
@@ -28,5 +28,5 @@ returns-2 c = let told = c .before .before in
     let call = told .before .before in
     place-in-sound (call .node-at .ensures) _ (told .m .given .1) _ (c .find-input .result) (c .find-input .ensures)
 
-pub place-of-spec : {M : Type 1} → statement M
-place-of-spec = tie.close (tie.spec node-at-requires enum-known-m enum-told returns find-input-requires returns-2)
+pub place-in-spec : {M : Type 1} → statement M
+place-in-spec = tie.close (tie.spec node-at-requires enum-known-m enum-told returns find-input-requires returns-2)
