@@ -4,8 +4,7 @@ use mathlib.Core.Path.{_≡_, refl, sym, ap, _∙_, subst}
 use mathlib.Core.List.{List, [], _∷_}
 use Prim.Native.Nat.{ℕ, zero, suc, _<_, _^_}
 use native.Mathlib.Omega.{arith}
-use lib.IntN.{ℤ, pos}
-use lib.ListN.{length}
+use lib.IntN.{ℤ}
 use lib.Signed.{mag}
 use mir.Syntax.{w32}
 use mir.Val.{hbits, toZ, ofZ}
@@ -27,7 +26,7 @@ use Rattle.admission.specs.declared.Admission.{Admission}
 use Rattle.admission.specs.declared.Admission.the-variants.{Admitted as Yes, Refused as No}
 use Rattle.admission.specs.Outcome.{RefusedFor, Admits, Outcome}
 use Rattle.firmware.specs.ExportsLaws.{refused-not-0}
-use Rattle.firmware.specs.Exports.{OK, NONE, code, checksumNumber, numbersOf, OpenLeaves, GetLeaves, KeyLeaves, AdmitLeaves}
+use Rattle.firmware.specs.Exports.{OK, NONE, code, checksumNumber, OpenLeaves, GetLeaves, KeyLeaves, AdmitLeaves}
 
 -- a result that came from a call is read back from its bits
 pub code-is : (z : ℤ) {n : ℕ} → mag z < 2 ^ hbits w32 → z ≡ code n → toZ w32 (ofZ w32 z) ≡ code n

@@ -32,11 +32,12 @@ code n = pos n
 
 -- ---- opening
 
--- a stored checksum has four bytes, so 2^32 is none
+-- 2^32 stands for a missing checksum: a stored one has four bytes
 abbrev pub checksumNumber : Option ℕ → ℕ
 checksumNumber (some n) = n
 checksumNumber none = 4294967296
 
+-- version, type, key count, root address, checksum
 abbrev pub numbersOf : Meta → List ℕ
 numbersOf m = m .version ∷ (m .ty ∷ (m .len ∷ (m .root ∷ (checksumNumber (m .checksum) ∷ []))))
 

@@ -1,23 +1,28 @@
 -- What a result tells the C caller. No refusal has the number 0, so FST_OK and FST_NONE each come from one answer only. Once admission
 -- has answered FST_OK for the same bytes, a lookup by key is exact; by value it is exact on a numbered file.
 --     opening-nonzero, get-nonzero, get-key-nonzero     no refusal has the number 0
---     open-ok, get-ok, get-none, key-ok, key-none          the answer behind a result
---     GetTells, get-tells                                  by key, on an admitted file
---     KeyTells, key-tells                                  by value, on a numbered file
+--     open-ok, get-ok, get-none, key-ok, key-none       the answer behind a result
+--     checksum-lt                                       a stored checksum is not taken for a missing one
+--     GetTells, get-tells, admitted-tells               by key, on an admitted file
+--     KeyTells, key-tells                               by value, on a numbered file
 -- Assumes nothing.
 use mathlib.Core.Path.{_≡_, refl, sym, ap, _∙_}
 use mathlib.Core.Bool.{Bool, true, false, cond, _&&_}
 use mathlib.Core.Logic.{_⊎_, inl, inr}
 use mathlib.Core.List.{List, [], _∷_, _++_}
-use Prim.Native.Nat.{ℕ, zero, suc, _+_, _-_, _≤_}
+use mathlib.Core.Option.{none, some}
+use Prim.Native.Nat.{ℕ, zero, suc, _+_, _-_, _^_, _≤_, _<_}
+use native.Mathlib.Nat.{min-le-left}
 use native.Mathlib.Omega.{arith}
 use lib.Dec.{ltb, leb, eqb}
 use lib.IntN.{ℤ, pos, negsuc}
-use lib.ListN.{length, drop}
+use lib.ListN.{length, getD, take, drop, length-take}
+use lib.Seq.{getD-take, getD-drop}
 use Rattle.format.specs.Limits.{minLen, maxLen, maxSum, maxPath}
+use Rattle.format.specs.BytesLaws.{le-lt, pow-256-le}
 use Rattle.format.specs.Node.{Node, Judgement, sound, unsound, Place, at, absent, findInput, transitionAt}
 use Rattle.format.specs.Opening as O
-use Rattle.format.specs.Opening.{Meta, Opening, opened, versionTest, rootTest, metaOf, opening}
+use Rattle.format.specs.Opening.{Meta, Opening, opened, numberAt, versionTest, rootTest, metaOf, opening}
 use Rattle.format.specs.Paths.{Fst, fstOf, nodeIn, Held}
 use Rattle.format.specs.Admitted.{Admitted}
 use Rattle.format.specs.Lookup as L
@@ -26,7 +31,7 @@ use Rattle.format.specs.LookupHeld.{get-exact}
 use Rattle.format.specs.NumberedLaws.{get-key-exact}
 use Rattle.lookup.specs.Answers.{keyBufferOf}
 use Rattle.admission.specs.Outcome.{RefusedFor, not-opened, no-space, no-nodes, too-deep, too-heavy}
-use Rattle.firmware.specs.Exports.{OK, NONE, code, numbersOf, OpenLeaves, getResult, getValue, GetLeaves, keyResult, keyLen, KeyLeaves, AdmitLeaves}
+use Rattle.firmware.specs.Exports.{OK, NONE, code, checksumNumber, numbersOf, OpenLeaves, getResult, getValue, GetLeaves, keyResult, keyLen, KeyLeaves, AdmitLeaves}
 
 picked : {A : Type 0} (P : A → Type 0) (t : Bool) {x y : A} → P x → P y → P (cond t x y)
 picked P true px py = px
@@ -54,7 +59,7 @@ opening-not-0 w (turns n) e = let z : suc n ≡ 0 = cc in omega arith
 pub refused-not-0 : {s d₀ s₀ d t : List ℕ} → ¬ RefusedFor s d₀ s₀ d t 0
 refused-not-0 {s} (not-opened e p q) = opening-not-0 (opening s) (opening-nonzero s) e
 refused-not-0 (no-space m o e short p q) = omega arith
-refused-not-0 (no-nodes m o rd rs e none p q) = omega arith
+refused-not-0 (no-nodes m o rd rs e lost p q) = omega arith
 refused-not-0 (too-deep m l o rd rs e n long p q) = omega arith
 refused-not-0 (too-heavy m l o rd rs e n shallow large p q) = omega arith
 
@@ -149,6 +154,22 @@ open-ok s meta₀ meta r h e = go (opening s) (opening-nonzero s) h
     go w (opens m) h = (m, refl, h .numbers)
     go w (turns n) h = absurd (positive-not-0 n (sym (h .result) ∙ e))
 
+-- a stored checksum is below the number that stands for a missing one
+number-lt : (s : List ℕ) → ((i : ℕ) → getD s i 0 < 256) → (i k : ℕ) → numberAt s i k < 256 ^ k
+number-lt s bytes i k =
+    let short : length (take k (drop i s)) ≤ k = rw length-take (min-le-left k (length (drop i s))) in
+    let few = pow-256-le short in
+    let small = le-lt (take k (drop i s)) (λ j l. let q : j < k = omega arith in rw (getD-take k (drop i s) j 0 q, getD-drop i s j 0) (bytes (i + j))) in
+    omega arith
+
+pub checksum-lt : (s : List ℕ) → ((i : ℕ) → getD s i 0 < 256) → (n : ℕ) → metaOf s .checksum ≡ some n → n < checksumNumber none
+unfolding metaOf
+checksum-lt s bytes n e = go (eqb (numberAt s 0 8) 3) e
+  where
+    go : (t : Bool) → cond t (some (numberAt s (length s - 4) 4)) none ≡ some n → n < 4294967296
+    go true is = let same : numberAt s (length s - 4) 4 ≡ n = cc in omega (arith, number-lt s bytes (length s - 4) 4)
+    go false is = absurd (let z : _≡_ {A = ℕ} 0 1 = cc in omega arith)
+
 module _ (s k : List ℕ) (v₀ v : ℕ) (r : ℤ) (h : GetLeaves (L.get s k) v₀ v r) where
   pub get-ok : r ≡ OK → L.get s k ≡ value v
   get-ok e = go (L.get s k) (get-nonzero s k) h
@@ -205,7 +226,7 @@ get-tells {s} A k v₀ v r h =
       ok-held = λ e. exact .held-get v (get-ok s k v₀ v r h e);
       held-ok = λ u held. let w = exact .get-held u held in (h .result ∙ ap getResult w, h .value-is ∙ ap (λ x. getValue x v₀) w);
       none-held = λ e. exact .none-held (get-none s k v₀ v r h e);
-      held-none = λ none. let w = exact .get-none none in (h .result ∙ ap getResult w, h .value-is ∙ ap (λ x. getValue x v₀) w);
+      held-none = λ unheld. let w = exact .get-none unheld in (h .result ∙ ap getResult w, h .value-is ∙ ap (λ x. getValue x v₀) w);
     }
 
 -- ---- by value, on a numbered file
@@ -232,7 +253,7 @@ key-tells {s} N v buf₀ buf n₀ n r room h =
       ok-held = λ e. let a = key-ok s v (length buf₀) buf₀ buf n₀ n r h e in (a .0, exact .get-key-found (a .0) (a .1), a .2, a .3);
       held-ok = λ k held. let w = exact .get-key-held room k held in (h .result ∙ ap keyResult w, h .buffer ∙ ap (λ x. keyBufferOf x buf₀) w, h .len ∙ ap (λ x. keyLen x n₀) w);
       none-held = λ e. exact .none-key-held room (key-none s v (length buf₀) buf₀ buf n₀ n r h e);
-      held-none = λ none. let w = exact .get-key-none room none in (h .result ∙ ap keyResult w, h .buffer ∙ ap (λ x. keyBufferOf x buf₀) w, h .len ∙ ap (λ x. keyLen x n₀) w);
+      held-none = λ unheld. let w = exact .get-key-none room unheld in (h .result ∙ ap keyResult w, h .buffer ∙ ap (λ x. keyBufferOf x buf₀) w, h .len ∙ ap (λ x. keyLen x n₀) w);
     }
 
 -- ---- for a caller that asked for admission first

@@ -24,7 +24,8 @@ same-length-2 : tie.Need-same-length-2
 same-length-2 c = search needs
 
 returns : tie.Need-returns
-returns c = admit-admitted _ _ _ _ _ (c .before .before .before .before .before .before .admit .ensures) (c .enum-told .given .1)
+returns c = let call = c .before .before .before .before .before .before in
+    admit-admitted _ _ _ _ _ (call .admit .ensures) (c .enum-told .given .1)
 
 same-length-3 : tie.Need-same-length-3
 same-length-3 c = search needs
@@ -33,7 +34,8 @@ same-length-4 : tie.Need-same-length-4
 same-length-4 c = search needs
 
 returns-2 : tie.Need-returns-2
-returns-2 c = admit-refused _ _ _ _ _ (c .before .before .before .before .before .before .before .before .admit .ensures) _ _ (c .before .before .answer .given .1) (code-is (c .code .result) (c .code .ok) (c .code .ensures))
+returns-2 c = let call = c .before .before .before .before .before .before .before .before in
+    admit-refused _ _ _ _ _ (call .admit .ensures) _ _ (c .before .before .answer .given .1) (code-is (c .code .result) (c .code .ok) (c .code .ensures))
 
 pub fst-admit-spec : {M : Type 1} → statement M
 fst-admit-spec =
