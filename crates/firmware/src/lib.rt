@@ -1,0 +1,100 @@
+// The functions that the C display firmware calls. include/baxhiso.h declares them for C.
+// A slice is passed as its pointer and then its length. No function has more than six argument words, so all of them go in registers.
+// Results: 0 for an answer, -1 for none, else the number of a refusal. No function asks anything of its arguments' values.
+ghost use mathlib.Core.Path.{_≡_};
+ghost use lib.IntN.{pos};
+ghost use lib.ListN.{length};
+ghost use Rattle.format.specs.Opening.{opening};
+ghost use Rattle.format.specs.Lookup as L;
+ghost use Rattle.firmware.specs.Exports.{checksumNumber, OpenLeaves, GetLeaves, KeyLeaves, AdmitLeaves};
+ghost use Rattle.fst.specs.Open.{checksumIs};
+use admission::Admission;
+use fst::Checksum;
+use fst::Opened;
+use lookup::Answer;
+use lookup::KeyAnswer;
+
+const OK: i32 = 0;
+
+const NONE: i32 = -1;
+
+// What stands for the checksum where the version has none: no stored checksum is as large.
+const NO_CHECKSUM: u64 = 4_294_967_296;
+
+// A refusal's number as a result.
+fn code(why: u8) -> i32
+    ensures { λ r. ⌜ r ≡ pos why ⌝ }
+{
+    why as i32
+}
+
+// The checksum as one number.
+fn checksum_number(checksum: Checksum) -> u64
+    ensures { λ r. ⌜ r ≡ checksumNumber (checksumIs checksum) ⌝ }
+{
+    match checksum {
+        Checksum::Stored(n) => n as u64,
+        Checksum::Missing => NO_CHECKSUM,
+    }
+}
+
+// Opens a file. On 0 the five numbers are version, type, key count, root address and checksum; on a refusal they stay as given.
+#[no_mangle]
+pub extern "C" fn fst_open(file: &[u8], meta: &mut [u64; 5]) -> i32
+    ensures { λ r. ⌜ OpenLeaves (opening (now (file .entry))) (now (meta .entry)) (now (meta .exit)) r ⌝ }
+{
+    let opened = fst::open(file);
+    match opened {
+        Opened::Refused(why) => code(why),
+        Opened::Meta(m) => {
+            let checksum = m.checksum;
+            let last = checksum_number(checksum);
+            *meta = [m.version, m.ty, m.len, m.root as u64, last];
+            OK
+        }
+    }
+}
+
+// The value of a key. The value is written on 0 only.
+#[no_mangle]
+pub extern "C" fn fst_get(file: &[u8], key: &[u8], value: &mut u64) -> i32
+    ensures { λ r. ⌜ GetLeaves (L.get (now (file .entry)) (now (key .entry))) (now (value .entry)) (now (value .exit)) r ⌝ }
+{
+    let answer = lookup::get(file, key);
+    match answer {
+        Answer::Value(v) => {
+            *value = v;
+            OK
+        }
+        Answer::None => NONE,
+        Answer::Refused(why) => code(why),
+    }
+}
+
+// A key with this value. On 0 the key stands from the buffer's first byte on, and its length is written; else both stay as given.
+#[no_mangle]
+pub extern "C" fn fst_get_key(file: &[u8], value: u64, key: &mut [u8], len: &mut usize) -> i32
+    ensures { λ r. ⌜ KeyLeaves (L.getKey (now (file .entry)) value (length (now (key .entry)))) (now (key .entry)) (now (key .exit)) (now (len .entry)) (now (len .exit)) r ⌝ }
+{
+    let answer = lookup::get_key(file, value, key);
+    match answer {
+        KeyAnswer::Key(n) => {
+            *len = n;
+            OK
+        }
+        KeyAnswer::None => NONE,
+        KeyAnswer::Refused(why) => code(why),
+    }
+}
+
+// Admits a file and fills the two tables, or refuses it.
+#[no_mangle]
+pub extern "C" fn fst_admit(file: &[u8], depths: &mut [u16], sums: &mut [u64]) -> i32
+    ensures { λ r. ⌜ AdmitLeaves (now (file .entry)) (now (depths .entry)) (now (sums .entry)) (now (depths .exit)) (now (sums .exit)) r ⌝ }
+{
+    let answer = admission::admit(file, depths, sums);
+    match answer {
+        Admission::Admitted => OK,
+        Admission::Refused(why) => code(why),
+    }
+}

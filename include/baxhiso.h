@@ -1,0 +1,129 @@
+/* baxhiso.h: read values by key, and keys by value, from an FST file that is held in memory.
+ *
+ * Link target/staticlib/libfirmware.a, which `rt staticlib firmware` makes, into a program for x86-64. It calls memcpy
+ * and memset and nothing else.
+ *
+ * The library allocates nothing and keeps nothing between calls. The caller lends every buffer, and the library reads and
+ * writes only within the lengths it is given: a pointer's length is the argument after it, counted in elements. A pointer
+ * whose length is 0 may be NULL; any other must be valid, and aligned for its type. What is only read, as a file and a key,
+ * may overlap; what is written must not overlap another argument. A file may stand at any address, and no function changes
+ * it. Every file may be handed in, admitted or not, damaged or not.
+ *
+ * Each function is proved to return on every input, with the result and with what each buffer holds afterwards as said
+ * below (crates/firmware/specs/Exports.antt, with the definitions of docs/FORMAT.md). Only tested, by tests/c: that these
+ * declarations fit the library, and NULL with length 0. The stack is not part of the proof; no function calls itself.
+ *
+ *     fst_meta meta;
+ *     uint64_t value;
+ *     if (fst_open(file, file_len, &meta) != FST_OK)
+ *         return reject_card();
+ *     switch (fst_get(file, file_len, key, key_len, &value)) {
+ *     case FST_OK:   show(value);   break;
+ *     case FST_NONE: show_absent(); break;
+ *     default:       reject_card(); break;
+ *     }
+ *
+ * Licence: see NOTICE.
+ */
+#ifndef BAXHISO_H
+#define BAXHISO_H
+
+#include <stddef.h>
+#include <stdint.h>
+
+#ifdef __cplusplus
+extern "C" {
+#endif
+
+/* Results. Negative: an answer that is no error. Positive: a refusal, numbered as in docs/FORMAT.md, "Refusals"; its numbers
+ * from 9 on belong to functions that are not exported. */
+#define FST_NONE    (-1) /* no such key or value                                                                   */
+#define FST_OK        0
+#define FST_SHORT     1  /* file under 36 bytes                                                                    */
+#define FST_VERSION   2  /* version not 1, 2 or 3                                                                  */
+#define FST_ROOT      3  /* root address does not fit the version and the file's length                            */
+#define FST_LARGE     4  /* file over FST_MAX_LEN bytes                                                            */
+#define FST_NODE      5  /* a node that is not sound; on admission also a broken chain, or a target that is no node */
+#define FST_DEEP      6  /* a path or a key of 256 bytes                                                           */
+#define FST_SUM       7  /* a sum passes 2^64 - 1                                                                  */
+#define FST_SPACE     8  /* key buffer under FST_KEY_SPACE bytes, work table shorter than the file                 */
+
+#define FST_MAX_LEN   16777216 /* the longest file                                 */
+#define FST_KEY_SPACE 255      /* the shortest key buffer, and the longest key in it */
+
+/* What stands for the checksum of a file that has none: larger than any stored checksum. */
+#define FST_NO_CHECKSUM UINT64_C(4294967296)
+
+/* What the header and the trailer of a file say. Type, key count and checksum are read and not judged. */
+typedef struct fst_meta {
+    uint64_t version;  /* 1 to 3 */
+    uint64_t type;
+    uint64_t keys;     /* key count */
+    uint64_t root;     /* address of the root node */
+    uint64_t checksum; /* at most 2^32 - 1, or FST_NO_CHECKSUM in versions 1 and 2 */
+} fst_meta;
+
+/* Opens a file: reads its header and its trailer, and no node.
+ *
+ *   file, file_len   the whole file
+ *   meta             all five numbers set on FST_OK, and left as they were on any other result
+ *
+ * Returns FST_OK, or the first that holds of FST_SHORT, FST_LARGE, FST_VERSION, FST_ROOT. The other functions open the file
+ * themselves: there is no need to call this one before them. */
+int32_t fst_open(const uint8_t *file, size_t file_len, fst_meta *meta);
+
+/* The value of a key.
+ *
+ *   file, file_len   the whole file
+ *   key, key_len     the key; any length, also 0
+ *   value            set on FST_OK, and left as it was on any other result
+ *
+ * Returns FST_SHORT, FST_LARGE, FST_VERSION or FST_ROOT, as fst_open. Then for each node on the key's path, the last one
+ * included: FST_NODE if it is not sound, FST_SUM if the outputs up to it pass 2^64 - 1, FST_NONE if the key does not go on
+ * from it. At the key's end FST_NONE if the node is not final, FST_SUM if its final output is too much, else FST_OK.
+ *
+ * On a file that fst_admit admits, FST_OK comes exactly for the keys that the file holds, with their values, and FST_NONE for
+ * all others: there is no refusal. */
+int32_t fst_get(const uint8_t *file, size_t file_len, const uint8_t *key, size_t key_len, uint64_t *value);
+
+/* A key with a value.
+ *
+ *   file, file_len   the whole file
+ *   value            the value
+ *   key, key_space   on FST_OK the key stands from key[0] on, and the bytes after it are left as they were; on any other
+ *                    result all bytes are left as they were. At least FST_KEY_SPACE bytes
+ *   key_len          the key's length, 0 to 255, on FST_OK; left as it was on any other result
+ *
+ * Returns FST_SHORT, FST_LARGE, FST_VERSION or FST_ROOT, as fst_open, then FST_SPACE. Then for each node on the way:
+ * FST_NODE if it is not sound; FST_OK if nothing is left of the value and it is final; FST_NONE if no transition fits what is
+ * left; FST_DEEP if 255 bytes do not end the key. Final outputs are not counted.
+ *
+ * On a numbered file (crates/format/specs/Lookup.antt, Numbered), FST_OK comes exactly when a held key has the value, with
+ * that key, and else FST_NONE. On any other admitted file the outputs on a found key's path add up to the value, and a key
+ * that has it may be missed. */
+int32_t fst_get_key(const uint8_t *file, size_t file_len, uint64_t value,
+                    uint8_t *key, size_t key_space, size_t *key_len);
+
+/* Judges a whole file: admits it or refuses it.
+ *
+ *   file, file_len       the whole file
+ *   depths, depths_len   work table, at least file_len entries
+ *   sums, sums_len       work table, at least file_len entries
+ *
+ * What both tables hold afterwards, by result:
+ *   FST_OK                       at the address of each node, depths has 1 plus its longest path and sums its largest sum;
+ *                                0 at the other entries below file_len
+ *   FST_NODE, FST_DEEP, FST_SUM  0 at all entries below file_len
+ *   any other                    what they held before
+ * Entries from file_len on are left as they were on every result.
+ *
+ * Returns FST_SHORT, FST_LARGE, FST_VERSION or FST_ROOT, as fst_open, then FST_SPACE, then FST_NODE, FST_DEEP, FST_SUM, each
+ * decided over the whole file before the next, else FST_OK. */
+int32_t fst_admit(const uint8_t *file, size_t file_len,
+                  uint16_t *depths, size_t depths_len, uint64_t *sums, size_t sums_len);
+
+#ifdef __cplusplus
+}
+#endif
+
+#endif

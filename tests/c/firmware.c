@@ -1,0 +1,407 @@
+/* Calls every function of include/baxhiso.h and checks the result, and the file and every buffer afterwards.
+ *
+ * Each row is a call. Every buffer is a block of its own of exactly the length that the call is given, so that valgrind sees
+ * a step beyond it. What is not to be written is filled with MARK. Files are made from their nodes' bytes (docs/FORMAT.md).
+ * A refusal that a function can give is reached by at least one row. */
+#include <stdio.h>
+#include <stdlib.h>
+#include <string.h>
+
+#include "baxhiso.h"
+
+#define MARK 0xA5
+#define MARK16 0xA5A5
+#define MARK64 UINT64_C(0xA5A5A5A5A5A5A5A5)
+
+/* fst_meta stands for an array of five numbers: an error here says that the two differ. */
+typedef char fst_meta_is_five_numbers[sizeof(fst_meta) == 5 * sizeof(uint64_t) ? 1 : -1];
+
+static const char *row;
+static int calls, differences;
+
+static void expect(int holds, const char *what)
+{
+    if (!holds) {
+        differences++;
+        printf("%s: %s differs\n", row, what);
+    }
+}
+
+static void expect_number(uint64_t got, uint64_t want, const char *what)
+{
+    if (got != want) {
+        differences++;
+        printf("%s: %s is %llu, not %llu\n", row, what, (unsigned long long)got, (unsigned long long)want);
+    }
+}
+
+static void *block(size_t bytes)
+{
+    void *p = malloc(bytes > 0 ? bytes : 1);
+    if (p == NULL) {
+        printf("no memory\n");
+        exit(2);
+    }
+    memset(p, MARK, bytes);
+    return p;
+}
+
+/* ---- files */
+
+typedef struct file {
+    uint8_t *bytes;
+    size_t len;
+} file;
+
+static void put(uint8_t *at, uint64_t number, int size)
+{
+    for (int i = 0; i < size; i++)
+        at[i] = (uint8_t)(number >> (8 * i));
+}
+
+/* A file of its nodes: header, nodes, key count, root address and, in version 3, a checksum. */
+static file make(uint64_t version, uint64_t type, const uint8_t *nodes, size_t nodes_len,
+                 uint64_t keys, uint64_t root, uint32_t checksum)
+{
+    file f;
+    f.len = 16 + nodes_len + 16 + (version == 3 ? 4 : 0);
+    f.bytes = block(f.len);
+    put(f.bytes, version, 8);
+    put(f.bytes + 8, type, 8);
+    if (nodes_len > 0)
+        memcpy(f.bytes + 16, nodes, nodes_len);
+    put(f.bytes + 16 + nodes_len, keys, 8);
+    put(f.bytes + 24 + nodes_len, root, 8);
+    if (version == 3)
+        put(f.bytes + 32 + nodes_len, checksum, 4);
+    return f;
+}
+
+static file zeros(size_t len)
+{
+    file f;
+    f.len = len;
+    f.bytes = block(len);
+    memset(f.bytes, 0, len);
+    return f;
+}
+
+/* A copy to compare with after the call. */
+static uint8_t *before(file f)
+{
+    uint8_t *copy = block(f.len);
+    if (f.len > 0)
+        memcpy(copy, f.bytes, f.len);
+    return copy;
+}
+
+static void expect_file(file f, uint8_t *copy)
+{
+    expect(f.len == 0 || memcmp(f.bytes, copy, f.len) == 0, "the file");
+    free(copy);
+}
+
+/* ---- one runner for each function */
+
+static void open_row(const char *name, file f, int32_t want, fst_meta meta)
+{
+    uint8_t *copy = before(f);
+    fst_meta *got = block(sizeof *got);
+    const fst_meta kept = { MARK64, MARK64, MARK64, MARK64, MARK64 };
+    row = name;
+    calls++;
+    expect_number((uint64_t)fst_open(f.bytes, f.len, got), (uint64_t)want, "fst_open");
+    if (want != FST_OK)
+        meta = kept;
+    expect_number(got->version, meta.version, "version");
+    expect_number(got->type, meta.type, "type");
+    expect_number(got->keys, meta.keys, "keys");
+    expect_number(got->root, meta.root, "root");
+    expect_number(got->checksum, meta.checksum, "checksum");
+    free(got);
+    expect_file(f, copy);
+}
+
+static void open_refused(const char *name, file f, int32_t want)
+{
+    const fst_meta none = { 0, 0, 0, 0, 0 };
+    open_row(name, f, want, none);
+}
+
+static void get_row(const char *name, file f, const char *key, size_t key_len, int32_t want, uint64_t value)
+{
+    uint8_t *copy = before(f);
+    uint8_t *k = block(key_len);
+    uint64_t *got = block(sizeof *got);
+    if (key_len > 0)
+        memcpy(k, key, key_len);
+    row = name;
+    calls++;
+    expect_number((uint64_t)fst_get(f.bytes, f.len, k, key_len, got), (uint64_t)want, "fst_get");
+    expect_number(*got, want == FST_OK ? value : MARK64, "value");
+    expect(key_len == 0 || memcmp(k, key, key_len) == 0, "the key");
+    free(got);
+    free(k);
+    expect_file(f, copy);
+}
+
+static void get_key_row(const char *name, file f, uint64_t value, size_t space, int32_t want,
+                        const char *key, size_t key_len)
+{
+    uint8_t *copy = before(f);
+    uint8_t *buffer = block(space);
+    size_t *len = block(sizeof *len);
+    row = name;
+    calls++;
+    expect_number((uint64_t)fst_get_key(f.bytes, f.len, value, buffer, space, len), (uint64_t)want, "fst_get_key");
+    if (want != FST_OK)
+        key_len = 0;
+    expect_number(*len, want == FST_OK ? key_len : MARK64, "key_len");
+    for (size_t i = 0; i < space; i++)
+        expect(buffer[i] == (i < key_len ? (uint8_t)key[i] : MARK), "a byte of the key buffer");
+    free(len);
+    free(buffer);
+    expect_file(f, copy);
+}
+
+/* What the tables are to hold at the address of a node. */
+typedef struct entry {
+    size_t addr;
+    uint16_t depth;
+    uint64_t sum;
+} entry;
+
+static void admit_row(const char *name, file f, size_t depths_len, size_t sums_len, int32_t want,
+                      const entry *nodes, size_t nodes_len)
+{
+    int wiped = want == FST_OK || want == FST_NODE || want == FST_DEEP || want == FST_SUM;
+    uint8_t *copy = before(f);
+    uint16_t *depths = block(depths_len * sizeof *depths);
+    uint64_t *sums = block(sums_len * sizeof *sums);
+    size_t i, n;
+    row = name;
+    calls++;
+    expect_number((uint64_t)fst_admit(f.bytes, f.len, depths, depths_len, sums, sums_len), (uint64_t)want, "fst_admit");
+    for (n = 0; n < nodes_len; n++) {
+        expect_number(depths[nodes[n].addr], nodes[n].depth, "a node's depth");
+        expect_number(sums[nodes[n].addr], nodes[n].sum, "a node's sum");
+        depths[nodes[n].addr] = 0;
+        sums[nodes[n].addr] = 0;
+    }
+    for (i = 0; i < depths_len; i++)
+        expect(depths[i] == (wiped && i < f.len ? 0 : MARK16), "another entry of depths");
+    for (i = 0; i < sums_len; i++)
+        expect(sums[i] == (wiped && i < f.len ? 0 : MARK64), "another entry of sums");
+    free(sums);
+    free(depths);
+    expect_file(f, copy);
+}
+
+static void admit_refused(const char *name, file f, size_t depths_len, size_t sums_len, int32_t want)
+{
+    admit_row(name, f, depths_len, sums_len, want, NULL, 0);
+}
+
+/* ---- NULL with length 0 */
+
+static void null_rows(file d, file seven)
+{
+    fst_meta meta = { 1, 2, 3, 4, 5 };
+    uint64_t value = 6, sums[64];
+    uint16_t depths[64];
+    size_t len = 7;
+
+    row = "NULL";
+    calls += 9;
+    expect_number((uint64_t)fst_open(NULL, 0, &meta), FST_SHORT, "fst_open, file");
+    expect(meta.version == 1 && meta.type == 2 && meta.keys == 3 && meta.root == 4 && meta.checksum == 5, "meta");
+    expect_number((uint64_t)fst_get(NULL, 0, NULL, 0, &value), FST_SHORT, "fst_get, file and key");
+    expect_number((uint64_t)fst_get(d.bytes, d.len, NULL, 0, &value), (uint64_t)FST_NONE, "fst_get, key");
+    expect_number(value, 6, "value");
+    expect_number((uint64_t)fst_get(seven.bytes, seven.len, NULL, 0, &value), FST_OK, "fst_get, the empty key");
+    expect_number(value, 7, "value");
+    expect_number((uint64_t)fst_get_key(NULL, 0, 3, NULL, 0, &len), FST_SHORT, "fst_get_key, file and key");
+    expect_number((uint64_t)fst_get_key(d.bytes, d.len, 3, NULL, 0, &len), FST_SPACE, "fst_get_key, key");
+    expect_number(len, 7, "key_len");
+    expect_number((uint64_t)fst_admit(NULL, 0, NULL, 0, NULL, 0), FST_SHORT, "fst_admit, all");
+    memset(depths, MARK, sizeof depths);
+    memset(sums, MARK, sizeof sums);
+    expect_number((uint64_t)fst_admit(d.bytes, d.len, NULL, 0, sums, 64), FST_SPACE, "fst_admit, depths");
+    expect_number((uint64_t)fst_admit(d.bytes, d.len, depths, 64, NULL, 0), FST_SPACE, "fst_admit, sums");
+    for (int i = 0; i < 64; i++)
+        expect(depths[i] == MARK16 && sums[i] == MARK64, "an entry of a table");
+}
+
+/* ---- a file at an odd address, and a key within the file */
+
+static void address_rows(file d)
+{
+    file odd;
+    uint8_t *room = block(d.len + 1);
+    uint64_t value = 0;
+
+    odd.bytes = room + 1;
+    odd.len = d.len;
+    memcpy(odd.bytes, d.bytes, d.len);
+    get_row("file at the next address", odd, "at", 2, FST_OK, 3);
+    get_key_row("file at the next address, by value", odd, 3, 255, FST_OK, "at", 2);
+
+    row = "key within the file";
+    calls++;
+    expect_number((uint64_t)fst_get(d.bytes, d.len, d.bytes + 27, 1, &value), FST_OK, "fst_get");
+    expect_number(value, 1, "value");
+    free(room);
+}
+
+int main(void)
+{
+    /* a: 1, at: 3, e: 4 */
+    static const uint8_t d_nodes[] = { 0x00, 0x02, 0x00, 0x74, 0x11, 0x41, 0x04, 0x01, 0x00, 0x01, 0x65, 0x61, 0x11, 0x02 };
+    static const entry d_entries[] = { { 21, 2, 2 }, { 29, 3, 4 } };
+    /* the empty key, with a final output of 7 */
+    static const uint8_t seven_nodes[] = { 0x07, 0x01, 0x00, 0x40 };
+    static const entry seven_entries[] = { { 19, 1, 7 } };
+    /* its target would be byte 15, in the header */
+    static const uint8_t unsound_nodes[] = { 0xC1 };
+    /* a node that is sound behind a transition to one that is not */
+    static const uint8_t below_nodes[] = { 0xC1, 0x02, 0x01, 0x11, 0x61, 0x80 };
+    /* a with 2^64 - 1, then b with 1 */
+    static const uint8_t sum_nodes[] = { 0x01, 0x00, 0x11, 0x62, 0x80,
+        0xFF, 0xFF, 0xFF, 0xFF, 0xFF, 0xFF, 0xFF, 0xFF, 0x01, 0x18, 0x61, 0x80 };
+    /* a with 2^64 - 1, then a final output of 1 */
+    static const uint8_t final_nodes[] = { 0x01, 0x01, 0x00, 0x40,
+        0xFF, 0xFF, 0xFF, 0xFF, 0xFF, 0xFF, 0xFF, 0xFF, 0x01, 0x18, 0x61, 0x80 };
+    /* 256 times a, each with 0: one node to address 0, and one byte for each node to the one before it */
+    uint8_t deep_nodes[3 + 255] = { 0x00, 0x10, 0x85 };
+    entry deep_entries[255];
+    char as[257];
+
+    const fst_meta d_meta = { 3, 0, 3, 29, 0 };
+    const fst_meta typed_meta = { 3, 6, 3, 29, 4294967295u };
+    const fst_meta one_meta = { 1, 9, 1, 19, FST_NO_CHECKSUM };
+    const fst_meta two_meta = { 2, 9, 1, 19, FST_NO_CHECKSUM };
+    const fst_meta empty_meta = { 3, 0, 0, 0, 0 };
+    file d = make(3, 0, d_nodes, sizeof d_nodes, 3, 29, 0);
+    file typed = make(3, 6, d_nodes, sizeof d_nodes, 3, 29, 4294967295u);
+    file one = make(1, 9, seven_nodes, sizeof seven_nodes, 1, 19, 0);
+    file two = make(2, 9, seven_nodes, sizeof seven_nodes, 1, 19, 0);
+    file empty = make(3, 0, NULL, 0, 0, 0, 0);
+    file brief = zeros(35);
+    file nothing = zeros(0);
+    file unversioned = zeros(36);
+    file large = zeros((size_t)FST_MAX_LEN + 1);
+    file largest = zeros(FST_MAX_LEN);
+    file rootless = make(3, 0, (const uint8_t *)"\0\0\0", 3, 0, 17, 0);
+    file unsound = make(3, 0, unsound_nodes, sizeof unsound_nodes, 1, 16, 0);
+    file below = make(3, 0, below_nodes, sizeof below_nodes, 1, 21, 0);
+    file heavy = make(3, 0, sum_nodes, sizeof sum_nodes, 1, 32, 0);
+    file heavier = make(3, 0, final_nodes, sizeof final_nodes, 1, 31, 0);
+    file deep, deepest;
+    size_t i;
+
+    memset(deep_nodes + 3, 0xC5, 255);
+    memset(as, 'a', sizeof as);
+    deep = make(3, 0, deep_nodes, sizeof deep_nodes, 1, 273, 0);
+    deepest = make(3, 0, deep_nodes, sizeof deep_nodes - 1, 1, 272, 0);
+    for (i = 0; i < 255; i++) {
+        const entry at = { 18 + i, (uint16_t)(2 + i), 0 };
+        deep_entries[i] = at;
+    }
+
+    open_row("D", d, FST_OK, d_meta);
+    open_row("D with a type and a checksum", typed, FST_OK, typed_meta);
+    open_row("version 1", one, FST_OK, one_meta);
+    open_row("version 2", two, FST_OK, two_meta);
+    open_row("root 0", empty, FST_OK, empty_meta);
+    open_refused("35 zeros", brief, FST_SHORT);
+    open_refused("no bytes", nothing, FST_SHORT);
+    open_refused("36 zeros", unversioned, FST_VERSION);
+    open_refused("39 bytes, root 17", rootless, FST_ROOT);
+    open_refused("16,777,217 zeros", large, FST_LARGE);
+    open_refused("16,777,216 zeros", largest, FST_VERSION);
+    open_row("C1 at 16: no node is read", unsound, FST_OK, (fst_meta){ 3, 0, 1, 16, 0 });
+
+    get_row("D, a", d, "a", 1, FST_OK, 1);
+    get_row("D, at", d, "at", 2, FST_OK, 3);
+    get_row("D, e", d, "e", 1, FST_OK, 4);
+    get_row("D, empty key", d, "", 0, FST_NONE, 0);
+    get_row("D, ate", d, "ate", 3, FST_NONE, 0);
+    get_row("D, b", d, "b", 1, FST_NONE, 0);
+    get_row("version 1, empty key", one, "", 0, FST_OK, 7);
+    get_row("version 2, empty key", two, "", 0, FST_OK, 7);
+    get_row("root 0, empty key", empty, "", 0, FST_OK, 0);
+    get_row("root 0, a", empty, "a", 1, FST_NONE, 0);
+    get_row("256 times a", deep, as, 256, FST_OK, 0);
+    get_row("255 times a of 256", deep, as, 255, FST_NONE, 0);
+    get_row("257 times a of 256", deep, as, 257, FST_NONE, 0);
+    get_row("35 zeros, a", brief, "a", 1, FST_SHORT, 0);
+    get_row("36 zeros, a", unversioned, "a", 1, FST_VERSION, 0);
+    get_row("39 bytes, root 17, a", rootless, "a", 1, FST_ROOT, 0);
+    get_row("16,777,217 zeros, a", large, "a", 1, FST_LARGE, 0);
+    get_row("C1 at 16, empty key", unsound, "", 0, FST_NODE, 0);
+    get_row("C1 at 16, a", unsound, "a", 1, FST_NODE, 0);
+    get_row("C1 below, empty key", below, "", 0, FST_NONE, 0);
+    get_row("C1 below, a", below, "a", 1, FST_NODE, 0);
+    get_row("2^64 - 1, then 1: a", heavy, "a", 1, FST_NONE, 0);
+    get_row("2^64 - 1, then 1: ab", heavy, "ab", 2, FST_SUM, 0);
+    get_row("2^64 - 1, then 1 at the end: a", heavier, "a", 1, FST_SUM, 0);
+
+    get_key_row("D, 1", d, 1, 255, FST_OK, "a", 1);
+    get_key_row("D, 3", d, 3, 255, FST_OK, "at", 2);
+    get_key_row("D, 4", d, 4, 300, FST_OK, "e", 1);
+    get_key_row("D, 0", d, 0, 255, FST_NONE, NULL, 0);
+    get_key_row("D, 2", d, 2, 255, FST_NONE, NULL, 0);
+    get_key_row("D, 2^64 - 1", d, UINT64_MAX, 255, FST_NONE, NULL, 0);
+    get_key_row("root 0, 0", empty, 0, 255, FST_OK, "", 0);
+    get_key_row("final outputs are not counted", one, 7, 255, FST_NONE, NULL, 0);
+    get_key_row("255 times a", deepest, 0, 255, FST_OK, as, 255);
+    get_key_row("254 bytes of space", d, 3, 254, FST_SPACE, NULL, 0);
+    get_key_row("no space", d, 3, 0, FST_SPACE, NULL, 0);
+    get_key_row("35 zeros before no space", brief, 3, 0, FST_SHORT, NULL, 0);
+    get_key_row("36 zeros, 3", unversioned, 3, 255, FST_VERSION, NULL, 0);
+    get_key_row("39 bytes, root 17, 3", rootless, 3, 255, FST_ROOT, NULL, 0);
+    get_key_row("16,777,217 zeros, 3", large, 3, 255, FST_LARGE, NULL, 0);
+    get_key_row("C1 at 16, 0", unsound, 0, 255, FST_NODE, NULL, 0);
+    get_key_row("C1 below, 2", below, 2, 255, FST_NODE, NULL, 0);
+    get_key_row("256 times a, 0", deep, 0, 255, FST_DEEP, NULL, 0);
+
+    admit_row("admit D", d, 50, 50, FST_OK, d_entries, 2);
+    admit_row("admit D, longer tables", d, 53, 57, FST_OK, d_entries, 2);
+    admit_row("admit version 1", one, 36, 36, FST_OK, seven_entries, 1);
+    admit_row("admit root 0", empty, 36, 40, FST_OK, NULL, 0);
+    admit_row("admit 255 times a", deepest, deepest.len, deepest.len + 1, FST_OK, deep_entries, 255);
+    admit_refused("admit D, depths one short", d, 49, 50, FST_SPACE);
+    admit_refused("admit D, sums one short", d, 50, 49, FST_SPACE);
+    admit_refused("admit 35 zeros", brief, 35, 35, FST_SHORT);
+    admit_refused("admit 36 zeros", unversioned, 36, 36, FST_VERSION);
+    admit_refused("admit 39 bytes, root 17", rootless, 39, 39, FST_ROOT);
+    admit_refused("admit 16,777,217 zeros", large, 10, 10, FST_LARGE);
+    admit_refused("admit C1 at 16", unsound, 40, 37, FST_NODE);
+    admit_refused("admit C1 below", below, 42, 43, FST_NODE);
+    admit_refused("admit 256 times a", deep, 296, 294, FST_DEEP);
+    admit_refused("admit 2^64 - 1, then 1", heavy, 53, 60, FST_SUM);
+    admit_refused("admit 2^64 - 1, then 1 at the end", heavier, 60, 52, FST_SUM);
+
+    null_rows(d, one);
+    address_rows(d);
+
+    free(d.bytes);
+    free(typed.bytes);
+    free(one.bytes);
+    free(two.bytes);
+    free(empty.bytes);
+    free(brief.bytes);
+    free(nothing.bytes);
+    free(unversioned.bytes);
+    free(large.bytes);
+    free(largest.bytes);
+    free(rootless.bytes);
+    free(unsound.bytes);
+    free(below.bytes);
+    free(heavy.bytes);
+    free(heavier.bytes);
+    free(deep.bytes);
+    free(deepest.bytes);
+    printf("%d calls, %d differences\n", calls, differences);
+    return differences > 0;
+}

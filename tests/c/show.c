@@ -1,0 +1,30 @@
+/* The program of README.md: its part between the two marks stands there, with its output. */
+#include <stdio.h>
+
+#include "baxhiso.h"
+
+/* The 50-byte file D: a has 1, at has 3, e has 4. */
+static const uint8_t card[50] = {
+    3, 0, 0, 0, 0, 0, 0, 0, 0, 0, 0, 0, 0, 0, 0, 0,
+    0x00, 0x02, 0x00, 0x74, 0x11, 0x41, 0x04, 0x01, 0x00, 0x01, 0x65, 0x61, 0x11, 0x02,
+    3, 0, 0, 0, 0, 0, 0, 0, 29, 0, 0, 0, 0, 0, 0, 0, 0, 0, 0, 0,
+};
+
+static const uint8_t ate[] = { 'a', 't', 'e' };
+
+int main(void)
+{
+    /* begin */
+    uint64_t sums[50], value;
+    uint16_t depths[50];
+    uint8_t key[FST_KEY_SPACE];
+    size_t len;
+    if (fst_admit(card, 50, depths, 50, sums, 50) == FST_OK && fst_get(card, 50, ate, 2, &value) == FST_OK)
+        printf("at has %llu\n", (unsigned long long)value);
+    if (fst_get_key(card, 50, 4, key, sizeof key, &len) == FST_OK)
+        printf("4 is the value of %.*s\n", (int)len, (const char *)key);
+    printf("ate: %d\n", (int)fst_get(card, 50, ate, 3, &value));
+    printf("the first 35 bytes: %d\n", (int)fst_get(card, 35, ate, 2, &value));
+    /* end */
+    return 0;
+}
