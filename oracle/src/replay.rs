@@ -1,5 +1,5 @@
 // The replay list: records with the bytes that the Rust packs them to, for a program that replays them with no Rust at
-// hand. crates/replay_node/data/README.md has its layout.
+// hand. crates/replay_node/README.md has its layout.
 
 use crate::answers::Record;
 use crate::generate::{self, COUNTS, FIRSTS, TARGETS};

@@ -1,0 +1,61 @@
+-- `replay_node::targets_of` meets its contract. The invariant: the array keeps its length. The measure is what is left to read.
+-- Assumes nothing.
+use mathlib.Core.Path.{_≡_}
+use Prim.Native.Nat.{_≤_, _-_}
+use lib.ListN.{length}
+use borrow.Author.Needs.{needs}
+use Rattle.replay_node.proofs.targets_of.Statement.{statement}
+use Rattle.replay_node.proofs.targets_of.Tie as tie
+
+abbrev Inv-loop : tie.InvT-loop
+Inv-loop list at n targets₀ i₀ targets i = (256 ≡ length targets) × (i ≤ n)
+
+abbrev μ-loop : tie.MeasureT-loop
+μ-loop list at n targets₀ i₀ targets i = n - i
+
+loop-holds : tie.Need-loop-holds Inv-loop μ-loop
+loop-holds c = search needs
+
+mul-number : tie.Need-mul-number Inv-loop μ-loop
+mul-number c = search needs
+
+add-number : tie.Need-add-number Inv-loop μ-loop
+add-number c = search needs
+
+number-requires : tie.Need-number-requires Inv-loop μ-loop
+number-requires c κs = search needs
+
+mul-targets : tie.Need-mul-targets Inv-loop μ-loop
+mul-targets c = search needs
+
+array-write-targets : tie.Need-array-write-targets Inv-loop μ-loop
+array-write-targets c = search needs
+
+add-i : tie.Need-add-i Inv-loop μ-loop
+add-i c = search needs
+
+loop-less : tie.Need-loop-less Inv-loop μ-loop
+loop-less c = search needs
+
+loop-again : tie.Need-loop-again Inv-loop μ-loop
+loop-again c = search needs
+
+returns : tie.Need-returns Inv-loop μ-loop
+returns c = search needs
+
+pub targets-of-spec : {M : Type 1} → statement M
+targets-of-spec =
+    tie.close
+    (tie.spec
+    Inv-loop
+    μ-loop
+    loop-holds
+    mul-number
+    add-number
+    number-requires
+    mul-targets
+    array-write-targets
+    add-i
+    loop-less
+    loop-again
+    returns)
