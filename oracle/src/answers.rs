@@ -100,3 +100,52 @@ pub trait Answers {
     // The place of b among the node's inputs, INPUT_ABSENT or NODE_UNSOUND.
     fn find_input(&self, at: At, b: u8) -> u64;
 }
+
+// ---- whole files
+
+// What the header and the trailer of a file say. Versions 1 and 2 have no checksum.
+#[derive(Clone, Copy, Debug, Eq, PartialEq)]
+pub struct Meta {
+    pub version: u64,
+    pub ty: u64,
+    pub len: u64,
+    pub root: usize,
+    pub checksum: Option<u32>,
+}
+
+// The refusals of a file and of a walk in it; SPACE is above.
+pub const SHORT: u64 = 1;
+pub const VERSION: u64 = 2;
+pub const ROOT: u64 = 3;
+pub const LARGE: u64 = 4;
+pub const NODE: u64 = 5;
+pub const DEEP: u64 = 6;
+pub const SUM: u64 = 7;
+
+// What opening puts in the checksum's place where there is none.
+pub const NO_CHECKSUM: u64 = 1 << 32;
+
+// What a lookup by key answers beside a refusal.
+pub const HELD: u64 = 0;
+pub const NOT_HELD: u64 = 100;
+
+// What a search by value answers beside a found key's length. A refusal is added to the last.
+pub const NO_KEY: u64 = 1000;
+pub const KEY_REFUSED: u64 = 2000;
+
+// One who answers about whole files: our library, or in the self-test the model in its place.
+pub trait FileAnswers {
+    // 0, with version, type, count, root and checksum in `out` where it has five places; or a refusal. Every other place of
+    // `out` stays as given.
+    fn open(&self, file: &[u8], out: &mut [u64]) -> u64;
+
+    // 0 for an admitted file, or a refusal. Both tables are left as document 01 says.
+    fn admit(&self, file: &[u8], depths: &mut [u16], sums: &mut [u64]) -> u64;
+
+    // HELD, with the value in `out` where it has a place; NOT_HELD; or a refusal. Every other place of `out` stays as given.
+    fn get(&self, file: &[u8], key: &[u8], out: &mut [u64]) -> u64;
+
+    // The found key's length, the key at the front of `key` and the rest as given; or NO_KEY, or KEY_REFUSED plus a refusal,
+    // `key` as given.
+    fn get_key(&self, file: &[u8], value: u64, key: &mut [u8]) -> u64;
+}

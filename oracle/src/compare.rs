@@ -4,12 +4,15 @@
 use std::collections::BTreeMap;
 use std::fmt::Debug;
 
-use crate::answers::{Answers, At, Record};
+use crate::answers::{Answers, At, FileAnswers, Record};
 use crate::generate::INPUTS;
 use crate::given;
 use crate::prng::Prng;
 
+mod admission;
+mod lookup;
 mod numbers;
+mod opening;
 mod packing;
 mod reading;
 mod stored;
@@ -60,16 +63,54 @@ fn describe_at(at: At) -> String {
     )
 }
 
+fn describe_file(file: &[u8]) -> String {
+    let n = file.len();
+    if n <= 4_096 {
+        return format!("a file of {} bytes: {}", n, hex(file));
+    }
+    format!("a file of {} bytes: {} .. {}", n, hex(&file[..64]), hex(&file[n - 64..]))
+}
+
+fn hex(bytes: &[u8]) -> String {
+    bytes.iter().map(|b| format!("{:02x}", b)).collect()
+}
+
+// What a check of a file answers. Where it fails on a small file, the difference is that of the file with as many bytes set to
+// 0 as leave one.
+fn smallest<T>(file: &[u8], check: impl Fn(&[u8]) -> Result<T, Difference>) -> Result<T, Difference> {
+    let mut found = match check(file) {
+        Ok(answer) => return Ok(answer),
+        Err(difference) => difference,
+    };
+    if file.len() <= 4_096 {
+        let mut small = file.to_vec();
+        for i in 0..small.len() {
+            let b = std::mem::replace(&mut small[i], 0);
+            match check(&small) {
+                Err(difference) => found = difference,
+                Ok(_) => small[i] = b,
+            }
+        }
+    }
+    Err(found)
+}
+
 // How many random cases of each kind a whole run has.
 const RECORDS: usize = 240_000;
 const REFUSED_RECORDS: usize = 4_000;
 const UNUSUAL: usize = 60_000;
 const DAMAGED: usize = 300_000;
 const NUMBERS: usize = 200_000;
+const OPENINGS: usize = 60_000;
+const FILES_DAMAGED: usize = 400_000;
+const LARGE_FILES_DAMAGED: usize = 40_000;
+const LOOKUPS: usize = 2_000_000;
+const LOOKUPS_DAMAGED: usize = 600_000;
 
 pub struct Run<'a> {
-    // our library, where it is linked
+    // our library, where it is linked: on nodes, and on whole files
     ours: Option<&'a dyn Answers>,
+    ours_file: Option<&'a dyn FileAnswers>,
     // a whole run has every random case, another one in so many
     one_in: usize,
     prng: Prng,
@@ -100,19 +141,24 @@ const DELTA_SIZES: [&str; 9] = [
 ];
 
 impl<'a> Run<'a> {
-    pub fn new(ours: Option<&'a dyn Answers>, one_in: usize) -> Run<'a> {
-        Run { ours, one_in, prng: Prng::new(2), counts: BTreeMap::new() }
+    pub fn new(ours: Option<&'a dyn Answers>, ours_file: Option<&'a dyn FileAnswers>, one_in: usize) -> Run<'a> {
+        Run { ours, ours_file, one_in, prng: Prng::new(2), counts: BTreeMap::new() }
     }
 
     // Every comparison, with a line or more for each.
     pub fn all(&mut self, print: bool) -> Checked {
-        let sections: [(&str, fn(&mut Run<'a>) -> Checked); 6] = [
+        let sections: [(&str, fn(&mut Run<'a>) -> Checked); 11] = [
             ("tables", Run::tables),
             ("stored numbers", Run::numbers),
             ("packing, and reading back", Run::packing),
             ("records refused", Run::refused),
             ("unusual nodes", Run::unusual),
             ("damaged nodes, other addresses and roots", Run::damaged),
+            ("opening", Run::opening),
+            ("admission", Run::admission),
+            ("admission of a file of 16,777,216 bytes", Run::admission_of_largest),
+            ("lookup in admitted files", Run::lookup),
+            ("lookup in damaged files", Run::lookup_damaged),
         ];
         for (name, section) in &sections {
             self.counts.clear();

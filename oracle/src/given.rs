@@ -20,9 +20,10 @@ pub fn quiet_panics() {
     }));
 }
 
-fn caught<T>(answer: impl FnOnce() -> T + panic::UnwindSafe) -> Option<T> {
+pub fn caught<T>(answer: impl FnOnce() -> T) -> Option<T> {
     RUNS.store(true, Ordering::Relaxed);
-    let answered = panic::catch_unwind(answer).ok();
+    // what a panic leaves half done is not looked at again
+    let answered = panic::catch_unwind(panic::AssertUnwindSafe(answer)).ok();
     RUNS.store(false, Ordering::Relaxed);
     answered
 }

@@ -16,25 +16,37 @@ mod stream;
 mod error;
 
 mod answers;
+mod builder;
 mod compare;
 mod generate;
+mod generate_file;
 mod given;
+mod given_file;
 mod model;
+mod model_file;
 #[cfg(library)]
 mod ours;
+#[cfg(library)]
+mod ours_file;
 mod prng;
 mod replay;
 mod wrong;
+mod wrong_file;
 
 use std::process;
 
-use crate::answers::Answers;
+use crate::answers::{Answers, FileAnswers};
 use crate::compare::{Difference, Run};
 
 #[cfg(library)]
-static LIBRARY: Option<&(dyn Answers + Sync)> = Some(&ours::Library);
+fn library() -> Option<(&'static dyn Answers, &'static dyn FileAnswers)> {
+    Some((&ours::Library, &ours::Library))
+}
+
 #[cfg(not(library))]
-static LIBRARY: Option<&(dyn Answers + Sync)> = None;
+fn library() -> Option<(&'static dyn Answers, &'static dyn FileAnswers)> {
+    None
+}
 
 fn report(difference: &Difference) {
     println!("oracle: a difference: {}", difference.what);
@@ -46,8 +58,7 @@ fn report(difference: &Difference) {
 
 // The whole comparison, and the kept list held to what would be recorded now.
 fn compare(list: &str) -> bool {
-    let ours = LIBRARY.map(|library| library as &dyn Answers);
-    let mut run = Run::new(ours, 1);
+    let mut run = Run::new(library().map(|ours| ours.0), library().map(|ours| ours.1), 1);
     if let Err(difference) = compare::common_inputs_named().and_then(|()| run.all(true)) {
         report(&difference);
         return false;
@@ -62,12 +73,13 @@ fn compare(list: &str) -> bool {
 
 // The model in our library's place agrees, and with each slip it does not.
 fn self_test() -> bool {
-    if let Err(difference) = Run::new(Some(&model::Model), 100).all(false) {
+    if let Err(difference) = Run::new(Some(&model::Model), Some(&model::Model), 100).all(false) {
         report(&difference);
         return false;
     }
-    for slip in wrong::SLIPS {
-        match Run::new(Some(&wrong::Wrong { slip }), 100).all(false) {
+    for &slip in wrong::SLIPS.iter().chain(wrong_file::SLIPS) {
+        let wrong = wrong::Wrong { slip };
+        match Run::new(Some(&wrong), Some(&wrong), 100).all(false) {
             Err(difference) => println!("noticed: {}  ({})", slip, difference.what),
             Ok(()) => {
                 println!("oracle: not noticed: {}", slip);

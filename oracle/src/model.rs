@@ -367,8 +367,13 @@ pub fn delta_of(target: usize, first: usize) -> u64 {
     }
 }
 
-// The node's bytes from F up. The record breaks no rule.
+// The node's bytes from F up, in version 3. The record breaks no rule.
 pub fn pack(record: &Record, first: usize) -> Vec<u8> {
+    pack_in(record, first, 3)
+}
+
+// The node's bytes from F up, in this version: version 1 has no index.
+pub fn pack_in(record: &Record, first: usize, version: u64) -> Vec<u8> {
     let count = record.inputs.len();
     let (output_size, delta_size) = sizes_of(record, first);
     let sizes = (delta_size * 16 + output_size) as u8;
@@ -398,7 +403,7 @@ pub fn pack(record: &Record, first: usize) -> Vec<u8> {
                 put(&mut bytes, delta_of(t.addr, first), delta_size);
             }
             bytes.extend(record.inputs.iter().rev());
-            if count > INDEX_ABOVE {
+            if version >= 2 && count > INDEX_ABOVE {
                 for b in 0..=255 {
                     // an absent byte has 255
                     let place = record.inputs.iter().position(|&input| input == b);

@@ -59,8 +59,7 @@ pub const SLIPS: &[&str] = &[
 ];
 
 impl Wrong {
-    fn slips(&self, slip: &str) -> bool {
-        debug_assert!(SLIPS.contains(&slip));
+    pub fn slips(&self, slip: &str) -> bool {
         self.slip == slip
     }
 

@@ -56,6 +56,12 @@ impl Builder {
         bytes
     }
 
+    // What `Fst::new` read: version, type, count, root and checksum.
+    pub fn meta(fst: &Fst<&[u8]>) -> (u64, u64, u64, CompiledAddr, Option<u32>) {
+        let meta = &fst.meta;
+        (meta.version, meta.ty, meta.len as u64, meta.root_addr, meta.checksum)
+    }
+
     pub fn common_inputs() -> &'static [u8; 256] {
         &COMMON_INPUTS
     }

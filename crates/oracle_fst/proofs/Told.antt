@@ -1,0 +1,98 @@
+-- What the exported functions tell, from what opening, admission and lookup answered.
+-- Assumes nothing.
+use mathlib.Core.Path.{_≡_, refl, sym, ap, _∙_, subst}
+use mathlib.Core.Bool.{Bool, true, false, cond}
+use mathlib.Core.List.{List, [], _∷_}
+use Prim.Native.Nat.{ℕ, zero, suc, _+_}
+use native.Mathlib.Omega.{arith}
+use lib.Dec.{ltb}
+use lib.ListN.{length}
+use Rattle.format.specs.Limits.{minLen, maxLen, SHORT, LARGE, VERSION, ROOT}
+use Rattle.format.specs.Opening.{Opening, opened, refused, opening, metaOf, versionTest, rootTest}
+use Rattle.format.specs.Lookup as L
+use Rattle.fst.specs.declared.Meta.{Meta}
+use Rattle.fst.specs.declared.Opened.{Opened}
+use Rattle.fst.specs.declared.Opened.the-variants.{Meta as Read, Refused as Turned}
+use Rattle.fst.specs.Open.{metaIs, checksumIs, openingOf}
+use Rattle.admission.specs.declared.Admission.{Admission}
+use Rattle.admission.specs.declared.Admission.the-variants.{Admitted, Refused}
+use Rattle.admission.specs.Outcome.{RefusedFor, not-opened, no-space, no-nodes, too-deep, too-heavy, Outcome}
+use Rattle.lookup.specs.declared.Answer.{Answer}
+use Rattle.lookup.specs.declared.Answer.the-variants.{Value, None, Refused as NotGot}
+use Rattle.lookup.specs.declared.KeyAnswer.{KeyAnswer}
+use Rattle.lookup.specs.declared.KeyAnswer.the-variants.{Key, None as NoKey, Refused as KeyRefused}
+use Rattle.lookup.specs.Answers.{answerIs, keyAnswerOf, KeyWritten}
+use Rattle.oracle_fst.specs.Answers.{front, checksumNumber, OpenTold, admissionOf, GetTold, keyNumber, KeyTold}
+
+-- ---- opening
+
+module _ {w : Opening} {o : Opened} (e : openingOf o ≡ w) where
+  pub open-refused : (n : ℕ) (out : List ℕ) → o ≡ Turned n → OpenTold w out out n
+  open-refused n out is = let q : w ≡ refused n = sym e ∙ ap openingOf is in rw q (record { answer = refl; buffer = refl })
+
+  pub open-told : (m : Meta) (c : ℕ) (out₀ out : List ℕ) → o ≡ Read m → c ≡ checksumNumber (checksumIs (m .checksum))
+      → out ≡ front (m .version ∷ (m .ty ∷ (m .len ∷ (m .root ∷ (c ∷ []))))) out₀ → OpenTold w out₀ out 0
+  open-told m c out₀ out is is-c is-out =
+      let q : w ≡ opened (metaIs m) = sym e ∙ ap openingOf is in rw q (record { answer = refl; buffer = is-out ∙ rw is-c })
+
+-- ---- admission: no refusal is 0
+
+opening-not-0 : (s : List ℕ) → ¬ (opening s ≡ refused 0)
+unfolding opening
+opening-not-0 s e =
+    go (ltb (length s) minLen) (ltb maxLen (length s)) (versionTest (metaOf s .version)) (rootTest (metaOf s .version) (metaOf s .root) (length s)) e
+  where
+    go : (a b v r : Bool)
+        → ¬ (cond a (refused SHORT) (cond b (refused LARGE) (cond v (cond r (opened (metaOf s)) (refused ROOT)) (refused VERSION))) ≡ refused 0)
+    go true b v r e = let z : _≡_ {A = ℕ} 0 1 = cc in omega arith
+    go false true v r e = let z : _≡_ {A = ℕ} 0 4 = cc in omega arith
+    go false false false r e = let z : _≡_ {A = ℕ} 0 2 = cc in omega arith
+    go false false true false e = let z : _≡_ {A = ℕ} 0 3 = cc in omega arith
+    go false false true true e = let z : _≡_ {A = ℕ} 0 1 = cc in omega arith
+
+refused-not-0 : {s d₀ s₀ d t : List ℕ} → ¬ RefusedFor s d₀ s₀ d t 0
+refused-not-0 {s} (not-opened e p q) = opening-not-0 s e
+refused-not-0 (no-space m o e short p q) = omega (arith, e)
+refused-not-0 (no-nodes m o rd rs e none p q) = omega (arith, e)
+refused-not-0 (too-deep m l o rd rs e n long p q) = omega (arith, e)
+refused-not-0 (too-heavy m l o rd rs e n shallow large p q) = omega (arith, e)
+
+module _ (s d₀ s₀ d t : List ℕ) (r : Admission) (outcome : Outcome s d₀ s₀ d t r) where
+  pub admitted-told : r ≡ Admitted → Outcome s d₀ s₀ d t (admissionOf 0)
+  admitted-told e = subst (λ x. Outcome s d₀ s₀ d t x) e outcome
+
+  pub refused-told : (n : ℕ) → r ≡ Refused n → Outcome s d₀ s₀ d t (admissionOf n)
+  refused-told n e = go n (subst (λ x. Outcome s d₀ s₀ d t x) e outcome)
+    where
+      go : (k : ℕ) → RefusedFor s d₀ s₀ d t k → Outcome s d₀ s₀ d t (admissionOf k)
+      go zero h = absurd (refused-not-0 h)
+      go (suc k) h = h
+
+-- ---- a value for a key
+
+module _ {w : L.Answer} {a : Answer} (e : answerIs a ≡ w) where
+  pub value-told : (v : ℕ) (out₀ out : List ℕ) → a ≡ Value v → out ≡ front (v ∷ []) out₀ → GetTold w out₀ out 0
+  value-told v out₀ out is is-out =
+      let q : w ≡ L.Answer.value v = sym e ∙ ap answerIs is in rw q (record { answer = refl; buffer = is-out })
+
+  pub none-told : (out : List ℕ) → a ≡ None → GetTold w out out 100
+  none-told out is = let q : w ≡ L.Answer.none = sym e ∙ ap answerIs is in rw q (record { answer = refl; buffer = refl })
+
+  pub not-got-told : (n : ℕ) (out : List ℕ) → a ≡ NotGot n → GetTold w out out n
+  not-got-told n out is = let q : w ≡ L.Answer.refused n = sym e ∙ ap answerIs is in rw q (record { answer = refl; buffer = refl })
+
+-- ---- a key for a value
+
+abbrev number : KeyAnswer → ℕ
+number (Key n) = n
+number NoKey = 1000
+number (KeyRefused n) = 2000 + n
+
+number-is : (w : L.KeyAnswer) → number (keyAnswerOf w) ≡ keyNumber w
+number-is (L.KeyAnswer.found k) = refl
+number-is L.KeyAnswer.none = refl
+number-is (L.KeyAnswer.refused n) = refl
+
+-- whatever the answer is, its number is the definition's
+pub key-told : {w : L.KeyAnswer} {buf₀ buf : List ℕ} {a : KeyAnswer} → KeyWritten w buf₀ buf a → (k : KeyAnswer) → a ≡ k → KeyTold w buf₀ buf (number k)
+key-told {w} h k e = record { answer = ap number (sym e ∙ h .answer) ∙ number-is w; buffer = h .buffer }

@@ -1,0 +1,64 @@
+-- `oracle_fst::baxhiso_get` meets its contract: what the lookup answered is the definition's answer.
+-- Assumes nothing.
+use borrow.Author.Needs.{needs}
+use denote.Ref.{now}
+use Rattle.oracle_fst.proofs.Told.{value-told, none-told, not-got-told}
+use Rattle.oracle_fst.proofs.baxhiso_get.Statement.{statement}
+use Rattle.oracle_fst.proofs.baxhiso_get.Tie as tie
+
+get-requires : tie.Need-get-requires
+get-requires c κs = search needs
+
+enum-known-v : tie.Need-enum-known-v
+enum-known-v c = search needs
+
+put-one-requires : tie.Need-put-one-requires
+put-one-requires c κs = search needs
+
+enum-told : tie.Need-enum-told
+enum-told c = search needs
+
+enum-known-why : tie.Need-enum-known-why
+enum-known-why c = search needs
+
+cast-result : tie.Need-cast-result
+cast-result c = search needs
+
+same-length : tie.Need-same-length
+same-length c = search needs
+
+returns : tie.Need-returns
+returns c =
+    let put = c .before .before in
+    let bound = put .before .before .before in
+    let called = bound .before .before in
+    let start = called .before .before .before .before in
+    value-told (called .get .ensures) (bound .v .given .0 .0) (now (start .args .out)) _ (bound .v .given .1) (put .put-one .ensures)
+
+returns-2 : tie.Need-returns-2
+returns-2 c =
+    let called = c .before .before in
+    let start = called .before .before .before .before in
+    none-told (called .get .ensures) (now (start .args .out)) (c .enum-told .given .1)
+
+returns-3 : tie.Need-returns-3
+returns-3 c =
+    let bound = c .before in
+    let called = bound .before .before in
+    let start = called .before .before .before .before in
+    not-got-told (called .get .ensures) (bound .why .given .0 .0) (now (start .args .out)) (bound .why .given .1)
+
+pub baxhiso-get-spec : {M : Type 1} → statement M
+baxhiso-get-spec =
+    tie.close
+    (tie.spec
+    get-requires
+    enum-known-v
+    put-one-requires
+    enum-told
+    enum-known-why
+    cast-result
+    same-length
+    returns
+    returns-2
+    returns-3)

@@ -1,0 +1,81 @@
+// The given Rust on whole files, asked in our words: `Fst::new`, `get`, `get_key_into`, and its nodes along the chain.
+
+use crate::answers::{Meaning, Meta, Transition};
+use crate::given::caught;
+use crate::raw::{Builder, Fst};
+
+pub struct Opened<'f> {
+    fst: Fst<&'f [u8]>,
+}
+
+// The file, where the Rust opens it. Outside a panic it says no more than that it does not.
+pub fn open(file: &[u8]) -> Option<Opened<'_>> {
+    caught(|| Fst::new(file).ok()).expect("opening does not panic").map(|fst| Opened { fst })
+}
+
+impl<'f> Opened<'f> {
+    pub fn meta(&self) -> Meta {
+        let (version, ty, len, root, checksum) = Builder::meta(&self.fst);
+        Meta { version, ty, len, root, checksum }
+    }
+
+    // The key's value, if it is held; nothing where the Rust panics.
+    pub fn get(&self, key: &[u8]) -> Option<Option<u64>> {
+        caught(|| self.fst.get(key).map(|out| out.value()))
+    }
+
+    // Whether a key is found, and its bytes then; nothing where the Rust panics. What is pushed before "false" is dropped.
+    pub fn get_key(&self, value: u64) -> Option<Option<Vec<u8>>> {
+        caught(|| {
+            let mut key = Vec::new();
+            if self.fst.get_key_into(value, &mut key) {
+                Some(key)
+            } else {
+                None
+            }
+        })
+    }
+
+    // For timing: as above, into a list that is used again and with no panic caught.
+    pub fn get_timed(&self, key: &[u8]) -> Option<u64> {
+        self.fst.get(key).map(|out| out.value())
+    }
+
+    pub fn get_key_timed(&self, value: u64, key: &mut Vec<u8>) -> bool {
+        key.clear();
+        self.fst.get_key_into(value, key)
+    }
+
+    // The nodes from the root down to 16 with their addresses; nothing where the Rust panics.
+    pub fn chain(&self) -> Option<Vec<(usize, Meaning)>> {
+        caught(|| {
+            let mut nodes = Vec::new();
+            let mut addr = self.fst.root().addr();
+            while addr >= 16 {
+                let node = self.fst.node(addr);
+                let first = addr + 1 - node.as_slice().len();
+                let transitions =
+                    node.transitions().map(|t| Transition { inp: t.inp, out: t.out.value(), addr: t.addr }).collect();
+                let (is_final, final_output) = (node.is_final(), node.final_output().value());
+                nodes.push((addr, Meaning { first, is_final, final_output, transitions }));
+                addr = first - 1;
+            }
+            nodes
+        })
+    }
+
+    // For timing: the same nodes and all that they say, added up.
+    pub fn walk_timed(&self) -> u64 {
+        let mut all = 0u64;
+        let mut addr = self.fst.root().addr();
+        while addr >= 16 {
+            let node = self.fst.node(addr);
+            all = all.wrapping_add(node.is_final() as u64).wrapping_add(node.final_output().value());
+            for t in node.transitions() {
+                all = all.wrapping_add(u64::from(t.inp)).wrapping_add(t.out.value()).wrapping_add(t.addr as u64);
+            }
+            addr -= node.as_slice().len();
+        }
+        all
+    }
+}

@@ -1,0 +1,315 @@
+// A plain model of document 01 on whole files: "An opened file", "An admitted file", "A value for a key, a key for a value".
+// It is written from the paper; a node is judged by model.rs. It answers for all bytes whatsoever.
+
+use std::collections::HashMap;
+
+use crate::answers::{
+    At, FileAnswers, Meaning, Meta, Transition, DEEP, HELD, KEY_REFUSED, LARGE, NODE, NOT_HELD, NO_CHECKSUM, NO_KEY,
+    ROOT, SHORT, SPACE, SUM, VERSION,
+};
+use crate::model::{self, number, Model, FIRST_NODE, MAX_LEN};
+
+pub const MIN_LEN: usize = 36;
+// The longest path of an admitted file, and the longest key that a search by value finds.
+pub const MAX_PATH: usize = 255;
+const MAX_SUM: u128 = (1 << 64) - 1;
+
+// ---- opening
+
+// What the file says, or 1, 4, 2, 3, in this order.
+pub fn open(file: &[u8]) -> Result<Meta, u64> {
+    let n = file.len();
+    if n < MIN_LEN {
+        return Err(SHORT);
+    }
+    if n > MAX_LEN {
+        return Err(LARGE);
+    }
+    let version = number(&file[..8]);
+    if version < 1 || version > 3 {
+        return Err(VERSION);
+    }
+    // after the nodes: key count, root address, and in version 3 only a checksum
+    let checksum_size = if version == 3 { 4 } else { 0 };
+    let (rest, checksum) = file.split_at(n - checksum_size);
+    let (rest, root) = rest.split_at(rest.len() - 8);
+    let (_, len) = rest.split_at(rest.len() - 8);
+    let root = number(root);
+    let right = if root == 0 {
+        version == 3 && n == 36
+    } else {
+        root >= 16 && u128::from(root) + if version == 3 { 21 } else { 17 } == n as u128
+    };
+    if !right {
+        return Err(ROOT);
+    }
+    Ok(Meta {
+        version,
+        ty: number(&file[8..16]),
+        len: number(len),
+        root: root as usize,
+        checksum: if version == 3 { Some(number(checksum) as u32) } else { None },
+    })
+}
+
+fn judge(file: &[u8], meta: &Meta, addr: usize) -> Option<Meaning> {
+    model::judge(At { file, version: meta.version, root: meta.root, addr }).ok()
+}
+
+// ---- admission
+
+// The longest path from a node, and its largest sum.
+#[derive(Clone, Copy, Debug, Eq, PartialEq)]
+pub struct Reach {
+    pub longest: usize,
+    pub largest: u128,
+}
+
+// An admitted file: the nodes of its chain, from the root down, with what they reach.
+pub struct Admitted {
+    pub meta: Meta,
+    pub chain: Vec<(usize, Meaning, Reach)>,
+}
+
+// The nodes from the root down: each F - 1 is the next one's address, until F is exactly 16. Root 0 has no chain.
+fn chain(file: &[u8], meta: &Meta) -> Option<Vec<(usize, Meaning)>> {
+    let mut nodes = Vec::new();
+    let mut addr = meta.root;
+    if addr == 0 {
+        return Some(nodes);
+    }
+    loop {
+        let node = judge(file, meta, addr)?;
+        let first = node.first;
+        nodes.push((addr, node));
+        if first == FIRST_NODE {
+            return Some(nodes);
+        }
+        addr = first - 1;
+    }
+}
+
+// The file's nodes, or a refusal: opening's, then 5, 6 and 7, each decided over the whole file.
+pub fn admitted(file: &[u8]) -> Result<Admitted, u64> {
+    let meta = open(file)?;
+    let nodes = chain(file, &meta).ok_or(NODE)?;
+    let mut reach: HashMap<usize, Option<Reach>> = nodes.iter().map(|&(addr, _)| (addr, None)).collect();
+    let on_chain = |t: &Transition| t.addr == 0 || reach.contains_key(&t.addr);
+    if !nodes.iter().all(|(_, node)| node.transitions.iter().all(on_chain)) {
+        return Err(NODE);
+    }
+    // a target lies below its node, so from the lowest node up each target is known
+    for (addr, node) in nodes.iter().rev() {
+        let mut here = Reach { longest: 0, largest: u128::from(node.final_output) };
+        for t in &node.transitions {
+            // address 0 is a final node with no transitions and output 0
+            let there = match t.addr {
+                0 => Reach { longest: 0, largest: 0 },
+                target => reach[&target].expect("a target lies below its node"),
+            };
+            here.longest = here.longest.max(1 + there.longest);
+            here.largest = here.largest.max(u128::from(t.out) + there.largest);
+        }
+        reach.insert(*addr, Some(here));
+    }
+    let chain: Vec<_> =
+        nodes.into_iter().map(|(addr, node)| (addr, node, reach[&addr].expect("every node was met"))).collect();
+    if chain.iter().any(|(_, _, r)| r.longest > MAX_PATH) {
+        return Err(DEEP);
+    }
+    if chain.iter().any(|(_, _, r)| r.largest > MAX_SUM) {
+        return Err(SUM);
+    }
+    Ok(Admitted { meta, chain })
+}
+
+// What admission leaves in the tables of a file of n bytes that opens, where they are long enough: 1 plus the longest path, and
+// the largest sum, at each address of the chain; 0 elsewhere, and everywhere after a refusal.
+pub fn fill(n: usize, judged: &Result<Admitted, u64>, depths: &mut [u16], sums: &mut [u64]) {
+    for i in 0..n {
+        depths[i] = 0;
+        sums[i] = 0;
+    }
+    if let Ok(admitted) = judged {
+        for (addr, _, reach) in &admitted.chain {
+            depths[*addr] = 1 + reach.longest as u16;
+            sums[*addr] = reach.largest as u64;
+        }
+    }
+}
+
+// What a node of an admitted file reaches, by following every path from it; nothing where there are more than `steps`
+// transitions to follow.
+pub fn reach_by_paths(nodes: &HashMap<usize, &Meaning>, addr: usize, steps: &mut usize) -> Option<Reach> {
+    let mut found = Reach { longest: 0, largest: 0 };
+    // the paths still to be followed: where they lead, their length and their sum
+    let mut paths = vec![(addr, 0, 0)];
+    while let Some((addr, length, sum)) = paths.pop() {
+        let final_output = if addr == 0 { 0 } else { nodes[&addr].final_output };
+        found.longest = found.longest.max(length);
+        found.largest = found.largest.max(sum + u128::from(final_output));
+        if addr != 0 {
+            for t in &nodes[&addr].transitions {
+                *steps = steps.checked_sub(1)?;
+                paths.push((t.addr, length + 1, sum + u128::from(t.out)));
+            }
+        }
+    }
+    Some(found)
+}
+
+// Document 01's word, over the nodes that a path from the root reaches: every final output is 0, a final node's first output
+// is at least 1, and each output plus its target's largest sum is below the next output.
+pub fn numbered(admitted: &Admitted) -> bool {
+    let nodes: HashMap<usize, (&Meaning, Reach)> = admitted.chain.iter().map(|(a, n, r)| (*a, (n, *r))).collect();
+    let mut met = HashMap::new();
+    let mut to_meet = vec![admitted.meta.root];
+    while let Some(addr) = to_meet.pop() {
+        if addr == 0 || met.insert(addr, ()).is_some() {
+            continue;
+        }
+        let node = nodes[&addr].0;
+        if node.final_output != 0 || node.is_final && node.transitions.first().map_or(false, |t| t.out == 0) {
+            return false;
+        }
+        for pair in node.transitions.windows(2) {
+            let largest = if pair[0].addr == 0 { 0 } else { nodes[&pair[0].addr].1.largest };
+            if u128::from(pair[0].out) + largest >= u128::from(pair[1].out) {
+                return false;
+            }
+        }
+        to_meet.extend(node.transitions.iter().map(|t| t.addr));
+    }
+    true
+}
+
+// ---- a value for a key, a key for a value
+
+#[derive(Clone, Debug, Eq, PartialEq)]
+pub enum Answer<T> {
+    Found(T),
+    None,
+    Refused(u64),
+}
+
+// Each node is judged as it is entered, the last included: 5 for the node, then 7 for the running sum up to it; at the end 7
+// with the final output.
+pub fn get(file: &[u8], key: &[u8]) -> Answer<u64> {
+    let meta = match open(file) {
+        Ok(meta) => meta,
+        Err(why) => return Answer::Refused(why),
+    };
+    let (mut addr, mut sum, mut rest) = (meta.root, 0u128, key);
+    loop {
+        let node = match judge(file, &meta, addr) {
+            Some(node) => node,
+            None => return Answer::Refused(NODE),
+        };
+        if sum > MAX_SUM {
+            return Answer::Refused(SUM);
+        }
+        let (b, more) = match rest.split_first() {
+            Some((&b, more)) => (b, more),
+            None if !node.is_final => return Answer::None,
+            None => {
+                let total = sum + u128::from(node.final_output);
+                return if total > MAX_SUM { Answer::Refused(SUM) } else { Answer::Found(total as u64) };
+            }
+        };
+        match node.transitions.iter().find(|t| t.inp == b) {
+            Some(t) => {
+                addr = t.addr;
+                sum += u128::from(t.out);
+                rest = more;
+            }
+            None => return Answer::None,
+        }
+    }
+}
+
+// 5 for each node entered; the last of the leading transitions whose output is not above what is left; 6 before a 256th byte.
+// Final outputs are ignored.
+pub fn get_key(file: &[u8], value: u64, space: usize) -> Answer<Vec<u8>> {
+    let meta = match open(file) {
+        Ok(meta) => meta,
+        Err(why) => return Answer::Refused(why),
+    };
+    if space < MAX_PATH {
+        return Answer::Refused(SPACE);
+    }
+    let (mut addr, mut left, mut key) = (meta.root, value, Vec::new());
+    loop {
+        let node = match judge(file, &meta, addr) {
+            Some(node) => node,
+            None => return Answer::Refused(NODE),
+        };
+        if left == 0 && node.is_final {
+            return Answer::Found(key);
+        }
+        let leading = node.transitions.iter().position(|t| t.out > left).unwrap_or(node.transitions.len());
+        if leading == 0 {
+            return Answer::None;
+        }
+        if key.len() == MAX_PATH {
+            return Answer::Refused(DEEP);
+        }
+        let t = node.transitions[leading - 1];
+        key.push(t.inp);
+        left -= t.out;
+        addr = t.addr;
+    }
+}
+
+// ---- the model in our library's place
+
+impl FileAnswers for Model {
+    fn open(&self, file: &[u8], out: &mut [u64]) -> u64 {
+        match open(file) {
+            Ok(meta) => {
+                if out.len() >= 5 {
+                    let checksum = meta.checksum.map_or(NO_CHECKSUM, u64::from);
+                    out[..5].copy_from_slice(&[meta.version, meta.ty, meta.len, meta.root as u64, checksum]);
+                }
+                0
+            }
+            Err(why) => why,
+        }
+    }
+
+    fn admit(&self, file: &[u8], depths: &mut [u16], sums: &mut [u64]) -> u64 {
+        let n = file.len();
+        if let Err(why) = open(file) {
+            return why;
+        }
+        if depths.len() < n || sums.len() < n {
+            return SPACE;
+        }
+        let judged = admitted(file);
+        fill(n, &judged, depths, sums);
+        judged.err().unwrap_or(0)
+    }
+
+    fn get(&self, file: &[u8], key: &[u8], out: &mut [u64]) -> u64 {
+        match get(file, key) {
+            Answer::Found(value) => {
+                if let Some(place) = out.first_mut() {
+                    *place = value;
+                }
+                HELD
+            }
+            Answer::None => NOT_HELD,
+            Answer::Refused(why) => why,
+        }
+    }
+
+    fn get_key(&self, file: &[u8], value: u64, key: &mut [u8]) -> u64 {
+        match get_key(file, value, key.len()) {
+            Answer::Found(found) => {
+                key[..found.len()].copy_from_slice(&found);
+                found.len() as u64
+            }
+            Answer::None => NO_KEY,
+            Answer::Refused(why) => KEY_REFUSED + why,
+        }
+    }
+}
