@@ -16,6 +16,8 @@ mod stream;
 mod error;
 
 mod answers;
+#[cfg(library)]
+mod bench;
 mod builder;
 mod compare;
 mod generate;
@@ -90,6 +92,18 @@ fn self_test() -> bool {
     true
 }
 
+#[cfg(library)]
+fn bench() -> bool {
+    bench::bench(&ours::Library, &ours::Library);
+    true
+}
+
+#[cfg(not(library))]
+fn bench() -> bool {
+    println!("oracle: nothing to time, without our library");
+    false
+}
+
 fn record(list: &str) -> bool {
     let (bytes, forms) = replay::list();
     if let Err(error) = std::fs::write(list, &bytes) {
@@ -110,8 +124,9 @@ fn main() {
         Some("compare") => compare(&args[2]),
         Some("self-test") => self_test(),
         Some("record") => record(&args[2]),
+        Some("bench") => bench(),
         _ => {
-            println!("oracle: compare, self-test or record");
+            println!("oracle: compare, self-test, record or bench");
             process::exit(2);
         }
     };
