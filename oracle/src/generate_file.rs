@@ -1,10 +1,12 @@
 // Files to compare on: built from keys with values, and chains of nodes in layouts that a builder would not choose.
 
-use std::collections::BTreeSet;
+use std::collections::{BTreeSet, HashMap};
 
+use crate::answers::Meaning;
 use crate::builder::{self, Builder};
 use crate::generate::{self, Targets};
 use crate::model::{FIRST_NODE, MAX_LEN};
+use crate::model_file::Admitted;
 use crate::prng::Prng;
 
 // A file with keys to ask for: those it was built from, or none where it was not built from keys.
@@ -214,6 +216,125 @@ pub fn path_over(prng: &mut Prng, version: u64, nodes: &[u8], n: usize, size: us
     }
     let root = file.len() - 1;
     builder::whole(file, prng.next(), root, prng.next() as u32)
+}
+
+// ---- files of each size, and damage
+
+// A file of a few dozen to a few hundred bytes.
+pub fn small(prng: &mut Prng) -> Made {
+    match prng.below(20) {
+        0..=7 => built(prng, 12),
+        8..=17 => {
+            let (version, nodes) = (prng.pick(&[1, 2, 3]), prng.between(1, 9));
+            // sums of outputs under 8 bytes always fit
+            let size = if prng.one_in(2) { prng.between(0, 7) } else { prng.between(0, 8) };
+            let loose = prng.one_in(8);
+            chained(prng, version, nodes, size, loose)
+        }
+        _ => {
+            let (version, n, size) = (prng.pick(&[1, 2, 3]), prng.between(1, 20), prng.between(0, 8));
+            let file = path_over(prng, version, &[0, 0, 0x40], n, size, true);
+            Made { file, keys: Vec::new() }
+        }
+    }
+}
+
+// A file of some thousand bytes.
+pub fn medium(prng: &mut Prng) -> Made {
+    match prng.below(4) {
+        0 | 1 => {
+            let kind = prng.pick(&KEYS);
+            let n = prng.between(100, 700);
+            let keys = keys(prng, kind, n);
+            let values_kind = prng.pick(&VALUES);
+            let values = values(prng, values_kind, keys.len());
+            let version = prng.pick(&[1, 2, 3]);
+            built_from(prng, version, keys, &values)
+        }
+        _ => {
+            let (version, nodes, size) = (prng.pick(&[1, 2, 3]), prng.between(40, 120), prng.between(0, 7));
+            chained(prng, version, nodes, size, false)
+        }
+    }
+}
+
+// Another byte, often one close by or with one bit changed.
+pub fn damage(prng: &mut Prng, b: u8) -> u8 {
+    match prng.below(5) {
+        0 => b.wrapping_add(1),
+        1 => b.wrapping_sub(1),
+        2 => b ^ 1 << prng.below(8),
+        3 => prng.pick(&[0, 1, 16, 0x40, 0x80, 255]),
+        _ => prng.byte(),
+    }
+}
+
+// ---- keys to ask for
+
+pub const KINDS: [&str; 8] = [
+    "a held key, or one that leads far",
+    "one byte changed",
+    "a part from its beginning",
+    "some bytes more",
+    "256 bytes and more",
+    "256 bytes and more, nowhere near",
+    "any bytes",
+    "the empty key",
+];
+
+// A key of one of these kinds, from one that leads far into the file.
+pub fn variant(prng: &mut Prng, kind: usize, key: &[u8]) -> Vec<u8> {
+    let mut key = key.to_vec();
+    match kind {
+        1 if !key.is_empty() => {
+            let i = prng.below(key.len());
+            key[i] = damage(prng, key[i]);
+        }
+        2 => key.truncate(prng.below(key.len() + 1)),
+        3 => {
+            for _ in 0..prng.between(1, 3) {
+                key.push(prng.byte());
+            }
+        }
+        4 => {
+            while key.len() < 256 + prng.below(50) {
+                key.push(prng.byte());
+            }
+        }
+        5 => {
+            key = vec![0; prng.between(256, 400)];
+            prng.fill(&mut key);
+        }
+        6 => {
+            key = vec![0; prng.between(1, 5)];
+            prng.fill(&mut key);
+        }
+        7 => key.clear(),
+        _ => {}
+    }
+    key
+}
+
+// The nodes of an admitted file by their addresses.
+pub fn nodes_of(found: &Admitted) -> HashMap<usize, &Meaning> {
+    found.chain.iter().map(|(addr, node, _)| (*addr, node)).collect()
+}
+
+// The bytes on a path from the root, to a final node if `to_final`, else to any; and its sum without a final output.
+pub fn path(prng: &mut Prng, nodes: &HashMap<usize, &Meaning>, root: usize, to_final: bool) -> (Vec<u8>, u64) {
+    let (mut key, mut sum, mut addr) = (Vec::new(), 0u64, root);
+    while addr != 0 {
+        let node = nodes[&addr];
+        let may_end = node.is_final || !to_final;
+        if node.transitions.is_empty() || may_end && prng.one_in(4) {
+            break;
+        }
+        let t = node.transitions[prng.below(node.transitions.len())];
+        key.push(t.inp);
+        sum = sum.wrapping_add(t.out);
+        addr = t.addr;
+    }
+    (key, sum)
 }
 
 // ---- large sets

@@ -46,6 +46,30 @@ impl<'f> Opened<'f> {
         self.fst.get_key_into(value, key)
     }
 
+    // The addresses of the nodes that a key enters.
+    pub fn entered(&self, key: &[u8]) -> Vec<usize> {
+        let mut node = self.fst.root();
+        let mut addrs = vec![node.addr()];
+        for &b in key {
+            match node.find_input(b) {
+                Some(i) => node = self.fst.node(node.transition_addr(i)),
+                None => break,
+            }
+            addrs.push(node.addr());
+        }
+        addrs
+    }
+
+    // For timing: a node as the Rust reads it when it enters it.
+    pub fn node_timed(&self, addr: usize) -> usize {
+        let node = self.fst.node(addr);
+        node.len() + node.is_final() as usize + node.final_output().value() as usize
+    }
+
+    pub fn root_len(&self) -> usize {
+        self.fst.root().len()
+    }
+
     // The nodes from the root down to 16 with their addresses; nothing where the Rust panics.
     pub fn chain(&self) -> Option<Vec<(usize, Meaning)>> {
         caught(|| {

@@ -16,12 +16,15 @@ mod stream;
 mod error;
 
 mod answers;
+#[cfg(library)]
+mod bench;
 mod builder;
 mod compare;
 mod generate;
 mod generate_file;
 mod given;
 mod given_file;
+mod hand_made;
 mod model;
 mod model_file;
 #[cfg(library)]
@@ -30,6 +33,7 @@ mod ours;
 mod ours_file;
 mod prng;
 mod replay;
+mod replay_file;
 mod wrong;
 mod wrong_file;
 
@@ -56,19 +60,26 @@ fn report(difference: &Difference) {
     }
 }
 
-// The whole comparison, and the kept list held to what would be recorded now.
-fn compare(list: &str) -> bool {
+// The whole comparison, and the kept lists held to what would be recorded now.
+fn compare(lists: &[String]) -> bool {
     let mut run = Run::new(library().map(|ours| ours.0), library().map(|ours| ours.1), 1);
     if let Err(difference) = compare::common_inputs_named().and_then(|()| run.all(true)) {
         report(&difference);
         return false;
     }
-    if std::fs::read(list).ok() != Some(replay::list().0) {
-        println!("oracle: {} is not the list that `oracle/run record` writes", list);
-        return false;
+    for (path, (bytes, _)) in lists.iter().zip(recorded()) {
+        if std::fs::read(path).ok() != Some(bytes) {
+            println!("oracle: {} is not the list that `oracle/run record` writes", path);
+            return false;
+        }
     }
-    println!("replay list\n    as recorded");
+    println!("replay lists\n    as recorded");
     true
+}
+
+// The replay lists, of nodes and of whole files, each with how many of each kind it has.
+fn recorded() -> Vec<(Vec<u8>, Vec<(&'static str, usize)>)> {
+    vec![replay::list(), replay_file::list()]
 }
 
 // The model in our library's place agrees, and with each slip it does not.
@@ -90,15 +101,28 @@ fn self_test() -> bool {
     true
 }
 
-fn record(list: &str) -> bool {
-    let (bytes, forms) = replay::list();
-    if let Err(error) = std::fs::write(list, &bytes) {
-        println!("oracle: {}: {}", list, error);
-        return false;
-    }
-    println!("{}: {} bytes, {} records", list, bytes.len(), bytes::read_u32_le(&bytes));
-    for (form, n) in forms {
-        println!("    {:>8}  {}", n, form);
+#[cfg(library)]
+fn bench() -> bool {
+    bench::bench(&ours::Library, &ours::Library);
+    true
+}
+
+#[cfg(not(library))]
+fn bench() -> bool {
+    println!("oracle: nothing to time, without our library");
+    false
+}
+
+fn record(lists: &[String]) -> bool {
+    for (path, (bytes, kinds)) in lists.iter().zip(recorded()) {
+        if let Err(error) = std::fs::write(path, &bytes) {
+            println!("oracle: {}: {}", path, error);
+            return false;
+        }
+        println!("{}: {} bytes, {} records", path, bytes.len(), bytes::read_u32_le(&bytes));
+        for (kind, n) in kinds {
+            println!("    {:>8}  {}", n, kind);
+        }
     }
     true
 }
@@ -107,11 +131,12 @@ fn main() {
     given::quiet_panics();
     let args: Vec<String> = std::env::args().collect();
     let right = match args.get(1).map(String::as_str) {
-        Some("compare") => compare(&args[2]),
+        Some("compare") => compare(&args[2..]),
         Some("self-test") => self_test(),
-        Some("record") => record(&args[2]),
+        Some("record") => record(&args[2..]),
+        Some("bench") => bench(),
         _ => {
-            println!("oracle: compare, self-test or record");
+            println!("oracle: compare, self-test, record or bench");
             process::exit(2);
         }
     };

@@ -6,9 +6,9 @@ use std::time::Instant;
 use super::opening::{refusal_name, REFUSALS};
 use super::{describe_file, same, smallest, Checked, Difference, Run, FILES_DAMAGED, LARGE_FILES_DAMAGED};
 use crate::answers::{FileAnswers, Meaning, DEEP, NODE, SHORT, SPACE, SUM};
-use crate::builder::Builder;
-use crate::generate_file::{self, file_of, Made};
+use crate::generate_file::{self, damage, file_of, medium, small};
 use crate::given_file;
+use crate::hand_made::{d, deep_and_sum, final_sums, one_key, root_0, sums};
 use crate::model::{INDEX_ABOVE, MAX_LEN};
 use crate::model_file::{self, Admitted};
 use crate::prng::Prng;
@@ -66,47 +66,6 @@ const ROWS: &[Row] = &[
     // 6 is decided before 7
     Row { name: "deep-and-sum", file: deep_and_sum, want: DEEP, entries: &[] },
 ];
-
-pub fn root_0() -> Vec<u8> {
-    let mut file = vec![0; 36];
-    file[0] = 3;
-    file
-}
-
-pub fn d() -> Vec<u8> {
-    file_of(3, &[0x00, 0x02, 0x00, 0x74, 0x11, 0x41, 0x04, 0x01, 0x00, 0x01, 0x65, 0x61, 0x11, 0x02])
-}
-
-// a/low to 0, and above it a/high
-pub fn sums(low: u8, high: u64) -> Vec<u8> {
-    above(&[low, 0, 0x11, 0x85], high)
-}
-
-// a final node with this output, and above it a/high
-pub fn final_sums(low: u8, high: u64) -> Vec<u8> {
-    above(&[low, 1, 0, 0x40], high)
-}
-
-pub fn above(nodes: &[u8], high: u64) -> Vec<u8> {
-    let mut nodes = nodes.to_vec();
-    nodes.extend(&high.to_le_bytes());
-    nodes.extend(&[1, 0x18, 0x85]);
-    file_of(3, &nodes)
-}
-
-fn one_key(n: usize) -> Vec<u8> {
-    let mut builder = Builder::new(3, 0);
-    builder.insert(&vec![b'a'; n], 5);
-    builder.finish(0)
-}
-
-fn deep_and_sum() -> Vec<u8> {
-    let mut nodes = vec![1, 0, 0x11, 0x85];
-    nodes.extend(&TOP.to_le_bytes());
-    nodes.extend(&[1, 0x18, 0x85]);
-    nodes.extend(&[0xc5; 254]);
-    file_of(3, &nodes)
-}
 
 // ---- one file
 
@@ -176,57 +135,6 @@ fn walked(file: &[u8], admitted: &Admitted) -> Result<bool, Difference> {
         }
     }
     Ok(true)
-}
-
-// ---- files
-
-// A file of a few dozen to a few hundred bytes.
-pub fn small(prng: &mut Prng) -> Made {
-    match prng.below(20) {
-        0..=7 => generate_file::built(prng, 12),
-        8..=17 => {
-            let (version, nodes) = (prng.pick(&[1, 2, 3]), prng.between(1, 9));
-            // sums of outputs under 8 bytes always fit
-            let size = if prng.one_in(2) { prng.between(0, 7) } else { prng.between(0, 8) };
-            let loose = prng.one_in(8);
-            generate_file::chained(prng, version, nodes, size, loose)
-        }
-        _ => {
-            let (version, n, size) = (prng.pick(&[1, 2, 3]), prng.between(1, 20), prng.between(0, 8));
-            let file = generate_file::path_over(prng, version, &[0, 0, 0x40], n, size, true);
-            Made { file, keys: Vec::new() }
-        }
-    }
-}
-
-// A file of some thousand bytes.
-pub fn medium(prng: &mut Prng) -> Made {
-    match prng.below(4) {
-        0 | 1 => {
-            let kind = prng.pick(&generate_file::KEYS);
-            let n = prng.between(100, 700);
-            let keys = generate_file::keys(prng, kind, n);
-            let values_kind = prng.pick(&generate_file::VALUES);
-            let values = generate_file::values(prng, values_kind, keys.len());
-            let version = prng.pick(&[1, 2, 3]);
-            generate_file::built_from(prng, version, keys, &values)
-        }
-        _ => {
-            let (version, nodes, size) = (prng.pick(&[1, 2, 3]), prng.between(40, 120), prng.between(0, 7));
-            generate_file::chained(prng, version, nodes, size, false)
-        }
-    }
-}
-
-// Another byte, often one close by or with one bit changed.
-pub fn damage(prng: &mut Prng, b: u8) -> u8 {
-    match prng.below(5) {
-        0 => b.wrapping_add(1),
-        1 => b.wrapping_sub(1),
-        2 => b ^ 1 << prng.below(8),
-        3 => prng.pick(&[0, 1, 16, 0x40, 0x80, 255]),
-        _ => prng.byte(),
-    }
 }
 
 impl<'a> Run<'a> {

@@ -2,13 +2,13 @@
 
 use std::collections::HashMap;
 
-use super::admission::{above, d, damage, final_sums, medium, root_0, small, sums};
 use super::{describe_file, hex, same, smallest, Checked, Difference, Run, LOOKUPS, LOOKUPS_DAMAGED};
 use crate::answers::{
     FileAnswers, Meaning, DEEP, HELD, KEY_REFUSED, LARGE, NODE, NOT_HELD, NO_KEY, ROOT, SHORT, SPACE, SUM, VERSION,
 };
-use crate::generate_file::{self, file_of, Keys, Values};
+use crate::generate_file::{self, damage, file_of, medium, nodes_of, path, small, variant, Keys, Values, KINDS};
 use crate::given_file::Opened;
+use crate::hand_made::{d, final_sums, path_to, root_0, sums, two_outputs, unsound_after_sum};
 use crate::model::{INDEX_ABOVE, MAX_LEN};
 use crate::model_file::{self, Admitted, Answer, MAX_PATH};
 use crate::prng::Prng;
@@ -93,74 +93,6 @@ fn got_key(
         same("the key buffer", input, ("model", left), ("ours", buffer))?;
     }
     Ok(want)
-}
-
-// ---- what is asked
-
-const KINDS: [&str; 8] = [
-    "a held key, or one that leads far",
-    "one byte changed",
-    "a part from its beginning",
-    "some bytes more",
-    "256 bytes and more",
-    "256 bytes and more, nowhere near",
-    "any bytes",
-    "the empty key",
-];
-
-// A key of one of these kinds, from one that leads far into the file.
-fn variant(prng: &mut Prng, kind: usize, key: &[u8]) -> Vec<u8> {
-    let mut key = key.to_vec();
-    match kind {
-        1 if !key.is_empty() => {
-            let i = prng.below(key.len());
-            key[i] = damage(prng, key[i]);
-        }
-        2 => key.truncate(prng.below(key.len() + 1)),
-        3 => {
-            for _ in 0..prng.between(1, 3) {
-                key.push(prng.byte());
-            }
-        }
-        4 => {
-            while key.len() < 256 + prng.below(50) {
-                key.push(prng.byte());
-            }
-        }
-        5 => {
-            key = vec![0; prng.between(256, 400)];
-            prng.fill(&mut key);
-        }
-        6 => {
-            key = vec![0; prng.between(1, 5)];
-            prng.fill(&mut key);
-        }
-        7 => key.clear(),
-        _ => {}
-    }
-    key
-}
-
-// The nodes of an admitted file by their addresses.
-fn nodes_of(found: &Admitted) -> HashMap<usize, &Meaning> {
-    found.chain.iter().map(|(addr, node, _)| (*addr, node)).collect()
-}
-
-// The bytes on a path from the root, to a final node if `to_final`, else to any; and its sum without a final output.
-fn path(prng: &mut Prng, nodes: &HashMap<usize, &Meaning>, root: usize, to_final: bool) -> (Vec<u8>, u64) {
-    let (mut key, mut sum, mut addr) = (Vec::new(), 0u64, root);
-    while addr != 0 {
-        let node = nodes[&addr];
-        let may_end = node.is_final || !to_final;
-        if node.transitions.is_empty() || may_end && prng.one_in(4) {
-            break;
-        }
-        let t = node.transitions[prng.below(node.transitions.len())];
-        key.push(t.inp);
-        sum = sum.wrapping_add(t.out);
-        addr = t.addr;
-    }
-    (key, sum)
 }
 
 // ---- rows by hand
@@ -250,23 +182,6 @@ const VALUE_ROWS: &[ValueRow] = &[
     ValueRow { name: "unsound-at-255", file: || path_to(&[0xc1], 255), value: 0, want: || Answer::Refused(NODE) },
     ValueRow { name: "unsound-root", file: || file_of(3, &[0xc1]), value: 0, want: || Answer::Refused(NODE) },
 ];
-
-// Over a final node with output 7 at 19: a/1 to 17, which is no node, and above that a/2^64 - 1.
-fn unsound_after_sum() -> Vec<u8> {
-    above(&[7, 1, 0, 0x40, 1, 3, 0x11, 0x85], u64::max_value())
-}
-
-// a/first and e/second, both to 0.
-fn two_outputs(first: u8, second: u8) -> Vec<u8> {
-    file_of(3, &[second, first, 0, 0, b'e', b'a', 0x11, 0x02])
-}
-
-// These bytes, and n nodes a/0 above them, each to the one before.
-fn path_to(nodes: &[u8], n: usize) -> Vec<u8> {
-    let mut nodes = nodes.to_vec();
-    nodes.extend(vec![0xc5; n]);
-    file_of(3, &nodes)
-}
 
 impl<'a> Run<'a> {
     fn lookup_rows(&mut self) -> Checked {

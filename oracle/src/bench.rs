@@ -1,0 +1,198 @@
+// Times of lookups, ours beside the Rust's, on three sets that are made here (docs/PERFORMANCE.md). Ours opens the file and
+// judges each node in every call; the Rust opens it once and judges nothing.
+
+use std::hint::black_box;
+use std::time::Instant;
+
+use crate::answers::{Answers, At, FileAnswers, HELD, NOT_HELD, NO_KEY, SOUND};
+use crate::builder::Builder;
+use crate::generate_file;
+use crate::given_file::{self, Opened};
+use crate::model_file::MAX_PATH;
+use crate::prng::Prng;
+
+const ASKED: usize = 200_000;
+// The questions are asked so many at a time. Of each such part the least time of so many rounds is kept, since whatever else
+// runs on the machine only adds to it.
+const PART: usize = 5_000;
+const ROUNDS: usize = 9;
+
+struct Set {
+    name: &'static str,
+    keys: Vec<Vec<u8>>,
+}
+
+fn sets() -> Vec<Set> {
+    let mut prng = Prng::new(9);
+    let words = generate_file::distinct(650_000, || generate_file::word(&mut prng));
+    let letters = b"ABCDEFGHJKLMNPQRSTUVWXYZ";
+    let parts = generate_file::distinct(505_000, || {
+        // as AB-12345-6C
+        let (first, second) = (prng.pick(letters) as char, prng.pick(&letters[..8]) as char);
+        let (digit, last) = (prng.below(10), prng.pick(&letters[..6]) as char);
+        format!("{}{}-{:05}-{}{}", first, second, prng.below(100_000), digit, last).into_bytes()
+    });
+    let numbers = (0..1_000_000).map(|i| format!("{:08}", i).into_bytes()).collect();
+    vec![
+        Set { name: "words", keys: words },
+        Set { name: "part numbers", keys: parts },
+        Set { name: "zero-padded numbers", keys: numbers },
+    ]
+}
+
+// The time of a question, in nanoseconds, for each of two who answer. They take turns, each half a round behind the other, so
+// that neither finds in the caches what the other has just read.
+fn times<T>(questions: &[T], mut ours: impl FnMut(&[T]), mut rust: impl FnMut(&[T])) -> (f64, f64) {
+    let parts: Vec<&[T]> = questions.chunks(PART).collect();
+    let n = parts.len();
+    let mut least = vec![(f64::INFINITY, f64::INFINITY); n];
+    for _ in 0..ROUNDS {
+        for i in 0..n {
+            let other = (i + n / 2) % n;
+            let start = Instant::now();
+            ours(parts[i]);
+            let between = Instant::now();
+            rust(parts[other]);
+            least[i].0 = least[i].0.min((between - start).as_secs_f64());
+            least[other].1 = least[other].1.min(between.elapsed().as_secs_f64());
+        }
+    }
+    let each = |seconds: f64| seconds * 1e9 / questions.len() as f64;
+    (each(least.iter().map(|l| l.0).sum()), each(least.iter().map(|l| l.1).sum()))
+}
+
+fn say(what: &str, (ours, rust): (f64, f64)) {
+    println!("    {:<28}{:>8.1} {:>8.1} {:>8.2}", what, ours, rust, ours / rust);
+}
+
+fn by_key(ours: &dyn FileAnswers, rust: &Opened, file: &[u8], keys: &[&[u8]], held: bool) -> (f64, f64) {
+    for key in keys {
+        assert_eq!(rust.get_timed(key).is_some(), held);
+        assert_eq!(ours.get(file, key, &mut []), if held { HELD } else { NOT_HELD });
+    }
+    let mut out = [0];
+    times(
+        keys,
+        |keys| {
+            for key in keys {
+                black_box(ours.get(file, key, &mut out));
+                black_box(out[0]);
+            }
+        },
+        |keys| {
+            for key in keys {
+                black_box(rust.get_timed(key));
+            }
+        },
+    )
+}
+
+fn by_value(ours: &dyn FileAnswers, rust: &Opened, file: &[u8], values: &[u64], held: bool) -> (f64, f64) {
+    let (mut buffer, mut list) = ([0; MAX_PATH], Vec::new());
+    for &value in values {
+        assert_eq!(rust.get_key_timed(value, &mut list), held);
+        let answer = ours.get_key(file, value, &mut buffer);
+        assert_eq!(answer, if held { list.len() as u64 } else { NO_KEY });
+    }
+    times(
+        values,
+        |values| {
+            for &value in values {
+                black_box(ours.get_key(file, value, &mut buffer));
+                black_box(buffer[0]);
+            }
+        },
+        |values| {
+            for &value in values {
+                black_box(rust.get_key_timed(value, &mut list));
+            }
+        },
+    )
+}
+
+// The parts of a lookup by key: opening the file, and entering each node, which ours judges and the Rust reads.
+fn opening(ours: &dyn FileAnswers, file: &[u8], keys: &[&[u8]]) -> (f64, f64) {
+    times(
+        keys,
+        |keys| {
+            for _ in keys {
+                black_box(ours.open(black_box(file), &mut []));
+            }
+        },
+        |keys| {
+            for _ in keys {
+                black_box(given_file::open(black_box(file)).is_some());
+            }
+        },
+    )
+}
+
+fn entering(ours: &dyn Answers, rust: &Opened, file: &[u8], paths: &[Vec<usize>]) -> (f64, f64) {
+    let meta = rust.meta();
+    let at = |addr| At { file, version: meta.version, root: meta.root, addr };
+    times(
+        paths,
+        |paths| {
+            for path in paths {
+                for &addr in path {
+                    assert_eq!(ours.node(at(addr), &mut []), SOUND);
+                }
+            }
+        },
+        |paths| {
+            for path in paths {
+                for &addr in path {
+                    black_box(rust.node_timed(addr));
+                }
+            }
+        },
+    )
+}
+
+pub fn bench(nodes: &dyn Answers, ours: &dyn FileAnswers) {
+    println!("nanoseconds a lookup, over {} lookups\n", ASKED);
+    for set in sets() {
+        let mut prng = Prng::new(10);
+        let n = set.keys.len();
+        let mut builder = Builder::new(3, 0);
+        // three apart, so that there are values that no key has
+        for (i, key) in set.keys.iter().enumerate() {
+            builder.insert(key, 3 * i as u64);
+        }
+        let file = builder.finish(0);
+        let rust = given_file::open(&file).expect("a built file opens");
+        let bytes: usize = set.keys.iter().map(Vec::len).sum();
+        println!("{}: {} keys of {:.1} bytes, a file of {} bytes", set.name, n, bytes as f64 / n as f64, file.len());
+        println!(
+            "    {:<28}{:>8} {:>8} {:>8}",
+            format!("(root: {} transitions)", rust.root_len()),
+            "ours",
+            "Rust",
+            "ratio"
+        );
+
+        let held: Vec<&[u8]> = (0..ASKED).map(|_| &set.keys[prng.below(n)][..]).collect();
+        say("held key", by_key(ours, &rust, &file, &held, true));
+        say("  opening the file alone", opening(ours, &file, &held));
+        let paths: Vec<Vec<usize>> = held.iter().map(|key| rust.entered(key)).collect();
+        say("  entering its nodes alone", entering(nodes, &rust, &file, &paths));
+        // a held key with one byte changed for another of its set
+        let misses: Vec<Vec<u8>> = (0..ASKED)
+            .map(|_| loop {
+                let mut key = set.keys[prng.below(n)].clone();
+                let (other, i) = (prng.below(n), prng.below(key.len()));
+                key[i] = set.keys[other][prng.below(set.keys[other].len())];
+                if rust.get_timed(&key).is_none() {
+                    break key;
+                }
+            })
+            .collect();
+        let misses: Vec<&[u8]> = misses.iter().map(|key| &key[..]).collect();
+        say("miss", by_key(ours, &rust, &file, &misses, false));
+        let values: Vec<u64> = (0..ASKED).map(|_| 3 * prng.below(n) as u64).collect();
+        say("by value", by_value(ours, &rust, &file, &values, true));
+        let values: Vec<u64> = values.iter().map(|value| value + 1).collect();
+        say("by value, none", by_value(ours, &rust, &file, &values, false));
+        println!();
+    }
+}

@@ -1,0 +1,229 @@
+// The replay list of whole files, for a program that replays them with no Rust at hand: what opening and admission answer, and
+// lookups. Values and keys on admitted files are the Rust's answers, everything else is the model's. crates/replay_fst/README.md
+// has its layout.
+
+use std::collections::BTreeMap;
+
+use crate::answers::{HELD, KEY_REFUSED, NOT_HELD, NO_KEY, SPACE};
+use crate::generate_file::{damage, file_of, nodes_of, path, small, variant};
+use crate::given_file::{self, Opened};
+use crate::hand_made;
+use crate::model_file::{self, Admitted, Answer, MAX_PATH};
+use crate::prng::Prng;
+
+// The kinds of record.
+const FILE: u8 = 1;
+const OPENING: u8 = 2;
+const NODE: u8 = 3;
+const KEY: u8 = 4;
+const VALUE: u8 = 5;
+
+// The longest file of the list, and how many files there are beside those by hand: sound ones, and as many damaged.
+pub const MOST: usize = 600;
+const FILES: usize = 170;
+
+#[derive(Default)]
+struct List {
+    bytes: Vec<u8>,
+    records: u32,
+    counts: BTreeMap<&'static str, usize>,
+}
+
+impl List {
+    fn put(&mut self, kind: u8, a: u64, b: u64, c: u64, part: &[u8]) {
+        let two = |n: u64| {
+            assert!(n < 65_536);
+            (n as u16).to_le_bytes()
+        };
+        self.bytes.push(kind);
+        self.bytes.extend(&two(a));
+        self.bytes.extend(&b.to_le_bytes());
+        self.bytes.extend(&two(c));
+        self.bytes.extend(&two(part.len() as u64));
+        self.bytes.extend(part);
+        self.records += 1;
+    }
+
+    fn count(&mut self, what: &'static str) {
+        *self.counts.entry(what).or_insert(0) += 1;
+    }
+
+    // The file with what admission answers in tables of so many entries, and what opening answers.
+    fn file(&mut self, file: &[u8], lent: usize) -> Option<Admitted> {
+        assert!(file.len() <= MOST);
+        let judged = match model_file::open(file) {
+            Ok(_) if lent < file.len() => Err(SPACE),
+            _ => model_file::admitted(file),
+        };
+        let nodes = judged.as_ref().map_or(0, |found| found.chain.len());
+        self.put(FILE, judged.as_ref().err().copied().unwrap_or(0), lent as u64, nodes as u64, file);
+        self.count("files");
+        self.count(if judged.is_ok() { "files admitted" } else { "files refused" });
+        match model_file::open(file) {
+            Ok(meta) => {
+                let mut said = meta.version.to_le_bytes().to_vec();
+                said.extend(&meta.ty.to_le_bytes());
+                said.extend(&meta.len.to_le_bytes());
+                said.extend(&(meta.root as u64).to_le_bytes());
+                said.extend(&meta.checksum.unwrap_or(0).to_le_bytes());
+                self.put(OPENING, 0, 0, meta.checksum.is_some() as u64, &said);
+            }
+            Err(why) => self.put(OPENING, why, 0, 0, &[]),
+        }
+        let found = judged.ok()?;
+        for (addr, _, reach) in &found.chain {
+            self.put(NODE, *addr as u64, reach.largest as u64, 1 + reach.longest as u64, &[]);
+            self.count("nodes");
+        }
+        Some(found)
+    }
+
+    fn key(&mut self, file: &[u8], rust: Option<&Opened>, key: &[u8]) {
+        let answer = match rust {
+            Some(rust) => match rust.get(key).expect("the Rust answers on an admitted file") {
+                Some(value) => Answer::Found(value),
+                None => Answer::None,
+            },
+            None => model_file::get(file, key),
+        };
+        let (number, value, what) = match answer {
+            Answer::Found(value) => (HELD, value, "keys held"),
+            Answer::None => (NOT_HELD, 0, "keys not held"),
+            Answer::Refused(why) => (why, 0, "lookups by key refused"),
+        };
+        self.put(KEY, number, value, 0, key);
+        self.count("lookups by key");
+        self.count(what);
+    }
+
+    fn value(&mut self, file: &[u8], rust: Option<&Opened>, value: u64, space: usize) {
+        let answer = match rust {
+            Some(rust) if space >= MAX_PATH => match rust.get_key(value).expect("the Rust answers on an admitted file") {
+                Some(key) => Answer::Found(key),
+                None => Answer::None,
+            },
+            _ => model_file::get_key(file, value, space),
+        };
+        let (number, key, what) = match answer {
+            Answer::Found(key) => (key.len() as u64, key, "values found"),
+            Answer::None => (NO_KEY, Vec::new(), "values not found"),
+            Answer::Refused(why) => (KEY_REFUSED + why, Vec::new(), "lookups by value refused"),
+        };
+        self.put(VALUE, number, value, space as u64, &key);
+        self.count("lookups by value");
+        self.count(what);
+    }
+
+    // A file with lookups from these keys: so many by key, and half as many by value.
+    fn lookups(&mut self, prng: &mut Prng, file: &[u8], found: Option<&Admitted>, keys: &[Vec<u8>], asked: usize) {
+        let opened = found.and_then(|_| given_file::open(file));
+        let rust = opened.as_ref();
+        for i in 0..asked {
+            let kind = match prng.below(8) {
+                0..=3 => 0,
+                // those of 256 bytes and more would fill the list
+                _ => prng.pick(&[1, 2, 3, 6, 7]),
+            };
+            let base = &keys[prng.below(keys.len())];
+            let key = variant(prng, kind, base);
+            self.key(file, rust, &key);
+            if i % 2 == 0 {
+                let value = match (model_file::get(file, &key), prng.below(4)) {
+                    (Answer::Found(value), 0..=2) => value,
+                    (Answer::Found(value), _) => value.wrapping_add(1),
+                    (_, 0) => prng.next() >> prng.below(64),
+                    _ => prng.next() % 9,
+                };
+                let space = if prng.one_in(20) { prng.pick(&[0, 1, 254]) } else { MAX_PATH + prng.below(30) };
+                self.value(file, rust, value, space);
+            }
+        }
+    }
+}
+
+// Document 01's D and examples, and files at the limits of paths and sums.
+fn by_hand() -> Vec<Vec<u8>> {
+    let top = u64::max_value();
+    vec![
+        hand_made::d(),
+        hand_made::root_0(),
+        file_of(3, &[0, 0, 0]),
+        file_of(1, &[7, 1, 0, 0x40]),
+        vec![0; 35],
+        vec![0; 36],
+        // version 3, root 17 in 39 bytes
+        [&3u64.to_le_bytes()[..], &[0; 19], &17u64.to_le_bytes(), &[0; 4]].concat(),
+        file_of(3, &[0xc1]),
+        file_of(3, &[0, 0, 0x40, 2, 0x10, 0x85]),
+        file_of(3, &[9, 1, 0, 0x00, 0, 0x10, 0x85]),
+        hand_made::sums(1, top - 1),
+        hand_made::sums(1, top),
+        hand_made::final_sums(1, top - 1),
+        hand_made::final_sums(1, top),
+        hand_made::unsound_after_sum(),
+        hand_made::two_outputs(5, 1),
+        hand_made::two_outputs(1, 1),
+        hand_made::one_key(255),
+        hand_made::one_key(256),
+        hand_made::deep_and_sum(),
+        hand_made::path_to(&[0, 0, 0x40], 255),
+        hand_made::path_to(&[0, 0, 0x40], 256),
+        hand_made::path_to(&[0xc1], 255),
+        hand_made::path_to(&[0xc1], 256),
+    ]
+}
+
+// The list, and how many answers of each kind it has.
+pub fn list() -> (Vec<u8>, Vec<(&'static str, usize)>) {
+    let mut prng = Prng::new(11);
+    let mut list = List::default();
+    for file in by_hand() {
+        let found = list.file(&file, file.len());
+        let opened = found.as_ref().and_then(|_| given_file::open(&file));
+        for key in &[&b""[..], b"a", b"aa", b"aaa", b"at", b"e", b"b", &[b'a'; 255], &[b'a'; 256]] {
+            list.key(&file, opened.as_ref(), key);
+        }
+        for &value in &[0, 1, 2, 3, 4, 5, 6, u64::max_value()] {
+            list.value(&file, opened.as_ref(), value, MAX_PATH);
+        }
+    }
+    let mut made = 0;
+    while made < FILES {
+        let subject = small(&mut prng);
+        let n = subject.file.len();
+        if n > 260 {
+            continue;
+        }
+        let found = match model_file::admitted(&subject.file) {
+            Ok(found) => found,
+            Err(_) => continue,
+        };
+        made += 1;
+        let nodes = nodes_of(&found);
+        let mut keys = subject.keys;
+        for _ in 0..4 {
+            keys.push(path(&mut prng, &nodes, found.meta.root, true).0);
+        }
+        // tables one entry short now and then, before the file itself
+        if prng.one_in(8) {
+            list.file(&subject.file, n - 1);
+        }
+        let lent = n + prng.below(3);
+        let recorded = list.file(&subject.file, lent);
+        list.lookups(&mut prng, &subject.file, recorded.as_ref(), &keys, 10);
+
+        let mut damaged = subject.file.clone();
+        for _ in 0..prng.between(1, 2) {
+            let i = if prng.one_in(6) { prng.below(n) } else { prng.between(16.min(n - 1), n - 1) };
+            damaged[i] = damage(&mut prng, damaged[i]);
+        }
+        if prng.one_in(12) {
+            damaged.truncate(prng.below(n));
+        }
+        let recorded = list.file(&damaged, damaged.len() + 2);
+        list.lookups(&mut prng, &damaged, recorded.as_ref(), &keys, 6);
+    }
+    let mut bytes = list.records.to_le_bytes().to_vec();
+    bytes.extend(list.bytes);
+    (bytes, list.counts.into_iter().collect())
+}
