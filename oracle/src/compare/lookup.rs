@@ -7,7 +7,7 @@ use crate::answers::{
     FileAnswers, Meaning, DEEP, HELD, KEY_REFUSED, LARGE, NODE, NOT_HELD, NO_KEY, ROOT, SHORT, SPACE, SUM, VERSION,
 };
 use crate::generate_file::{self, damage, file_of, medium, nodes_of, path, small, variant, Keys, Values, KINDS};
-use crate::given_file::Opened;
+use crate::given_file::{self, Opened};
 use crate::hand_made::{d, final_sums, path_to, root_0, sums, two_outputs, unsound_after_sum};
 use crate::model::{INDEX_ABOVE, MAX_LEN};
 use crate::model_file::{self, Admitted, Answer, MAX_PATH};
@@ -97,47 +97,98 @@ fn got_key(
 
 // ---- rows by hand
 
+// What the Rust says on a row: the same, or on a file that is not admitted something else. Overflow is checked here; where it
+// is not, sums wrap.
+#[derive(Clone, Debug, PartialEq)]
+enum Rust<T> {
+    Same,
+    Panics,
+    None,
+    Found(T),
+}
+
+fn rust_on<T>(want: &Answer<T>, said: Option<Option<T>>) -> Rust<T>
+where
+    T: PartialEq,
+{
+    match (want, said) {
+        (_, None) => Rust::Panics,
+        (Answer::None, Some(None)) => Rust::Same,
+        (Answer::Found(value), Some(Some(other))) if *value == other => Rust::Same,
+        (_, Some(None)) => Rust::None,
+        (_, Some(Some(other))) => Rust::Found(other),
+    }
+}
+
 struct KeyRow {
     name: &'static str,
     file: fn() -> Vec<u8>,
     key: &'static [u8],
     want: Answer<u64>,
+    rust: Rust<u64>,
 }
 
 const KEY_ROWS: &[KeyRow] = &[
-    KeyRow { name: "D-a", file: d, key: b"a", want: Answer::Found(1) },
-    KeyRow { name: "D-at", file: d, key: b"at", want: Answer::Found(3) },
-    KeyRow { name: "D-e", file: d, key: b"e", want: Answer::Found(4) },
-    KeyRow { name: "D-empty", file: d, key: b"", want: Answer::None },
-    KeyRow { name: "D-att", file: d, key: b"att", want: Answer::None },
-    KeyRow { name: "D-b", file: d, key: b"b", want: Answer::None },
-    KeyRow { name: "root-0-empty", file: root_0, key: b"", want: Answer::Found(0) },
-    KeyRow { name: "root-0-a", file: root_0, key: b"a", want: Answer::None },
-    KeyRow { name: "root-of-nothing", file: || file_of(3, &[0, 0, 0]), key: b"", want: Answer::None },
+    KeyRow { name: "D-a", file: d, key: b"a", want: Answer::Found(1), rust: Rust::Same },
+    KeyRow { name: "D-at", file: d, key: b"at", want: Answer::Found(3), rust: Rust::Same },
+    KeyRow { name: "D-e", file: d, key: b"e", want: Answer::Found(4), rust: Rust::Same },
+    KeyRow { name: "D-empty", file: d, key: b"", want: Answer::None, rust: Rust::Same },
+    KeyRow { name: "D-att", file: d, key: b"att", want: Answer::None, rust: Rust::Same },
+    KeyRow { name: "D-b", file: d, key: b"b", want: Answer::None, rust: Rust::Same },
+    KeyRow { name: "root-0-empty", file: root_0, key: b"", want: Answer::Found(0), rust: Rust::Same },
+    KeyRow { name: "root-0-a", file: root_0, key: b"a", want: Answer::None, rust: Rust::Same },
+    KeyRow { name: "root-of-nothing", file: || file_of(3, &[0, 0, 0]), key: b"", want: Answer::None, rust: Rust::Same },
     KeyRow {
         name: "sum-exact",
         file: || sums(1, u64::max_value() - 1),
         key: b"aa",
         want: Answer::Found(u64::max_value()),
+        rust: Rust::Same,
     },
-    KeyRow { name: "sum-one-more", file: || sums(1, u64::max_value()), key: b"aa", want: Answer::Refused(SUM) },
+    KeyRow {
+        name: "sum-one-more",
+        file: || sums(1, u64::max_value()),
+        key: b"aa",
+        want: Answer::Refused(SUM),
+        rust: Rust::Panics,
+    },
     KeyRow {
         name: "final-sum-exact",
         file: || final_sums(1, u64::max_value() - 1),
         key: b"a",
         want: Answer::Found(u64::max_value()),
+        rust: Rust::Same,
     },
     KeyRow {
         name: "final-sum-one-more",
         file: || final_sums(1, u64::max_value()),
         key: b"a",
         want: Answer::Refused(SUM),
+        rust: Rust::Panics,
     },
     // the running sum passes the limit on the way to an unsound node: 5 for the node comes first
-    KeyRow { name: "unsound-after-sum", file: unsound_after_sum, key: b"aa", want: Answer::Refused(NODE) },
-    KeyRow { name: "unsound-after-sum-longer", file: unsound_after_sum, key: b"aaa", want: Answer::Refused(NODE) },
-    KeyRow { name: "unsound-not-entered", file: unsound_after_sum, key: b"a", want: Answer::None },
-    KeyRow { name: "unsound-root", file: || file_of(3, &[0xc1]), key: b"", want: Answer::Refused(NODE) },
+    KeyRow {
+        name: "unsound-after-sum",
+        file: unsound_after_sum,
+        key: b"aa",
+        want: Answer::Refused(NODE),
+        rust: Rust::Panics,
+    },
+    KeyRow {
+        name: "unsound-after-sum-longer",
+        file: unsound_after_sum,
+        key: b"aaa",
+        want: Answer::Refused(NODE),
+        rust: Rust::Panics,
+    },
+    KeyRow { name: "unsound-not-entered", file: unsound_after_sum, key: b"a", want: Answer::None, rust: Rust::Same },
+    KeyRow {
+        name: "unsound-root",
+        file: || file_of(3, &[0xc1]),
+        key: b"",
+        want: Answer::Refused(NODE),
+        rust: Rust::None,
+    },
 ];
 
 struct ValueRow {
@@ -145,42 +196,105 @@ struct ValueRow {
     file: fn() -> Vec<u8>,
     value: u64,
     want: fn() -> Answer<Vec<u8>>,
+    rust: fn() -> Rust<Vec<u8>>,
 }
 
 const VALUE_ROWS: &[ValueRow] = &[
-    ValueRow { name: "D-0", file: d, value: 0, want: || Answer::None },
-    ValueRow { name: "D-1", file: d, value: 1, want: || Answer::Found(b"a".to_vec()) },
-    ValueRow { name: "D-2", file: d, value: 2, want: || Answer::None },
-    ValueRow { name: "D-3", file: d, value: 3, want: || Answer::Found(b"at".to_vec()) },
-    ValueRow { name: "D-4", file: d, value: 4, want: || Answer::Found(b"e".to_vec()) },
-    ValueRow { name: "D-5", file: d, value: 5, want: || Answer::None },
-    ValueRow { name: "root-0", file: root_0, value: 0, want: || Answer::Found(Vec::new()) },
-    ValueRow { name: "root-0-1", file: root_0, value: 1, want: || Answer::None },
-    ValueRow { name: "root-of-nothing", file: || file_of(3, &[0, 0, 0]), value: 0, want: || Answer::None },
+    ValueRow { name: "D-0", file: d, value: 0, want: || Answer::None, rust: || Rust::Same },
+    ValueRow { name: "D-1", file: d, value: 1, want: || Answer::Found(b"a".to_vec()), rust: || Rust::Same },
+    ValueRow { name: "D-2", file: d, value: 2, want: || Answer::None, rust: || Rust::Same },
+    ValueRow { name: "D-3", file: d, value: 3, want: || Answer::Found(b"at".to_vec()), rust: || Rust::Same },
+    ValueRow { name: "D-4", file: d, value: 4, want: || Answer::Found(b"e".to_vec()), rust: || Rust::Same },
+    ValueRow { name: "D-5", file: d, value: 5, want: || Answer::None, rust: || Rust::Same },
+    ValueRow { name: "root-0", file: root_0, value: 0, want: || Answer::Found(Vec::new()), rust: || Rust::Same },
+    ValueRow { name: "root-0-1", file: root_0, value: 1, want: || Answer::None, rust: || Rust::Same },
+    ValueRow {
+        name: "root-of-nothing",
+        file: || file_of(3, &[0, 0, 0]),
+        value: 0,
+        want: || Answer::None,
+        rust: || Rust::Same,
+    },
     // final outputs are ignored: "a" has the value 6, and is found for 5
-    ValueRow { name: "final-output", file: || final_sums(1, 5), value: 5, want: || Answer::Found(b"a".to_vec()) },
-    ValueRow { name: "final-output-added", file: || final_sums(1, 5), value: 6, want: || Answer::None },
+    ValueRow {
+        name: "final-output",
+        file: || final_sums(1, 5),
+        value: 5,
+        want: || Answer::Found(b"a".to_vec()),
+        rust: || Rust::Same,
+    },
+    ValueRow {
+        name: "final-output-added",
+        file: || final_sums(1, 5),
+        value: 6,
+        want: || Answer::None,
+        rust: || Rust::Same,
+    },
     // outputs 5 and 1: the leading one does not fit, so the other is not tried
-    ValueRow { name: "leading-above", file: || two_outputs(5, 1), value: 1, want: || Answer::None },
-    ValueRow { name: "last-fitting", file: || two_outputs(1, 1), value: 1, want: || Answer::Found(b"e".to_vec()) },
+    ValueRow {
+        name: "leading-above",
+        file: || two_outputs(5, 1),
+        value: 1,
+        want: || Answer::None,
+        rust: || Rust::Same,
+    },
+    ValueRow {
+        name: "last-fitting",
+        file: || two_outputs(1, 1),
+        value: 1,
+        want: || Answer::Found(b"e".to_vec()),
+        rust: || Rust::Same,
+    },
     ValueRow {
         name: "last-fitting-first",
         file: || two_outputs(1, 2),
         value: 1,
         want: || Answer::Found(b"a".to_vec()),
+        rust: || Rust::Same,
     },
     ValueRow {
         name: "key-of-255",
         file: || path_to(&[0, 0, 0x40], 255),
         value: 0,
         want: || Answer::Found(vec![b'a'; 255]),
+        rust: || Rust::Same,
     },
-    ValueRow { name: "key-of-256", file: || path_to(&[0, 0, 0x40], 256), value: 0, want: || Answer::Refused(DEEP) },
-    ValueRow { name: "none-at-255", file: || path_to(&[0, 0, 0x40], 255), value: 1, want: || Answer::None },
+    ValueRow {
+        name: "key-of-256",
+        file: || path_to(&[0, 0, 0x40], 256),
+        value: 0,
+        want: || Answer::Refused(DEEP),
+        rust: || Rust::Found(vec![b'a'; 256]),
+    },
+    ValueRow {
+        name: "none-at-255",
+        file: || path_to(&[0, 0, 0x40], 255),
+        value: 1,
+        want: || Answer::None,
+        rust: || Rust::Same,
+    },
     // 6 comes before the 256th byte's target is judged
-    ValueRow { name: "deep-before-unsound", file: || path_to(&[0xc1], 256), value: 0, want: || Answer::Refused(DEEP) },
-    ValueRow { name: "unsound-at-255", file: || path_to(&[0xc1], 255), value: 0, want: || Answer::Refused(NODE) },
-    ValueRow { name: "unsound-root", file: || file_of(3, &[0xc1]), value: 0, want: || Answer::Refused(NODE) },
+    ValueRow {
+        name: "deep-before-unsound",
+        file: || path_to(&[0xc1], 256),
+        value: 0,
+        want: || Answer::Refused(DEEP),
+        rust: || Rust::None,
+    },
+    ValueRow {
+        name: "unsound-at-255",
+        file: || path_to(&[0xc1], 255),
+        value: 0,
+        want: || Answer::Refused(NODE),
+        rust: || Rust::None,
+    },
+    ValueRow {
+        name: "unsound-root",
+        file: || file_of(3, &[0xc1]),
+        value: 0,
+        want: || Answer::Refused(NODE),
+        rust: || Rust::None,
+    },
 ];
 
 impl<'a> Run<'a> {
@@ -189,14 +303,30 @@ impl<'a> Run<'a> {
             let file = (row.file)();
             let input = || format!("row \"{}\", {}", row.name, describe_key(&file, row.key));
             same("a row", input, ("row", &row.want), ("model", &got(self.ours_file, None, &file, row.key, 1)?))?;
+            let rust = given_file::open(&file).expect("the Rust opens the files of rows");
+            same(
+                "a row, by the Rust",
+                input,
+                ("row", &row.rust),
+                ("the Rust", &rust_on(&row.want, rust.get(row.key))),
+            )?;
             self.count("rows by hand");
+            if row.rust != Rust::Same {
+                self.count("rows on which the Rust says something else");
+            }
         }
         for row in VALUE_ROWS {
             let file = (row.file)();
             let input = || format!("row \"{}\", the value {}, {}", row.name, row.value, describe_file(&file));
             let found = got_key(self.ours_file, None, &file, row.value, MAX_PATH, 1)?;
-            same("a row", input, ("row", (row.want)()), ("model", found))?;
+            same("a row", input, ("row", &(row.want)()), ("model", &found))?;
+            let rust = given_file::open(&file).expect("the Rust opens the files of rows");
+            let said = rust_on(&found, rust.get_key(row.value));
             self.count("rows by hand");
+            if said != Rust::Same {
+                self.count("rows on which the Rust says something else");
+            }
+            same("a row, by the Rust", input, ("row", (row.rust)()), ("the Rust", said))?;
         }
         Ok(())
     }
@@ -255,7 +385,7 @@ impl<'a> Run<'a> {
 
     // So many lookups by key, and a fifth of that by value.
     fn lookups_in(&mut self, file: &[u8], found: &Admitted, held: &[Vec<u8>], asked: usize) -> Checked {
-        let rust = crate::given_file::open(file).expect("the Rust opens an admitted file");
+        let rust = given_file::open(file).expect("the Rust opens an admitted file");
         let nodes = nodes_of(found);
         let root = found.meta.root;
         let numbered = model_file::numbered(found);
@@ -493,6 +623,17 @@ impl<'a> Run<'a> {
             Answer::None => "by key: none",
             Answer::Refused(why) => BY_KEY[why as usize - 1],
         });
+        // nothing to hold it to: the Rust judges no node and no sum
+        let rust = given_file::open(file);
+        if let (Answer::Refused(why), Some(rust)) = (&answer, &rust) {
+            match (*why, rust.get(&key)) {
+                (NODE, Some(_)) => self.count("by key, refused: 5 NODE, where the Rust answers"),
+                (NODE, None) => self.count("by key, refused: 5 NODE, where the Rust panics"),
+                (SUM, Some(_)) => self.count("by key, refused: 7 SUM, where the Rust answers"),
+                (SUM, None) => self.count("by key, refused: 7 SUM, where the Rust panics"),
+                _ => {}
+            }
+        }
 
         let prng = &mut self.prng;
         if prng.one_in(2) || matches!(answer, Answer::Refused(LARGE)) {
@@ -510,6 +651,16 @@ impl<'a> Run<'a> {
                 Answer::None => "by value: none",
                 Answer::Refused(why) => BY_VALUE[why as usize - 1],
             });
+            if let (Answer::Refused(why), Some(rust)) = (&answer, &rust) {
+                match (*why, rust.get_key(value)) {
+                    (NODE, Some(_)) => self.count("by value, refused: 5 NODE, where the Rust answers"),
+                    (NODE, None) => self.count("by value, refused: 5 NODE, where the Rust panics"),
+                    (DEEP, Some(Some(_))) => self.count("by value, refused: 6 DEEP, where the Rust finds a key"),
+                    (DEEP, Some(None)) => self.count("by value, refused: 6 DEEP, where the Rust finds none"),
+                    (DEEP, None) => self.count("by value, refused: 6 DEEP, where the Rust panics"),
+                    _ => {}
+                }
+            }
         }
         Ok(())
     }

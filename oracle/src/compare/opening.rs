@@ -23,38 +23,46 @@ pub fn refusal_name(number: u64) -> &'static str {
     REFUSALS[number as usize - 1]
 }
 
-// A file by hand, with the refusal or none, and whether the Rust opens it.
+// What the Rust does with a file: whether it opens it, and then looks the empty key up in it.
+#[derive(Debug, PartialEq)]
+enum Rust {
+    Refuses,
+    Answers,
+    Panics,
+}
+
+// A file by hand, with the refusal or none, and what the Rust does with it.
 struct Row {
     name: &'static str,
     version: u64,
     root: u64,
     len: usize,
     want: u64,
-    rust_opens: bool,
+    rust: Rust,
 }
 
 const ROWS: &[Row] = &[
-    Row { name: "zeros-35", version: 0, root: 0, len: 35, want: SHORT, rust_opens: false },
-    Row { name: "zeros-36", version: 0, root: 0, len: 36, want: VERSION, rust_opens: false },
-    Row { name: "version-4", version: 4, root: 0, len: 36, want: VERSION, rust_opens: false },
-    Row { name: "root-0", version: 3, root: 0, len: 36, want: 0, rust_opens: true },
-    Row { name: "root-0-one-longer", version: 3, root: 0, len: 37, want: ROOT, rust_opens: false },
-    Row { name: "root-0-version-1", version: 1, root: 0, len: 36, want: ROOT, rust_opens: false },
-    Row { name: "root-0-version-2", version: 2, root: 0, len: 36, want: ROOT, rust_opens: false },
-    Row { name: "root-18", version: 3, root: 18, len: 39, want: 0, rust_opens: true },
-    Row { name: "root-19-version-1", version: 1, root: 19, len: 36, want: 0, rust_opens: true },
-    Row { name: "root-19-version-2", version: 2, root: 19, len: 36, want: 0, rust_opens: true },
-    Row { name: "root-15", version: 3, root: 15, len: 36, want: ROOT, rust_opens: true },
-    Row { name: "root-16", version: 3, root: 16, len: 37, want: 0, rust_opens: true },
+    Row { name: "zeros-35", version: 0, root: 0, len: 35, want: SHORT, rust: Rust::Refuses },
+    Row { name: "zeros-36", version: 0, root: 0, len: 36, want: VERSION, rust: Rust::Refuses },
+    Row { name: "version-4", version: 4, root: 0, len: 36, want: VERSION, rust: Rust::Refuses },
+    Row { name: "root-0", version: 3, root: 0, len: 36, want: 0, rust: Rust::Answers },
+    Row { name: "root-0-one-longer", version: 3, root: 0, len: 37, want: ROOT, rust: Rust::Refuses },
+    Row { name: "root-0-version-1", version: 1, root: 0, len: 36, want: ROOT, rust: Rust::Refuses },
+    Row { name: "root-0-version-2", version: 2, root: 0, len: 36, want: ROOT, rust: Rust::Refuses },
+    Row { name: "root-18", version: 3, root: 18, len: 39, want: 0, rust: Rust::Answers },
+    Row { name: "root-19-version-1", version: 1, root: 19, len: 36, want: 0, rust: Rust::Answers },
+    Row { name: "root-19-version-2", version: 2, root: 19, len: 36, want: 0, rust: Rust::Answers },
+    Row { name: "root-15", version: 3, root: 15, len: 36, want: ROOT, rust: Rust::Answers },
+    Row { name: "root-16", version: 3, root: 16, len: 37, want: 0, rust: Rust::Answers },
     // document 01's difference, and the smallest files with it
-    Row { name: "root-17-of-39", version: 3, root: 17, len: 39, want: ROOT, rust_opens: true },
-    Row { name: "root-1-of-36", version: 3, root: 1, len: 36, want: ROOT, rust_opens: true },
-    Row { name: "root-1-of-36-version-1", version: 1, root: 1, len: 36, want: ROOT, rust_opens: true },
-    Row { name: "root-largest", version: 3, root: u64::max_value(), len: 36, want: ROOT, rust_opens: true },
-    Row { name: "largest", version: 3, root: 16_777_195, len: 16_777_216, want: 0, rust_opens: true },
-    Row { name: "largest-version-1", version: 1, root: 16_777_199, len: 16_777_216, want: 0, rust_opens: true },
-    Row { name: "one-too-large", version: 3, root: 16_777_196, len: 16_777_217, want: LARGE, rust_opens: true },
-    Row { name: "too-large-before-version", version: 0, root: 0, len: 16_777_217, want: LARGE, rust_opens: false },
+    Row { name: "root-17-of-39", version: 3, root: 17, len: 39, want: ROOT, rust: Rust::Answers },
+    Row { name: "root-1-of-36", version: 3, root: 1, len: 36, want: ROOT, rust: Rust::Panics },
+    Row { name: "root-1-of-36-version-1", version: 1, root: 1, len: 36, want: ROOT, rust: Rust::Panics },
+    Row { name: "root-largest", version: 3, root: u64::max_value(), len: 36, want: ROOT, rust: Rust::Panics },
+    Row { name: "largest", version: 3, root: 16_777_195, len: 16_777_216, want: 0, rust: Rust::Answers },
+    Row { name: "largest-version-1", version: 1, root: 16_777_199, len: 16_777_216, want: 0, rust: Rust::Answers },
+    Row { name: "one-too-large", version: 3, root: 16_777_196, len: 16_777_217, want: LARGE, rust: Rust::Answers },
+    Row { name: "too-large-before-version", version: 0, root: 0, len: 16_777_217, want: LARGE, rust: Rust::Refuses },
 ];
 
 // This length, version and root, with zeros elsewhere.
@@ -135,14 +143,14 @@ impl<'a> Run<'a> {
             let want = opened(self.ours_file, &file, keep)?;
             let input = || format!("row \"{}\"", row.name);
             same("a row", input, ("row", row.want), ("model", want.err().unwrap_or(0)))?;
-            same(
-                "whether the Rust opens",
-                input,
-                ("row", row.rust_opens),
-                ("the Rust", given_file::open(&file).is_some()),
-            )?;
+            let rust = match given_file::open(&file).map(|opened| opened.get(b"")) {
+                None => Rust::Refuses,
+                Some(Some(_)) => Rust::Answers,
+                Some(None) => Rust::Panics,
+            };
+            same("a row, by the Rust", input, ("row", &row.rust), ("the Rust", &rust))?;
             self.count("rows by hand");
-            if row.want != 0 && row.rust_opens {
+            if row.want != 0 && rust != Rust::Refuses {
                 self.count("rows that the Rust opens and document 01 refuses");
             }
         }
