@@ -6,7 +6,7 @@
 --     Sane f levels            levels whose nodes are fine
 --     AllV, RisingV            a fact of each visit; each string comes before all that follow
 --     kept P vs                the visits whose string passes a test
---     Skim, skim P n vs        the visits up to the first key, or up to the first that passes the upper bound, dropped and counted
+--     capped n                 the total for n transitions followed
 -- Assumes nothing.
 use Prim.{Unit, tt}
 use mathlib.Core.Path.{_≡_}
@@ -87,16 +87,6 @@ abbrev pub kept : (List ℕ → Bool) → List Visit → List Visit
 kept P [] = []
 kept P (v ∷ vs) = cond (P (v .key)) (v ∷ kept P vs) (kept P vs)
 
-pub data Skim : Type 0 where
-  nothing : Skim
-  over : Visit → ℕ → Skim
-  one : Visit → List Visit → ℕ → Skim
-
--- n are counted already
-abbrev pub skim : (List ℕ → Bool) → ℕ → List Visit → Skim
-skim P n [] = nothing
-skim P n (v ∷ vs) = cond (P (v .key)) (over v (suc n)) (cond (v .final) (one v vs (suc n)) (skim P (suc n) vs))
-
--- the total for n transitions followed: it stays at 2^64 - 1
+-- it stays at 2^64 - 1
 abbrev pub capped : ℕ → ℕ
 capped n = cond (leb n maxSum) n maxSum
