@@ -1,3 +1,4 @@
 pub mod Reading
 pub mod Visits
 pub mod RunLaws
+pub mod NextLaws
