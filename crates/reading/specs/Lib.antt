@@ -2,3 +2,4 @@ pub mod Reading
 pub mod Visits
 pub mod RunLaws
 pub mod NextLaws
+pub mod Demand
