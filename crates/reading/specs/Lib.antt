@@ -1,3 +1,4 @@
 pub mod Reading
 pub mod Visits
 pub mod BoundLaws
+pub mod VisitLaws
