@@ -26,7 +26,7 @@ use Rattle.format.specs.Strings.{Before, shorter, lower, later, Begins, nothing
 use Rattle.format.specs.StringLaws.{begins-append}
 use Rattle.format.specs.TransitionLaws.{member-at}
 use Rattle.format.specs.NodeFacts.{node-ascending}
-use Rattle.format.specs.PathLaws.{path-step, path-append, path-snoc, path-split, path-ends-low}
+use Rattle.format.specs.PathLaws.{path-nil, path-step, path-append, path-snoc, path-split, path-ends-low}
 use Rattle.format.specs.ChainLaws.{root-chain-root}
 use Rattle.format.specs.LiveLaws.{FinalFrom, final-zero, target-below-root, live-below-root, leads-to-final, path-stays}
 use Rattle.format.specs.ReachedLaws.{path-reached}
@@ -194,3 +194,93 @@ below-rising (suc d) f a sum (m, e, light, targets) =
     rw e
     (row-rising (below d f) f (below-full d f) (m .transitions) (ascends (m .transitions) (node-ascending f a m e))
     (λ t mem. below-rising d f (t .addr) (sum + t .out) (targets t mem)))
+
+-- ---- a visit is a path
+
+pub record PathTo (f : Fst) (a : ℕ) (v : Visit) : Type 0 where
+  pub sum : ℕ
+  pub to : ℕ
+  pub node : Node
+  pub path : Path f a (v .key) sum to
+  pub judged : nodeIn f to ≡ sound node
+  pub final-is : v .final ≡ node .final
+  pub value-is : v .value ≡ sum + node .finalOutput
+
+-- a fine node is sound
+pub fine-node : (d : ℕ) (f : Fst) (a sum : ℕ) → Fine d f a sum → (m : Node) × (nodeIn f a ≡ sound m)
+fine-node zero f a sum h = (h .0, h .1)
+fine-node (suc d) f a sum h = (h .0, h .1)
+
+module _ (f : Fst) (a : ℕ) (m : Node) (e : nodeIn f a ≡ sound m) (t : Transition) (mem : List·Memᴰ t (m .transitions)) where
+  -- to the target
+  path-to-target : (n : Node) → nodeIn f (t .addr) ≡ sound n → PathTo f a (visitBy f t)
+  path-to-target n g =
+      record {
+        sum = t .out;
+        to = t .addr;
+        node = n;
+        path = rw add-zero at (follow m t e mem (here {a = t .addr}));
+        judged = g;
+        final-is = rw g;
+        value-is = rw g;
+      }
+
+  -- and on from it
+  path-to-below : (w : Visit) → PathTo f (t .addr) w → PathTo f a (under (t .inp ∷ []) (t .out) w)
+  path-to-below w p =
+      record {
+        sum = t .out + p .sum;
+        to = p .to;
+        node = p .node;
+        path = follow m t e mem (p .path);
+        judged = p .judged;
+        final-is = p .final-is;
+        value-is = omega (arith, p .value-is);
+      }
+
+pub visit-path : (d : ℕ) (f : Fst) (a sum : ℕ) → Fine d f a sum → (v : Visit) → List·Memᴰ v (below d f a) → PathTo f a v
+visit-path zero f a sum h v on = absurd (List·Memᴰ·not-nil on)
+visit-path (suc d) f a sum (m, e, light, targets) v on =
+    go (λ t mem w. visit-path d f (t .addr) (sum + t .out) (targets t mem) w) (row-by (below d f) f (m .transitions) v (rw e at on))
+  where
+    go : ((t : Transition) → List·Memᴰ t (m .transitions) → (w : Visit) → List·Memᴰ w (below d f (t .addr)) → PathTo f (t .addr) w)
+        → (t : Transition) × List·Memᴰ t (m .transitions) × By (below d f) f v t → PathTo f a v
+    go rest (t, mem, inl q) =
+        let n = fine-node d f (t .addr) (sum + t .out) (targets t mem) in
+        subst (PathTo f a) (sym q) (path-to-target f a m e t mem (n .0) (n .1))
+    go rest (t, mem, inr (w, n, q)) = subst (PathTo f a) q (path-to-below f a m e t mem w (rest t mem w n))
+
+-- ---- a path that is not empty is a visit
+
+-- the visit at the end of a path to the node n
+abbrev visitTo : List ℕ → ℕ → Node → Visit
+visitTo k o n = record { key = k; value = o + n .finalOutput; final = n .final }
+
+pub path-visit : (d : ℕ) (f : Fst) (a sum : ℕ) → Fine d f a sum → (x : ℕ) (k : List ℕ) (o b : ℕ) → Path f a (x ∷ k) o b → (n : Node) → nodeIn f b ≡ sound n
+    → List·Memᴰ (record { key = x ∷ k; value = o + n .finalOutput; final = n .final }) (below d f a)
+path-visit zero f a sum (m, e, light, none) x k o b p n g =
+    let s = path-step p in
+    let judged = s .judged in
+    let same : s .node ≡ m = cc in
+    absurd (List·Memᴰ·not-nil (rw (same, none) at (s .member)))
+path-visit (suc d) f a sum (m, e, light, targets) x k o b p n g =
+    let s = path-step p in
+    let judged = s .judged in
+    let same : s .node ≡ m = cc in
+    let mem : List·Memᴰ (s .by) (m .transitions) = rw same at (s .member) in
+    rw e
+    (by-row (below d f) f (m .transitions) (visitTo (x ∷ k) o n) (s .by) mem
+    (go k (s .by) (s .more) (s .rest) (s .inp-is) (s .sum-is)
+    (λ y k p. path-visit d f (s .by .addr) (sum + s .by .out) (targets (s .by) mem) y k (s .more) b p n g)))
+  where
+    go : (k : List ℕ) (t : Transition) (more : ℕ) → Path f (t .addr) k more b → t .inp ≡ x → o ≡ t .out + more
+        → ((y : ℕ) (k : List ℕ) → Path f (t .addr) (y ∷ k) more b → List·Memᴰ (visitTo (y ∷ k) more n) (below d f (t .addr)))
+        → By (below d f) f (visitTo (x ∷ k) o n) t
+    go [] t more p i q rest =
+        let z = path-nil p in
+        let at-target : nodeIn f (t .addr) ≡ sound n = rw (z .1) at g in
+        let value : o + n .finalOutput ≡ t .out + n .finalOutput = omega (arith, z .0) in
+        inl (rw (at-target, value, i))
+    go (y ∷ k) t more p i q rest =
+        let value : o + n .finalOutput ≡ t .out + (more + n .finalOutput) = omega arith in
+        inr (visitTo (y ∷ k) more n, rest y k p, rw (value, i))
