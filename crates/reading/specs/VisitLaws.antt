@@ -8,12 +8,12 @@
 --     visit-begins, begins-visit, visit-held, held-visit     visits and held keys of an admitted file
 -- Assumes nothing.
 use Prim.{Unit, tt}
-use mathlib.Core.Path.{_≡_, refl, sym, ap, ap₂, _∙_, subst}
+use mathlib.Core.Path.{_≡_, refl, sym, ap, _∙_, subst}
 use mathlib.Core.Bool.{Bool, true, false, cond}
 use mathlib.Core.Logic.{_⊎_, inl, inr, ⊎-elim}
 use mathlib.Core.List.{List, [], _∷_, _++_, map, List·Memᴰ, List·Memᴰ·head, List·Memᴰ·tail, List·Memᴰ·not-nil, List·Memᴰ·cases-cons, List·Memᴰ·append-cases, Memᴰ·append-left, Memᴰ·append-right, Memᴰ·cast, Memᴰ·map, Memᴰ·of-map}
-use Prim.Native.Nat.{ℕ, zero, suc, _+_, _≤_, _<_}
-use native.Mathlib.Nat.{add-assoc, add-zero}
+use Prim.Native.Nat.{ℕ, zero, suc, _+_, _<_}
+use native.Mathlib.Nat.{add-zero}
 use native.Mathlib.Decide.{ℕ-discrete}
 use native.Mathlib.Omega.{arith}
 use lib.ListN.{length, length-append}
@@ -27,7 +27,7 @@ use Rattle.format.specs.StringLaws.{begins-append}
 use Rattle.format.specs.TransitionLaws.{member-at}
 use Rattle.format.specs.NodeFacts.{node-ascending}
 use Rattle.format.specs.PathLaws.{path-nil, path-step, path-append, path-snoc, path-split, path-ends-low}
-use Rattle.format.specs.ChainLaws.{root-chain-root}
+use Rattle.format.specs.ChainLaws.{root-chain-root, root-chain-low}
 use Rattle.format.specs.LiveLaws.{FinalFrom, final-zero, target-below-root, live-below-root, leads-to-final, path-stays}
 use Rattle.format.specs.ReachedLaws.{path-reached}
 use Rattle.reading.specs.Visits.{Visit, under, visitBy, row, transitionsAt, below, Fine, AllV, RisingV, kept}
@@ -93,7 +93,8 @@ ascends (t ∷ ts) h = (
   ascends ts (λ i j l n. h (suc i) (suc j) (omega arith) (omega arith)),
 )
 
-rising-append : (xs ys : List Visit) → RisingV xs → RisingV ys → ((v w : Visit) → List·Memᴰ v xs → List·Memᴰ w ys → Before (v .key) (w .key)) → RisingV (xs ++ ys)
+rising-append : (xs ys : List Visit) → RisingV xs → RisingV ys
+    → ((v w : Visit) → List·Memᴰ v xs → List·Memᴰ w ys → Before (v .key) (w .key)) → RisingV (xs ++ ys)
 rising-append [] ys h g a = g
 rising-append (x ∷ xs) ys h g a =
     let after : Visit → Type 0 = λ v. Before (x .key) (v .key) in (
@@ -256,8 +257,8 @@ visit-path (suc d) f a sum (m, e, light, targets) v on =
 abbrev visitTo : List ℕ → ℕ → Node → Visit
 visitTo k o n = record { key = k; value = o + n .finalOutput; final = n .final }
 
-pub path-visit : (d : ℕ) (f : Fst) (a sum : ℕ) → Fine d f a sum → (x : ℕ) (k : List ℕ) (o b : ℕ) → Path f a (x ∷ k) o b → (n : Node) → nodeIn f b ≡ sound n
-    → List·Memᴰ (record { key = x ∷ k; value = o + n .finalOutput; final = n .final }) (below d f a)
+pub path-visit : (d : ℕ) (f : Fst) (a sum : ℕ) → Fine d f a sum → (x : ℕ) (k : List ℕ) (o b : ℕ) → Path f a (x ∷ k) o b → (n : Node)
+    → nodeIn f b ≡ sound n → List·Memᴰ (record { key = x ∷ k; value = o + n .finalOutput; final = n .final }) (below d f a)
 path-visit zero f a sum (m, e, light, none) x k o b p n g =
     let s = path-step p in
     let judged = s .judged in
@@ -284,3 +285,106 @@ path-visit (suc d) f a sum (m, e, light, targets) x k o b p n g =
     go (y ∷ k) t more p i q rest =
         let value : o + n .finalOutput ≡ t .out + (more + n .finalOutput) = omega arith in
         inr (visitTo (y ∷ k) more n, rest y k p, rw (value, i))
+
+-- ---- an admitted file
+
+begins-rest : {x k : List ℕ} → Begins x k → (r : List ℕ) × (k ≡ x ++ r)
+begins-rest (nothing {t = t}) = (t, refl)
+begins-rest (byte {x = x} h) = let r = begins-rest h in (r .0, ap (λ k. x ∷ k) (r .1))
+
+module _ {s : List ℕ} (A : Admitted s) where
+  abbrev fst : Fst
+  fst = fstOf s (A .meta)
+
+  -- a node that a path from the root reaches, with so many steps left
+  fine-reached : (d : ℕ) (k : List ℕ) (sum b : ℕ) → Path fst (A .meta .root) k sum b → length k + d ≡ maxPath → Fine d fst b sum
+  fine-reached zero k sum b p h =
+      let r = path-reached A p in
+      (r .node, r .judged, r .light, go (r .node) (r .judged) (r .node .transitions) refl)
+    where
+      go : (m : Node) → nodeIn fst b ≡ sound m → (ts : List Transition) → m .transitions ≡ ts → ts ≡ []
+      go m e [] q = refl
+      go m e (t ∷ ts) q =
+          let longer = path-reached A (path-snoc m t p e (rw q (List·Memᴰ·head refl))) .short in
+          absurd (omega (arith, simp length-append at longer))
+  fine-reached (suc d) k sum b p h =
+      let r = path-reached A p in (
+        r .node,
+        r .judged,
+        r .light,
+        λ t mem.
+            fine-reached d (k ++ (t .inp ∷ [])) (sum + t .out) (t .addr) (path-snoc (r .node) t p (r .judged) mem) (simp length-append (omega arith)),
+      )
+
+  pub fine-root : Fine maxPath (fstOf s (A .meta)) (A .meta .root) 0
+  fine-root = fine-reached maxPath [] 0 (A .meta .root) here refl
+
+  -- a path that is not empty leads below the root, to a node that leads to a final one
+  path-to-final : (x : ℕ) (k : List ℕ) (sum b : ℕ) → Path fst (A .meta .root) (x ∷ k) sum b → FinalFrom fst b
+  path-to-final x k sum b p =
+      go (path-stays (A .chained) (elim (ℕ-discrete (A .meta .root) 0) [ yes z ↦ inl z | no z ↦ inr (root-chain-root (A .chained .chain) z) ]) p)
+    where
+      go : (b ≡ 0) ⊎ List·Memᴰ b (A .nodes) → FinalFrom fst b
+      go (inl z) = final-zero fst b z
+      go (inr on) =
+          let step = path-step p in
+          let r = path-reached A p in
+          let low = target-below-root fst (A .meta .root) (step .node) (step .by) (step .judged) (step .member) in
+          leads-to-final (A .chained) b on (r .node) (r .judged)
+          (live-below-root fst b (r .node) (r .judged) (λ z. omega (arith, root-chain-low (A .chained .chain) b on)) (λ same. omega (arith, low, path-ends-low (step .rest))))
+
+  -- every visit begins a held key
+  pub visit-begins : (v : Visit) → List·Memᴰ v (below maxPath (fstOf s (A .meta)) (A .meta .root))
+      → (k : List ℕ) × (w : ℕ) × Held (fstOf s (A .meta)) k w × Begins (v .key) k
+  visit-begins v on =
+      let p = visit-path maxPath fst (A .meta .root) 0 fine-root v on in
+      go (v .key) (all-mem (λ v. ¬ (v .key ≡ [])) (below maxPath fst (A .meta .root)) (below-full maxPath fst (A .meta .root)) v on) (p .sum) (p .to) (p .path)
+    where
+      go : (x : List ℕ) → ¬ (x ≡ []) → (sum b : ℕ) → Path fst (A .meta .root) x sum b → (k : List ℕ) × (w : ℕ) × Held fst k w × Begins x k
+      go [] ne sum b p = absurd (ne refl)
+      go (x ∷ k) ne sum b p =
+          let r = path-to-final x k sum b p in (
+            (x ∷ k) ++ r .key,
+            sum + r .sum + r .last .finalOutput,
+            record {
+              sum = sum + r .sum;
+              to = r .to;
+              last = r .last;
+              path = path-append p (r .path);
+              ends = r .ends;
+              final = r .final;
+              value = refl;
+            },
+            begins-append (x ∷ k) (r .key),
+          )
+
+  -- what begins a held key is a visit, unless it is empty
+  pub begins-visit : (x k : List ℕ) (w : ℕ) → Held (fstOf s (A .meta)) k w → Begins x k → ¬ (x ≡ [])
+      → (v : Visit) × List·Memᴰ v (below maxPath (fstOf s (A .meta)) (A .meta .root)) × (v .key ≡ x)
+  begins-visit [] k w h g ne = absurd (ne refl)
+  begins-visit (x ∷ y) k w h g ne =
+      let r = begins-rest g in
+      let p : Path fst (A .meta .root) ((x ∷ y) ++ r .0) (h .sum) (h .to) = rw (r .1) at (h .path) in
+      let c = path-split (x ∷ y) (r .0) p in
+      let n = path-reached A (c .to) in (
+        visitTo (x ∷ y) (c .sum-to) (n .node),
+        path-visit maxPath fst (A .meta .root) 0 fine-root x y (c .sum-to) (c .middle) (c .to) (n .node) (n .judged),
+        refl,
+      )
+
+  -- a final visit is a held key
+  pub visit-held : (v : Visit) → List·Memᴰ v (below maxPath (fstOf s (A .meta)) (A .meta .root)) → v .final ≡ true
+      → Held (fstOf s (A .meta)) (v .key) (v .value)
+  visit-held v on is =
+      let p = visit-path maxPath fst (A .meta .root) 0 fine-root v on in
+      record { sum = p .sum; to = p .to; last = p .node; path = p .path; ends = p .judged; final = sym (p .final-is) ∙ is; value = p .value-is }
+
+  -- a held key is a final visit, unless it is empty
+  pub held-visit : (k : List ℕ) (w : ℕ) → Held (fstOf s (A .meta)) k w → ¬ (k ≡ [])
+      → List·Memᴰ (record { key = k; value = w; final = true }) (below maxPath (fstOf s (A .meta)) (A .meta .root))
+  held-visit [] w h ne = absurd (ne refl)
+  held-visit (x ∷ k) w h ne =
+      let final = h .final in
+      let value = h .value in
+      Memᴰ·cast (rw (final, value))
+      (path-visit maxPath fst (A .meta .root) 0 fine-root x k (h .sum) (h .to) (h .path) (h .last) (h .ends))
