@@ -5,3 +5,4 @@ pub mod VisitLaws
 pub mod RunLaws
 pub mod NextLaws
 pub mod Demand
+pub mod ProgressLaws
