@@ -2,6 +2,7 @@ pub mod Reading
 pub mod BoundLaws
 pub mod Visits
 pub mod VisitLaws
+pub mod SeekLaws
 pub mod RunLaws
 pub mod NextLaws
 pub mod Demand
