@@ -7,3 +7,4 @@ pub mod RunLaws
 pub mod NextLaws
 pub mod Demand
 pub mod ProgressLaws
+pub mod DemandLaws
