@@ -99,3 +99,110 @@ module _ {s : List ℕ} (A : Admitted s) (lo : Bound) where
         empty-held = pending;
         empty-pending = pending-of;
       }
+
+-- ---- ascending lists of visits, cut in two
+
+rising-cut : (xs ys : List Visit) → RisingV (xs ++ ys) → (v w : Visit) → List·Memᴰ v xs → List·Memᴰ w ys → Before (v .key) (w .key)
+rising-cut [] ys h v w mv mw = absurd (List·Memᴰ·not-nil mv)
+rising-cut (x ∷ xs) ys h v w mv mw =
+    ⊎-elim
+    (λ (e : v ≡ x). rw e (all-mem (λ y. Before (x .key) (y .key)) (xs ++ ys) (h .0) w (Memᴰ·append-right xs mw)))
+    (λ (on : List·Memᴰ v xs). rising-cut xs ys (h .1) v w on mw)
+    (List·Memᴰ·cases-cons mv)
+
+rising-left : (xs ys : List Visit) → RisingV (xs ++ ys) → RisingV xs
+rising-left [] ys h = tt
+rising-left (x ∷ xs) ys h = (left xs (h .0), rising-left xs ys (h .1))
+  where
+    left : (zs : List Visit) → AllV (λ y. Before (x .key) (y .key)) (zs ++ ys) → AllV (λ y. Before (x .key) (y .key)) zs
+    left [] g = tt
+    left (z ∷ zs) g = (g .0, left zs (g .1))
+
+-- the strings of visits
+abbrev keysIn : List Visit → List (List ℕ)
+keysIn vs = map (λ (v : Visit). v .key) vs
+
+keys-after : (k : List ℕ) (vs : List Visit) → AllV (λ v. Before k (v .key)) vs → AllAfter k (keysIn vs)
+keys-after k [] h = tt
+keys-after k (v ∷ vs) h = (h .0, keys-after k vs (h .1))
+
+keys-rising : (vs : List Visit) → RisingV vs → Rising (keysIn vs)
+keys-rising [] h = tt
+keys-rising (v ∷ vs) h = (keys-after (v .key) vs (h .0), keys-rising vs (h .1))
+
+keys-mem : (vs : List Visit) (x : List ℕ) → List·Memᴰ x (keysIn vs) → (v : Visit) × List·Memᴰ v vs × (v .key ≡ x)
+keys-mem [] x on = absurd (List·Memᴰ·not-nil on)
+keys-mem (v ∷ vs) x on =
+    ⊎-elim
+    (λ (e : x ≡ v .key). (v, List·Memᴰ·head refl, sym e))
+    (λ (h : List·Memᴰ x (keysIn vs)). let w = keys-mem vs x h in (w .0, List·Memᴰ·tail (w .1), w .2))
+    (List·Memᴰ·cases-cons on)
+
+mem-keys : (vs : List Visit) (v : Visit) (x : List ℕ) → List·Memᴰ v vs → v .key ≡ x → List·Memᴰ x (keysIn vs)
+mem-keys [] v x on e = absurd (List·Memᴰ·not-nil on)
+mem-keys (w ∷ vs) v x on e =
+    ⊎-elim
+    (λ (q : v ≡ w). List·Memᴰ·head (sym e ∙ ap (λ (y : Visit). y .key) q))
+    (λ (h : List·Memᴰ v vs). List·Memᴰ·tail (mem-keys vs v x h e))
+    (List·Memᴰ·cases-cons on)
+
+-- the keys among visits
+abbrev Source : Entry → List Visit → Type 0
+Source e vs = (v : Visit) × List·Memᴰ v vs × (v .final ≡ true) × (e ≡ entry (v .key) (v .value))
+
+entries-mem : (vs : List Visit) (e : Entry) → List·Memᴰ e (entriesOf vs) → Source e vs
+entries-mem [] e on = absurd (List·Memᴰ·not-nil on)
+entries-mem (v ∷ vs) e on = by (v .final) refl (λ h. entries-mem vs e h) on
+  where
+    later : Source e vs → Source e (v ∷ vs)
+    later w = (w .0, List·Memᴰ·tail (w .1), w .2, w .3)
+
+    by : (b : Bool) → v .final ≡ b → (List·Memᴰ e (entriesOf vs) → Source e vs) → List·Memᴰ e (cond b (entry (v .key) (v .value) ∷ entriesOf vs) (entriesOf vs))
+        → Source e (v ∷ vs)
+    by true eb ih h = ⊎-elim (λ (q : e ≡ entry (v .key) (v .value)). (v, List·Memᴰ·head refl, eb, q)) (λ g. later (ih g)) (List·Memᴰ·cases-cons h)
+    by false eb ih h = later (ih h)
+
+mem-entries : (vs : List Visit) (v : Visit) → List·Memᴰ v vs → v .final ≡ true → List·Memᴰ (entry (v .key) (v .value)) (entriesOf vs)
+mem-entries [] v on fin = absurd (List·Memᴰ·not-nil on)
+mem-entries (w ∷ vs) v on fin =
+    ⊎-elim
+    (λ (q : v ≡ w). let f : w .final ≡ true = ap (λ (y : Visit). y .final) (sym q) ∙ fin in rw (f, q) (List·Memᴰ·head refl))
+    (λ (h : List·Memᴰ v vs). by (w .final) (mem-entries vs v h fin))
+    (List·Memᴰ·cases-cons on)
+  where
+    by : (b : Bool) → List·Memᴰ (entry (v .key) (v .value)) (entriesOf vs)
+        → List·Memᴰ (entry (v .key) (v .value)) (cond b (entry (w .key) (w .value) ∷ entriesOf vs) (entriesOf vs))
+    by true h = List·Memᴰ·tail h
+    by false h = h
+
+abbrev keysOut : List Entry → List (List ℕ)
+keysOut es = map (λ (e : Entry). e .key) es
+
+entries-after : (k : List ℕ) (vs : List Visit) → AllV (λ v. Before k (v .key)) vs → AllAfter k (keysOut (entriesOf vs))
+entries-after k [] h = tt
+entries-after k (v ∷ vs) h = by (v .final) (entries-after k vs (h .1))
+  where
+    by : (b : Bool) → AllAfter k (keysOut (entriesOf vs)) → AllAfter k (keysOut (cond b (entry (v .key) (v .value) ∷ entriesOf vs) (entriesOf vs)))
+    by true g = (h .0, g)
+    by false g = g
+
+entries-rising : (vs : List Visit) → RisingV vs → Rising (keysOut (entriesOf vs))
+entries-rising [] h = tt
+entries-rising (v ∷ vs) h = by (v .final) (entries-rising vs (h .1))
+  where
+    by : (b : Bool) → Rising (keysOut (entriesOf vs)) → Rising (keysOut (cond b (entry (v .key) (v .value) ∷ entriesOf vs) (entriesOf vs)))
+    by true g = (entries-after (v .key) vs (h .0), g)
+    by false g = g
+
+-- in an ascending list of entries the last comes after every other
+rising-last : (es : List Entry) (e d : Entry) → Rising (keysOut (es ++ (e ∷ []))) → List·Memᴰ d es → Before (d .key) (e .key)
+rising-last [] e d h on = absurd (List·Memᴰ·not-nil on)
+rising-last (x ∷ es) e d h on =
+    ⊎-elim
+    (λ (q : d ≡ x). rw q (all-last es (h .0)))
+    (λ (g : List·Memᴰ d es). rising-last es e d (h .1) g)
+    (List·Memᴰ·cases-cons on)
+  where
+    all-last : (zs : List Entry) → AllAfter (x .key) (keysOut (zs ++ (e ∷ []))) → Before (x .key) (e .key)
+    all-last [] g = g .0
+    all-last (z ∷ zs) g = all-last zs (g .1)
