@@ -8,9 +8,10 @@ use mathlib.Core.Option.{Option, none, some}
 use mathlib.Core.Logic.{⊎-elim, _⊎_, inl, inr}
 use mathlib.Core.List.{List, [], _∷_, _++_, map, append-assoc, append-nil, List·Memᴰ, List·Memᴰ·head, List·Memᴰ·tail, List·Memᴰ·not-nil, List·Memᴰ·cases-cons, List·Memᴰ·append-cases, Memᴰ·append-left, Memᴰ·append-right}
 use Prim.Native.Nat.{ℕ, zero, suc, _+_, _-_, _<_, _≤_}
+use native.Mathlib.Nat.{add-zero}
 use native.Mathlib.Omega.{arith}
 use lib.ListN.{length, length-append, length-map}
-use Rattle.format.specs.Limits.{maxPath}
+use Rattle.format.specs.Limits.{maxPath, maxSum}
 use Rattle.format.specs.Opening.{Meta, opened, opening}
 use Rattle.format.specs.Node.{Node, Judgement, sound, unsound}
 use Rattle.format.specs.Paths.{Fst, fstOf, nodeIn, Held}
@@ -26,6 +27,7 @@ use Rattle.reading.specs.BoundLaws.{decides-meets, decides-passes, passe
 use Rattle.reading.specs.Visits.{Visit, toCome, below, kept, Sane, AllV, RisingV, capped}
 use Rattle.reading.specs.VisitLaws.{all-mem, kept-mem, mem-kept, kept-rising, below-rising, below-full, fine-root, visit-begins, begins-visit, visit-held, held-visit}
 use Rattle.reading.specs.SeekLaws.{SeekCome, start-come}
+use Rattle.reading.specs.RunLaws.{lt-or, capped-low, capped-high}
 use Rattle.reading.specs.Demand.{AllAfter, Rising, NumberOf, BeginsHeld, Within, Beyond, Extra, one-more, no-more, EmptyExcluded, Call, Allowed, call, readingAfter, answers, unrefused, atZero, followed, Entry, entry, handOut, handedIn, NotAfterLast, NoneLeft, Demand3}
 use Rattle.reading.specs.ProgressLaws.{entriesOf, entries-append, entries-one, LastFinal, no-visit, last-visit, Pre, no-empty, empty-key, Progress, fresh, going, finished, beyond, shut, Called, hands, ended, progress-step, progress-refused, dec-allowed, Ran, progress-run}
 
@@ -206,3 +208,325 @@ rising-last (x ∷ es) e d h on =
     all-last : (zs : List Entry) → AllAfter (x .key) (keysOut (zs ++ (e ∷ []))) → Before (x .key) (e .key)
     all-last [] g = g .0
     all-last (z ∷ zs) g = all-last zs (g .1)
+
+-- ---- a cut of the start's visits
+
+none-some : {v : ℕ} → ¬ (_≡_ {A = Option ℕ} none (some v))
+none-some e = let z : _≡_ {A = ℕ} 0 1 = cc in omega arith
+
+some-same : {v w : ℕ} → _≡_ {A = Option ℕ} (some v) (some w) → v ≡ w
+some-same e = cc
+
+nil-before : (k : List ℕ) → ¬ (k ≡ []) → Before [] k
+nil-before [] ne = absurd (ne refl)
+nil-before (x ∷ k) ne = shorter
+
+snoc-not-nil : (es : List Entry) (e : Entry) → ¬ (_≡_ {A = List Entry} [] (es ++ (e ∷ [])))
+snoc-not-nil [] e q = let z : _≡_ {A = ℕ} 0 1 = cc in omega arith
+snoc-not-nil (x ∷ es) e q = let z : _≡_ {A = ℕ} 0 1 = cc in omega arith
+
+-- the last of two lists that are the same
+snoc-mem : (es : List Entry) (e : Entry) → List·Memᴰ e (es ++ (e ∷ []))
+snoc-mem es e = Memᴰ·append-right es (List·Memᴰ·head refl)
+
+module _ (f : Fst) (lo hi : Bound) (W : List Visit) (e₀ : Option ℕ) (F : Facts f lo W e₀) where
+  pub record Cut (pre : List Entry) (taken rest : List Visit) : Type 0 where
+    pub before : Pre hi e₀ pre
+    pub split : W ≡ taken ++ rest
+    pub under : AllV (λ v. passesTest hi (v .key) ≡ false) taken
+
+  pre-held : (pre : List Entry) → Pre hi e₀ pre → (e : Entry) → List·Memᴰ e pre → (Held f (e .key) (e .value) × Between lo hi (e .key)) × (e .key ≡ [])
+  pre-held pre (no-empty z) e on = absurd (List·Memᴰ·not-nil on)
+  pre-held pre (empty-key v is p) e on =
+      ⊎-elim
+      (λ (q : e ≡ entry [] v). let h = F .empty-held v is in rw q ((h .0, record { meets = h .1; within = decides-passes hi [] .no p }), refl))
+      (λ g. absurd (List·Memᴰ·not-nil g))
+      (List·Memᴰ·cases-cons on)
+
+  module _ {pre : List Entry} {taken rest : List Visit} (C : Cut pre taken rest) where
+    abbrev handed : List Entry
+    handed = pre ++ entriesOf taken
+
+    on-left : (v : Visit) → List·Memᴰ v taken → List·Memᴰ v W
+    on-left v on = rw (C .split) (Memᴰ·append-left rest on)
+
+    on-right : (v : Visit) → List·Memᴰ v rest → List·Memᴰ v W
+    on-right v on = rw (C .split) (Memᴰ·append-right taken on)
+
+    between : (v : Visit) → List·Memᴰ v taken → Between lo hi (v .key)
+    between v on =
+        record {
+          meets = F .meets v (on-left v on);
+          within = decides-passes hi (v .key) .no (all-mem (λ x. passesTest hi (x .key) ≡ false) taken (C .under) v on);
+        }
+
+    rises : RisingV (taken ++ rest)
+    rises = rw (C .split) at (F .rising)
+
+    pub cut-held : (e : Entry) → List·Memᴰ e handed → Held f (e .key) (e .value) × Between lo hi (e .key)
+    cut-held e on =
+        ⊎-elim
+        (λ (h : List·Memᴰ e pre). pre-held pre (C .before) e h .0)
+        (λ (h : List·Memᴰ e (entriesOf taken)).
+        let w = entries-mem taken e h in
+        rw (w .3) (F .held (w .0) (on-left (w .0) (w .1)) (w .2), between (w .0) (w .1)))
+        (List·Memᴰ·append-cases pre on)
+
+    pub cut-rising : Rising (keysOut handed)
+    cut-rising = by pre (C .before)
+      where
+        full : (vs : List Visit) → ((v : Visit) → List·Memᴰ v vs → List·Memᴰ v W) → AllV (λ v. Before [] (v .key)) vs
+        full [] h = tt
+        full (v ∷ vs) h = (nil-before (v .key) (F .begins v (h v (List·Memᴰ·head refl)) .not-empty), full vs (λ w on. h w (List·Memᴰ·tail on)))
+
+        by : (pre : List Entry) → Pre hi e₀ pre → Rising (keysOut (pre ++ entriesOf taken))
+        by pre (no-empty z) = entries-rising taken (rising-left taken rest rises)
+        by pre (empty-key v is p) = (entries-after [] taken (full taken on-left), entries-rising taken (rising-left taken rest rises))
+
+    -- a held key that meets the lower bound was handed out, or is to come
+    cut-find : (k : List ℕ) (v : ℕ) → Held f k v → MeetsLower lo k
+        → List·Memᴰ (entry k v) handed ⊎ List·Memᴰ (record { key = k; value = v; final = true }) rest
+    cut-find [] v h meets = by pre (C .before)
+      where
+        by : (pre : List Entry) → Pre hi e₀ pre → List·Memᴰ (entry [] v) (pre ++ entriesOf taken) ⊎ List·Memᴰ (record { key = []; value = v; final = true }) rest
+        by pre (no-empty z) = absurd (none-some (sym z ∙ F .empty-pending v h meets))
+        by pre (empty-key w is p) =
+            let q : w ≡ v = some-same (sym is ∙ F .empty-pending v h meets) in
+            inl (rw q (List·Memᴰ·head refl))
+    cut-find (x ∷ k) v h meets =
+        let on = F .keys (x ∷ k) v h (λ e. let z : _≡_ {A = ℕ} 0 1 = cc in omega arith) meets in
+        ⊎-elim
+        (λ (g : List·Memᴰ (record { key = x ∷ k; value = v; final = true }) taken). inl (Memᴰ·append-right pre (mem-entries taken _ g refl)))
+        (λ g. inr g)
+        (List·Memᴰ·append-cases taken (rw (C .split) at on))
+
+    -- what was handed out comes before what is to come
+    cut-before : (e : Entry) → List·Memᴰ e handed → (w : Visit) → List·Memᴰ w rest → Before (e .key) (w .key)
+    cut-before e on w to-come =
+        ⊎-elim
+        (λ (h : List·Memᴰ e pre). rw (pre-held pre (C .before) e h .1) (nil-before (w .key) (F .begins w (on-right w to-come) .not-empty)))
+        (λ (h : List·Memᴰ e (entriesOf taken)).
+        let q = entries-mem taken e h in
+        rw (q .3) (rising-cut taken rest rises (q .0) w (q .1) to-come))
+        (List·Memᴰ·append-cases pre on)
+
+    pub cut-none-left-out : (k : List ℕ) (v : ℕ) → Held f k v → Between lo hi k → (e : Entry) → List·Memᴰ e handed → ¬ Before (e .key) k → List·Memᴰ (entry k v) handed
+    cut-none-left-out k v h b e on not-after =
+        ⊎-elim (λ g. g) (λ g. absurd (not-after (cut-before e on (record { key = k; value = v; final = true }) g))) (cut-find k v h (b .meets))
+
+    module _ (past : (w : Visit) → List·Memᴰ w rest → passesTest hi (w .key) ≡ true) where
+      pub cut-none-left : NoneLeft f lo hi handed
+      cut-none-left k v h b =
+          ⊎-elim (λ g. g)
+          (λ g. absurd (b .within (decides-passes hi k .yes (past (record { key = k; value = v; final = true }) g))))
+          (cut-find k v h (b .meets))
+
+      pub cut-number : NumberOf (Within f lo hi) (length taken)
+      cut-number =
+          record {
+            strings = keysIn taken;
+            rising = keys-rising taken (rising-left taken rest rises);
+            such = λ x on. let w = keys-mem taken x on in rw (sym (w .2)) (F .begins (w .0) (on-left (w .0) (w .1)), between (w .0) (w .1));
+            all = λ x h.
+                let w = F .whole x (h .0) (h .1 .meets) in
+                ⊎-elim
+                (λ (g : List·Memᴰ (w .0) taken). mem-keys taken (w .0) x g (w .2))
+                (λ (g : List·Memᴰ (w .0) rest). absurd (h .1 .within (decides-passes hi x .yes (rw (w .2) at (past (w .0) g)))))
+                (List·Memᴰ·append-cases taken (rw (C .split) at (w .1)));
+            number = length-map taken (λ (v : Visit). v .key);
+          }
+
+    -- the key handed out last is that of the last visit made
+    last-entry : (vs : List Visit) (v : Visit) → v .final ≡ true → taken ≡ vs ++ (v ∷ []) → handed ≡ (pre ++ entriesOf vs) ++ (entry (v .key) (v .value) ∷ [])
+    last-entry vs v fin e =
+        ap (λ (x : List Visit). pre ++ entriesOf x) e
+        ∙ ap (λ (r : List Entry). pre ++ r) (entries-append vs (v ∷ []) ∙ ap (λ (r : List Entry). entriesOf vs ++ r) (entries-one v fin))
+        ∙ sym (append-assoc pre (entriesOf vs) (entry (v .key) (v .value) ∷ []))
+
+    not-after-last : LastFinal taken → (w : Visit) → List·Memᴰ w taken → NotAfterLast handed (w .key)
+    not-after-last last w on = by taken last refl on
+      where
+        by : (ts : List Visit) → LastFinal ts → ts ≡ taken → List·Memᴰ w ts → NotAfterLast handed (w .key)
+        by ts no-visit e h = absurd (List·Memᴰ·not-nil h)
+        by ts (last-visit vs v fin) e h =
+            record {
+              before = pre ++ entriesOf vs;
+              last = entry (v .key) (v .value);
+              is-last = last-entry vs v fin (sym e);
+              not-after = λ b.
+                  ⊎-elim
+                  (λ (g : List·Memᴰ w vs).
+                  before-irrefl (w .key) (before-trans (rising-cut vs (v ∷ []) (rising-left (vs ++ (v ∷ [])) rest (rw (sym e) at rises)) w v g (List·Memᴰ·head refl)) b))
+                  (λ (g : List·Memᴰ w (v ∷ [])).
+                  ⊎-elim (λ (q : w ≡ v). before-irrefl (w .key) (rw (sym q) at b)) (λ z. List·Memᴰ·not-nil z) (List·Memᴰ·cases-cons g))
+                  (List·Memᴰ·append-cases vs h);
+            }
+
+    pub cut-number-before : LastFinal taken → NumberOf (λ x. Within f lo hi x × NotAfterLast handed x) (length taken)
+    cut-number-before last =
+        record {
+          strings = keysIn taken;
+          rising = keys-rising taken (rising-left taken rest rises);
+          such = λ x on.
+              let w = keys-mem taken x on in
+              rw (sym (w .2)) ((F .begins (w .0) (on-left (w .0) (w .1)), between (w .0) (w .1)), not-after-last last (w .0) (w .1));
+          all = λ x h.
+              let w = F .whole x (h .0 .0) (h .0 .1 .meets) in
+              let l = h .1 in
+              ⊎-elim
+              (λ (g : List·Memᴰ (w .0) taken). mem-keys taken (w .0) x g (w .2))
+              (λ (g : List·Memᴰ (w .0) rest).
+              absurd (l .not-after (rw (w .2) at (cut-before (l .last) (rw (l .is-last) (snoc-mem (l .before) (l .last))) (w .0) g))))
+              (List·Memᴰ·append-cases taken (rw (C .split) at (w .1)));
+          number = length-map taken (λ (v : Visit). v .key);
+        }
+
+rising-right : (xs ys : List Visit) → RisingV (xs ++ ys) → RisingV ys
+rising-right [] ys h = h
+rising-right (x ∷ xs) ys h = rising-right xs ys (h .1)
+
+begins-length : {x k : List ℕ} → Begins x k → length x ≤ length k
+begins-length Begins.nothing = omega arith
+begins-length (Begins.byte h) = omega (arith, begins-length h)
+
+capped-le : (n : ℕ) → capped n ≤ n
+capped-le n = ⊎-elim (λ (h : n < maxSum). rw (capped-low n (omega arith)) (omega arith)) (λ (h : maxSum ≤ n). rw (capped-high n h) h) (lt-or n maxSum)
+
+-- ---- the sentences of demand 3, from how far the calls have come
+
+module _ {s : List ℕ} (A : Admitted s) (lo hi : Bound) (short : length (boundBytes hi) ≤ maxPath) where
+  abbrev f : Fst
+  f = fstOf s (A .meta)
+
+  abbrev visits : List Visit
+  visits = kept (meetsTest lo) (below maxPath (fstOf s (A .meta)) (A .meta .root))
+
+  abbrev pend : Option ℕ
+  pend = pendingAt lo (nodeIn (fstOf s (A .meta)) (A .meta .root))
+
+  abbrev Comes : List Entry → ℕ → View → Type 0
+  Comes handed ends r = Progress s (A .meta) (A .opens) hi (length (boundBytes hi)) short visits pend handed ends r
+
+  F : Facts (fstOf s (A .meta)) lo visits pend
+  F = facts A lo
+
+  abbrev CutAt : List Entry → List Visit → List Visit → Type 0
+  CutAt pre taken rest = Cut (fstOf s (A .meta)) lo hi visits pend F pre taken rest
+
+  cut-at : (pre : List Entry) (taken rest : List Visit) → Pre hi pend pre → visits ≡ taken ++ rest → AllV (λ v. passesTest hi (v .key) ≡ false) taken → CutAt pre taken rest
+  cut-at pre taken rest hpre split under = record { before = hpre; split = split; under = under }
+
+  whole-cut : (pre : List Entry) → Pre hi pend pre → AllV (λ v. passesTest hi (v .key) ≡ false) visits → CutAt pre visits []
+  whole-cut pre hpre under = record { before = hpre; split = sym (append-nil visits); under = under }
+
+  beyond-past : (taken : List Visit) (v : Visit) (more : List Visit) → visits ≡ taken ++ (v ∷ more) → passesTest hi (v .key) ≡ true
+      → (w : Visit) → List·Memᴰ w (v ∷ more) → passesTest hi (w .key) ≡ true
+  beyond-past taken v more split ps w on =
+      ⊎-elim
+      (λ (q : w ≡ v). rw q ps)
+      (λ (h : List·Memᴰ w more).
+      let r : RisingV (v ∷ more) = rising-right taken (v ∷ more) (rw split at (F .rising)) in
+      passes-up hi (v .key) (w .key) (all-mem (λ x. Before (v .key) (x .key)) more (r .0) w h) ps)
+      (List·Memᴰ·cases-cons on)
+
+  comes-held : (handed : List Entry) (ends : ℕ) (r : View) → Comes handed ends r → (e : Entry) → List·Memᴰ e handed → Held f (e .key) (e .value) × Between lo hi (e .key)
+  comes-held handed ends r (fresh levels v sane w is) e on = absurd (List·Memᴰ·not-nil on)
+  comes-held handed ends r (going pre taken levels hpre sane w under last) e on =
+      cut-held f lo hi visits pend F (cut-at pre taken (toCome f levels) hpre w under) e on
+  comes-held handed ends r (finished pre n hpre under) e on = cut-held f lo hi visits pend F (whole-cut pre hpre under) e on
+  comes-held handed ends r (beyond pre n taken v more hpre w under ps) e on =
+      cut-held f lo hi visits pend F (cut-at pre taken (v ∷ more) hpre w under) e on
+  comes-held handed ends r (shut n v is p) e on = absurd (List·Memᴰ·not-nil on)
+
+  comes-rising : (handed : List Entry) (ends : ℕ) (r : View) → Comes handed ends r → Rising (keysOut handed)
+  comes-rising handed ends r (fresh levels v sane w is) = tt
+  comes-rising handed ends r (going pre taken levels hpre sane w under last) =
+      cut-rising f lo hi visits pend F (cut-at pre taken (toCome f levels) hpre w under)
+  comes-rising handed ends r (finished pre n hpre under) = cut-rising f lo hi visits pend F (whole-cut pre hpre under)
+  comes-rising handed ends r (beyond pre n taken v more hpre w under ps) =
+      cut-rising f lo hi visits pend F (cut-at pre taken (v ∷ more) hpre w under)
+  comes-rising handed ends r (shut n v is p) = tt
+
+  comes-none-left-out : (handed : List Entry) (ends : ℕ) (r : View) → Comes handed ends r
+      → (k : List ℕ) (v : ℕ) → Held f k v → Between lo hi k → (e : Entry) → List·Memᴰ e handed → ¬ Before (e .key) k → List·Memᴰ (entry k v) handed
+  comes-none-left-out handed ends r (fresh levels v₀ sane w is) k v h b e on na = absurd (List·Memᴰ·not-nil on)
+  comes-none-left-out handed ends r (going pre taken levels hpre sane w under last) k v h b e on na =
+      cut-none-left-out f lo hi visits pend F (cut-at pre taken (toCome f levels) hpre w under) k v h b e on na
+  comes-none-left-out handed ends r (finished pre n hpre under) k v h b e on na =
+      cut-none-left-out f lo hi visits pend F (whole-cut pre hpre under) k v h b e on na
+  comes-none-left-out handed ends r (beyond pre n taken v₀ more hpre w under ps) k v h b e on na =
+      cut-none-left-out f lo hi visits pend F (cut-at pre taken (v₀ ∷ more) hpre w under) k v h b e on na
+  comes-none-left-out handed ends r (shut n v₀ is p) k v h b e on na = absurd (List·Memᴰ·not-nil on)
+
+  -- where the empty string passes the upper bound, every string does
+  all-pass : passesTest hi [] ≡ true → (k : List ℕ) → passesTest hi k ≡ true
+  all-pass p [] = p
+  all-pass p (x ∷ k) = passes-up hi [] (x ∷ k) shorter p
+
+  comes-none-left : (handed : List Entry) (ends : ℕ) (r : View) → Comes handed ends r → 0 < ends → NoneLeft f lo hi handed
+  comes-none-left handed ends r (fresh levels v sane w is) pos = absurd (omega arith)
+  comes-none-left handed ends r (going pre taken levels hpre sane w under last) pos = absurd (omega arith)
+  comes-none-left handed ends r (finished pre n hpre under) pos =
+      cut-none-left f lo hi visits pend F (whole-cut pre hpre under) (λ w on. absurd (List·Memᴰ·not-nil on))
+  comes-none-left handed ends r (beyond pre n taken v more hpre w under ps) pos =
+      cut-none-left f lo hi visits pend F (cut-at pre taken (v ∷ more) hpre w under) (beyond-past taken v more w ps)
+  comes-none-left handed ends r (shut n v is p) pos = λ k u h b. absurd (b .within (decides-passes hi k .yes (all-pass p k)))
+
+  -- ---- totals
+
+  comes-total-ended : (handed : List Entry) (ends : ℕ) (r : View) → Comes handed ends r → ¬ EmptyExcluded f lo hi → 0 < ends
+      → (n e : ℕ) × NumberOf (Within f lo hi) n × Extra f lo hi e × (r .total ≡ capped (n + e))
+  comes-total-ended handed ends r (fresh levels v sane w is) not-shut pos = absurd (omega arith)
+  comes-total-ended handed ends r (going pre taken levels hpre sane w under last) not-shut pos = absurd (omega arith)
+  comes-total-ended handed ends r (finished pre n hpre under) not-shut pos = (
+    length visits,
+    0,
+    cut-number f lo hi visits pend F (whole-cut pre hpre under) (λ w on. absurd (List·Memᴰ·not-nil on)),
+    no-more (λ x b.
+    let w = F .whole x (b .0) (b .1 .0) in
+    decides-passes hi x .no (rw (w .2) at (all-mem (λ v. passesTest hi (v .key) ≡ false) visits under (w .0) (w .1))) (b .1 .1)),
+    ap capped (sym (add-zero (length visits))),
+  )
+  comes-total-ended handed ends r (beyond pre n taken v more hpre w under ps) not-shut pos =
+      let on : List·Memᴰ v visits = rw w (Memᴰ·append-right taken (List·Memᴰ·head refl)) in
+      let q : suc (length taken) ≡ length taken + 1 = omega arith in (
+        length taken,
+        1,
+        cut-number f lo hi visits pend F (cut-at pre taken (v ∷ more) hpre w under) (beyond-past taken v more w ps),
+        one-more (v .key) (F .begins v on, (F .meets v on, decides-passes hi (v .key) .yes ps)),
+        ap capped q,
+      )
+  comes-total-ended handed ends r (shut n v is p) not-shut pos =
+      let h = F .empty-held v is in
+      absurd (not-shut (record { value = v; held = h .0; meets = h .1; passes = decides-passes hi [] .yes p }))
+
+  comes-total-before : (handed : List Entry) (ends : ℕ) (r : View) → Comes handed ends r → ends ≡ 0
+      → (n : ℕ) × NumberOf (λ x. Within f lo hi x × NotAfterLast handed x) n × (r .total ≡ capped n)
+  comes-total-before handed ends r (fresh levels v sane w is) z = (
+    0,
+    record {
+      strings = [];
+      rising = tt;
+      such = λ x on. absurd (List·Memᴰ·not-nil on);
+      all = λ x h. absurd (snoc-not-nil (h .1 .before) (h .1 .last) (h .1 .is-last));
+      number = refl;
+    },
+    refl,
+  )
+  comes-total-before handed ends r (going pre taken levels hpre sane w under last) z =
+      (length taken, cut-number-before f lo hi visits pend F (cut-at pre taken (toCome f levels) hpre w under) last, refl)
+  comes-total-before handed ends r (finished pre n hpre under) z = absurd (omega arith)
+  comes-total-before handed ends r (beyond pre n taken v more hpre w under ps) z = absurd (omega arith)
+  comes-total-before handed ends r (shut n v is p) z = absurd (omega arith)
+
+  -- where the upper bound excludes the empty key, nothing is handed out before it
+  excluded-pre : EmptyExcluded f lo hi → (pre : List Entry) → ¬ Pre hi pend pre
+  excluded-pre x pre (no-empty z) = none-some (sym z ∙ F .empty-pending (x .value) (x .held) (x .meets))
+  excluded-pre x pre (empty-key v is p) = decides-passes hi [] .no p (x .passes)
+
+  comes-total-excluded : (handed : List Entry) (ends : ℕ) (r : View) → Comes handed ends r → EmptyExcluded f lo hi → r .total ≡ 0
+  comes-total-excluded handed ends r (fresh levels v sane w is) x = refl
+  comes-total-excluded handed ends r (going pre taken levels hpre sane w under last) x = absurd (excluded-pre x pre hpre)
+  comes-total-excluded handed ends r (finished pre n hpre under) x = absurd (excluded-pre x pre hpre)
+  comes-total-excluded handed ends r (beyond pre n taken v more hpre w under ps) x = absurd (excluded-pre x pre hpre)
+  comes-total-excluded handed ends r (shut n v is p) x = refl

@@ -178,7 +178,7 @@ module _ (s : List ℕ) (m : Meta) (opens : opening s ≡ opened m) (hi : Bound)
 
   -- ---- a call with the file or another, and any buffer
 
-  file-same : (c : Call s) → Allowed c → c .file ≡ s
+  pub file-same : (c : Call s) → Allowed c → c .file ≡ s
   file-same c h = ⊎-elim (λ (e : c .file ≡ s). e) (λ ne. absurd (ne (h .same))) (c .which)
 
   pub progress-step : (c : Call s) → Allowed c → (handed : List Entry) (ends : ℕ) (r : View) → Progress handed ends r → Called handed ends (call r c)
@@ -187,7 +187,7 @@ module _ (s : List ℕ) (m : Meta) (opens : opening s ≡ opened m) (hi : Bound)
       (ask-step (c .space) (h .room) handed ends r p)
 
   -- a refused call changes nothing
-  view-refused : (levels : List Level) (e : Option ℕ) (n : ℕ) → Sane (fstOf s m) levels → (c : Call s) → ¬ Allowed c
+  pub view-refused : (levels : List Level) (e : Option ℕ) (n : ℕ) → Sane (fstOf s m) levels → (c : Call s) → ¬ Allowed c
       → (k : ℕ) × (call (view levels e n) c ≡ refuse (view levels e n) k)
   view-refused levels e n sane c not-allowed =
       ⊎-elim
