@@ -10,6 +10,7 @@ use mathlib.Core.List.{List, [], _∷_, _++_, map, append-assoc, append-nil, Lis
 use Prim.Native.Nat.{ℕ, zero, suc, _+_, _-_, _<_, _≤_}
 use native.Mathlib.Nat.{add-zero}
 use native.Mathlib.Omega.{arith}
+use borrow.Author.Tests.{le-leb}
 use lib.ListN.{length, length-append, length-map}
 use Rattle.format.specs.Limits.{maxPath, maxSum}
 use Rattle.format.specs.Opening.{Meta, opened, opening}
@@ -28,8 +29,9 @@ use Rattle.reading.specs.Visits.{Visit, toCome, below, kept, Sane, AllV,
 use Rattle.reading.specs.VisitLaws.{all-mem, kept-mem, mem-kept, kept-rising, below-rising, below-full, fine-root, visit-begins, begins-visit, visit-held, held-visit}
 use Rattle.reading.specs.SeekLaws.{SeekCome, start-come}
 use Rattle.reading.specs.RunLaws.{lt-or, capped-low, capped-high}
+use Rattle.reading.specs.NextLaws.{viewAt, next-pending-on, next-pending-off, Ways, at-end, over-at, handed-at, next-come}
 use Rattle.reading.specs.Demand.{AllAfter, Rising, NumberOf, BeginsHeld, Within, Beyond, Extra, one-more, no-more, EmptyExcluded, Call, Allowed, call, readingAfter, answers, unrefused, atZero, followed, Entry, entry, handOut, handedIn, NotAfterLast, NoneLeft, Demand3}
-use Rattle.reading.specs.ProgressLaws.{entriesOf, entries-append, entries-one, LastFinal, no-visit, last-visit, Pre, no-empty, empty-key, Progress, fresh, going, finished, beyond, shut, Called, hands, ended, progress-step, progress-refused, dec-allowed, Ran, progress-run}
+use Rattle.reading.specs.ProgressLaws.{entriesOf, entries-append, entries-one, LastFinal, no-visit, last-visit, Pre, no-empty, empty-key, Progress, fresh, going, finished, beyond, shut, Called, hands, ended, file-same, view-refused, progress-step, progress-refused, dec-allowed, Ran, progress-run}
 
 -- ---- what the visits of a start are, in the words of demand 3
 
@@ -530,3 +532,178 @@ module _ {s : List ℕ} (A : Admitted s) (lo hi : Bound) (short : length (boundB
   comes-total-excluded handed ends r (finished pre n hpre under) x = absurd (excluded-pre x pre hpre)
   comes-total-excluded handed ends r (beyond pre n taken v more hpre w under ps) x = absurd (excluded-pre x pre hpre)
   comes-total-excluded handed ends r (shut n v is p) x = refl
+
+  -- ---- the transitions of a call
+
+  abbrev view : List Level → Option ℕ → ℕ → View
+  view levels e n = viewAt s (A .meta) (A .opens) hi (length (boundBytes hi)) short levels e n
+
+  refused-total : (levels : List Level) (e : Option ℕ) → Sane f levels → (c : Call s) → ¬ Allowed c → call (view levels e 0) c .reading .total ≡ 0
+  refused-total levels e sane c out =
+      let w = view-refused s (A .meta) (A .opens) hi (length (boundBytes hi)) short visits pend levels e 0 sane c out in
+      ap (λ (o : Step). o .reading .total) (w .1)
+
+  abbrev asked : Call s → View → List ℕ → Step
+  asked c r file = Rattle.reading.specs.Reading.next file r (c .space)
+
+  asked-same : (c : Call s) → Allowed c → (r : View) (o : Step) → asked c r s ≡ o → call r c .reading .total ≡ o .reading .total
+  asked-same c h r o e =
+      ap (λ (file : List ℕ). asked c r file .reading .total) (file-same s (A .meta) (A .opens) hi (length (boundBytes hi)) short visits pend c h)
+      ∙ ap (λ (x : Step). x .reading .total) e
+
+  pending-followed : (levels : List Level) (v n : ℕ) → Sane f levels → (c : Call s) → followed (view levels (some v) n) c ≡ 0
+  pending-followed levels v n sane c =
+      ⊎-elim
+      (λ (h : Allowed c). by (passesTest hi []) refl h)
+      (λ (out : ¬ Allowed c). refused-total levels (some v) sane c out)
+      (dec-allowed s (A .meta) (A .opens) hi (length (boundBytes hi)) short visits pend c)
+    where
+      by : (b : Bool) → passesTest hi [] ≡ b → Allowed c → followed (view levels (some v) n) c ≡ 0
+      by true p h =
+          asked-same c h (view levels (some v) 0) _
+          (next-pending-off s (A .meta) (A .opens) hi (length (boundBytes hi)) short (c .space) (h .room) levels v 0 sane p)
+      by false p h =
+          asked-same c h (view levels (some v) 0) _
+          (next-pending-on s (A .meta) (A .opens) hi (length (boundBytes hi)) short (c .space) (h .room) levels v 0 sane p)
+
+  open-followed : (levels : List Level) (n k : ℕ) → Sane f levels → ((v : Visit) → List·Memᴰ v (toCome f levels) → length (v .key) ≤ k)
+      → (c : Call s) → followed (view levels none n) c ≤ k
+  open-followed levels n k sane long c =
+      ⊎-elim
+      (λ (h : Allowed c). by h (next-come s (A .meta) (A .opens) hi (length (boundBytes hi)) short (c .space) (h .room) levels sane))
+      (λ (out : ¬ Allowed c). rw (refused-total levels none sane c out) (omega arith))
+      (dec-allowed s (A .meta) (A .opens) hi (length (boundBytes hi)) short visits pend c)
+    where
+      within : (h : Allowed c) (taken : List Visit) (v : Visit) (more : List Visit) → toCome f levels ≡ taken ++ (v ∷ more) → suc (length taken) ≤ length (v .key)
+          → call (view levels none 0) c .reading .total ≡ capped (0 + suc (length taken)) → followed (view levels none n) c ≤ k
+      within h taken v more split len e =
+          let on : List·Memᴰ v (toCome f levels) = rw split (Memᴰ·append-right taken (List·Memᴰ·head refl)) in
+          rw e (omega (arith, long v on, capped-le (0 + suc (length taken))))
+
+      by : (h : Allowed c) → Ways s (A .meta) (A .opens) hi (length (boundBytes hi)) short (c .space) (h .room) levels → followed (view levels none n) c ≤ k
+      by h (at-end e go) = rw (asked-same c h (view levels none 0) _ (go 0)) (omega arith)
+      by h (over-at taken v more idle split ps len go) = within h taken v more split len (asked-same c h (view levels none 0) _ (go 0))
+      by h (handed-at taken v to idle split sane-to np fin len go) = within h taken v (toCome f to) split len (asked-same c h (view levels none 0) _ (go 0))
+
+  -- a visit to come is no longer than the longest held key
+  come-long : (taken rest : List Visit) → visits ≡ taken ++ rest → (k : ℕ) → ((x : List ℕ) (v : ℕ) → Held f x v → length x ≤ k)
+      → (v : Visit) → List·Memᴰ v rest → length (v .key) ≤ k
+  come-long taken rest split k long v on =
+      let b = F .begins v (rw split (Memᴰ·append-right taken on)) in
+      omega (arith, begins-length (b .begins), long (b .whole) (b .value) (b .held))
+
+  comes-limit : (handed : List Entry) (ends : ℕ) (r : View) → Comes handed ends r → (c : Call s) (k : ℕ)
+      → ((x : List ℕ) (v : ℕ) → Held f x v → length x ≤ k) → followed r c ≤ k
+  comes-limit handed ends r (fresh levels v sane w is) c k long = rw (pending-followed levels v 0 sane c) (omega arith)
+  comes-limit handed ends r (going pre taken levels hpre sane w under last) c k long =
+      open-followed levels (length taken) k sane (come-long taken (toCome f levels) w k long) c
+  comes-limit handed ends r (finished pre n hpre under) c k long = open-followed [] (length visits) k tt (λ v on. absurd (List·Memᴰ·not-nil on)) c
+  comes-limit handed ends r (beyond pre n taken v more hpre w under ps) c k long =
+      open-followed [] (suc (length taken)) k tt (λ v on. absurd (List·Memᴰ·not-nil on)) c
+  comes-limit handed ends r (shut n v is p) c k long = open-followed [] 0 k tt (λ v on. absurd (List·Memᴰ·not-nil on)) c
+
+  comes-none-followed : (handed : List Entry) (ends : ℕ) (r : View) → Comes handed ends r → EmptyExcluded f lo hi → (c : Call s) → followed r c ≡ 0
+  comes-none-followed handed ends r (fresh levels v sane w is) x c = pending-followed levels v 0 sane c
+  comes-none-followed handed ends r (going pre taken levels hpre sane w under last) x c = absurd (excluded-pre x pre hpre)
+  comes-none-followed handed ends r (finished pre n hpre under) x c = absurd (excluded-pre x pre hpre)
+  comes-none-followed handed ends r (beyond pre n taken v more hpre w under ps) x c = absurd (excluded-pre x pre hpre)
+  comes-none-followed handed ends r (shut n v is p) x c =
+      let h = open-followed [] 0 0 tt (λ v on. absurd (List·Memᴰ·not-nil on)) c in
+      omega arith
+
+  -- ---- one call more
+
+  key-not-end : {k : List ℕ} {v : ℕ} → ¬ (_≡_ {A = Answer} (key k v) end)
+  key-not-end e = let z : _≡_ {A = ℕ} 0 1 = cc in omega arith
+
+  key-not-refused : {k : List ℕ} {v n : ℕ} → ¬ (_≡_ {A = Answer} (key k v) (Answer.refused n))
+  key-not-refused e = let z : _≡_ {A = ℕ} 0 1 = cc in omega arith
+
+  end-not-refused : {n : ℕ} → ¬ (_≡_ {A = Answer} end (Answer.refused n))
+  end-not-refused e = let z : _≡_ {A = ℕ} 0 1 = cc in omega arith
+
+  abbrev CalledAt : List Entry → ℕ → Step → Type 0
+  CalledAt handed ends o = Called s (A .meta) (A .opens) hi (length (boundBytes hi)) short visits pend handed ends o
+
+  end-none-left : (handed : List Entry) (ends : ℕ) (o : Step) → CalledAt handed ends o → o .answer ≡ end → NoneLeft f lo hi handed
+  end-none-left handed ends o (hands e z is p) q = absurd (key-not-end (sym is ∙ q))
+  end-none-left handed ends o (ended is p) q = comes-none-left handed (suc ends) (o .reading) p (omega arith)
+
+  none-left-end : (handed : List Entry) (ends : ℕ) (o : Step) → CalledAt handed ends o → NoneLeft f lo hi handed → o .answer ≡ end
+  none-left-end handed ends o (hands e z is p) none-left =
+      let h = comes-held (handed ++ (e ∷ [])) 0 (o .reading) p e (snoc-mem handed e) in
+      let on = none-left (e .key) (e .value) (h .0) (h .1) in
+      absurd (before-irrefl (e .key) (rising-last handed e (entry (e .key) (e .value)) (comes-rising (handed ++ (e ∷ [])) 0 (o .reading) p) on))
+  none-left-end handed ends o (ended is p) none-left = is
+
+  not-refused : (handed : List Entry) (ends : ℕ) (o : Step) → CalledAt handed ends o → (n : ℕ) → ¬ (o .answer ≡ Answer.refused n)
+  not-refused handed ends o (hands e z is p) n q = key-not-refused (sym is ∙ q)
+  not-refused handed ends o (ended is p) n q = end-not-refused (sym is ∙ q)
+
+  -- ---- the start
+
+  abbrev RanAt : View → List (Call s) → Type 0
+  RanAt r cs = Ran s (A .meta) (A .opens) hi (length (boundBytes hi)) short visits pend [] 0 r cs
+
+  start-comes : (levels : List Level) (e : Option ℕ) → e ≡ pend → Sane f levels → toCome f levels ≡ visits → Comes [] 0 (view levels e 0)
+  start-comes levels none is sane comes = going [] [] levels (no-empty (sym is)) sane (sym comes) tt no-visit
+  start-comes levels (some v) is sane comes = fresh levels v sane (sym comes) (sym is)
+
+-- ---- the claim
+
+module _ {s : List ℕ} (A : Admitted s) (lo hi : Bound) (short-lo : length (boundBytes lo) ≤ maxPath) (short-hi : length (boundBytes hi) ≤ maxPath) where
+  pub sought : SeekCome (fstOf s (A .meta)) (A .meta .root) lo
+  sought = start-come (fstOf s (A .meta)) (A .meta .root) lo (fine-root A)
+
+  -- the reading that the start gives
+  abbrev pub reading₀ : View
+  reading₀ = view A lo hi short-hi (sought .levels) (pend A lo hi short-hi) 0
+
+  pub start-given : start s lo hi ≡ started reading₀
+  unfolding start
+  start-given =
+      let a = le-leb (length (boundBytes lo)) maxPath short-lo in
+      let b = le-leb (length (boundBytes hi)) maxPath short-hi in
+      rw (A .opens, a, b, sought .seeks)
+
+  run : (cs : List (Call s)) → RanAt A lo hi short-hi reading₀ cs
+  run cs =
+      progress-run s (A .meta) (A .opens) hi (length (boundBytes hi)) short-hi (visits A lo hi short-hi) (pend A lo hi short-hi) cs [] 0 reading₀
+      (start-comes A lo hi short-hi (sought .levels) (pend A lo hi short-hi) refl (sought .sane) (sought .comes))
+
+  -- one call after others
+  called : (cs : List (Call s)) (c : Call s) → Allowed c → CalledAt A lo hi short-hi (run cs .new) (0 + run cs .more) (call (readingAfter reading₀ cs) c)
+  called cs c h =
+      progress-step s (A .meta) (A .opens) hi (length (boundBytes hi)) short-hi (visits A lo hi short-hi) (pend A lo hi short-hi) c h (run cs .new)
+      (0 + run cs .more) (readingAfter reading₀ cs) (run cs .progress)
+
+  pub demand-3 : (cs : List (Call s)) → Demand3 A lo hi cs
+  demand-3 cs =
+      record {
+        reading = reading₀;
+        starts = start-given;
+        handed = run cs .new;
+        ends = run cs .more;
+        one-a-call = run cs .answered;
+        held = comes-held A lo hi short-hi (run cs .new) (0 + run cs .more) (readingAfter reading₀ cs) (run cs .progress);
+        ascending = comes-rising A lo hi short-hi (run cs .new) (0 + run cs .more) (readingAfter reading₀ cs) (run cs .progress);
+        none-left-out = comes-none-left-out A lo hi short-hi (run cs .new) (0 + run cs .more) (readingAfter reading₀ cs) (run cs .progress);
+        end-exactly = λ cs₁ cs₂ c is h. (
+          (λ q. rw (run cs₁ .handing) (end-none-left A lo hi short-hi (run cs₁ .new) (0 + run cs₁ .more) (call (readingAfter reading₀ cs₁) c) (called cs₁ c h) q)),
+          (λ q. none-left-end A lo hi short-hi (run cs₁ .new) (0 + run cs₁ .more) (call (readingAfter reading₀ cs₁) c) (called cs₁ c h) (rw (run cs₁ .handing) at q)),
+        );
+        refused-exactly = λ cs₁ cs₂ c is. (
+          (λ h. not-refused A lo hi short-hi (run cs₁ .new) (0 + run cs₁ .more) (call (readingAfter reading₀ cs₁) c) (called cs₁ c h)),
+          (λ out.
+          progress-refused s (A .meta) (A .opens) hi (length (boundBytes hi)) short-hi (visits A lo hi short-hi) (pend A lo hi short-hi) c out (run cs₁ .new)
+          (0 + run cs₁ .more) (readingAfter reading₀ cs₁) (run cs₁ .progress)),
+        );
+        total-ended = λ not-shut pos.
+            comes-total-ended A lo hi short-hi (run cs .new) (0 + run cs .more) (readingAfter reading₀ cs) (run cs .progress) not-shut (omega arith);
+        total-before = λ z. comes-total-before A lo hi short-hi (run cs .new) (0 + run cs .more) (readingAfter reading₀ cs) (run cs .progress) (omega arith);
+        total-excluded = λ x. comes-total-excluded A lo hi short-hi (run cs .new) (0 + run cs .more) (readingAfter reading₀ cs) (run cs .progress) x;
+        limit = λ cs₁ cs₂ c is n long.
+            comes-limit A lo hi short-hi (run cs₁ .new) (0 + run cs₁ .more) (readingAfter reading₀ cs₁) (run cs₁ .progress) c n long;
+        none-followed = λ x cs₁ cs₂ c is.
+            comes-none-followed A lo hi short-hi (run cs₁ .new) (0 + run cs₁ .more) (readingAfter reading₀ cs₁) (run cs₁ .progress) x c;
+      }
