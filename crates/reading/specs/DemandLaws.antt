@@ -179,7 +179,7 @@ mem-entries (w ∷ vs) v on fin =
     by true h = List·Memᴰ·tail h
     by false h = h
 
-abbrev keysOut : List Entry → List (List ℕ)
+abbrev pub keysOut : List Entry → List (List ℕ)
 keysOut es = map (λ (e : Entry). e .key) es
 
 entries-after : (k : List ℕ) (vs : List Visit) → AllV (λ v. Before k (v .key)) vs → AllAfter k (keysOut (entriesOf vs))
@@ -397,16 +397,16 @@ capped-le n = ⊎-elim (λ (h : n < maxSum). rw (capped-low n (omega arith)) (om
 -- ---- the sentences of demand 3, from how far the calls have come
 
 module _ {s : List ℕ} (A : Admitted s) (lo hi : Bound) (short : length (boundBytes hi) ≤ maxPath) where
-  abbrev f : Fst
+  abbrev pub f : Fst
   f = fstOf s (A .meta)
 
-  abbrev visits : List Visit
+  abbrev pub visits : List Visit
   visits = kept (meetsTest lo) (below maxPath (fstOf s (A .meta)) (A .meta .root))
 
-  abbrev pend : Option ℕ
+  abbrev pub pend : Option ℕ
   pend = pendingAt lo (nodeIn (fstOf s (A .meta)) (A .meta .root))
 
-  abbrev Comes : List Entry → ℕ → View → Type 0
+  abbrev pub Comes : List Entry → ℕ → View → Type 0
   Comes handed ends r = Progress s (A .meta) (A .opens) hi (length (boundBytes hi)) short visits pend handed ends r
 
   F : Facts (fstOf s (A .meta)) lo visits pend
@@ -431,7 +431,7 @@ module _ {s : List ℕ} (A : Admitted s) (lo hi : Bound) (short : length (boundB
       passes-up hi (v .key) (w .key) (all-mem (λ x. Before (v .key) (x .key)) more (r .0) w h) ps)
       (List·Memᴰ·cases-cons on)
 
-  comes-held : (handed : List Entry) (ends : ℕ) (r : View) → Comes handed ends r → (e : Entry) → List·Memᴰ e handed → Held f (e .key) (e .value) × Between lo hi (e .key)
+  pub comes-held : (handed : List Entry) (ends : ℕ) (r : View) → Comes handed ends r → (e : Entry) → List·Memᴰ e handed → Held f (e .key) (e .value) × Between lo hi (e .key)
   comes-held handed ends r (fresh levels v sane w is) e on = absurd (List·Memᴰ·not-nil on)
   comes-held handed ends r (going pre taken levels hpre sane w under last) e on =
       cut-held f lo hi visits pend F (cut-at pre taken (toCome f levels) hpre w under) e on
@@ -440,7 +440,7 @@ module _ {s : List ℕ} (A : Admitted s) (lo hi : Bound) (short : length (boundB
       cut-held f lo hi visits pend F (cut-at pre taken (v ∷ more) hpre w under) e on
   comes-held handed ends r (shut n v is p) e on = absurd (List·Memᴰ·not-nil on)
 
-  comes-rising : (handed : List Entry) (ends : ℕ) (r : View) → Comes handed ends r → Rising (keysOut handed)
+  pub comes-rising : (handed : List Entry) (ends : ℕ) (r : View) → Comes handed ends r → Rising (keysOut handed)
   comes-rising handed ends r (fresh levels v sane w is) = tt
   comes-rising handed ends r (going pre taken levels hpre sane w under last) =
       cut-rising f lo hi visits pend F (cut-at pre taken (toCome f levels) hpre w under)
@@ -465,7 +465,7 @@ module _ {s : List ℕ} (A : Admitted s) (lo hi : Bound) (short : length (boundB
   all-pass p [] = p
   all-pass p (x ∷ k) = passes-up hi [] (x ∷ k) shorter p
 
-  comes-none-left : (handed : List Entry) (ends : ℕ) (r : View) → Comes handed ends r → 0 < ends → NoneLeft f lo hi handed
+  pub comes-none-left : (handed : List Entry) (ends : ℕ) (r : View) → Comes handed ends r → 0 < ends → NoneLeft f lo hi handed
   comes-none-left handed ends r (fresh levels v sane w is) pos = absurd (omega arith)
   comes-none-left handed ends r (going pre taken levels hpre sane w under last) pos = absurd (omega arith)
   comes-none-left handed ends r (finished pre n hpre under) pos =
@@ -476,7 +476,7 @@ module _ {s : List ℕ} (A : Admitted s) (lo hi : Bound) (short : length (boundB
 
   -- ---- totals
 
-  comes-total-ended : (handed : List Entry) (ends : ℕ) (r : View) → Comes handed ends r → ¬ EmptyExcluded f lo hi → 0 < ends
+  pub comes-total-ended : (handed : List Entry) (ends : ℕ) (r : View) → Comes handed ends r → ¬ EmptyExcluded f lo hi → 0 < ends
       → (n e : ℕ) × NumberOf (Within f lo hi) n × Extra f lo hi e × (r .total ≡ capped (n + e))
   comes-total-ended handed ends r (fresh levels v sane w is) not-shut pos = absurd (omega arith)
   comes-total-ended handed ends r (going pre taken levels hpre sane w under last) not-shut pos = absurd (omega arith)
@@ -535,7 +535,7 @@ module _ {s : List ℕ} (A : Admitted s) (lo hi : Bound) (short : length (boundB
 
   -- ---- the transitions of a call
 
-  abbrev view : List Level → Option ℕ → ℕ → View
+  abbrev pub view : List Level → Option ℕ → ℕ → View
   view levels e n = viewAt s (A .meta) (A .opens) hi (length (boundBytes hi)) short levels e n
 
   refused-total : (levels : List Level) (e : Option ℕ) → Sane f levels → (c : Call s) → ¬ Allowed c → call (view levels e 0) c .reading .total ≡ 0
@@ -622,30 +622,30 @@ module _ {s : List ℕ} (A : Admitted s) (lo hi : Bound) (short : length (boundB
   end-not-refused : {n : ℕ} → ¬ (_≡_ {A = Answer} end (Answer.refused n))
   end-not-refused e = let z : _≡_ {A = ℕ} 0 1 = cc in omega arith
 
-  abbrev CalledAt : List Entry → ℕ → Step → Type 0
-  CalledAt handed ends o = Called s (A .meta) (A .opens) hi (length (boundBytes hi)) short visits pend handed ends o
+  abbrev CalledAt : List Entry → ℕ → View → Step → Type 0
+  CalledAt handed ends r o = Called s (A .meta) (A .opens) hi (length (boundBytes hi)) short visits pend handed ends r o
 
-  end-none-left : (handed : List Entry) (ends : ℕ) (o : Step) → CalledAt handed ends o → o .answer ≡ end → NoneLeft f lo hi handed
-  end-none-left handed ends o (hands e z is p) q = absurd (key-not-end (sym is ∙ q))
-  end-none-left handed ends o (ended is p) q = comes-none-left handed (suc ends) (o .reading) p (omega arith)
+  end-none-left : (handed : List Entry) (ends : ℕ) (r : View) (o : Step) → CalledAt handed ends r o → o .answer ≡ end → NoneLeft f lo hi handed
+  end-none-left handed ends r o (hands e z is p less) q = absurd (key-not-end (sym is ∙ q))
+  end-none-left handed ends r o (ended is p) q = comes-none-left handed (suc ends) (o .reading) p (omega arith)
 
-  none-left-end : (handed : List Entry) (ends : ℕ) (o : Step) → CalledAt handed ends o → NoneLeft f lo hi handed → o .answer ≡ end
-  none-left-end handed ends o (hands e z is p) none-left =
+  none-left-end : (handed : List Entry) (ends : ℕ) (r : View) (o : Step) → CalledAt handed ends r o → NoneLeft f lo hi handed → o .answer ≡ end
+  none-left-end handed ends r o (hands e z is p less) none-left =
       let h = comes-held (handed ++ (e ∷ [])) 0 (o .reading) p e (snoc-mem handed e) in
       let on = none-left (e .key) (e .value) (h .0) (h .1) in
       absurd (before-irrefl (e .key) (rising-last handed e (entry (e .key) (e .value)) (comes-rising (handed ++ (e ∷ [])) 0 (o .reading) p) on))
-  none-left-end handed ends o (ended is p) none-left = is
+  none-left-end handed ends r o (ended is p) none-left = is
 
-  not-refused : (handed : List Entry) (ends : ℕ) (o : Step) → CalledAt handed ends o → (n : ℕ) → ¬ (o .answer ≡ Answer.refused n)
-  not-refused handed ends o (hands e z is p) n q = key-not-refused (sym is ∙ q)
-  not-refused handed ends o (ended is p) n q = end-not-refused (sym is ∙ q)
+  not-refused : (handed : List Entry) (ends : ℕ) (r : View) (o : Step) → CalledAt handed ends r o → (n : ℕ) → ¬ (o .answer ≡ Answer.refused n)
+  not-refused handed ends r o (hands e z is p less) n q = key-not-refused (sym is ∙ q)
+  not-refused handed ends r o (ended is p) n q = end-not-refused (sym is ∙ q)
 
   -- ---- the start
 
   abbrev RanAt : View → List (Call s) → Type 0
   RanAt r cs = Ran s (A .meta) (A .opens) hi (length (boundBytes hi)) short visits pend [] 0 r cs
 
-  start-comes : (levels : List Level) (e : Option ℕ) → e ≡ pend → Sane f levels → toCome f levels ≡ visits → Comes [] 0 (view levels e 0)
+  pub start-comes : (levels : List Level) (e : Option ℕ) → e ≡ pend → Sane f levels → toCome f levels ≡ visits → Comes [] 0 (view levels e 0)
   start-comes levels none is sane comes = going [] [] levels (no-empty (sym is)) sane (sym comes) tt no-visit
   start-comes levels (some v) is sane comes = fresh levels v sane (sym comes) (sym is)
 
@@ -672,7 +672,7 @@ module _ {s : List ℕ} (A : Admitted s) (lo hi : Bound) (short-lo : length (bou
       (start-comes A lo hi short-hi (sought .levels) (pend A lo hi short-hi) refl (sought .sane) (sought .comes))
 
   -- one call after others
-  called : (cs : List (Call s)) (c : Call s) → Allowed c → CalledAt A lo hi short-hi (run cs .new) (0 + run cs .more) (call (readingAfter reading₀ cs) c)
+  called : (cs : List (Call s)) (c : Call s) → Allowed c → CalledAt A lo hi short-hi (run cs .new) (0 + run cs .more) (readingAfter reading₀ cs) (call (readingAfter reading₀ cs) c)
   called cs c h =
       progress-step s (A .meta) (A .opens) hi (length (boundBytes hi)) short-hi (visits A lo hi short-hi) (pend A lo hi short-hi) c h (run cs .new)
       (0 + run cs .more) (readingAfter reading₀ cs) (run cs .progress)
@@ -689,11 +689,11 @@ module _ {s : List ℕ} (A : Admitted s) (lo hi : Bound) (short-lo : length (bou
         ascending = comes-rising A lo hi short-hi (run cs .new) (0 + run cs .more) (readingAfter reading₀ cs) (run cs .progress);
         none-left-out = comes-none-left-out A lo hi short-hi (run cs .new) (0 + run cs .more) (readingAfter reading₀ cs) (run cs .progress);
         end-exactly = λ cs₁ cs₂ c is h. (
-          (λ q. rw (run cs₁ .handing) (end-none-left A lo hi short-hi (run cs₁ .new) (0 + run cs₁ .more) (call (readingAfter reading₀ cs₁) c) (called cs₁ c h) q)),
-          (λ q. none-left-end A lo hi short-hi (run cs₁ .new) (0 + run cs₁ .more) (call (readingAfter reading₀ cs₁) c) (called cs₁ c h) (rw (run cs₁ .handing) at q)),
+          (λ q. rw (run cs₁ .handing) (end-none-left A lo hi short-hi (run cs₁ .new) (0 + run cs₁ .more) (readingAfter reading₀ cs₁) (call (readingAfter reading₀ cs₁) c) (called cs₁ c h) q)),
+          (λ q. none-left-end A lo hi short-hi (run cs₁ .new) (0 + run cs₁ .more) (readingAfter reading₀ cs₁) (call (readingAfter reading₀ cs₁) c) (called cs₁ c h) (rw (run cs₁ .handing) at q)),
         );
         refused-exactly = λ cs₁ cs₂ c is. (
-          (λ h. not-refused A lo hi short-hi (run cs₁ .new) (0 + run cs₁ .more) (call (readingAfter reading₀ cs₁) c) (called cs₁ c h)),
+          (λ h. not-refused A lo hi short-hi (run cs₁ .new) (0 + run cs₁ .more) (readingAfter reading₀ cs₁) (call (readingAfter reading₀ cs₁) c) (called cs₁ c h)),
           (λ out.
           progress-refused s (A .meta) (A .opens) hi (length (boundBytes hi)) short-hi (visits A lo hi short-hi) (pend A lo hi short-hi) c out (run cs₁ .new)
           (0 + run cs₁ .more) (readingAfter reading₀ cs₁) (run cs₁ .progress)),

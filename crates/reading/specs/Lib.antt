@@ -8,3 +8,4 @@ pub mod NextLaws
 pub mod Demand
 pub mod ProgressLaws
 pub mod DemandLaws
+pub mod WholeLaws

@@ -69,6 +69,14 @@ pub data Pre (hi : Bound) (e₀ : Option ℕ) : List Entry → Type 0 where
   no-empty : e₀ ≡ none → Pre hi e₀ []
   empty-key : (v : ℕ) → e₀ ≡ some v → passesTest hi [] ≡ false → Pre hi e₀ (entry [] v ∷ [])
 
+abbrev pub pendingCount : Option ℕ → ℕ
+pendingCount none = 0
+pendingCount (some v) = 1
+
+-- the visits that are left, and the pending empty key
+abbrev pub left : Fst → View → ℕ
+left f r = pendingCount (r .empty) + length (toCome f (r .levels))
+
 -- W are the visits of the start, e₀ its pending empty key
 module _ (s : List ℕ) (m : Meta) (opens : opening s ≡ opened m) (hi : Bound) (bl : ℕ) (short : bl ≤ maxPath) (W : List Visit) (e₀ : Option ℕ) where
   abbrev view : List Level → Option ℕ → ℕ → View
@@ -93,16 +101,21 @@ module _ (s : List ℕ) (m : Meta) (opens : opening s ≡ opened m) (hi : Bound)
 
   -- ---- a call
 
-  pub data Called (handed : List Entry) (ends : ℕ) (o : Step) : Type 0 where
-    hands : (e : Entry) → ends ≡ 0 → o .answer ≡ handOut e → Progress (handed ++ (e ∷ [])) 0 (o .reading) → Called handed ends o
-    ended : o .answer ≡ end → Progress handed (suc ends) (o .reading) → Called handed ends o
+  -- each key that is handed out leaves fewer
+  pub data Called (handed : List Entry) (ends : ℕ) (r₀ : View) (o : Step) : Type 0 where
+    hands : (e : Entry) → ends ≡ 0 → o .answer ≡ handOut e → Progress (handed ++ (e ∷ [])) 0 (o .reading) → left (fstOf s m) (o .reading) < left (fstOf s m) r₀
+        → Called handed ends r₀ o
+    ended : o .answer ≡ end → Progress handed (suc ends) (o .reading) → Called handed ends r₀ o
 
-  called-hands : (handed : List Entry) (o : Step) (e : Entry) (r : View) → o ≡ record { answer = handOut e; reading = r } → Progress (handed ++ (e ∷ [])) 0 r
-      → Called handed 0 o
-  called-hands handed o e r is p = hands e refl (ap (λ (x : Step). x .answer) is) (subst (λ (x : Step). Progress (handed ++ (e ∷ [])) 0 (x .reading)) (sym is) p)
+  called-hands : (handed : List Entry) (r₀ : View) (o : Step) (e : Entry) (r : View) → o ≡ record { answer = handOut e; reading = r } → Progress (handed ++ (e ∷ [])) 0 r
+      → left (fstOf s m) r < left (fstOf s m) r₀ → Called handed 0 r₀ o
+  called-hands handed r₀ o e r is p less =
+      hands e refl (ap (λ (x : Step). x .answer) is) (subst (λ (x : Step). Progress (handed ++ (e ∷ [])) 0 (x .reading)) (sym is) p)
+      (subst (λ (x : Step). left (fstOf s m) (x .reading) < left (fstOf s m) r₀) (sym is) less)
 
-  called-ends : (handed : List Entry) (ends : ℕ) (o : Step) (r : View) → o ≡ record { answer = end; reading = r } → Progress handed (suc ends) r → Called handed ends o
-  called-ends handed ends o r is p = ended (ap (λ (x : Step). x .answer) is) (subst (λ (x : Step). Progress handed (suc ends) (x .reading)) (sym is) p)
+  called-ends : (handed : List Entry) (ends : ℕ) (r₀ : View) (o : Step) (r : View) → o ≡ record { answer = end; reading = r } → Progress handed (suc ends) r
+      → Called handed ends r₀ o
+  called-ends handed ends r₀ o r is p = ended (ap (λ (x : Step). x .answer) is) (subst (λ (x : Step). Progress handed (suc ends) (x .reading)) (sym is) p)
 
   -- the cuts of a call: the visits before it, those that it passes over, and where it stops
   cut : (taken t : List Visit) (v : Visit) (more rest : List Visit) → W ≡ taken ++ rest → rest ≡ t ++ (v ∷ more) → W ≡ (taken ++ t) ++ (v ∷ more)
@@ -128,16 +141,16 @@ module _ (s : List ℕ) (m : Meta) (opens : opening s ≡ opened m) (hi : Bound)
     ask r = Rattle.reading.specs.Reading.next s r space
 
     going-step : (pre : List Entry) (taken : List Visit) (levels : List Level) → Pre hi e₀ pre → W ≡ taken ++ toCome (fstOf s m) levels
-        → AllV Under taken → Ways s m opens hi bl short space room levels → Called (pre ++ entriesOf taken) 0 (ask (view levels none (length taken)))
+        → AllV Under taken → Ways s m opens hi bl short space room levels → Called (pre ++ entriesOf taken) 0 (view levels none (length taken)) (ask (view levels none (length taken)))
     going-step pre taken levels hpre w under (at-end e go) =
         let whole : W ≡ taken = w ∙ ap (λ (r : List Visit). taken ++ r) e ∙ append-nil taken in
-        called-ends (pre ++ entriesOf taken) 0 _ _ (go (length taken))
+        called-ends (pre ++ entriesOf taken) 0 _ _ _ (go (length taken))
         (subst (λ (x : List Visit). Progress (pre ++ entriesOf x) 1 (view [] none (length x))) whole (finished pre 0 hpre (subst (AllV Under) (sym whole) under)))
     going-step pre taken levels hpre w under (over-at t v more idle split ps len go) =
         let count : suc (length (taken ++ t)) ≡ length taken + suc (length t) = ap suc (length-append taken t) ∙ omega arith in
         let p : Progress (pre ++ entriesOf (taken ++ t)) 1 (view [] none (suc (length (taken ++ t)))) =
         beyond pre 0 (taken ++ t) v more hpre (cut taken t v more _ w split) (all-append Under taken t under (all-idle hi t idle)) ps in
-        called-ends (pre ++ entriesOf taken) 0 _ _ (go (length taken))
+        called-ends (pre ++ entriesOf taken) 0 _ _ _ (go (length taken))
         (subst (λ (n : ℕ). Progress (pre ++ entriesOf taken) 1 (view [] none n)) count
         (subst (λ (es : List Entry). Progress (pre ++ es) 1 (view [] none (suc (length (taken ++ t))))) (over-entries taken t idle) p))
     going-step pre taken levels hpre w under (handed-at t v to idle split sane np fin len go) =
@@ -145,9 +158,10 @@ module _ (s : List ℕ) (m : Meta) (opens : opening s ≡ opened m) (hi : Bound)
         let p : Progress (pre ++ entriesOf ((taken ++ t) ++ (v ∷ []))) 0 (view to none (length ((taken ++ t) ++ (v ∷ [])))) =
         going pre ((taken ++ t) ++ (v ∷ [])) to hpre sane (cut taken t v (toCome (fstOf s m) to) _ w split ∙ snoc (taken ++ t) v (toCome (fstOf s m) to))
         (all-append Under (taken ++ t) (v ∷ []) (all-append Under taken t under (all-idle hi t idle)) (np, tt)) (last-visit (taken ++ t) v fin) in
-        called-hands (pre ++ entriesOf taken) _ (entry (v .key) (v .value)) _ (go (length taken))
+        called-hands (pre ++ entriesOf taken) _ _ (entry (v .key) (v .value)) _ (go (length taken))
         (subst (λ (n : ℕ). Progress ((pre ++ entriesOf taken) ++ (entry (v .key) (v .value) ∷ [])) 0 (view to none n)) count
         (subst (λ (es : List Entry). Progress es 0 (view to none (length ((taken ++ t) ++ (v ∷ []))))) (key-entries pre taken t v idle fin) p))
+        (omega (arith, ap length split, length-append t (v ∷ toCome (fstOf s m) to)))
 
     -- after the end
     end-again : (n : ℕ) → ask (view [] none n) ≡ record { answer = end; reading = view [] none n }
@@ -162,28 +176,28 @@ module _ (s : List ℕ) (m : Meta) (opens : opening s ≡ opened m) (hi : Bound)
         by (over-at t v more idle split ps len go) = absurd (nil-cut t v more split)
         by (handed-at t v to idle split sane np fin len go) = absurd (nil-cut t v (toCome (fstOf s m) to) split)
 
-    pub ask-step : (handed : List Entry) (ends : ℕ) (r : View) → Progress handed ends r → Called handed ends (ask r)
+    pub ask-step : (handed : List Entry) (ends : ℕ) (r : View) → Progress handed ends r → Called handed ends r (ask r)
     ask-step handed ends r (fresh levels v sane w is) = by (passesTest hi []) refl
       where
-        by : (b : Bool) → passesTest hi [] ≡ b → Called [] 0 (ask (view levels (some v) 0))
-        by true p = called-ends [] 0 _ _ (next-pending-off s m opens hi bl short space room levels v 0 sane p) (shut 0 v is p)
+        by : (b : Bool) → passesTest hi [] ≡ b → Called [] 0 (view levels (some v) 0) (ask (view levels (some v) 0))
+        by true p = called-ends [] 0 _ _ _ (next-pending-off s m opens hi bl short space room levels v 0 sane p) (shut 0 v is p)
         by false p =
-            called-hands [] _ (entry [] v) _ (next-pending-on s m opens hi bl short space room levels v 0 sane p)
-            (going (entry [] v ∷ []) [] levels (empty-key v is p) sane w tt no-visit)
+            called-hands [] _ _ (entry [] v) _ (next-pending-on s m opens hi bl short space room levels v 0 sane p)
+            (going (entry [] v ∷ []) [] levels (empty-key v is p) sane w tt no-visit) (omega arith)
     ask-step handed ends r (going pre taken levels hpre sane w under last) =
         going-step pre taken levels hpre w under (next-come s m opens hi bl short space room levels sane)
-    ask-step handed ends r (finished pre n hpre under) = called-ends _ _ _ _ (end-again (length W)) (finished pre (suc n) hpre under)
-    ask-step handed ends r (beyond pre n taken v more hpre w under ps) = called-ends _ _ _ _ (end-again (suc (length taken))) (beyond pre (suc n) taken v more hpre w under ps)
-    ask-step handed ends r (shut n v is p) = called-ends _ _ _ _ (end-again 0) (shut (suc n) v is p)
+    ask-step handed ends r (finished pre n hpre under) = called-ends _ _ _ _ _ (end-again (length W)) (finished pre (suc n) hpre under)
+    ask-step handed ends r (beyond pre n taken v more hpre w under ps) = called-ends _ _ _ _ _ (end-again (suc (length taken))) (beyond pre (suc n) taken v more hpre w under ps)
+    ask-step handed ends r (shut n v is p) = called-ends _ _ _ _ _ (end-again 0) (shut (suc n) v is p)
 
   -- ---- a call with the file or another, and any buffer
 
   pub file-same : (c : Call s) → Allowed c → c .file ≡ s
   file-same c h = ⊎-elim (λ (e : c .file ≡ s). e) (λ ne. absurd (ne (h .same))) (c .which)
 
-  pub progress-step : (c : Call s) → Allowed c → (handed : List Entry) (ends : ℕ) (r : View) → Progress handed ends r → Called handed ends (call r c)
+  pub progress-step : (c : Call s) → Allowed c → (handed : List Entry) (ends : ℕ) (r : View) → Progress handed ends r → Called handed ends r (call r c)
   progress-step c h handed ends r p =
-      subst (λ (file : List ℕ). Called handed ends (Rattle.reading.specs.Reading.next file r (c .space))) (sym (file-same c h))
+      subst (λ (file : List ℕ). Called handed ends r (Rattle.reading.specs.Reading.next file r (c .space))) (sym (file-same c h))
       (ask-step (c .space) (h .room) handed ends r p)
 
   -- a refused call changes nothing
@@ -290,6 +304,6 @@ module _ (s : List ℕ) (m : Meta) (opens : opening s ≡ opened m) (hi : Bound)
       (λ (out : ¬ Allowed c). let w = progress-refused c out handed ends r p in ran-refused handed ends r c cs (w .0) (w .1) (progress-run cs handed ends r p))
       (dec-allowed c)
     where
-      by : Called handed ends (call r c) → ((handed : List Entry) (ends : ℕ) (r : View) → Progress handed ends r → Ran handed ends r cs) → Ran handed ends r (c ∷ cs)
-      by (hands e z is q) ih = ran-hands handed ends r c cs e z is (ih (handed ++ (e ∷ [])) 0 (call r c .reading) q)
+      by : Called handed ends r (call r c) → ((handed : List Entry) (ends : ℕ) (r : View) → Progress handed ends r → Ran handed ends r cs) → Ran handed ends r (c ∷ cs)
+      by (hands e z is q less) ih = ran-hands handed ends r c cs e z is (ih (handed ++ (e ∷ [])) 0 (call r c .reading) q)
       by (ended is q) ih = ran-ends handed ends r c cs is (ih handed (suc ends) (call r c .reading) q)
