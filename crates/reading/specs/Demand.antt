@@ -164,7 +164,6 @@ pub record Demand3 {s : List ℕ} (A : Admitted s) (lo hi : Bound) (cs : List (C
   -- the start is not refused
   pub reading : View
   pub starts : start s lo hi ≡ started reading
-
   -- the unrefused calls hand out keys, and then answer only "end"
   pub handed : List Entry
   pub ends : ℕ
@@ -176,19 +175,16 @@ pub record Demand3 {s : List ℕ} (A : Admitted s) (lo hi : Bound) (cs : List (C
   pub end-exactly : (cs₁ cs₂ : List (Call s)) (c : Call s) → cs ≡ cs₁ ++ (c ∷ cs₂) → Allowed c
       → (call (readingAfter reading cs₁) c .answer ≡ end → NoneLeft (fstOf s (A .meta)) lo hi (handedIn (answers reading cs₁)))
       × (NoneLeft (fstOf s (A .meta)) lo hi (handedIn (answers reading cs₁)) → call (readingAfter reading cs₁) c .answer ≡ end)
-
   -- a call is refused exactly when it is handed a short buffer or a file of another length, and then it changes nothing
   pub refused-exactly : (cs₁ cs₂ : List (Call s)) (c : Call s) → cs ≡ cs₁ ++ (c ∷ cs₂)
       → (Allowed c → (n : ℕ) → ¬ (call (readingAfter reading cs₁) c .answer ≡ Answer.refused n))
       × (¬ Allowed c → (n : ℕ) × (call (readingAfter reading cs₁) c ≡ refuse (readingAfter reading cs₁) n))
-
   -- the total after the list
   pub total-ended : ¬ EmptyExcluded (fstOf s (A .meta)) lo hi → 0 < ends
       → (n e : ℕ) × NumberOf (Within (fstOf s (A .meta)) lo hi) n × Extra (fstOf s (A .meta)) lo hi e × (readingAfter reading cs .total ≡ capped (n + e))
   pub total-before : ends ≡ 0
       → (n : ℕ) × NumberOf (λ x. Within (fstOf s (A .meta)) lo hi x × NotAfterLast handed x) n × (readingAfter reading cs .total ≡ capped n)
   pub total-excluded : EmptyExcluded (fstOf s (A .meta)) lo hi → readingAfter reading cs .total ≡ 0
-
   -- the transitions of each call
   pub limit : (cs₁ cs₂ : List (Call s)) (c : Call s) → cs ≡ cs₁ ++ (c ∷ cs₂) → (n : ℕ)
       → ((k : List ℕ) (v : ℕ) → Held (fstOf s (A .meta)) k v → length k ≤ n) → followed (readingAfter reading cs₁) c ≤ n

@@ -485,8 +485,8 @@ module _ {s : List ℕ} (A : Admitted s) (lo hi : Bound) (short : length (boundB
     0,
     cut-number f lo hi visits pend F (whole-cut pre hpre under) (λ w on. absurd (List·Memᴰ·not-nil on)),
     no-more (λ x b.
-    let w = F .whole x (b .0) (b .1 .0) in
-    decides-passes hi x .no (rw (w .2) at (all-mem (λ v. passesTest hi (v .key) ≡ false) visits under (w .0) (w .1))) (b .1 .1)),
+        let w = F .whole x (b .0) (b .1 .0) in
+        decides-passes hi x .no (rw (w .2) at (all-mem (λ v. passesTest hi (v .key) ≡ false) visits under (w .0) (w .1))) (b .1 .1)),
     ap capped (sym (add-zero (length visits))),
   )
   comes-total-ended handed ends r (beyond pre n taken v more hpre w under ps) not-shut pos =
@@ -695,8 +695,8 @@ module _ {s : List ℕ} (A : Admitted s) (lo hi : Bound) (short-lo : length (bou
         refused-exactly = λ cs₁ cs₂ c is. (
           (λ h. not-refused A lo hi short-hi (run cs₁ .new) (0 + run cs₁ .more) (readingAfter reading₀ cs₁) (call (readingAfter reading₀ cs₁) c) (called cs₁ c h)),
           (λ out.
-          progress-refused s (A .meta) (A .opens) hi (length (boundBytes hi)) short-hi (visits A lo hi short-hi) (pend A lo hi short-hi) c out (run cs₁ .new)
-          (0 + run cs₁ .more) (readingAfter reading₀ cs₁) (run cs₁ .progress)),
+              progress-refused s (A .meta) (A .opens) hi (length (boundBytes hi)) short-hi (visits A lo hi short-hi) (pend A lo hi short-hi) c out (run cs₁ .new)
+              (0 + run cs₁ .more) (readingAfter reading₀ cs₁) (run cs₁ .progress)),
         );
         total-ended = λ not-shut pos.
             comes-total-ended A lo hi short-hi (run cs .new) (0 + run cs .more) (readingAfter reading₀ cs) (run cs .progress) not-shut (omega arith);

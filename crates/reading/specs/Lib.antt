@@ -1,6 +1,7 @@
 pub mod Reading
 pub mod BoundLaws
 pub mod Visits
+pub mod VisitLists
 pub mod VisitLaws
 pub mod SeekLaws
 pub mod RunLaws

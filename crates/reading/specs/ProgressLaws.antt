@@ -21,6 +21,7 @@ use Rattle.format.specs.Paths.{Fst, fstOf, Held}
 use Rattle.format.specs.Strings.{Before, Bound, MeetsLower, PassesUpper, Between}
 use Rattle.reading.specs.Reading.{passesTest, Level, View, Answer, key, end, Step, refuse}
 use Rattle.reading.specs.Visits.{Visit, toCome, Sane, AllV, RisingV, capped}
+use Rattle.reading.specs.VisitLists.{all-append}
 use Rattle.reading.specs.VisitLaws.{all-mem, mem-all}
 use Rattle.reading.specs.RunLaws.{Idle, lt-or}
 use Rattle.reading.specs.NextLaws.{viewAt, next-short, next-other, next-pending-on, next-pending-off, Ways, at-end, over-at, handed-at, next-come}
@@ -49,10 +50,6 @@ pub entries-one : (v : Visit) → v .final ≡ true → entriesOf (v ∷ []) ≡
 entries-one v e = rw e
 
 -- ---- a fact of each visit, over two lists
-
-pub all-append : (P : Visit → Type 0) (xs ys : List Visit) → AllV P xs → AllV P ys → AllV P (xs ++ ys)
-all-append P [] ys h g = g
-all-append P (x ∷ xs) ys h g = (h .0, all-append P xs ys (h .1) g)
 
 all-idle : (hi : Bound) (xs : List Visit) → AllV (Idle hi) xs → AllV (λ v. passesTest hi (v .key) ≡ false) xs
 all-idle hi [] h = tt
@@ -207,9 +204,11 @@ module _ (s : List ℕ) (m : Meta) (opens : opening s ≡ opened m) (hi : Bound)
       ⊎-elim
       (λ (same : c .file ≡ s).
       ⊎-elim
-      (λ (lt : c .space < maxPath).
-      (Rattle.format.specs.Limits.SPACE, ap (λ (file : List ℕ). Rattle.reading.specs.Reading.next file (view levels e n) (c .space)) same
-      ∙ next-short s m opens hi bl short levels e n sane (c .space) lt))
+      (λ (lt : c .space < maxPath). (
+        Rattle.format.specs.Limits.SPACE,
+        ap (λ (file : List ℕ). Rattle.reading.specs.Reading.next file (view levels e n) (c .space)) same
+            ∙ next-short s m opens hi bl short levels e n sane (c .space) lt,
+      ))
       (λ (ge : maxPath ≤ c .space). absurd (not-allowed (record { same = ap length same; room = ge })))
       (lt-or (c .space) maxPath))
       (λ ne. next-other s m opens hi bl short levels e n (c .file) ne (c .space))

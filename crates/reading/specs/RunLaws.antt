@@ -30,6 +30,7 @@ use Rattle.format.specs.LiveLaws.{target-not-root, live-below-root}
 use Rattle.format.specs.Tables.{finalOutputOf?}
 use Rattle.reading.specs.Reading.{passesTest, Level, levelIs, View, pathOf, keyOf, onNode, counted, Popped, top, used-up, bad, pop, nextTrans, child, stepped, Went, found, passed, descend}
 use Rattle.reading.specs.Visits.{Visit, under, final?, visitBy, row, transitionsAt, below, rest, toCome, Fine, Sane, AllV, capped}
+use Rattle.reading.specs.VisitLists.{map-append, map-under, key-push, key-length, below-rest, fine-node, fine-step}
 
 -- ---- numbers
 
@@ -61,60 +62,7 @@ counted-capped n =
     ap counted (capped-high n h) ∙ same ∙ sym (capped-high (n + 1) (omega arith)))
     (lt-or n maxSum)
 
--- ---- lists of visits
-
-pub map-append : (p : List ℕ) (o : ℕ) (xs ys : List Visit) → map (under p o) (xs ++ ys) ≡ map (under p o) xs ++ map (under p o) ys
-map-append p o [] ys = refl
-map-append p o (x ∷ xs) ys = ap (λ (r : List Visit). under p o x ∷ r) (map-append p o xs ys)
-
-pub map-under : (p q : List ℕ) (o r : ℕ) (xs : List Visit) → map (under p o) (map (under q r) xs) ≡ map (under (p ++ q) (o + r)) xs
-map-under p q o r [] = refl
-map-under p q o r (x ∷ xs) = rw (map-under p q o r xs, append-assoc p q (x .key), add-assoc o r (x .value))
-
--- ---- the key of a level that is pushed
-
-drop-snoc : (p : List ℕ) (x : ℕ) (ys : List ℕ) → drop 1 ((p ++ (x ∷ [])) ++ ys) ≡ drop 1 (p ++ (x ∷ [])) ++ ys
-drop-snoc [] x ys = refl
-drop-snoc (y ∷ p) x ys = refl
-
-pub key-push : (c l : Level) (s : List Level) → keyOf (c ∷ l ∷ s) ≡ keyOf (l ∷ s) ++ (c .inp ∷ [])
-unfolding pathOf
-key-push c l s = drop-snoc (pathOf s) (l .inp) (c .inp ∷ [])
-
-path-length : (s : List Level) → length (pathOf s) ≡ length s
-unfolding pathOf
-path-length [] = refl
-path-length (l ∷ s) = length-append (pathOf s) (l .inp ∷ []) ∙ omega (arith, path-length s)
-
-pub key-length : (l : Level) (s : List Level) → length (keyOf (l ∷ s)) ≡ length s
-key-length l s = length-drop 1 (pathOf (l ∷ s)) ∙ omega (arith, path-length (l ∷ s))
-
--- ---- fine nodes
-
-pub record FineNode (f : Fst) (a sum : ℕ) : Type 0 where
-  pub node : Node
-  pub judged : nodeIn f a ≡ sound node
-  pub light : sum + node .finalOutput ≤ maxSum
-
-pub fine-node : (d : ℕ) (f : Fst) (a sum : ℕ) → Fine d f a sum → FineNode f a sum
-fine-node zero f a sum h = record { node = h .0; judged = h .1; light = h .2 }
-fine-node (suc d) f a sum h = record { node = h .0; judged = h .1; light = h .2 }
-
-pub fine-step : (d : ℕ) (f : Fst) (a sum : ℕ) (m : Node) (t : Transition) → Fine d f a sum → nodeIn f a ≡ sound m → List·Memᴰ t (m .transitions)
-    → (0 < d) × Fine (d - 1) f (t .addr) (sum + t .out)
-fine-step zero f a sum m t h e mem =
-    let same : h .0 ≡ m = cc in
-    absurd (List·Memᴰ·not-nil (rw (h .3) at (rw (sym same) at mem)))
-fine-step (suc d) f a sum m t h e mem =
-    let same : h .0 ≡ m = cc in
-    let z : suc d - 1 ≡ d = omega arith in
-    (omega arith, rw z (h .3 t (rw (sym same) at mem)))
-
 -- ---- what is to come, by a step down
-
-below-rest : (d : ℕ) (f : Fst) (a : ℕ) → below d f a ≡ rest d f a 0
-below-rest zero f a = refl
-below-rest (suc d) f a = refl
 
 pub rest-step : (d : ℕ) (f : Fst) (a p : ℕ) (m : Node) → nodeIn f a ≡ sound m → p < length (m .transitions)
     → rest (suc d) f a p
@@ -177,8 +125,8 @@ unfolding pop
 pop-come f [] h = inl (refl, refl)
 pop-come f (l ∷ s) h =
     let n = fine-node (maxPath - length s) f (l .addr) (l .out) (h .1) in
-    let m : Node = n .node in
-    let e : nodeIn f (l .addr) ≡ sound m = n .judged in
+    let m : Node = n .0 in
+    let e : nodeIn f (l .addr) ≡ sound m = n .1 in
     ⊎-elim
     (λ (p : l .trans < length (m .transitions)).
     inr (record { level = l; node = m; lower = s; pops = simp (e, lt-ltb (l .trans) (length (m .transitions)) p); sane = h; judged = e; room = p; come = refl }))
@@ -233,10 +181,10 @@ module _ (f : Fst) (hi : Bound) where
       let fine : Fine (maxPath - suc (length s)) f (nextTrans l m .addr) (l .out + nextTrans l m .out) = rw d (q .1) in
       let n = fine-node (maxPath - suc (length s)) f (nextTrans l m .addr) (l .out + nextTrans l m .out) fine in
       let new : Sane f (child l m ∷ stepped l ∷ s) = (omega arith, fine, h) in
-      by (n .node) (n .judged) (n .light) new
-      (λ live. go-come room (child l m) (n .node) (stepped l ∷ s) (omega arith) new (n .judged) live)
-      (target-live f (l .addr) m (nextTrans l m) e mem (n .node) (n .judged))
-      (passesTest hi (keyOf (child l m ∷ stepped l ∷ s))) refl (n .node .final) refl
+      by (n .0) (n .1) (n .2) new
+      (λ live. go-come room (child l m) (n .0) (stepped l ∷ s) (omega arith) new (n .1) live)
+      (target-live f (l .addr) m (nextTrans l m) e mem (n .0) (n .1))
+      (passesTest hi (keyOf (child l m ∷ stepped l ∷ s))) refl (n .0 .final) refl
     where
       by : (n : Node) → nodeIn f (nextTrans l m .addr) ≡ sound n → l .out + nextTrans l m .out + n .finalOutput ≤ maxSum → Sane f (child l m ∷ stepped l ∷ s)
           → (0 < length (n .transitions) → Go room f hi (child l m) n (stepped l ∷ s))

@@ -1,5 +1,4 @@
 -- A start from a lower bound, on a fine file: it is not refused, and it has still to make the visits that meet the bound.
---     map-under, key-push      strings and values put together from two parts; the key of one level more
 --     meets c lo k             the string k meets the lower bound lo, which is included (c = true) or excluded
 --     Full v, Over x v         a visit's string is not empty; its first byte is above x
 --     kept-..                  what is kept of lists of visits
@@ -30,46 +29,9 @@ use Rattle.format.specs.Strings.{Bound, unbounded, included, excluded, beforeTe
 use Rattle.format.specs.TransitionLaws.{at-member, find-input-member}
 use Rattle.reading.specs.Reading.{meetsTest, boundBytes, isInclusive, Level, levelIs, pathOf, keyOf, got, firstAbove, lastLevels, seek}
 use Rattle.reading.specs.Visits.{Visit, under, visitBy, row, transitionsAt, below, rest, toCome, Fine, Sane, AllV, kept}
-
--- ---- lists of visits, from further up
-
-pub map-append : (p : List ℕ) (o : ℕ) (xs ys : List Visit) → map (under p o) (xs ++ ys) ≡ map (under p o) xs ++ map (under p o) ys
-map-append p o [] ys = refl
-map-append p o (x ∷ xs) ys = ap (λ (r : List Visit). under p o x ∷ r) (map-append p o xs ys)
-
-pub map-under : (p q : List ℕ) (o r : ℕ) (xs : List Visit) → map (under p o) (map (under q r) xs) ≡ map (under (p ++ q) (o + r)) xs
-map-under p q o r [] = refl
-map-under p q o r (x ∷ xs) = rw (map-under p q o r xs, append-assoc p q (x .key), add-assoc o r (x .value))
-
-pub map-nil : (xs : List Visit) → map (under [] 0) xs ≡ xs
-map-nil [] = refl
-map-nil (x ∷ xs) = rw (map-nil xs, zero-add (x .value))
-
-drop-snoc : (p : List ℕ) (x : ℕ) (ys : List ℕ) → drop 1 ((p ++ (x ∷ [])) ++ ys) ≡ drop 1 (p ++ (x ∷ [])) ++ ys
-drop-snoc [] x ys = refl
-drop-snoc (y ∷ p) x ys = refl
-
-pub key-push : (c l : Level) (s : List Level) → keyOf (c ∷ l ∷ s) ≡ keyOf (l ∷ s) ++ (c .inp ∷ [])
-unfolding pathOf
-key-push c l s = drop-snoc (pathOf s) (l .inp) (c .inp ∷ [])
-
-pub below-rest : (d : ℕ) (f : Fst) (a : ℕ) → below d f a ≡ rest d f a 0
-below-rest zero f a = refl
-below-rest (suc d) f a = refl
+use Rattle.reading.specs.VisitLists.{all-append, all-imp, all-under, map-append, map-under, map-nil, key-push, below-rest, fine-node}
 
 -- ---- a fact of every visit
-
-pub all-append : (P : Visit → Type 0) (xs ys : List Visit) → AllV P xs → AllV P ys → AllV P (xs ++ ys)
-all-append P [] ys h g = g
-all-append P (x ∷ xs) ys h g = (h .0, all-append P xs ys (h .1) g)
-
-pub all-imp : (P Q : Visit → Type 0) → ((v : Visit) → P v → Q v) → (xs : List Visit) → AllV P xs → AllV Q xs
-all-imp P Q i [] h = tt
-all-imp P Q i (x ∷ xs) h = (i x (h .0), all-imp P Q i xs (h .1))
-
-pub all-under : (P : Visit → Type 0) (p : List ℕ) (o : ℕ) → ((v : Visit) → P (under p o v)) → (xs : List Visit) → AllV P (map (under p o) xs)
-all-under P p o h [] = tt
-all-under P p o h (x ∷ xs) = (h x, all-under P p o h xs)
 
 abbrev pub Full : Visit → Type 0
 Full v = (y : ℕ) × (ys : List ℕ) × (v .key ≡ y ∷ ys)
@@ -284,10 +246,6 @@ module _ (sub : ℕ → List Visit) (f : Fst) (c : Bool) (b : ℕ) (lo : List �
           })
 
 -- ---- a node on the bound's way
-
-pub fine-node : (d : ℕ) (f : Fst) (a sum : ℕ) → Fine d f a sum → (m : Node) × (nodeIn f a ≡ sound m) × (sum + m .finalOutput ≤ maxSum)
-fine-node zero f a sum h = (h .0, h .1, h .2)
-fine-node (suc d) f a sum h = (h .0, h .1, h .2)
 
 -- s are the levels below it, each left behind one place further on. own is the visit to the node itself, and nothing at the root: where
 -- an included bound ends here, own comes next.

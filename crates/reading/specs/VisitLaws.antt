@@ -31,6 +31,7 @@ use Rattle.format.specs.ChainLaws.{root-chain-root, root-chain-low}
 use Rattle.format.specs.LiveLaws.{FinalFrom, final-zero, target-below-root, live-below-root, leads-to-final, path-stays}
 use Rattle.format.specs.ReachedLaws.{path-reached}
 use Rattle.reading.specs.Visits.{Visit, under, visitBy, row, transitionsAt, below, Fine, AllV, RisingV, kept}
+use Rattle.reading.specs.VisitLists.{fine-node}
 
 -- ---- a fact of each visit
 
@@ -208,10 +209,6 @@ pub record PathTo (f : Fst) (a : ℕ) (v : Visit) : Type 0 where
   pub value-is : v .value ≡ sum + node .finalOutput
 
 -- a fine node is sound
-pub fine-node : (d : ℕ) (f : Fst) (a sum : ℕ) → Fine d f a sum → (m : Node) × (nodeIn f a ≡ sound m)
-fine-node zero f a sum h = (h .0, h .1)
-fine-node (suc d) f a sum h = (h .0, h .1)
-
 module _ (f : Fst) (a : ℕ) (m : Node) (e : nodeIn f a ≡ sound m) (t : Transition) (mem : List·Memᴰ t (m .transitions)) where
   -- to the target
   path-to-target : (n : Node) → nodeIn f (t .addr) ≡ sound n → PathTo f a (visitBy f t)
