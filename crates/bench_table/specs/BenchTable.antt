@@ -12,6 +12,10 @@ use Rattle.format.specs.CommonInputs.{commonInputs, commonInputsInv, commonIdx,
 use Rattle.format.specs.Packed.{BuilderNode, recordTest, storedNumbers, storedBytes, placeFrom, upFrom, indexOf, indexBytes, outputSize, deltaSize, inputBytes, packedNext, packedOne, headOf, packedAny, packed, written, packing}
 use Rattle.format.specs.Node.{headLen, inputOf, ntransOf, sizesByte, indexLen, sizeOf, downFrom, bytesDown, numbersDown, transitionsOf, nodeOf, soundTest, nodeAt, findFrom}
 use Rattle.format.specs.Opening.{metaOf, rootTest, opening}
+use Rattle.format.specs.Strings.{Bound, unbounded, included, excluded, beforeTest}
+use Rattle.reading.specs.Reading.{pathOf, firstAbove, seek, View, started, start, pop, descend, next}
+use Rattle.reading.specs.Demand.{Entry, entry}
+use Rattle.reading.specs.WholeLaws.{Runs, run-end, run-key}
 use Rattle.format.specs.Lookup.{value, getFrom, get, found, fittingFrom, lastFitting, getKeyFrom, getKey, KeyAnswer}
 
 abbrev one : ℕ → ℕ → ℕ → BuilderNode
@@ -30,6 +34,14 @@ abbrev D : List ℕ
 D =
     bytesOf 8 3 ++ bytesOf 8 0 ++ (0 ∷ 2 ∷ 0 ∷ 116 ∷ 17 ∷ 65 ∷ 4 ∷ 1 ∷ 0 ∷ 1 ∷ 101 ∷ 97 ∷ 17 ∷ 2 ∷ []) ++ bytesOf 8 3 ++ bytesOf 8 29
     ++ replicate 4 0
+
+-- a start and calls of next, each with a buffer of 255 bytes: the keys with their values, and then the total
+pub record Reads (s : List ℕ) (lo hi : Bound) (es : List Entry) (followed : ℕ) : Type 0 where
+  pub reading : View
+  pub starts : start s lo hi ≡ started reading
+  pub last : View
+  pub runs : Runs s 255 reading es last
+  pub total : last .total ≡ followed
 
 pub record BenchTable : Type 0 where
   -- a/0 to 18 at F 19 is C5
@@ -50,12 +62,16 @@ pub record BenchTable : Type 0 where
   pub D-a : get D (97 ∷ []) ≡ value 1
   pub D-at : get D (97 ∷ 116 ∷ []) ≡ value 3
   pub D-e : get D (101 ∷ []) ≡ value 4
+  -- D whole gives 3 keys, 3 followed
+  pub D-whole : Reads D unbounded unbounded (entry (97 ∷ []) 1 ∷ entry (97 ∷ 116 ∷ []) 3 ∷ entry (101 ∷ []) 4 ∷ []) 3
+  -- D from "at" included to "e" excluded gives "at", 2 followed
+  pub D-range : Reads D (included (97 ∷ 116 ∷ [])) (excluded (101 ∷ [])) (entry (97 ∷ 116 ∷ []) 3 ∷ []) 2
   -- D by value 3 is "at", by value 2 none
   pub D-3 : getKey D 3 255 ≡ found (97 ∷ 116 ∷ [])
   pub D-2 : getKey D 2 255 ≡ KeyAnswer.none
 
 pub bench-table : BenchTable
-unfolding bytesOf sizeUpTo packSize largest commonInputs commonInputsInv commonIdx recordTest storedNumbers storedBytes placeFrom upFrom indexOf indexBytes outputSize deltaSize inputBytes packedNext packedOne headOf packedAny packed packing le headLen inputOf ntransOf sizesByte indexLen sizeOf downFrom bytesDown numbersDown transitionsOf nodeOf soundTest nodeAt findFrom metaOf rootTest opening getFrom get fittingFrom lastFitting getKeyFrom getKey
+unfolding bytesOf sizeUpTo packSize largest commonInputs commonInputsInv commonIdx recordTest storedNumbers storedBytes placeFrom upFrom indexOf indexBytes outputSize deltaSize inputBytes packedNext packedOne headOf packedAny packed packing le headLen inputOf ntransOf sizesByte indexLen sizeOf downFrom bytesDown numbersDown transitionsOf nodeOf soundTest nodeAt findFrom metaOf rootTest opening getFrom get fittingFrom lastFitting getKeyFrom getKey beforeTest pathOf firstAbove seek start pop descend next
 bench-table = record {
   a-next = refl;
   a-zero = refl;
@@ -67,6 +83,8 @@ bench-table = record {
   D-a = refl;
   D-at = refl;
   D-e = refl;
+  D-whole = record { reading = _; starts = refl; last = _; runs = run-key _ refl (run-key _ refl (run-key _ refl (run-end refl))); total = refl };
+  D-range = record { reading = _; starts = refl; last = _; runs = run-key _ refl (run-end refl); total = refl };
   D-3 = refl;
   D-2 = refl;
 }
