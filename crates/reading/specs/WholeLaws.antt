@@ -1,6 +1,7 @@
 -- A reading of an admitted file from its start to its end, call after call, and what it has to do with lookup.
 --     Runs s space r es r′     calls with the file and a buffer of space bytes hand out es, then answer "end" and leave r′
 --     Whole, whole             from the start: the held keys between the bounds, and the total
+--     OnWay, on-way-next       a reading on its way: the next call hands out a key and leaves fewer visits, or ends it
 --     start-only-bound         on an admitted file a start is refused only for a bound
 --     lookup-agrees            the unbounded reading hands out a key with v exactly when lookup answers v
 -- Assumes nothing.
@@ -105,6 +106,35 @@ module _ {s : List ℕ} (A : Admitted s) (lo hi : Bound) (short-lo : length (bou
         none-left = comes-none-left A lo hi short-hi (w .rest) 1 (w .last) (w .comes) (omega arith);
         total = λ x. comes-total-ended A lo hi short-hi (w .rest) 1 (w .last) (w .comes) x (omega arith);
       }
+
+-- ---- a reading on its way, for a loop of calls
+
+pub record OnWay {s : List ℕ} (A : Admitted s) (lo hi : Bound) (r : View) : Type 0 where
+  pub short : length (boundBytes hi) ≤ maxPath
+  pub handed : List Entry
+  pub comes : Comes A lo hi short handed 0 r
+
+pub data OnWayNext {s : List ℕ} (A : Admitted s) (lo hi : Bound) (r : View) (o : Step) : Type 0 where
+  goes-on : (e : Entry) → o .answer ≡ handOut e → OnWay A lo hi (o .reading) → left (fstOf s (A .meta)) (o .reading) < left (fstOf s (A .meta)) r
+      → OnWayNext A lo hi r o
+  comes-to-end : o .answer ≡ end → OnWayNext A lo hi r o
+
+pub on-way-start : {s : List ℕ} (A : Admitted s) (lo hi : Bound) → length (boundBytes lo) ≤ maxPath → length (boundBytes hi) ≤ maxPath
+    → (r : View) → start s lo hi ≡ started r → OnWay A lo hi r
+on-way-start A lo hi a b r is =
+    let q = sought A lo hi a b in
+    let given = start-given A lo hi a b in
+    let same : r ≡ reading₀ A lo hi a b = cc in
+    record { short = b; handed = []; comes = rw same (start-comes A lo hi b (q .levels) (pend A lo hi b) refl (q .sane) (q .comes)) }
+
+pub on-way-next : {s : List ℕ} (A : Admitted s) (lo hi : Bound) (r : View) → OnWay A lo hi r → (space : ℕ) → maxPath ≤ space → OnWayNext A lo hi r (next s r space)
+on-way-next {s} A lo hi r w space room =
+    by (ask-step s (A .meta) (A .opens) hi (length (boundBytes hi)) (w .short) (visits A lo hi (w .short)) (pend A lo hi (w .short)) space room (w .handed) 0 r (w .comes))
+  where
+    by : Called s (A .meta) (A .opens) hi (length (boundBytes hi)) (w .short) (visits A lo hi (w .short)) (pend A lo hi (w .short)) (w .handed) 0 r (next s r space)
+        → OnWayNext A lo hi r (next s r space)
+    by (hands e z is c less) = goes-on e is (record { short = w .short; handed = w .handed ++ (e ∷ []); comes = c }) less
+    by (ended is c) = comes-to-end is
 
 -- ---- the refusals of a start
 
