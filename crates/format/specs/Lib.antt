@@ -5,6 +5,8 @@ pub mod Bytes
 pub mod BytesLaws
 pub mod Put
 pub mod PutLaws
+pub mod CopyLaws
+pub mod WritingLaws
 pub mod CommonInputs
 pub mod CommonInputsLaws
 pub mod Node

@@ -1,4 +1,3 @@
 -- Lemmas on plain lists and numbers, for the proofs of this crate.
-mod Copying
 mod Searching
 mod KeyAnswers

@@ -13,7 +13,8 @@ use Rattle.format.specs.DecideLaws.{decides-and, decides-lt, false-of}
 use Rattle.format.specs.PutLaws.{put-nil, set-put, put-next}
 use Rattle.format.specs.CommonInputs.{commonIdx}
 use Rattle.format.specs.Packed.{indexOf, indexBytes, inputBytes, finalFlag, headOf}
-use Rattle.node_compile.specs.Parts.{stateBytes, PutAt}
+use Rattle.format.specs.Put.{PutAt}
+use Rattle.node_compile.specs.Parts.{stateBytes}
 
 -- ---- no byte, one byte, two bytes
 

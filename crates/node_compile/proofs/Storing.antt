@@ -10,11 +10,10 @@ use lib.ListN.{length, getD, take, drop, set, length-drop, length-append, length
 use lib.Seq.{take-suc, take-all, length-take-le}
 use Rattle.format.specs.Bytes.{bytesOf}
 use Rattle.format.specs.BytesLaws.{length-bytes-of}
-use Rattle.format.specs.Put.{put}
+use Rattle.format.specs.Put.{put, PutAt}
 use Rattle.format.specs.PutLaws.{put-nil, put-next, set-put, length-put}
 use Rattle.format.specs.Packed.{storedNumbers, storedBytes}
 use Rattle.format.specs.PackedLaws.{length-stored-numbers, length-stored-bytes, stored-numbers-drop, stored-bytes-drop, stored-numbers-none, stored-bytes-none}
-use Rattle.node_compile.specs.Parts.{PutAt}
 
 -- ---- bytes
 

@@ -53,7 +53,3 @@ fitting bs room = cond (leb (length bs) room) (written bs) (refused SPACE)
 pub record Fitted (bs out₀ out : List ℕ) (r : Compiled) : Type 0 where
   pub answer : r ≡ answerOf (fitting bs (length out₀))
   pub buffer : out ≡ bufferOf (fitting bs (length out₀)) out₀
-
-pub record PutAt (out₀ : List ℕ) (at : ℕ) (v out : List ℕ) (r : ℕ) : Type 0 where
-  pub is : out ≡ put out₀ at v
-  pub next : r ≡ at + length v

@@ -13,7 +13,8 @@ use Rattle.format.specs.Packed.{outputSize, sizesOf, packedOne}
 use Rattle.format.specs.PackedLaws.{output-size-le}
 use Rattle.node_compile.specs.Parts.{stateBytes}
 use Rattle.node_compile.proofs.Heads.{put-one-byte}
-use Rattle.node_compile.proofs.Whole.{Writing, writing-none, writing-room, part-room, part-written, last-written, number-written, number-room, one-parts}
+use Rattle.format.specs.WritingLaws.{Writing, writing-none, writing-room, part-room, part-written, last-written}
+use Rattle.node_compile.proofs.Whole.{number-written, number-room, one-parts}
 use Rattle.node_compile.proofs.put_one.Statement.{statement}
 use Rattle.node_compile.proofs.put_one.Tie as tie
 
