@@ -1,0 +1,10 @@
+pub mod StackLaws
+pub mod OrderLaws
+pub mod PopLaws
+pub mod DescendLaws
+pub mod GoingLaws
+pub mod NextLaws
+pub mod SeekLaws
+pub mod LevelWrites
+pub mod Seeking
+pub mod StartLaws
