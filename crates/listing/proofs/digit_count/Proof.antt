@@ -1,0 +1,33 @@
+-- `listing::digit_count` meets its contract. The invariant: the digits of n are those counted but one, and those of rest. The
+-- measure is rest.
+-- Assumes nothing.
+use native.Mathlib.Omega.{arith}
+use borrow.Author.Needs.{needs}
+use Rattle.listing.proofs.Digits.{CountedTo, counted-none, counted-few, counted-step, counted-all}
+use Rattle.listing.proofs.digit_count.Statement.{statement}
+use Rattle.listing.proofs.digit_count.Tie as tie
+
+abbrev Inv-loop : tie.InvT-loop
+Inv-loop n count₀ rest₀ count rest = CountedTo n count rest
+
+abbrev μ-loop : tie.MeasureT-loop
+μ-loop n count₀ rest₀ count rest = rest
+
+loop-holds : tie.Need-loop-holds Inv-loop μ-loop
+loop-holds c = counted-none (c .args .n) (c .fits .n .fits)
+
+add-count : tie.Need-add-count Inv-loop μ-loop
+add-count c = omega (arith, counted-few (c .loop-test .taken) (c .before .loop .inv))
+
+loop-less : tie.Need-loop-less Inv-loop μ-loop
+loop-less c = search needs
+
+loop-again : tie.Need-loop-again Inv-loop μ-loop
+loop-again c = counted-step (c .loop-test .taken) (c .before .loop .inv)
+
+returns : tie.Need-returns Inv-loop μ-loop
+returns c = counted-all (c .loop-test .left) (c .before .loop .inv)
+
+pub digit-count-spec : {M : Type 1} → statement M
+digit-count-spec =
+    tie.close (tie.spec Inv-loop μ-loop loop-holds add-count loop-less loop-again returns)

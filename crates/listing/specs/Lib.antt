@@ -1,0 +1,5 @@
+pub mod Lines
+pub mod LinesLaws
+pub mod Listing
+pub mod ListingLaws
+pub mod Lined
