@@ -149,3 +149,199 @@ pub trait FileAnswers {
     // `key` as given.
     fn get_key(&self, file: &[u8], value: u64, key: &mut [u8]) -> u64;
 }
+
+// ---- readings
+
+// The refusals of a bound and of a reading; the others are above.
+pub const BOUND: u64 = 9;
+pub const STATE: u64 = 11;
+
+// The numbers of the kinds are 0, 1, and any other.
+#[derive(Clone, Copy, Debug, Eq, PartialEq)]
+pub enum Kind {
+    Included,
+    Excluded,
+    Unbounded,
+}
+
+pub const BOUND_KINDS: [Kind; 3] = [Kind::Included, Kind::Excluded, Kind::Unbounded];
+
+impl Kind {
+    pub fn number(self) -> u64 {
+        self as u64
+    }
+
+    fn of(number: u64) -> Kind {
+        BOUND_KINDS.get(number as usize).copied().unwrap_or(Kind::Unbounded)
+    }
+}
+
+// A bound as it is handed in. The bytes beside an unbounded one carry no meaning.
+#[derive(Clone, Debug)]
+pub struct Bound {
+    pub kind: Kind,
+    pub bytes: Vec<u8>,
+}
+
+// A level: the node's address, the byte that led there, the next place, and the running sum.
+#[derive(Clone, Copy, Debug, Default, Eq, PartialEq)]
+pub struct Level {
+    pub addr: u32,
+    pub inp: u8,
+    pub place: u16,
+    pub sum: u64,
+}
+
+// How many levels and how many bytes of a bound a reading has room for.
+pub const LEVELS: usize = 256;
+pub const BOUND_BYTES: usize = 255;
+
+// What a reading says, without the entries that carry no meaning. It may state more levels or a longer bound than it has
+// room for; then the lists have as many entries as there is room.
+#[derive(Clone, Debug, Eq, PartialEq)]
+pub struct Reading {
+    pub file_len: usize,
+    pub kind: Kind,
+    pub bound_len: usize,
+    pub bound: Vec<u8>,
+    pub pending: Option<u64>,
+    pub total: u64,
+    pub level_count: usize,
+    pub levels: Vec<Level>,
+}
+
+// A reading as it is lent to the exported functions.
+#[derive(Clone)]
+pub struct Held {
+    // file length, the bound's kind and length, 1 where an empty key is pending, its value, total, level count
+    pub head: [u64; 7],
+    pub bound: [u8; BOUND_BYTES],
+    pub addrs: [u32; LEVELS],
+    pub inps: [u8; LEVELS],
+    pub places: [u16; LEVELS],
+    pub sums: [u64; LEVELS],
+}
+
+impl Held {
+    pub fn new() -> Held {
+        Held {
+            head: [0; 7],
+            bound: [0; BOUND_BYTES],
+            addrs: [0; LEVELS],
+            inps: [0; LEVELS],
+            places: [0; LEVELS],
+            sums: [0; LEVELS],
+        }
+    }
+
+    // What carries no meaning stays as given.
+    pub fn put(&mut self, reading: &Reading) {
+        let value = reading.pending.unwrap_or(self.head[4]);
+        self.head = [
+            reading.file_len as u64,
+            reading.kind.number(),
+            reading.bound_len as u64,
+            reading.pending.is_some() as u64,
+            value,
+            reading.total,
+            reading.level_count as u64,
+        ];
+        self.bound[..reading.bound.len()].copy_from_slice(&reading.bound);
+        for (i, level) in reading.levels.iter().enumerate() {
+            self.addrs[i] = level.addr;
+            self.inps[i] = level.inp;
+            self.places[i] = level.place;
+            self.sums[i] = level.sum;
+        }
+    }
+
+    pub fn reading(&self) -> Reading {
+        let kind = Kind::of(self.head[1]);
+        let (bound_len, level_count) = (self.head[2] as usize, self.head[6] as usize);
+        let bytes = if kind == Kind::Unbounded { 0 } else { bound_len.min(BOUND_BYTES) };
+        let level = |i| Level { addr: self.addrs[i], inp: self.inps[i], place: self.places[i], sum: self.sums[i] };
+        Reading {
+            file_len: self.head[0] as usize,
+            kind,
+            bound_len,
+            bound: self.bound[..bytes].to_vec(),
+            pending: if self.head[3] == 0 { None } else { Some(self.head[4]) },
+            total: self.head[5],
+            level_count,
+            levels: (0..level_count.min(LEVELS)).map(level).collect(),
+        }
+    }
+
+    // Every entry.
+    pub fn all(&self) -> (&[u64], &[u8], &[u32], &[u8], &[u16], &[u64]) {
+        (&self.head, &self.bound, &self.addrs, &self.inps, &self.places, &self.sums)
+    }
+}
+
+impl Reading {
+    pub fn set_levels(&mut self, levels: Vec<Level>) {
+        self.level_count = levels.len();
+        self.levels = levels;
+    }
+}
+
+// What a start answers where it gives a reading.
+pub const STARTED: u64 = 0;
+
+// What a next answers beside a key's length. A refusal is added to the last.
+pub const END: u64 = 1000;
+pub const NEXT_REFUSED: u64 = 2000;
+
+// The names of what a start and a next answer, for counts; refusals in the order of their numbers.
+pub const STARTS: [&str; 12] = [
+    "starts: a reading",
+    "starts, refused: 1 SHORT",
+    "starts, refused: 2 VERSION",
+    "starts, refused: 3 ROOT",
+    "starts, refused: 4 LARGE",
+    "starts, refused: 5 NODE",
+    "starts, refused: 6 DEEP",
+    "starts, refused: 7 SUM",
+    "starts, refused: 8 SPACE",
+    "starts, refused: 9 BOUND",
+    "starts, refused: 10 RECORD",
+    "starts, refused: 11 STATE",
+];
+pub const NEXTS: [&str; 12] = [
+    "nexts: a key or the end",
+    "nexts, refused: 1 SHORT",
+    "nexts, refused: 2 VERSION",
+    "nexts, refused: 3 ROOT",
+    "nexts, refused: 4 LARGE",
+    "nexts, refused: 5 NODE",
+    "nexts, refused: 6 DEEP",
+    "nexts, refused: 7 SUM",
+    "nexts, refused: 8 SPACE",
+    "nexts, refused: 9 BOUND",
+    "nexts, refused: 10 RECORD",
+    "nexts, refused: 11 STATE",
+];
+
+// One who answers about readings: our library, or in the self-test the model in its place.
+pub trait ReadingAnswers {
+    // STARTED, with the reading in `held`; or a refusal, `held` as given.
+    fn start(&self, file: &[u8], lower: &Bound, upper: &Bound, held: &mut Held) -> u64;
+
+    // The key's length, the key at the front of `key` and its value in `value`; END; or NEXT_REFUSED plus a refusal. `held` has
+    // the reading afterwards. Everything else that is lent stays as given.
+    fn next(&self, file: &[u8], held: &mut Held, key: &mut [u8], value: &mut [u64; 1]) -> u64;
+
+    // How many calls after a start give a key, up to the first that does not and at most so many; none where it is refused.
+    // `key` holds what they left there.
+    fn keys(&self, file: &[u8], lower: &Bound, upper: &Bound, most: u64, key: &mut [u8]) -> u64 {
+        let mut held = Held::new();
+        if self.start(file, lower, upper, &mut held) != STARTED {
+            return 0;
+        }
+        let mut n = 0;
+        while n < most && self.next(file, &mut held, key, &mut [0]) < END {
+            n += 1;
+        }
+        n
+    }
+}

@@ -1,21 +1,26 @@
-// Times of lookups, ours beside the Rust's, on three sets that are made here (docs/PERFORMANCE.md). Ours opens the file and
-// judges each node in every call; the Rust opens it once and judges nothing.
+// Times of lookups and readings, ours beside the Rust's, on three sets that are made here (docs/PERFORMANCE.md). Ours opens the
+// file and judges each node in every call; the Rust opens it once and judges nothing.
 
 use std::hint::black_box;
 use std::time::Instant;
 
-use crate::answers::{Answers, At, FileAnswers, HELD, NOT_HELD, NO_KEY, SOUND};
+use crate::answers::{Answers, At, Bound, FileAnswers, Kind, ReadingAnswers, HELD, NOT_HELD, NO_KEY, SOUND};
 use crate::builder::Builder;
 use crate::generate_file;
 use crate::given_file::{self, Opened};
 use crate::model_file::MAX_PATH;
 use crate::prng::Prng;
+use crate::stream::Streamer;
 
 const ASKED: usize = 200_000;
 // The questions are asked so many at a time. Of each such part the least time of so many rounds is kept, since whatever else
 // runs on the machine only adds to it.
 const PART: usize = 5_000;
 const ROUNDS: usize = 9;
+// Of readings so many keys are read, in one range and in ranges of so many keys, which are timed in so many parts.
+const READ: usize = 100_000;
+const SHORT: usize = 20;
+const PARTS: usize = 20;
 
 struct Set {
     name: &'static str,
@@ -42,8 +47,13 @@ fn sets() -> Vec<Set> {
 
 // The time of a question, in nanoseconds, for each of two who answer. They take turns, each half a round behind the other, so
 // that neither finds in the caches what the other has just read.
-fn times<T>(questions: &[T], mut ours: impl FnMut(&[T]), mut rust: impl FnMut(&[T])) -> (f64, f64) {
-    let parts: Vec<&[T]> = questions.chunks(PART).collect();
+fn times<T>(questions: &[T], ours: impl FnMut(&[T]), rust: impl FnMut(&[T])) -> (f64, f64) {
+    times_in(questions, PART, ours, rust)
+}
+
+// The same with so many questions at a time.
+fn times_in<T>(questions: &[T], part: usize, mut ours: impl FnMut(&[T]), mut rust: impl FnMut(&[T])) -> (f64, f64) {
+    let parts: Vec<&[T]> = questions.chunks(part).collect();
     let n = parts.len();
     let mut least = vec![(f64::INFINITY, f64::INFINITY); n];
     for _ in 0..ROUNDS {
@@ -149,8 +159,62 @@ fn entering(ours: &dyn Answers, rust: &Opened, file: &[u8], paths: &[Vec<usize>]
     )
 }
 
-pub fn bench(nodes: &dyn Answers, ours: &dyn FileAnswers) {
-    println!("nanoseconds a lookup, over {} lookups\n", ASKED);
+// ---- readings
+
+// A part of a reading in one range: the bounds, and how many keys lie between them.
+struct Part {
+    lower: Bound,
+    upper: Bound,
+    keys: usize,
+}
+
+// How many keys a range has by the Rust, which is read up to the end.
+fn read_by_the_rust(rust: &Opened, part: &Part) -> usize {
+    let mut range = rust.range_timed(&part.lower, &part.upper);
+    let mut n = 0;
+    while let Some(key) = range.next() {
+        black_box(key);
+        n += 1;
+    }
+    n
+}
+
+// The time of a key, over ranges that are read whole.
+fn reading(ours: &dyn ReadingAnswers, rust: &Opened, file: &[u8], parts: &[Part]) -> (f64, f64) {
+    let mut key = [0; MAX_PATH];
+    let mut read = |part: &Part| ours.keys(file, &part.lower, &part.upper, u64::max_value(), &mut key) as usize;
+    let mut keys = 0;
+    for part in parts {
+        assert_eq!(read(part), part.keys);
+        assert_eq!(read_by_the_rust(rust, part), part.keys);
+        keys += part.keys;
+    }
+    let (by_ours, by_the_rust) = times_in(
+        parts,
+        1 + parts.len() / PARTS,
+        |parts| {
+            for part in parts {
+                black_box(read(part));
+            }
+        },
+        |parts| {
+            for part in parts {
+                black_box(read_by_the_rust(rust, part));
+            }
+        },
+    );
+    let each = parts.len() as f64 / keys as f64;
+    (by_ours * each, by_the_rust * each)
+}
+
+// The keys from place i on, so many of them, as one range.
+fn part(keys: &[Vec<u8>], i: usize, n: usize) -> Part {
+    let bound = |place: usize| Bound { kind: Kind::Included, bytes: keys[place].clone() };
+    Part { lower: bound(i), upper: bound(i + n - 1), keys: n }
+}
+
+pub fn bench(nodes: &dyn Answers, ours: &dyn FileAnswers, readings: &dyn ReadingAnswers) {
+    println!("nanoseconds a lookup, over {} lookups; of readings, nanoseconds a key\n", ASKED);
     for set in sets() {
         let mut prng = Prng::new(10);
         let n = set.keys.len();
@@ -193,6 +257,11 @@ pub fn bench(nodes: &dyn Answers, ours: &dyn FileAnswers) {
         say("by value", by_value(ours, &rust, &file, &values, true));
         let values: Vec<u64> = values.iter().map(|value| value + 1).collect();
         say("by value, none", by_value(ours, &rust, &file, &values, false));
+        // one reading over much of the file, and short ones
+        let whole = [part(&set.keys, 0, READ)];
+        say("key of a long reading", reading(readings, &rust, &file, &whole));
+        let short: Vec<Part> = (0..READ / SHORT).map(|_| part(&set.keys, prng.below(n - SHORT), SHORT)).collect();
+        say("key of a range of 20", reading(readings, &rust, &file, &short));
         println!();
     }
 }

@@ -4,16 +4,18 @@
 use std::collections::BTreeMap;
 use std::fmt::Debug;
 
-use crate::answers::{Answers, At, FileAnswers, Record};
+use crate::answers::{Answers, At, FileAnswers, ReadingAnswers, Record};
 use crate::generate::INPUTS;
 use crate::given;
 use crate::prng::Prng;
 
 mod admission;
 mod lookup;
+mod made;
 mod numbers;
 mod opening;
 mod packing;
+mod ranges;
 mod reading;
 mod stored;
 
@@ -106,11 +108,17 @@ const FILES_DAMAGED: usize = 400_000;
 const LARGE_FILES_DAMAGED: usize = 40_000;
 const LOOKUPS: usize = 2_000_000;
 const LOOKUPS_DAMAGED: usize = 600_000;
+const RANGES: usize = 150_000;
+const READINGS: usize = 150_000;
+
+// Who is compared on nodes, on whole files, and on readings; nobody where no library is linked.
+pub type Ours<'a> = (Option<&'a dyn Answers>, Option<&'a dyn FileAnswers>, Option<&'a dyn ReadingAnswers>);
 
 pub struct Run<'a> {
-    // our library, where it is linked: on nodes, and on whole files
+    // our library, where it is linked: on nodes, on whole files, and on readings
     ours: Option<&'a dyn Answers>,
     ours_file: Option<&'a dyn FileAnswers>,
+    ours_reading: Option<&'a dyn ReadingAnswers>,
     // a whole run has every random case, another one in so many
     one_in: usize,
     prng: Prng,
@@ -141,26 +149,45 @@ const DELTA_SIZES: [&str; 9] = [
 ];
 
 impl<'a> Run<'a> {
-    pub fn new(ours: Option<&'a dyn Answers>, ours_file: Option<&'a dyn FileAnswers>, one_in: usize) -> Run<'a> {
-        Run { ours, ours_file, one_in, prng: Prng::new(2), counts: BTreeMap::new() }
+    pub fn new(ours: Ours<'a>, one_in: usize) -> Run<'a> {
+        let (ours, ours_file, ours_reading) = ours;
+        Run { ours, ours_file, ours_reading, one_in, prng: Prng::new(2), counts: BTreeMap::new() }
     }
 
     // Every comparison, with a line or more for each.
     pub fn all(&mut self, print: bool) -> Checked {
-        let sections: [(&str, fn(&mut Run<'a>) -> Checked); 11] = [
-            ("tables", Run::tables),
-            ("stored numbers", Run::numbers),
-            ("packing, and reading back", Run::packing),
-            ("records refused", Run::refused),
-            ("unusual nodes", Run::unusual),
-            ("damaged nodes, other addresses and roots", Run::damaged),
-            ("opening", Run::opening),
-            ("admission", Run::admission),
-            ("admission of a file of 16,777,216 bytes", Run::admission_of_largest),
-            ("lookup in admitted files", Run::lookup),
-            ("lookup in damaged files", Run::lookup_damaged),
-        ];
-        for (name, section) in &sections {
+        self.sections(
+            print,
+            &[
+                ("tables", Run::tables),
+                ("stored numbers", Run::numbers),
+                ("packing, and reading back", Run::packing),
+                ("records refused", Run::refused),
+                ("unusual nodes", Run::unusual),
+                ("damaged nodes, other addresses and roots", Run::damaged),
+                ("opening", Run::opening),
+                ("admission", Run::admission),
+                ("admission of a file of 16,777,216 bytes", Run::admission_of_largest),
+                ("lookup in admitted files", Run::lookup),
+                ("lookup in damaged files", Run::lookup_damaged),
+            ],
+        )?;
+        self.readings(print)
+    }
+
+    // The comparisons of readings alone.
+    pub fn readings(&mut self, print: bool) -> Checked {
+        self.sections(
+            print,
+            &[
+                ("ranges of admitted files", Run::ranges),
+                ("damaged files, and readings that no start gave", Run::made_readings),
+            ],
+        )
+    }
+
+    fn sections(&mut self, print: bool, sections: &[(&str, fn(&mut Run<'a>) -> Checked)]) -> Checked {
+        for (name, section) in sections {
             self.counts.clear();
             section(self)?;
             if print {
@@ -174,7 +201,11 @@ impl<'a> Run<'a> {
     }
 
     fn count(&mut self, what: &'static str) {
-        *self.counts.entry(what).or_insert(0) += 1;
+        self.count_more(what, 1);
+    }
+
+    fn count_more(&mut self, what: &'static str, n: usize) {
+        *self.counts.entry(what).or_insert(0) += n;
     }
 
     // A whole run hits each of these so often.

@@ -5,7 +5,7 @@ use crate::given::caught;
 use crate::raw::{Builder, Fst};
 
 pub struct Opened<'f> {
-    fst: Fst<&'f [u8]>,
+    pub fst: Fst<&'f [u8]>,
 }
 
 // The file, where the Rust opens it. Outside a panic it says no more than that it does not.

@@ -22,34 +22,41 @@ mod builder;
 mod compare;
 mod generate;
 mod generate_file;
+mod generate_reading;
 mod given;
 mod given_file;
+mod given_reading;
 mod hand_made;
+mod listing;
 mod model;
 mod model_file;
+mod model_reading;
 #[cfg(library)]
 mod ours;
 #[cfg(library)]
 mod ours_file;
+#[cfg(library)]
+mod ours_reading;
 mod prng;
 mod replay;
 mod replay_file;
+mod replay_reading;
 mod wrong;
 mod wrong_file;
+mod wrong_reading;
 
 use std::process;
 
-use crate::answers::{Answers, FileAnswers};
-use crate::compare::{Difference, Run};
+use crate::compare::{Difference, Ours, Run};
 
 #[cfg(library)]
-fn library() -> Option<(&'static dyn Answers, &'static dyn FileAnswers)> {
-    Some((&ours::Library, &ours::Library))
+fn library() -> Ours<'static> {
+    (Some(&ours::Library), Some(&ours::Library), Some(&ours::Library))
 }
 
 #[cfg(not(library))]
-fn library() -> Option<(&'static dyn Answers, &'static dyn FileAnswers)> {
-    None
+fn library() -> Ours<'static> {
+    (None, None, None)
 }
 
 fn report(difference: &Difference) {
@@ -60,9 +67,12 @@ fn report(difference: &Difference) {
     }
 }
 
-// The whole comparison, and the kept lists held to what would be recorded now.
+// The stored listings and, after the whole comparison, the kept lists held to what would be recorded now.
 fn compare(lists: &[String]) -> bool {
-    let mut run = Run::new(library().map(|ours| ours.0), library().map(|ours| ours.1), 1);
+    if !listing::kept() {
+        return false;
+    }
+    let mut run = Run::new(library(), 1);
     if let Err(difference) = compare::common_inputs_named().and_then(|()| run.all(true)) {
         report(&difference);
         return false;
@@ -77,20 +87,48 @@ fn compare(lists: &[String]) -> bool {
     true
 }
 
-// The replay lists, of nodes and of whole files, each with how many of each kind it has.
+// The comparisons of readings alone.
+fn compare_readings() -> bool {
+    match Run::new(library(), 1).readings(true) {
+        Ok(()) => true,
+        Err(difference) => {
+            report(&difference);
+            false
+        }
+    }
+}
+
+// The replay lists, of nodes, of whole files and of readings, each with how many of each kind it has.
 fn recorded() -> Vec<(Vec<u8>, Vec<(&'static str, usize)>)> {
-    vec![replay::list(), replay_file::list()]
+    vec![replay::list(), replay_file::list(), replay_reading::list()]
+}
+
+// The whole comparison in small, or that of readings alone, with these in our library's place.
+fn in_small(ours: Ours, readings_alone: bool) -> Result<(), Difference> {
+    let mut run = Run::new(ours, 100);
+    if readings_alone {
+        run.readings(false)
+    } else {
+        run.all(false)
+    }
 }
 
 // The model in our library's place agrees, and with each slip it does not.
 fn self_test() -> bool {
-    if let Err(difference) = Run::new(Some(&model::Model), Some(&model::Model), 100).all(false) {
+    if let Err(difference) = in_small((Some(&model::Model), Some(&model::Model), Some(&model::Model)), false) {
         report(&difference);
         return false;
     }
-    for &slip in wrong::SLIPS.iter().chain(wrong_file::SLIPS) {
+    // what the slips of readings are made in agrees too
+    let unslipped = wrong::Wrong { slip: "" };
+    if let Err(difference) = in_small((None, None, Some(&unslipped)), true) {
+        report(&difference);
+        return false;
+    }
+    let slips = wrong::SLIPS.iter().chain(wrong_file::SLIPS).map(|slip| (slip, false));
+    for (&slip, readings_alone) in slips.chain(wrong_reading::SLIPS.iter().map(|slip| (slip, true))) {
         let wrong = wrong::Wrong { slip };
-        match Run::new(Some(&wrong), Some(&wrong), 100).all(false) {
+        match in_small((Some(&wrong), Some(&wrong), Some(&wrong)), readings_alone) {
             Err(difference) => println!("noticed: {}  ({})", slip, difference.what),
             Ok(()) => {
                 println!("oracle: not noticed: {}", slip);
@@ -103,7 +141,7 @@ fn self_test() -> bool {
 
 #[cfg(library)]
 fn bench() -> bool {
-    bench::bench(&ours::Library, &ours::Library);
+    bench::bench(&ours::Library, &ours::Library, &ours::Library);
     true
 }
 
@@ -132,11 +170,13 @@ fn main() {
     let args: Vec<String> = std::env::args().collect();
     let right = match args.get(1).map(String::as_str) {
         Some("compare") => compare(&args[2..]),
+        Some("readings") => compare_readings(),
         Some("self-test") => self_test(),
         Some("record") => record(&args[2..]),
+        Some("listing") => listing::make(),
         Some("bench") => bench(),
         _ => {
-            println!("oracle: compare, self-test, record or bench");
+            println!("oracle: compare, readings, self-test, record, listing or bench");
             process::exit(2);
         }
     };

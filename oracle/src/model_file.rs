@@ -12,7 +12,7 @@ use crate::model::{self, number, Model, FIRST_NODE, MAX_LEN};
 pub const MIN_LEN: usize = 36;
 // The longest path of an admitted file, and the longest key that a search by value finds.
 pub const MAX_PATH: usize = 255;
-const MAX_SUM: u128 = (1 << 64) - 1;
+pub const MAX_SUM: u128 = (1 << 64) - 1;
 
 // ---- opening
 
@@ -52,7 +52,7 @@ pub fn open(file: &[u8]) -> Result<Meta, u64> {
     })
 }
 
-fn judge(file: &[u8], meta: &Meta, addr: usize) -> Option<Meaning> {
+pub fn judge(file: &[u8], meta: &Meta, addr: usize) -> Option<Meaning> {
     model::judge(At { file, version: meta.version, root: meta.root, addr }).ok()
 }
 

@@ -22,15 +22,16 @@ const VALUE: u8 = 5;
 pub const MOST: usize = 600;
 const FILES: usize = 170;
 
+// A list of records, and how many of each kind there are.
 #[derive(Default)]
-struct List {
-    bytes: Vec<u8>,
+pub struct List {
+    pub bytes: Vec<u8>,
     records: u32,
     counts: BTreeMap<&'static str, usize>,
 }
 
 impl List {
-    fn put(&mut self, kind: u8, a: u64, b: u64, c: u64, part: &[u8]) {
+    pub fn put(&mut self, kind: u8, a: u64, b: u64, c: u64, part: &[u8]) {
         let two = |n: u64| {
             assert!(n < 65_536);
             (n as u16).to_le_bytes()
@@ -44,8 +45,14 @@ impl List {
         self.records += 1;
     }
 
-    fn count(&mut self, what: &'static str) {
+    pub fn count(&mut self, what: &'static str) {
         *self.counts.entry(what).or_insert(0) += 1;
+    }
+
+    pub fn finish(self) -> (Vec<u8>, Vec<(&'static str, usize)>) {
+        let mut bytes = self.records.to_le_bytes().to_vec();
+        bytes.extend(self.bytes);
+        (bytes, self.counts.into_iter().collect())
     }
 
     // The file with what admission answers in tables of so many entries, and what opening answers.
@@ -142,7 +149,7 @@ impl List {
 }
 
 // Document 01's D and examples, and files at the limits of paths and sums.
-fn by_hand() -> Vec<Vec<u8>> {
+pub fn by_hand() -> Vec<Vec<u8>> {
     let top = u64::max_value();
     vec![
         hand_made::d(),
@@ -223,7 +230,5 @@ pub fn list() -> (Vec<u8>, Vec<(&'static str, usize)>) {
         let recorded = list.file(&damaged, damaged.len() + 2);
         list.lookups(&mut prng, &damaged, recorded.as_ref(), &keys, 6);
     }
-    let mut bytes = list.records.to_le_bytes().to_vec();
-    bytes.extend(list.bytes);
-    (bytes, list.counts.into_iter().collect())
+    list.finish()
 }

@@ -461,7 +461,7 @@ impl<'a> Run<'a> {
         Ok(())
     }
 
-    fn count_file(&mut self, found: &Admitted, numbered: bool) {
+    pub fn count_file(&mut self, found: &Admitted, numbered: bool) {
         let mut targets: Vec<usize> =
             found.chain.iter().flat_map(|(_, node, _)| node.transitions.iter().map(|t| t.addr)).collect();
         targets.sort();
@@ -505,32 +505,7 @@ impl<'a> Run<'a> {
         self.prng = Prng::new(7);
         let mut done = 0;
         while done < LOOKUPS_DAMAGED / self.one_in {
-            let kind = self.prng.below(12);
-            let prng = &mut self.prng;
-            let (file, held) = match kind {
-                0 => {
-                    // a path over 255 that any value of its sum follows
-                    let (version, n) = (prng.pick(&[1, 2, 3]), prng.between(250, 262));
-                    let size = prng.pick(&[0, 0, 0, 1, 7]);
-                    let finals = prng.one_in(4);
-                    let made = generate_file::path_over(prng, version, &[0, 0, 0x40], n, size, finals);
-                    (made, Vec::new())
-                }
-                1 | 2 => {
-                    // outputs of 8 bytes, whose sums often do not fit
-                    let (version, nodes) = (prng.pick(&[1, 2, 3]), prng.between(2, 9));
-                    let loose = prng.one_in(3);
-                    (generate_file::chained(prng, version, nodes, 8, loose).file, Vec::new())
-                }
-                3 => {
-                    let made = medium(prng);
-                    (made.file, made.keys)
-                }
-                _ => {
-                    let made = small(prng);
-                    (made.file, made.keys)
-                }
-            };
+            let (file, held) = self.to_damage();
             let leading = self.leading(&file, held);
             for _ in 0..8 {
                 let damaged = self.damaged_file(&file);
@@ -558,8 +533,38 @@ impl<'a> Run<'a> {
         Ok(())
     }
 
+    // A file to damage, some with paths over 255 or with sums that do not fit, and keys that it was built from.
+    pub fn to_damage(&mut self) -> (Vec<u8>, Vec<Vec<u8>>) {
+        let kind = self.prng.below(12);
+        let prng = &mut self.prng;
+        match kind {
+            0 => {
+                // a path over 255 that any value of its sum follows
+                let (version, n) = (prng.pick(&[1, 2, 3]), prng.between(250, 262));
+                let size = prng.pick(&[0, 0, 0, 1, 7]);
+                let finals = prng.one_in(4);
+                let made = generate_file::path_over(prng, version, &[0, 0, 0x40], n, size, finals);
+                (made, Vec::new())
+            }
+            1 | 2 => {
+                // outputs of 8 bytes, whose sums often do not fit
+                let (version, nodes) = (prng.pick(&[1, 2, 3]), prng.between(2, 9));
+                let loose = prng.one_in(3);
+                (generate_file::chained(prng, version, nodes, 8, loose).file, Vec::new())
+            }
+            3 => {
+                let made = medium(prng);
+                (made.file, made.keys)
+            }
+            _ => {
+                let made = small(prng);
+                (made.file, made.keys)
+            }
+        }
+    }
+
     // Keys that lead far: those held, and bytes on paths as far as the nodes are sound.
-    fn leading(&mut self, file: &[u8], mut held: Vec<Vec<u8>>) -> Vec<Vec<u8>> {
+    pub fn leading(&mut self, file: &[u8], mut held: Vec<Vec<u8>>) -> Vec<Vec<u8>> {
         let prng = &mut self.prng;
         if let Ok(found) = model_file::admitted(file) {
             let nodes = nodes_of(&found);
@@ -587,7 +592,7 @@ impl<'a> Run<'a> {
     }
 
     // The file as it is, with a byte of its nodes changed, with some bytes changed, or with another length.
-    fn damaged_file(&mut self, file: &[u8]) -> Vec<u8> {
+    pub fn damaged_file(&mut self, file: &[u8]) -> Vec<u8> {
         let prng = &mut self.prng;
         let mut file = file.to_vec();
         let n = file.len();

@@ -2,8 +2,9 @@
 // builder that is never called. The modules beside this one are private to `raw`, and `Builder` is the one name here
 // that mod.rs makes public, so the harness's way to them is below it.
 
+use crate::automaton::Automaton;
 use crate::raw::common_inputs::{COMMON_INPUTS, COMMON_INPUTS_INV};
-use crate::raw::{CompiledAddr, Fst, Output, Transition};
+use crate::raw::{CompiledAddr, Fst, Output, Stream, Transition};
 
 #[derive(Clone, Debug, Eq, PartialEq)]
 pub struct BuilderNode {
@@ -60,6 +61,18 @@ impl Builder {
     pub fn meta(fst: &Fst<&[u8]>) -> (u64, u64, u64, CompiledAddr, Option<u32>) {
         let meta = &fst.meta;
         (meta.version, meta.ty, meta.len as u64, meta.root_addr, meta.checksum)
+    }
+
+    // What a stream holds: address, next place and sum of each node on its stack, and the pending empty key's value.
+    pub fn stack<A: Automaton>(stream: &Stream<A>) -> (Vec<(CompiledAddr, usize, u64)>, Option<u64>) {
+        let inner = &stream.0;
+        let stack = inner.stack.iter().map(|state| (state.node.addr(), state.trans, state.out.value())).collect();
+        (stack, inner.empty_output.map(|out| out.value()))
+    }
+
+    // The key that a stream stands at.
+    pub fn stands_at<'s, A: Automaton>(stream: &'s Stream<A>) -> &'s [u8] {
+        &stream.0.inp
     }
 
     pub fn common_inputs() -> &'static [u8; 256] {

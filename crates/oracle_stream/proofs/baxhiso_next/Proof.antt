@@ -1,0 +1,44 @@
+-- `oracle_stream::baxhiso_next` meets its contract: what next answered is the definition's answer, and the arrays hold its reading.
+-- Assumes nothing.
+use lib.ListN.{length}
+use borrow.Author.Needs.{needs}
+use denote.Ref.{now}
+use Rattle.oracle_stream.proofs.Telling.{next-of, next-told}
+use Rattle.oracle_stream.specs.Held.{held}
+use Rattle.oracle_stream.proofs.baxhiso_next.Statement.{statement}
+use Rattle.oracle_stream.proofs.baxhiso_next.Tie as tie
+
+reading-of-requires : tie.Need-reading-of-requires
+reading-of-requires c κs = search needs
+
+next-requires : tie.Need-next-requires
+next-requires c κs = search needs
+
+put-requires : tie.Need-put-requires
+put-requires c κs = search needs
+
+told-requires : tie.Need-told-requires
+told-requires c κs = search needs
+
+same-length : tie.Need-same-length
+same-length c = search needs
+
+returns : tie.Need-returns
+returns c =
+    let put = c .before .before in
+    let called = put .before .before .before .before .before .before .before .before .before .before in
+    let read = called .before .before in
+    let x = read .before .before .before .before .before .before .before .before .before .args in
+    let h = held (now (x .head)) (now (x .bound)) (now (x .addrs)) (now (x .inps)) (now (x .trans)) (now (x .outs)) in
+    next-told (next-of (now (x .file)) (length (now (x .key))) h (read .reading-of .ensures) (called .next .ensures)) _ (put .put .ensures) _ (c .told .ensures)
+
+pub baxhiso-next-spec : {M : Type 1} → statement M
+baxhiso-next-spec =
+    tie.close
+    (tie.spec
+    reading-of-requires
+    next-requires
+    put-requires
+    told-requires
+    same-length
+    returns)

@@ -1,0 +1,160 @@
+-- What the exported functions answer: numbers, and what the lent buffers hold afterwards. The reading itself is in `reading` and `stream`.
+--     kindIs n, kindNumber k        the kind of a bound that a number stands for, and back
+--     pendingIs n v                 the pending empty key that two numbers stand for; pendingFlag and pendingValue go back
+--     Held, heldIs h                six arrays, and the reading that they hold
+--     headOf r, heldOf r            the first of the arrays, and all of them, for a reading
+--     StartTold w h₀ h r            what is told of the answer w to a start
+--     Told a v₀ v r                 the number and the value that are told of an answer
+--     NextTold w h k₀ k v₀ v r      what is told of the answer w to a call of next
+--     keysFrom m s v k              how many of the first m calls hand out a key, up to the first that does not, with the buffer k
+--     bufferFrom m s v k            the buffer after these calls
+--     KeysTold, StartKeysTold       what is told of them, from a reading and from a start
+-- Assumes nothing.
+use mathlib.Core.Path.{_≡_}
+use mathlib.Core.Bool.{Bool, true, false}
+use mathlib.Core.List.{List, [], _∷_}
+use Prim.Native.Nat.{ℕ, zero, suc, _+_}
+use lib.ListN.{length, getD}
+use Rattle.reading.specs.Reading as R
+use Rattle.reading.specs.Reading.{View, key, end, written}
+use Rattle.stream.specs.declared.Bound.{Bound}
+use Rattle.stream.specs.declared.Bound.the-variants.{Included, Excluded, Unbounded}
+use Rattle.stream.specs.declared.EmptyOutput.{EmptyOutput}
+use Rattle.stream.specs.declared.EmptyOutput.the-variants.{Pending, Absent}
+use Rattle.stream.specs.declared.Reading.{Reading}
+use Rattle.stream.specs.declared.Answer.{Answer}
+use Rattle.stream.specs.declared.Answer.the-variants.{Key, End, Refused}
+use Rattle.stream.specs.Views.{viewOf}
+
+-- ---- a reading in six arrays
+
+abbrev pub kindIs : ℕ → Bound
+kindIs zero = Included
+kindIs (suc zero) = Excluded
+kindIs (suc (suc n)) = Unbounded
+
+abbrev pub kindNumber : Bound → ℕ
+kindNumber Included = 0
+kindNumber Excluded = 1
+kindNumber Unbounded = 2
+
+abbrev pub pendingIs : ℕ → ℕ → EmptyOutput
+pendingIs zero v = Absent
+pendingIs (suc n) v = Pending v
+
+abbrev pub pendingFlag : EmptyOutput → ℕ
+pendingFlag Absent = 0
+pendingFlag (Pending v) = 1
+
+abbrev pub pendingValue : EmptyOutput → ℕ
+pendingValue Absent = 0
+pendingValue (Pending v) = v
+
+pub record Held : Type 0 where
+  pub head : List ℕ
+  pub bound : List ℕ
+  pub addrs : List ℕ
+  pub inps : List ℕ
+  pub trans : List ℕ
+  pub outs : List ℕ
+
+abbrev pub held : List ℕ → List ℕ → List ℕ → List ℕ → List ℕ → List ℕ → Held
+held h b a i t o = record { head = h; bound = b; addrs = a; inps = i; trans = t; outs = o }
+
+abbrev pub heldIs : Held → Reading
+heldIs h = record {
+  len = getD (h .head) 0 0;
+  kind = kindIs (getD (h .head) 1 0);
+  «bound_len» = getD (h .head) 2 0;
+  bound = h .bound;
+  «empty_output» = pendingIs (getD (h .head) 3 0) (getD (h .head) 4 0);
+  total = getD (h .head) 5 0;
+  levels = getD (h .head) 6 0;
+  addrs = h .addrs;
+  inps = h .inps;
+  trans = h .trans;
+  outs = h .outs;
+}
+
+abbrev pub headOf : Reading → List ℕ
+headOf r =
+    r .len
+    ∷ (kindNumber (r .kind)
+    ∷ (r .«bound_len» ∷ (pendingFlag (r .«empty_output») ∷ (pendingValue (r .«empty_output») ∷ (r .total ∷ (r .levels ∷ []))))))
+
+abbrev pub heldOf : Reading → Held
+heldOf r = held (headOf r) (r .bound) (r .addrs) (r .inps) (r .trans) (r .outs)
+
+-- ---- start: 0 and the reading, or the refusal
+
+abbrev pub startNumber : R.Started → ℕ
+startNumber (R.started v) = 0
+startNumber (R.Started.refused n) = n
+
+pub record StartTold (w : R.Started) (h₀ h : Held) (r : ℕ) : Type 0 where
+  pub answer : r ≡ startNumber w
+  pub reading : (v : View) → w ≡ R.started v → viewOf (heldIs h) ≡ v
+  pub kept : (n : ℕ) → w ≡ R.Started.refused n → h ≡ h₀
+
+-- ---- next: a key's length, 1000 for the end, or 2000 and the refusal; and a key's value
+
+abbrev pub nextNumber : R.Answer → ℕ
+nextNumber (key k v) = length k
+nextNumber end = 1000
+nextNumber (R.Answer.refused n) = 2000 + n
+
+-- a key's value; else what was there
+abbrev pub valueIn : R.Answer → List ℕ → List ℕ
+valueIn (key k x) v = x ∷ []
+valueIn end v = v
+valueIn (R.Answer.refused n) v = v
+
+abbrev pub answerNumber : Answer → ℕ
+answerNumber (Key n x) = n
+answerNumber End = 1000
+answerNumber (Refused n) = 2000 + n
+
+abbrev pub answerValue : Answer → List ℕ → List ℕ
+answerValue (Key n x) v = x ∷ []
+answerValue End v = v
+answerValue (Refused n) v = v
+
+pub record Told (a : Answer) (v₀ v : List ℕ) (r : ℕ) : Type 0 where
+  pub number : r ≡ answerNumber a
+  pub value : v ≡ answerValue a v₀
+
+pub record NextTold (w : R.Step) (h : Held) (k₀ k v₀ v : List ℕ) (r : ℕ) : Type 0 where
+  pub answer : r ≡ nextNumber (w .answer)
+  pub reading : viewOf (heldIs h) ≡ w .reading
+  pub buffer : k ≡ written (w .answer) k₀
+  pub value : v ≡ valueIn (w .answer) v₀
+
+-- ---- calls one after the other
+
+abbrev pub keyTest : Answer → Bool
+keyTest (Key n x) = true
+keyTest End = false
+keyTest (Refused n) = false
+
+abbrev pub onKey : {A : Type 0} → R.Answer → A → A → A
+onKey (key k x) go stop = go
+onKey end go stop = stop
+onKey (R.Answer.refused n) go stop = stop
+
+unfoldable pub keysFrom : ℕ → List ℕ → View → List ℕ → ℕ
+keysFrom zero s v k = 0
+keysFrom (suc m) s v k =
+    onKey (R.next s v (length k) .answer) (suc (keysFrom m s (R.next s v (length k) .reading) (written (R.next s v (length k) .answer) k))) 0
+
+unfoldable pub bufferFrom : ℕ → List ℕ → View → List ℕ → List ℕ
+bufferFrom zero s v k = k
+bufferFrom (suc m) s v k =
+    onKey (R.next s v (length k) .answer) (bufferFrom m s (R.next s v (length k) .reading) (written (R.next s v (length k) .answer) k)) k
+
+pub record KeysTold (m : ℕ) (s : List ℕ) (v : View) (k₀ k : List ℕ) (r : ℕ) : Type 0 where
+  pub answer : r ≡ keysFrom m s v k₀
+  pub buffer : k ≡ bufferFrom m s v k₀
+
+pub record StartKeysTold (m : ℕ) (s : List ℕ) (w : R.Started) (k₀ k : List ℕ) (r : ℕ) : Type 0 where
+  pub reading : (v : View) → w ≡ R.started v → KeysTold m s v k₀ k r
+  pub refused : (n : ℕ) → w ≡ R.Started.refused n → (r ≡ 0) × (k ≡ k₀)

@@ -1,0 +1,278 @@
+// A reading's start and next as functions on numbers, slices and arrays, for the comparison with the Rust (oracle/README.md). Nothing is
+// asked of a caller: each function answers on every input, and its contract says the answer and what the lent buffers hold afterwards. A
+// slice is passed as its pointer and then its length, an array as its pointer.
+//
+// A reading stands in six arrays: head has the file's length, the upper bound's kind and length, 1 where an empty key is pending, its
+// value, the total and the number of levels; the others have the bound's bytes and the levels.
+ghost use mathlib.Core.Path.{_≡_};
+ghost use lib.ListN.{length};
+ghost use Rattle.reading.specs.Reading as R;
+ghost use Rattle.stream.specs.Views.{boundOf, viewOf};
+ghost use Rattle.oracle_stream.specs.Held.{kindIs, kindNumber, pendingIs, pendingFlag, pendingValue, headOf, held, heldIs, heldOf, StartTold, Told, NextTold, keyTest, KeysTold, StartKeysTold};
+use stream::Answer;
+use stream::Begins;
+use stream::Bound;
+use stream::EmptyOutput;
+use stream::Reading;
+
+// ---- what stands for a kind and for a pending key
+
+// The kind of a bound: 0 included, 1 excluded, any other number unbounded.
+fn kind_of(n: u64) -> Bound
+    ensures { λ r. ⌜ r ≡ kindIs n ⌝ }
+{
+    if n == 0 {
+        return Bound::Included;
+    }
+    if n == 1 {
+        return Bound::Excluded;
+    }
+    Bound::Unbounded
+}
+
+fn kind_number(kind: Bound) -> u64
+    ensures { λ r. ⌜ r ≡ kindNumber kind ⌝ }
+{
+    match kind {
+        Bound::Included => 0,
+        Bound::Excluded => 1,
+        Bound::Unbounded => 2,
+    }
+}
+
+// A pending empty key: none where the first number is 0.
+fn pending_of(there: u64, value: u64) -> EmptyOutput
+    ensures { λ r. ⌜ r ≡ pendingIs there value ⌝ }
+{
+    if there == 0 {
+        return EmptyOutput::Absent;
+    }
+    EmptyOutput::Pending(value)
+}
+
+fn pending_flag(empty: EmptyOutput) -> u64
+    ensures { λ r. ⌜ r ≡ pendingFlag empty ⌝ }
+{
+    match empty {
+        EmptyOutput::Absent => 0,
+        EmptyOutput::Pending(_) => 1,
+    }
+}
+
+fn pending_value(empty: EmptyOutput) -> u64
+    ensures { λ r. ⌜ r ≡ pendingValue empty ⌝ }
+{
+    match empty {
+        EmptyOutput::Absent => 0,
+        EmptyOutput::Pending(value) => value,
+    }
+}
+
+// ---- a reading in the arrays
+
+// The reading that the arrays hold.
+fn reading_of(
+    head: [u64; 7],
+    bound: [u8; 255],
+    addrs: [u32; 256],
+    inps: [u8; 256],
+    trans: [u16; 256],
+    outs: [u64; 256],
+) -> Reading
+    ensures { λ r. ⌜ r ≡ heldIs (held head bound addrs inps trans outs) ⌝ }
+{
+    let kind = kind_of(head[1]);
+    let empty_output = pending_of(head[3], head[4]);
+    Reading {
+        len: head[0] as usize,
+        kind,
+        bound_len: head[2] as usize,
+        bound,
+        empty_output,
+        total: head[5],
+        levels: head[6] as usize,
+        addrs,
+        inps,
+        trans,
+        outs,
+    }
+}
+
+// The first of the arrays, for a reading.
+fn head_of(reading: Reading) -> [u64; 7]
+    ensures { λ r. ⌜ r ≡ headOf reading ⌝ }
+{
+    let kind = reading.kind;
+    let empty = reading.empty_output;
+    [
+        reading.len as u64,
+        kind_number(kind),
+        reading.bound_len as u64,
+        pending_flag(empty),
+        pending_value(empty),
+        reading.total,
+        reading.levels as u64,
+    ]
+}
+
+// Puts a reading into the arrays.
+fn put(
+    reading: Reading,
+    head: &mut [u64; 7],
+    bound: &mut [u8; 255],
+    addrs: &mut [u32; 256],
+    inps: &mut [u8; 256],
+    trans: &mut [u16; 256],
+    outs: &mut [u64; 256],
+)
+    ensures { λ _. ⌜ held (now (head .exit)) (now (bound .exit)) (now (addrs .exit)) (now (inps .exit)) (now (trans .exit)) (now (outs .exit)) ≡ heldOf reading ⌝ }
+{
+    let h = head_of(reading);
+    *head = h;
+    let b = reading.bound;
+    *bound = b;
+    let a = reading.addrs;
+    *addrs = a;
+    let i = reading.inps;
+    *inps = i;
+    let t = reading.trans;
+    *trans = t;
+    let o = reading.outs;
+    *outs = o;
+}
+
+// ---- start
+
+// 0 where a start gives a reading, which stands in the arrays then; else the refusal, the arrays as they were.
+#[no_mangle]
+pub extern "C" fn baxhiso_start(
+    file: &[u8],
+    lower_kind: u64,
+    lower: &[u8],
+    upper_kind: u64,
+    upper: &[u8],
+    head: &mut [u64; 7],
+    bound: &mut [u8; 255],
+    addrs: &mut [u32; 256],
+    inps: &mut [u8; 256],
+    trans: &mut [u16; 256],
+    outs: &mut [u64; 256],
+) -> u64
+    ensures { λ r. ⌜ StartTold (R.start (now (file .entry)) (boundOf (kindIs «lower_kind») (now (lower .entry))) (boundOf (kindIs «upper_kind») (now (upper .entry)))) (held (now (head .entry)) (now (bound .entry)) (now (addrs .entry)) (now (inps .entry)) (now (trans .entry)) (now (outs .entry))) (held (now (head .exit)) (now (bound .exit)) (now (addrs .exit)) (now (inps .exit)) (now (trans .exit)) (now (outs .exit))) r ⌝ }
+{
+    let lower_bound = kind_of(lower_kind);
+    let upper_bound = kind_of(upper_kind);
+    let started = stream::start(file, lower_bound, lower, upper_bound, upper);
+    let answer = started.answer;
+    match answer {
+        Begins::Refused(why) => why as u64,
+        Begins::Began => {
+            let reading = started.reading;
+            put(reading, head, bound, addrs, inps, trans, outs);
+            0
+        }
+    }
+}
+
+// ---- next
+
+// An answer as a number: a key's length, 1000 for the end, or 2000 plus the refusal. A key's value is written.
+fn told(answer: Answer, value: &mut [u64; 1]) -> u64
+    ensures { λ r. ⌜ Told answer (now (value .entry)) (now (value .exit)) r ⌝ }
+{
+    match answer {
+        Answer::Key(n, v) => {
+            *value = [v];
+            n as u64
+        }
+        Answer::End => 1000,
+        Answer::Refused(why) => 2000 + (why as u64),
+    }
+}
+
+// The length of the next key, which stands at the front of key, with its value; 1000 for the end; or 2000 plus the refusal. The arrays
+// hold the reading afterwards.
+#[no_mangle]
+pub extern "C" fn baxhiso_next(
+    file: &[u8],
+    head: &mut [u64; 7],
+    bound: &mut [u8; 255],
+    addrs: &mut [u32; 256],
+    inps: &mut [u8; 256],
+    trans: &mut [u16; 256],
+    outs: &mut [u64; 256],
+    key: &mut [u8],
+    value: &mut [u64; 1],
+) -> u64
+    ensures { λ r. ⌜ NextTold (R.next (now (file .entry)) (viewOf (heldIs (held (now (head .entry)) (now (bound .entry)) (now (addrs .entry)) (now (inps .entry)) (now (trans .entry)) (now (outs .entry))))) (length (now (key .entry)))) (held (now (head .exit)) (now (bound .exit)) (now (addrs .exit)) (now (inps .exit)) (now (trans .exit)) (now (outs .exit))) (now (key .entry)) (now (key .exit)) (now (value .entry)) (now (value .exit)) r ⌝ }
+{
+    let h = *head;
+    let b = *bound;
+    let a = *addrs;
+    let i = *inps;
+    let t = *trans;
+    let o = *outs;
+    let reading = reading_of(h, b, a, i, t, o);
+    let step = stream::next(file, reading, key);
+    let after = step.reading;
+    put(after, head, bound, addrs, inps, trans, outs);
+    let answer = step.answer;
+    told(answer, value)
+}
+
+// ---- a range in one call, so that it is timed without the arrays
+
+fn is_key(answer: Answer) -> bool
+    ensures { λ r. ⌜ r ≡ keyTest answer ⌝ }
+{
+    match answer {
+        Answer::Key(_, _) => true,
+        Answer::End => false,
+        Answer::Refused(_) => false,
+    }
+}
+
+// How many calls hand out a key, from this reading on, up to the first that does not and at most so many.
+fn keys_from(file: &[u8], reading: Reading, most: u64, key: &mut [u8]) -> u64
+    ensures { λ r. ⌜ KeysTold most (now (file .entry)) (viewOf reading) (now (key .entry)) (now (key .exit)) r ⌝ }
+{
+    let mut here = reading;
+    let mut n: u64 = 0;
+    while n < most {
+        let step = stream::next(file, here, key);
+        let answer = step.answer;
+        if is_key(answer) {} else {
+            return n;
+        }
+        here = step.reading;
+        n += 1;
+    }
+    n
+}
+
+// How many calls after a start hand out a key, up to the first that does not and at most so many; none where the start is refused. The
+// buffer holds what the last of them left there.
+#[no_mangle]
+pub extern "C" fn baxhiso_keys(
+    file: &[u8],
+    lower_kind: u64,
+    lower: &[u8],
+    upper_kind: u64,
+    upper: &[u8],
+    most: u64,
+    key: &mut [u8],
+) -> u64
+    ensures { λ r. ⌜ StartKeysTold most (now (file .entry)) (R.start (now (file .entry)) (boundOf (kindIs «lower_kind») (now (lower .entry))) (boundOf (kindIs «upper_kind») (now (upper .entry)))) (now (key .entry)) (now (key .exit)) r ⌝ }
+{
+    let lower_bound = kind_of(lower_kind);
+    let upper_bound = kind_of(upper_kind);
+    let started = stream::start(file, lower_bound, lower, upper_bound, upper);
+    let answer = started.answer;
+    match answer {
+        Begins::Refused(_) => 0,
+        Begins::Began => {
+            let reading = started.reading;
+            keys_from(file, reading, most, key)
+        }
+    }
+}

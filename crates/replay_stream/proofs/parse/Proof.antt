@@ -1,0 +1,72 @@
+-- `replay_stream::parse` meets its contract: each part is tested to lie in the list before it is read.
+-- Assumes nothing.
+use Rattle.replay_stream.proofs.Parsing.{malformed-parses, good-parses}
+use borrow.Author.Needs.{needs}
+use native.Mathlib.Omega.{arith}
+use Rattle.replay_stream.proofs.parse.Statement.{statement}
+use Rattle.replay_stream.proofs.parse.Tie as tie
+
+returns : tie.Need-returns
+returns c = malformed-parses _
+
+sub-left : tie.Need-sub-left
+sub-left c = search needs
+
+returns-2 : tie.Need-returns-2
+returns-2 c = malformed-parses _
+
+add-number : tie.Need-add-number
+add-number c = search needs
+
+number-requires : tie.Need-number-requires
+number-requires c κs = search needs
+
+returns-3 : tie.Need-returns-3
+returns-3 c = malformed-parses _
+
+number-requires-2 : tie.Need-number-requires-2
+number-requires-2 c κs = search needs
+
+add-number-2 : tie.Need-add-number-2
+add-number-2 c = search needs
+
+number-requires-3 : tie.Need-number-requires-3
+number-requires-3 c κs = search needs
+
+add-number-3 : tie.Need-add-number-3
+add-number-3 c = search needs
+
+number-requires-4 : tie.Need-number-requires-4
+number-requires-4 c κs = search needs
+
+add-number-4 : tie.Need-add-number-4
+add-number-4 c = search needs
+
+number-requires-5 : tie.Need-number-requires-5
+number-requires-5 c κs = search needs
+
+add-t9 : tie.Need-add-t9
+add-t9 c = search needs
+
+returns-4 : tie.Need-returns-4
+returns-4 c = good-parses _ _ (record { part-end = omega arith })
+
+pub parse-spec : {M : Type 1} → statement M
+parse-spec =
+    tie.close
+    (tie.spec
+    returns
+    sub-left
+    returns-2
+    add-number
+    number-requires
+    returns-3
+    number-requires-2
+    add-number-2
+    number-requires-3
+    add-number-3
+    number-requires-4
+    add-number-4
+    number-requires-5
+    add-t9
+    returns-4)

@@ -1,0 +1,113 @@
+// Our static library, target/staticlib/liboracle_stream.a (crate `oracle_stream`): its exported functions, and a safe function
+// over each. A slice is passed as its pointer and then its length, an array as its pointer.
+
+use crate::answers::{Bound, Held, ReadingAnswers};
+use crate::ours::Library;
+
+#[link(name = "oracle_stream", kind = "static")]
+extern "C" {
+    fn baxhiso_start(
+        file: *const u8,
+        file_len: usize,
+        lower_kind: u64,
+        lower: *const u8,
+        lower_len: usize,
+        upper_kind: u64,
+        upper: *const u8,
+        upper_len: usize,
+        head: *mut u64,
+        bound: *mut u8,
+        addrs: *mut u32,
+        inps: *mut u8,
+        places: *mut u16,
+        sums: *mut u64,
+    ) -> u64;
+
+    fn baxhiso_next(
+        file: *const u8,
+        file_len: usize,
+        head: *mut u64,
+        bound: *mut u8,
+        addrs: *mut u32,
+        inps: *mut u8,
+        places: *mut u16,
+        sums: *mut u64,
+        key: *mut u8,
+        key_len: usize,
+        value: *mut u64,
+    ) -> u64;
+
+    fn baxhiso_keys(
+        file: *const u8,
+        file_len: usize,
+        lower_kind: u64,
+        lower: *const u8,
+        lower_len: usize,
+        upper_kind: u64,
+        upper: *const u8,
+        upper_len: usize,
+        most: u64,
+        key: *mut u8,
+        key_len: usize,
+    ) -> u64;
+}
+
+// Each slice and array lives through the call, and one that is written is lent to nobody else.
+impl ReadingAnswers for Library {
+    fn start(&self, file: &[u8], lower: &Bound, upper: &Bound, held: &mut Held) -> u64 {
+        unsafe {
+            baxhiso_start(
+                file.as_ptr(),
+                file.len(),
+                lower.kind.number(),
+                lower.bytes.as_ptr(),
+                lower.bytes.len(),
+                upper.kind.number(),
+                upper.bytes.as_ptr(),
+                upper.bytes.len(),
+                held.head.as_mut_ptr(),
+                held.bound.as_mut_ptr(),
+                held.addrs.as_mut_ptr(),
+                held.inps.as_mut_ptr(),
+                held.places.as_mut_ptr(),
+                held.sums.as_mut_ptr(),
+            )
+        }
+    }
+
+    fn next(&self, file: &[u8], held: &mut Held, key: &mut [u8], value: &mut [u64; 1]) -> u64 {
+        unsafe {
+            baxhiso_next(
+                file.as_ptr(),
+                file.len(),
+                held.head.as_mut_ptr(),
+                held.bound.as_mut_ptr(),
+                held.addrs.as_mut_ptr(),
+                held.inps.as_mut_ptr(),
+                held.places.as_mut_ptr(),
+                held.sums.as_mut_ptr(),
+                key.as_mut_ptr(),
+                key.len(),
+                value.as_mut_ptr(),
+            )
+        }
+    }
+
+    fn keys(&self, file: &[u8], lower: &Bound, upper: &Bound, most: u64, key: &mut [u8]) -> u64 {
+        unsafe {
+            baxhiso_keys(
+                file.as_ptr(),
+                file.len(),
+                lower.kind.number(),
+                lower.bytes.as_ptr(),
+                lower.bytes.len(),
+                upper.kind.number(),
+                upper.bytes.as_ptr(),
+                upper.bytes.len(),
+                most,
+                key.as_mut_ptr(),
+                key.len(),
+            )
+        }
+    }
+}
