@@ -3,9 +3,8 @@
 // to what is recorded. A difference changes a count that is written.
 ghost use mathlib.Core.Path.{_≡_};
 ghost use Prim.Native.Nat.{_+_, _≤_, _<_};
-ghost use lib.ListN.{length, take, drop};
-ghost use Rattle.format.specs.Bytes.{le};
-ghost use Rattle.replay_fst.specs.Within.{Within, Parses, Inside};
+ghost use lib.ListN.{length};
+ghost use Rattle.replay_list.specs.Within.{Within};
 use admission::Admission;
 use fst::Checksum;
 use fst::Meta;
@@ -14,6 +13,10 @@ use libc::STDIN_FILENO;
 use libc::STDOUT_FILENO;
 use lookup::Answer;
 use lookup::KeyAnswer;
+use replay_list::Entry;
+use replay_list::FILE;
+use replay_list::Parsed;
+use replay_list::Place;
 
 // The list's length, and one byte more by which a longer list is seen.
 const LIST: usize = 198_345;
@@ -29,8 +32,6 @@ const KEPT64: u64 = 12_297_829_382_473_034_410;
 const KEPT8: u8 = 170;
 
 // The kinds of record.
-const FILE: u64 = 1;
-
 const OPENING: u64 = 2;
 
 const NODE: u64 = 3;
@@ -70,88 +71,7 @@ const VALUES_NONE: usize = 13;
 
 const REFUSED: usize = 16;
 
-// A record of the list: its numbers, and where its part stands in the list.
-struct Entry {
-    kind: u64,
-    a: u64,
-    b: u64,
-    c: u64,
-    part: usize,
-    len: usize,
-}
-
-enum Parsed {
-    Good(Entry),
-    // the list ends within the record
-    Malformed,
-}
-
-// Where the file that is asked stands in the list.
-struct Place {
-    from: usize,
-    to: usize,
-}
-
 // ---- the list
-
-// The number of size bytes at place at of the list.
-fn number(list: &[u8], at: usize, size: usize) -> u64
-    requires { ⌜ (at + size ≤ length (now list)) × (size ≤ 8) ⌝ }
-    ensures { λ r. ⌜ r ≡ le (take size (drop at (now (list .entry)))) ⌝ }
-{
-    le_bytes::unpack_uint(&list[at..], size)
-}
-
-// The record at place at.
-fn parse(list: &[u8], at: usize) -> Parsed
-    ensures { λ r. ⌜ Parses (now (list .entry)) r ⌝ }
-{
-    if list.len() <= at {
-        return Parsed::Malformed;
-    }
-    let left = list.len() - at;
-    if left < 15 {
-        return Parsed::Malformed;
-    }
-    let len = number(list, at + 13, 2) as usize;
-    if left - 15 < len {
-        return Parsed::Malformed;
-    }
-    let kind = number(list, at, 1);
-    let a = number(list, at + 1, 2);
-    let b = number(list, at + 3, 8);
-    let c = number(list, at + 11, 2);
-    Parsed::Good(Entry {
-        kind,
-        a,
-        b,
-        c,
-        part: at + 15,
-        len,
-    })
-}
-
-// Where a record ends.
-fn end_of(list: &[u8], entry: Entry) -> usize
-    requires { ⌜ Within (now list) entry ⌝ }
-    ensures { λ r. ⌜ r ≡ entry .part + entry .len ⌝ }
-{
-    entry.part + entry.len
-}
-
-// The file that a record is about: its own part, or the file before it.
-fn place_of(list: &[u8], entry: Entry, place: Place) -> Place
-    requires { ⌜ Within (now list) entry × Inside (now list) place ⌝ }
-    ensures { λ r. ⌜ Inside (now (list .entry)) r ⌝ }
-{
-    if entry.kind == FILE {
-        return Place {
-            from: entry.part,
-            to: entry.part + entry.len,
-        };
-    }
-    place
-}
 
 // ---- opening
 
@@ -179,20 +99,20 @@ fn meta_alike(list: &[u8], entry: Entry, meta: Meta) -> bool
         return false;
     }
     let at = entry.part;
-    if number(list, at, 8) != meta.version {
+    if replay_list::number(list, at, 8) != meta.version {
         return false;
     }
-    if number(list, at + 8, 8) != meta.ty {
+    if replay_list::number(list, at + 8, 8) != meta.ty {
         return false;
     }
-    if number(list, at + 16, 8) != meta.len {
+    if replay_list::number(list, at + 16, 8) != meta.len {
         return false;
     }
-    if number(list, at + 24, 8) != meta.root as u64 {
+    if replay_list::number(list, at + 24, 8) != meta.root as u64 {
         return false;
     }
     let checksum = meta.checksum;
-    checksum_alike(checksum, entry.c, number(list, at + 32, 4))
+    checksum_alike(checksum, entry.c, replay_list::number(list, at + 32, 4))
 }
 
 fn opens_alike(list: &[u8], file: &[u8], entry: Entry) -> bool
@@ -466,7 +386,7 @@ fn replay_lookup(list: &[u8], file: &[u8], entry: Entry, counts: &mut [u64; 32])
         count_if(counts, KEYS_HELD, entry.a == 0);
         count_if(counts, KEYS_NONE, entry.a == 100);
         let from = entry.part;
-        let to = end_of(list, entry);
+        let to = replay_list::end_of(list, entry);
         let alike = gets_alike(file, &list[from..to], entry);
         count_if(counts, KEYS_ALIKE, alike);
         return;
@@ -488,22 +408,22 @@ fn replay(list: &[u8], counts: &mut [u64; 32]) {
         count(counts, MALFORMED);
         return;
     }
-    let records = number(list, 0, 4);
+    let records = replay_list::number(list, 0, 4);
     let mut depths = [0u16; CELLS];
     let mut sums = [0u64; CELLS];
     let mut place = Place { from: 0, to: 0 };
     let mut at = 4;
     let mut i = 0;
     while i < records {
-        let Parsed::Good(entry) = parse(list, at) else {
+        let Parsed::Good(entry) = replay_list::parse(list, at) else {
             count(counts, MALFORMED);
             return;
         };
-        place = place_of(list, entry, place);
+        place = replay_list::place_of(list, entry, place);
         let from = place.from;
         let to = place.to;
         replay_one(list, &list[from..to], entry, &mut depths, &mut sums, counts);
-        at = end_of(list, entry);
+        at = replay_list::end_of(list, entry);
         i += 1;
     }
     if at != list.len() {

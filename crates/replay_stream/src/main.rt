@@ -1,13 +1,15 @@
 // Replays recorded readings, with no Rust at hand. The list on standard input has files, each with starts and the calls of next after
 // them (README.md). Each is asked again, and the answer, the total and the key buffer are held to what is recorded. A difference changes
 // a count that is written.
-ghost use mathlib.Core.Path.{_≡_};
 ghost use Prim.Native.Nat.{_+_, _*_, _≤_, _<_};
-ghost use lib.ListN.{length, take, drop};
-ghost use Rattle.format.specs.Bytes.{le};
-ghost use Rattle.replay_stream.specs.Within.{Within, Parses, Inside};
+ghost use lib.ListN.{length};
+ghost use Rattle.replay_list.specs.Within.{Within};
 use libc::STDIN_FILENO;
 use libc::STDOUT_FILENO;
+use replay_list::Entry;
+use replay_list::FILE;
+use replay_list::Parsed;
+use replay_list::Place;
 use stream::Answer;
 use stream::Begins;
 use stream::Bound;
@@ -22,8 +24,6 @@ const SPACE: usize = 300;
 const KEPT8: u8 = 170;
 
 // The kinds of record.
-const FILE: u64 = 1;
-
 const START: u64 = 2;
 
 const NEXT: u64 = 3;
@@ -53,92 +53,11 @@ const STARTS_REFUSED: usize = 9;
 
 const NEXTS_REFUSED: usize = 21;
 
-// A record of the list: its numbers, and where its part stands in the list.
-struct Entry {
-    kind: u64,
-    a: u64,
-    b: u64,
-    c: u64,
-    part: usize,
-    len: usize,
-}
-
-enum Parsed {
-    Good(Entry),
-    // the list ends within the record
-    Malformed,
-}
-
-// Where the file that is asked stands in the list.
-struct Place {
-    from: usize,
-    to: usize,
-}
-
 // ---- the list
-
-// The number of size bytes at place at of the list.
-fn number(list: &[u8], at: usize, size: usize) -> u64
-    requires { ⌜ (at + size ≤ length (now list)) × (size ≤ 8) ⌝ }
-    ensures { λ r. ⌜ r ≡ le (take size (drop at (now (list .entry)))) ⌝ }
-{
-    le_bytes::unpack_uint(&list[at..], size)
-}
 
 // The number of two bytes, the lower first.
 fn number16(low: u8, high: u8) -> u16 {
     low as u16 + 256 * (high as u16)
-}
-
-// The record at place at.
-fn parse(list: &[u8], at: usize) -> Parsed
-    ensures { λ r. ⌜ Parses (now (list .entry)) r ⌝ }
-{
-    if list.len() <= at {
-        return Parsed::Malformed;
-    }
-    let left = list.len() - at;
-    if left < 15 {
-        return Parsed::Malformed;
-    }
-    let len = number(list, at + 13, 2) as usize;
-    if left - 15 < len {
-        return Parsed::Malformed;
-    }
-    let kind = number(list, at, 1);
-    let a = number(list, at + 1, 2);
-    let b = number(list, at + 3, 8);
-    let c = number(list, at + 11, 2);
-    Parsed::Good(Entry {
-        kind,
-        a,
-        b,
-        c,
-        part: at + 15,
-        len,
-    })
-}
-
-// Where a record ends.
-fn end_of(list: &[u8], entry: Entry) -> usize
-    requires { ⌜ Within (now list) entry ⌝ }
-    ensures { λ r. ⌜ r ≡ entry .part + entry .len ⌝ }
-{
-    entry.part + entry.len
-}
-
-// The file that a record is about: its own part, or the file before it.
-fn place_of(list: &[u8], entry: Entry, place: Place) -> Place
-    requires { ⌜ Within (now list) entry × Inside (now list) place ⌝ }
-    ensures { λ r. ⌜ Inside (now (list .entry)) r ⌝ }
-{
-    if entry.kind == FILE {
-        return Place {
-            from: entry.part,
-            to: entry.part + entry.len,
-        };
-    }
-    place
 }
 
 // ---- the counts
@@ -299,10 +218,10 @@ fn next_alike(
     if answer_alike(answer, entry.a, entry.b) {} else {
         return false;
     }
-    if number(list, entry.part, 8) != total {
+    if replay_list::number(list, entry.part, 8) != total {
         return false;
     }
-    if number(list, entry.part + 8, 2) != levels as u64 {
+    if replay_list::number(list, entry.part + 8, 2) != levels as u64 {
         return false;
     }
     key_alike(list, entry.part + 10, entry.len - 10, key)
@@ -379,7 +298,7 @@ fn fill_levels(
         addrs[i] = le_bytes::read_u32_le(&list[from..]);
         inps[i] = list[from + 4];
         trans[i] = number16(list[from + 5], list[from + 6]);
-        outs[i] = number(list, from + 7, 8);
+        outs[i] = replay_list::number(list, from + 7, 8);
         i += 1;
     }
 }
@@ -406,10 +325,10 @@ fn replay_made(list: &[u8], entry: Entry, counts: &mut [u64; 40]) -> Reading
         return nothing();
     }
     let at = entry.part;
-    let len = number(list, at, 8) as usize;
-    let pending = number(list, at + 8, 1);
-    let value = number(list, at + 9, 8);
-    let kind_number = number(list, at + 17, 1);
+    let len = replay_list::number(list, at, 8) as usize;
+    let pending = replay_list::number(list, at + 8, 1);
+    let value = replay_list::number(list, at + 9, 8);
+    let kind_number = replay_list::number(list, at + 17, 1);
     let mut bound = [0u8; 255];
     fill_bound(list, at + 18, stored_bytes, &mut bound);
     let mut addrs = [0u32; 256];
@@ -477,21 +396,21 @@ fn replay(list: &[u8], counts: &mut [u64; 40]) {
         count(counts, MALFORMED);
         return;
     }
-    let records = number(list, 0, 4);
+    let records = replay_list::number(list, 0, 4);
     let mut reading = nothing();
     let mut place = Place { from: 0, to: 0 };
     let mut at = 4;
     let mut i = 0;
     while i < records {
-        let Parsed::Good(entry) = parse(list, at) else {
+        let Parsed::Good(entry) = replay_list::parse(list, at) else {
             count(counts, MALFORMED);
             return;
         };
-        place = place_of(list, entry, place);
+        place = replay_list::place_of(list, entry, place);
         let from = place.from;
         let to = place.to;
         reading = replay_one(list, &list[from..to], entry, reading, counts);
-        at = end_of(list, entry);
+        at = replay_list::end_of(list, entry);
         i += 1;
     }
     if at != list.len() {

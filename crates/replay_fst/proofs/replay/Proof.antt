@@ -4,7 +4,7 @@ use mathlib.Core.Path.{_≡_}
 use Prim.Native.Nat.{_-_}
 use lib.ListN.{length}
 use denote.Ref.{now}
-use Rattle.replay_fst.specs.Within.{Within, Inside}
+use Rattle.replay_list.specs.Within.{Within, Inside}
 use borrow.Author.Needs.{needs}
 use Rattle.replay_fst.proofs.replay.Statement.{statement}
 use Rattle.replay_fst.proofs.replay.Tie as tie

@@ -3,7 +3,7 @@
 use Prim.Native.Nat.{_-_}
 use borrow.Author.Needs.{needs}
 use denote.Ref.{now}
-use Rattle.replay_stream.specs.Within.{Within, Inside}
+use Rattle.replay_list.specs.Within.{Within, Inside}
 use Rattle.replay_stream.proofs.replay.Statement.{statement}
 use Rattle.replay_stream.proofs.replay.Tie as tie
 

@@ -1,10 +1,10 @@
--- `replay_stream::number` meets its contract: the part of the list from `at` on is lent on.
+-- `replay_list::number` meets its contract: the part of the list from `at` on is lent on.
 -- Assumes nothing.
 use mathlib.Core.Path.{_∙_}
 use Rattle.format.specs.StoredLaws.{part-rest}
 use borrow.Author.Needs.{needs}
-use Rattle.replay_stream.proofs.number.Statement.{statement}
-use Rattle.replay_stream.proofs.number.Tie as tie
+use Rattle.replay_list.proofs.number.Statement.{statement}
+use Rattle.replay_list.proofs.number.Tie as tie
 
 sub-unpack-uint : tie.Need-sub-unpack-uint
 sub-unpack-uint c = search needs

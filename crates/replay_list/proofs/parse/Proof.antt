@@ -1,10 +1,10 @@
--- `replay_fst::parse` meets its contract: each part is tested to lie in the list before it is read.
+-- `replay_list::parse` meets its contract: each part is tested to lie in the list before it is read.
 -- Assumes nothing.
-use Rattle.replay_fst.proofs.Parsing.{malformed-parses, good-parses}
+use Rattle.replay_list.proofs.Parsing.{malformed-parses, good-parses}
 use borrow.Author.Needs.{needs}
 use native.Mathlib.Omega.{arith}
-use Rattle.replay_fst.proofs.parse.Statement.{statement}
-use Rattle.replay_fst.proofs.parse.Tie as tie
+use Rattle.replay_list.proofs.parse.Statement.{statement}
+use Rattle.replay_list.proofs.parse.Tie as tie
 
 returns : tie.Need-returns
 returns c = malformed-parses _
