@@ -12,12 +12,12 @@ use lib.ListN.{length}
 use Rattle.format.specs.Limits.{maxPath}
 use Rattle.format.specs.Paths.{Fst, fstOf, Held}
 use Rattle.format.specs.Admitted.{Admitted}
-use Rattle.format.specs.Strings.{unbounded, Between, no-lower}
+use Rattle.format.specs.Strings.{unbounded}
 use Rattle.reading.specs.Reading.{View, started, start, counted, next}
 use Rattle.reading.specs.Visits.{capped}
 use Rattle.reading.specs.RunLaws.{counted-capped}
 use Rattle.reading.specs.Demand.{Rising, NumberOf, BeginsHeld, Within, Beyond, Extra, one-more, no-more, EmptyExcluded, Entry, entry}
-use Rattle.reading.specs.WholeLaws.{Runs, run-end, run-key, Whole, whole}
+use Rattle.reading.specs.WholeLaws.{Runs, run-end, run-key, Whole, whole, between-all}
 use Rattle.listing.specs.Lines.{keyLine, endLine}
 use Rattle.listing.specs.Listing.{State, state, Line, more, last, lineBy, lineOf, Lists, last-line, line-more}
 
@@ -52,9 +52,6 @@ pub record Listed {s : List ℕ} (A : Admitted s) : Type 0 where
   pub number : NumberOf (BeginsHeld (fstOf s (A .meta))) followed
   -- a line for each key, and the last line
   pub lists : Lists s (state reading 0) (map lineFor entries ++ (endLine (capped (length entries)) (capped followed) ∷ []))
-
-between-all : (k : List ℕ) → Between unbounded unbounded k
-between-all k = record { meets = no-lower; within = λ p. elim p [ ] }
 
 -- nothing passes where there is no upper bound
 none-beyond : (f : Fst) (e : ℕ) → Extra f unbounded unbounded e → e ≡ 0

@@ -26,7 +26,7 @@ use Rattle.format.specs.StringLaws.{before-irrefl, before-trans, before-nil}
 use Rattle.reading.specs.Reading.{meetsTest, passesTest, boundBytes, isInclusive, Level, View, Started, started, startedAt, boundsTest, pendingAt, seek, start, Answer, key, end, Step, refuse}
 use Rattle.reading.specs.BoundLaws.{decides-meets, decides-passes, passes-up}
 use Rattle.reading.specs.Visits.{Visit, toCome, below, kept, Sane, AllV, RisingV, capped}
-use Rattle.reading.specs.VisitLaws.{all-mem, kept-mem, mem-kept, kept-rising, below-rising, below-full, fine-root, visit-begins, begins-visit, visit-held, held-visit}
+use Rattle.reading.specs.VisitLaws.{before-full, all-mem, kept-mem, mem-kept, kept-rising, below-rising, below-full, fine-root, visit-begins, begins-visit, visit-held, held-visit}
 use Rattle.reading.specs.SeekLaws.{SeekCome, start-come}
 use Rattle.reading.specs.RunLaws.{lt-or, capped-low, capped-high}
 use Rattle.reading.specs.NextLaws.{viewAt, next-pending-on, next-pending-off, Ways, at-end, over-at, handed-at, next-come}
@@ -34,6 +34,12 @@ use Rattle.reading.specs.Demand.{AllAfter, Rising, NumberOf, BeginsHeld,
 use Rattle.reading.specs.ProgressLaws.{entriesOf, entries-append, entries-one, LastFinal, no-visit, last-visit, Pre, no-empty, empty-key, Progress, fresh, going, finished, beyond, shut, Called, hands, ended, file-same, view-refused, progress-step, progress-refused, dec-allowed, Ran, progress-run}
 
 -- ---- what the visits of a start are, in the words of demand 3
+
+none-some : {v : ℕ} → ¬ (_≡_ {A = Option ℕ} none (some v))
+none-some e = let z : _≡_ {A = ℕ} 0 1 = cc in omega arith
+
+some-same : {v w : ℕ} → _≡_ {A = Option ℕ} (some v) (some w) → v ≡ w
+some-same e = cc
 
 pub record Facts (f : Fst) (lo : Bound) (W : List Visit) (e₀ : Option ℕ) : Type 0 where
   pub rising : RisingV W
@@ -55,21 +61,15 @@ module _ {s : List ℕ} (A : Admitted s) (lo : Bound) where
   pending : (v : ℕ) → pendingAt lo (nodeIn fst (A .meta .root)) ≡ some v → Held fst [] v × MeetsLower lo []
   pending v e = by (meetsTest lo []) refl (nodeIn fst (A .meta .root)) refl e
     where
-      no-value : (x : ℕ) → ¬ (_≡_ {A = Option ℕ} none (some x))
-      no-value x q = let z : _≡_ {A = ℕ} 0 1 = cc in omega arith
-
-      value-of : {x y : ℕ} → _≡_ {A = Option ℕ} (some x) (some y) → x ≡ y
-      value-of q = cc
-
       on : (n : Node) → nodeIn fst (A .meta .root) ≡ sound n → (b : Bool) → n .final ≡ b → cond b (some (n .finalOutput)) none ≡ some v → Held fst [] v
-      on n en true eb q = from-held (rw (value-of q) at (held-here fst (A .meta .root) n en eb))
-      on n en false eb q = absurd (no-value v q)
+      on n en true eb q = from-held (rw (some-same q) at (held-here fst (A .meta .root) n en eb))
+      on n en false eb q = absurd (none-some q)
 
       by : (b : Bool) → meetsTest lo [] ≡ b → (j : Judgement) → nodeIn fst (A .meta .root) ≡ j
           → cond b (Rattle.reading.specs.Reading.onNode j (λ n. cond (n .final) (some (n .finalOutput)) none) none) none ≡ some v → Held fst [] v × MeetsLower lo []
       by true eb (sound n) en q = (on n en (n .final) refl q, decides-meets lo [] .yes eb)
-      by true eb unsound en q = absurd (no-value v q)
-      by false eb j en q = absurd (no-value v q)
+      by true eb unsound en q = absurd (none-some q)
+      by false eb j en q = absurd (none-some q)
 
   pending-of : (v : ℕ) → Held fst [] v → MeetsLower lo [] → pendingAt lo (nodeIn fst (A .meta .root)) ≡ some v
   pending-of v h meets =
@@ -213,16 +213,6 @@ rising-last (x ∷ es) e d h on =
 
 -- ---- a cut of the start's visits
 
-none-some : {v : ℕ} → ¬ (_≡_ {A = Option ℕ} none (some v))
-none-some e = let z : _≡_ {A = ℕ} 0 1 = cc in omega arith
-
-some-same : {v w : ℕ} → _≡_ {A = Option ℕ} (some v) (some w) → v ≡ w
-some-same e = cc
-
-nil-before : (k : List ℕ) → ¬ (k ≡ []) → Before [] k
-nil-before [] ne = absurd (ne refl)
-nil-before (x ∷ k) ne = shorter
-
 snoc-not-nil : (es : List Entry) (e : Entry) → ¬ (_≡_ {A = List Entry} [] (es ++ (e ∷ [])))
 snoc-not-nil [] e q = let z : _≡_ {A = ℕ} 0 1 = cc in omega arith
 snoc-not-nil (x ∷ es) e q = let z : _≡_ {A = ℕ} 0 1 = cc in omega arith
@@ -279,7 +269,7 @@ module _ (f : Fst) (lo hi : Bound) (W : List Visit) (e₀ : Option ℕ) (F : Fac
       where
         full : (vs : List Visit) → ((v : Visit) → List·Memᴰ v vs → List·Memᴰ v W) → AllV (λ v. Before [] (v .key)) vs
         full [] h = tt
-        full (v ∷ vs) h = (nil-before (v .key) (F .begins v (h v (List·Memᴰ·head refl)) .not-empty), full vs (λ w on. h w (List·Memᴰ·tail on)))
+        full (v ∷ vs) h = (before-full (v .key) (F .begins v (h v (List·Memᴰ·head refl)) .not-empty), full vs (λ w on. h w (List·Memᴰ·tail on)))
 
         by : (pre : List Entry) → Pre hi e₀ pre → Rising (keysOut (pre ++ entriesOf taken))
         by pre (no-empty z) = entries-rising taken (rising-left taken rest rises)
@@ -306,7 +296,7 @@ module _ (f : Fst) (lo hi : Bound) (W : List Visit) (e₀ : Option ℕ) (F : Fac
     cut-before : (e : Entry) → List·Memᴰ e handed → (w : Visit) → List·Memᴰ w rest → Before (e .key) (w .key)
     cut-before e on w to-come =
         ⊎-elim
-        (λ (h : List·Memᴰ e pre). rw (pre-held pre (C .before) e h .1) (nil-before (w .key) (F .begins w (on-right w to-come) .not-empty)))
+        (λ (h : List·Memᴰ e pre). rw (pre-held pre (C .before) e h .1) (before-full (w .key) (F .begins w (on-right w to-come) .not-empty)))
         (λ (h : List·Memᴰ e (entriesOf taken)).
         let q = entries-mem taken e h in
         rw (q .3) (rising-cut taken rest rises (q .0) w (q .1) to-come))

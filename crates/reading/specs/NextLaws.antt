@@ -1,7 +1,7 @@
 -- A call of next on a reading of an admitted file, whatever the total is.
 --     viewAt ..                 a reading of the file
 --     next-short, next-other    the refusals: a short buffer, a file of another length
---     next-pending              the pending empty key is handed out, or ends the reading
+--     next-pending-on, next-pending-off     the pending empty key is handed out, or ends the reading
 --     Ways, next-come           the other calls: the end, past the upper bound, or a key
 -- Assumes nothing.
 use Prim.{Unit, tt}

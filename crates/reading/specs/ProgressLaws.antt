@@ -1,6 +1,5 @@
 -- How far a list of calls has come: the visits of a start, cut in two.
 --     entriesOf vs            the keys among the visits, with their values
---     Facts                   what the visits of a start are, in the words of demand 3
 --     Progress handed ends r  a reading after calls that handed out these keys and then answered "end" so many times
 --     progress-step, progress-refused, progress-run     a call, a refused call, a list of calls
 -- Assumes nothing.

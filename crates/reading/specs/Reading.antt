@@ -202,7 +202,8 @@ pub data Went : Type 0 where
   halted : ℕ → Went
 
 -- down from the level l, whose node m is judged, with room for so many levels more: 6, 7 for the running sum, 5 for the target, the upper
--- bound, 7 with the final output. A node that is not final has a transition, since no target is the root, so every turn follows one.
+-- bound, 7 with the final output. A target that is not final has a transition, since no target is the root
+-- (RunLaws, `target-live`), so every turn follows one.
 unfoldable pub descend : ℕ → Fst → Bound → Level → Node → List Level → ℕ → Went
 descend zero f hi l m s t = Went.halted DEEP
 descend (suc room) f hi l m s t =

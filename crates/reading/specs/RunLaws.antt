@@ -2,7 +2,8 @@
 --     come-step, come-on      what is to come, by a step down and by a pop
 --     pop-come                the pops drop no visit
 --     Go, go-come             the descent follows visit after visit, each a level deeper, to a key or past the upper bound
---     followed-by ..          the number of transitions is that of the visits dropped, whatever the total was
+--     counted-capped          one transition more
+--     target-live             a target that is not final has a transition, on any file
 -- Assumes nothing.
 use Prim.{Unit, tt}
 use mathlib.Core.Path.{_≡_, refl, sym, _∙_, ap}

@@ -1,6 +1,6 @@
 -- A start from a lower bound, on a fine file: it is not refused, and it has still to make the visits that meet the bound.
 --     meets c lo k             the string k meets the lower bound lo, which is included (c = true) or excluded
---     Full v, Over x v         a visit's string is not empty; its first byte is above x
+--     Over x v                 the first byte of a visit's string is above x
 --     kept-..                  what is kept of lists of visits
 --     Here, Away, kept-row     what is kept of a row: the bound's first byte is an input of it, or is not
 --     Stands, Comes            a node on the bound's way, and what a start that goes on from there has still to visit
@@ -29,12 +29,10 @@ use Rattle.format.specs.Strings.{Bound, unbounded, included, excluded, beforeTe
 use Rattle.format.specs.TransitionLaws.{at-member, find-input-member}
 use Rattle.reading.specs.Reading.{meetsTest, boundBytes, isInclusive, Level, levelIs, pathOf, keyOf, got, firstAbove, lastLevels, seek}
 use Rattle.reading.specs.Visits.{Visit, under, visitBy, row, transitionsAt, below, rest, toCome, Fine, Sane, AllV, kept}
+use Rattle.reading.specs.VisitLaws.{below-full}
 use Rattle.reading.specs.VisitLists.{all-append, all-imp, all-under, map-append, map-under, map-nil, key-push, below-rest, fine-node}
 
 -- ---- a fact of every visit
-
-abbrev pub Full : Visit → Type 0
-Full v = (y : ℕ) × (ys : List ℕ) × (v .key ≡ y ∷ ys)
 
 abbrev pub Over : ℕ → Visit → Type 0
 Over x v = (y : ℕ) × (ys : List ℕ) × (v .key ≡ y ∷ ys) × (x < y)
@@ -67,15 +65,6 @@ find-above k [] b h = refl
 find-above k (t ∷ ts) b h = rw (ne-eqb (t .inp) b (λ e. omega (arith, h 0 (omega arith)))) (find-above (k + 1) ts b (above-tail t ts b h))
 
 module _ (sub : ℕ → List Visit) (f : Fst) where
-  pub row-full : (ts : List Transition) → AllV Full (row sub f ts)
-  row-full [] = tt
-  row-full (t ∷ ts) = (
-    (t .inp, [], refl),
-    all-append Full (map (under (t .inp ∷ []) (t .out)) (sub (t .addr))) (row sub f ts)
-        (all-under Full (t .inp ∷ []) (t .out) (λ v. (t .inp, v .key, refl)) (sub (t .addr)))
-        (row-full ts),
-  )
-
   pub row-over : (x : ℕ) (ts : List Transition) → AllAbove x ts → AllV (Over x) (row sub f ts)
   row-over x [] h = tt
   row-over x (t ∷ ts) h =
@@ -85,10 +74,6 @@ module _ (sub : ℕ → List Visit) (f : Fst) where
             (all-under (Over x) (t .inp ∷ []) (t .out) (λ v. (t .inp, v .key, refl, l)) (sub (t .addr)))
             (row-over x ts (above-tail t ts x h)),
       )
-
-pub below-full : (d : ℕ) (f : Fst) (a : ℕ) → AllV Full (below d f a)
-below-full zero f a = tt
-below-full (suc d) f a = row-full (below d f) f (transitionsAt f a)
 
 -- ---- a string and a lower bound, byte by byte
 
@@ -116,10 +101,11 @@ meets-same true b lo k = let g : ltb b b ≡ false = le-ltb b b (omega arith) in
 meets-same false b lo k = let g : ltb b b ≡ false = le-ltb b b (omega arith) in simp g
 
 -- every string but the empty one meets an empty bound, and the empty one meets no other bound
-meets-all : (c : Bool) (v : Visit) → Full v → meets c [] (v .key) ≡ true
+meets-all : (c : Bool) (k : List ℕ) → ¬ (k ≡ []) → meets c [] k ≡ true
 unfolding beforeTest
-meets-all true v h = rw (h .2)
-meets-all false v h = rw (h .2)
+meets-all c [] h = absurd (h refl)
+meets-all true (x ∷ k) h = refl
+meets-all false (x ∷ k) h = refl
 
 meets-nil : (c : Bool) (b : ℕ) (lo : List ℕ) → meets c (b ∷ lo) [] ≡ false
 unfolding beforeTest
@@ -165,7 +151,7 @@ kept-over c b lo xs h =
     kept-all (meets c (b ∷ lo)) xs (all-imp (Over b) (λ v. meets c (b ∷ lo) (v .key) ≡ true) (λ v o. rw (o .2) (meets-high c b (o .0) lo (o .1) (o .3))) xs h)
 
 kept-below : (c : Bool) (d : ℕ) (f : Fst) (a : ℕ) → kept (meets c []) (below d f a) ≡ below d f a
-kept-below c d f a = kept-all (meets c []) (below d f a) (all-imp Full (λ v. meets c [] (v .key) ≡ true) (meets-all c) (below d f a) (below-full d f a))
+kept-below c d f a = kept-all (meets c []) (below d f a) (all-imp (λ v. ¬ (v .key ≡ [])) (λ v. meets c [] (v .key) ≡ true) (λ v. meets-all c (v .key)) (below d f a) (below-full d f a))
 
 -- ---- what is kept of a row
 

@@ -114,7 +114,7 @@ rising-under i o (x ∷ vs) h =
       rising-under i o vs (h .1),
     )
 
-before-full : (k : List ℕ) → ¬ (k ≡ []) → Before [] k
+pub before-full : (k : List ℕ) → ¬ (k ≡ []) → Before [] k
 before-full [] ne = absurd (ne refl)
 before-full (x ∷ k) ne = shorter
 

@@ -166,7 +166,7 @@ start-only-bound A lo hi =
 
 -- ---- reading and lookup
 
-between-all : (k : List ℕ) → Between unbounded unbounded k
+pub between-all : (k : List ℕ) → Between unbounded unbounded k
 between-all k = record { meets = no-lower; within = λ p. elim p [ ] }
 
 pub record Agrees {s : List ℕ} (A : Admitted s) (space : ℕ) (W : Whole A unbounded unbounded space) : Type 0 where

@@ -64,7 +64,7 @@ pub enum Begins {
 }
 
 // What a start gives back. The reading stands beside the answer: the borrow checker covers no enum that holds an array. After a refusal
-// it has no levels and carries no meaning.
+// it carries no meaning, and the contracts leave it free; next answers on it as on any reading.
 pub struct Started {
     pub answer: Begins,
     pub reading: Reading,
@@ -315,7 +315,7 @@ fn no_reading() -> Reading {
     }
 }
 
-// A start that is refused.
+// A start that is refused; its reading carries no meaning.
 pub fn refused(why: u8) -> Started
     ensures { λ r. ⌜ r .answer ≡ Begins.Refused why ⌝ }
 {
