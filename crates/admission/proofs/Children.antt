@@ -12,7 +12,7 @@ use Rattle.format.specs.Limits.{maxPath}
 use Rattle.format.specs.Node.{Node, sound}
 use Rattle.format.specs.Paths.{Fst, nodeIn}
 use Rattle.format.specs.Tables.{longest, largestSum}
-use Rattle.format.specs.TableLaws.{max-same, longest-of, largest-of, longest-zero, largest-zero}
+use Rattle.format.specs.laws.TableLaws.{max-same, longest-of, largest-of, longest-zero, largest-zero}
 use Rattle.admission.specs.Passes.{childDepth, childSum, deepest, heaviest, Marked}
 
 -- ---- one target

@@ -19,7 +19,7 @@ use Rattle.format.specs.declared.Transition.{Transition}
 use Rattle.format.specs.Limits.{maxPath, maxSum}
 use Rattle.format.specs.Node.{Node, sound, unsound}
 use Rattle.format.specs.Paths.{Fst, nodeIn}
-use Rattle.format.specs.NodeFacts.{node-target-lt, node-final-lt}
+use Rattle.format.specs.laws.NodeFacts.{node-target-lt, node-final-lt}
 use Rattle.format.specs.Tables.{longest, largestSum}
 use Rattle.admission.specs.declared.Total.{Total}
 use Rattle.admission.specs.declared.Survey.the-variants.{Lost as NoEntry, Found}

@@ -12,7 +12,7 @@ use lib.Seq.{take-suc, take-all}
 use Rattle.format.specs.declared.Transition.{Transition}
 use Rattle.format.specs.Limits.{maxPath}
 use Rattle.format.specs.Node.{transitionAt}
-use Rattle.format.specs.TransitionLaws.{at-member}
+use Rattle.format.specs.laws.TransitionLaws.{at-member}
 use Rattle.format.specs.Tables.{maxOf}
 use Rattle.admission.specs.declared.Total.{Total}
 use Rattle.admission.specs.declared.Total.the-variants.{Is}

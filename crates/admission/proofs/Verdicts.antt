@@ -12,11 +12,11 @@ use Rattle.format.specs.declared.Transition.{Transition}
 use Rattle.format.specs.Limits.{maxPath, maxSum}
 use Rattle.format.specs.Node.{Node, sound}
 use Rattle.format.specs.Paths.{Fst, nodeIn}
-use Rattle.format.specs.NodeFacts.{node-inside, node-target-lt}
+use Rattle.format.specs.laws.NodeFacts.{node-inside, node-target-lt}
 use Rattle.format.specs.Admitted.{Chain, empty, rooted, Nodes, Shallow, Light}
-use Rattle.format.specs.ChainLaws.{chain-sound, chain-low, root-chain-cases, root-chain-unique, dec-mem}
+use Rattle.format.specs.laws.ChainLaws.{chain-sound, chain-low, root-chain-cases, root-chain-unique, dec-mem}
 use Rattle.format.specs.Tables.{longest, largestSum}
-use Rattle.format.specs.TableLaws.{longest-bound, largest-bound, longest-attained, largest-attained}
+use Rattle.format.specs.laws.TableLaws.{longest-bound, largest-bound, longest-attained, largest-attained}
 use Rattle.admission.specs.declared.Verdict.{Verdict}
 use Rattle.admission.specs.declared.Verdict.the-variants.{Good, Lost, Deep, Heavy}
 use Rattle.admission.specs.Passes.{Kept, Marked, ChainMarked, SoundMarks, ClosedMarks, Fillable, LostOne, DeepOne, HeavyOne, GoodAll, FillCase, Filled}

@@ -10,9 +10,9 @@ use lib.ListN.{length, getD, set}
 use Rattle.format.specs.Limits.{firstNode}
 use Rattle.format.specs.Node.{Node, sound, unsound}
 use Rattle.format.specs.Paths.{Fst, nodeIn}
-use Rattle.format.specs.NodeFacts.{node-first-low, node-first-le, node-inside}
+use Rattle.format.specs.laws.NodeFacts.{node-first-low, node-first-le, node-inside}
 use Rattle.format.specs.Admitted.{Chain, last, next}
-use Rattle.format.specs.ChainLaws.{ChainLast, ChainNext, chain-cases}
+use Rattle.format.specs.laws.ChainLaws.{ChainLast, ChainNext, chain-cases}
 use Rattle.admission.specs.Passes.{ChainMarked}
 use Rattle.admission.proofs.Stores.{at-set}
 

@@ -13,7 +13,7 @@ use lib.ListN.{length}
 use Rattle.format.specs.Opening.{Meta, opened, opening}
 use Rattle.format.specs.Paths.{Fst, fstOf}
 use Rattle.format.specs.Admitted.{Nodes, Shallow, Light, Admitted}
-use Rattle.format.specs.ChainLaws.{root-chain-unique}
+use Rattle.format.specs.laws.ChainLaws.{root-chain-unique}
 use Rattle.admission.specs.declared.Admission.{Admission}
 use Rattle.admission.specs.declared.Admission.the-variants.{Admitted as Yes, Refused}
 use Rattle.admission.specs.Outcome.{LongPath, LargeSum, RefusedFor, not-opened, no-space, no-nodes, too-deep, too-heavy, Outcome}

@@ -19,7 +19,7 @@ use lib.IntN.{ℤ, pos, negsuc}
 use lib.ListN.{length, getD, take, drop, length-take}
 use lib.Seq.{getD-take, getD-drop}
 use Rattle.format.specs.Limits.{minLen, maxLen, maxSum, maxPath}
-use Rattle.format.specs.BytesLaws.{le-lt, pow-256-le}
+use Rattle.format.specs.laws.BytesLaws.{le-lt, pow-256-le}
 use Rattle.format.specs.Node.{Node, Judgement, sound, unsound, Place, at, absent, findInput, transitionAt}
 use Rattle.format.specs.Opening as O
 use Rattle.format.specs.Opening.{Meta, Opening, opened, numberAt, versionTest, rootTest, metaOf, opening}
@@ -27,8 +27,8 @@ use Rattle.format.specs.Paths.{Fst, fstOf, nodeIn, Held}
 use Rattle.format.specs.Admitted.{Admitted}
 use Rattle.format.specs.Lookup as L
 use Rattle.format.specs.Lookup.{value, found, entered, followed, openedAs, keyEntered, keyFollowed, keyOpenedAs, getFrom, getKeyFrom, lastFitting, withByte, Numbered}
-use Rattle.format.specs.LookupHeld.{get-exact}
-use Rattle.format.specs.NumberedLaws.{get-key-exact}
+use Rattle.format.specs.laws.LookupHeld.{get-exact}
+use Rattle.format.specs.laws.NumberedLaws.{get-key-exact}
 use Rattle.lookup.specs.Answers.{keyBufferOf}
 use Rattle.admission.specs.Outcome.{RefusedFor, not-opened, no-space, no-nodes, too-deep, too-heavy}
 use Rattle.firmware.specs.Exports.{OK, NONE, code, checksumNumber, numbersOf, OpenLeaves, getResult, getValue, GetLeaves, keyResult, keyLen, KeyLeaves, AdmitLeaves}

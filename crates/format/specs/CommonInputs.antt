@@ -2,11 +2,13 @@
 --     commonInputs          the place of each byte in the order of frequency
 --     commonInputsInv       the byte at each place, the most frequent first
 --     commonIdx b           what the state byte keeps of the input b: 1 plus its place, or 0 past place 62
+--     Undone b              the tables undo each other at b
 --     commonInput c         the input that c, from 1 to 63, stands for: entry c - 1 of the inverse table
 -- Assumes nothing.
+use mathlib.Core.Path.{_≡_}
 use mathlib.Core.Bool.{cond}
 use mathlib.Core.List.{List, [], _∷_}
-use Prim.Native.Nat.{ℕ, _+_, _-_}
+use Prim.Native.Nat.{ℕ, _+_, _-_, _<_}
 use lib.Dec.{ltb}
 use lib.ListN.{getD}
 
@@ -56,3 +58,10 @@ commonIdx b = cond (ltb (getD commonInputs b 0) 63) (getD commonInputs b 0 + 1) 
 unfoldable pub commonInput : ℕ → ℕ
 unfolding commonInputsInv
 commonInput c = getD commonInputsInv (c - 1) 0
+
+-- of the byte b and, as a place, of b: the tables undo each other there, and hold bytes
+pub record Undone (b : ℕ) : Type 0 where
+  pub byte-place : getD commonInputsInv (getD commonInputs b 0) 0 ≡ b
+  pub place-byte : getD commonInputs (getD commonInputsInv b 0) 0 ≡ b
+  pub place-lt : getD commonInputs b 0 < 256
+  pub byte-lt : getD commonInputsInv b 0 < 256

@@ -26,6 +26,10 @@ indexThreshold = 32
 abbrev pub maxPath : ℕ
 maxPath = 255
 
+-- the most levels of a reading: the root's, and one for each byte of a key
+abbrev pub maxLevels : ℕ
+maxLevels = 256
+
 -- the largest value, and the largest path sum of an admitted file
 abbrev pub maxSum : ℕ
 maxSum = 18446744073709551615

@@ -1,4 +1,5 @@
 -- A value for a key, a key for a value (document 01; docs/FORMAT.md, "Lookup"), for every file, admitted or not.
+--     pastSum j                  the refusal where the sum that leads to a node is too large
 --     Answer, get s k            what a lookup of the key k in the bytes s answers
 --     KeyAnswer, getKey s v      what the search for a key with the value v answers
 --     lastFitting ts v           the last of the leading transitions of ts whose output is not above v
@@ -18,6 +19,11 @@ use Rattle.format.specs.Opening as Opening
 use Rattle.format.specs.Paths.{Fst, fstOf, nodeIn, Path}
 use Rattle.format.specs.Tables.{largestSum}
 use Rattle.format.specs.Admitted.{Admitted}
+
+-- a sum past 2^64 - 1 leads to a node: 5 for the node, then 7 for the sum
+abbrev pub pastSum : Judgement → ℕ
+pastSum (sound m) = SUM
+pastSum unsound = NODE
 
 -- ---- by key
 

@@ -21,7 +21,7 @@ use lib.ListN.{length, getD, take, drop}
 use Rattle.format.specs.declared.State.{State}
 use Rattle.format.specs.declared.State.the-variants.{OneTransNext, OneTrans, AnyTrans}
 use Rattle.format.specs.declared.Transition.{Transition}
-use Rattle.format.specs.Decide.{implies, allBelow}
+use Rattle.buffers.specs.Decide.{implies, allBelow}
 use Rattle.format.specs.Limits.{firstNode, indexThreshold}
 use Rattle.format.specs.Bytes.{le}
 use Rattle.format.specs.CommonInputs.{commonInput}

@@ -15,7 +15,7 @@ use mathlib.Core.List.{List, [], _∷_, _++_, map}
 use Prim.Native.Nat.{ℕ, zero, suc, _+_, _-_, _*_, _^_, _≤_, _<_}
 use lib.Dec.{ltb, leb, eqb}
 use lib.ListN.{length, getD}
-use Rattle.format.specs.Decide.{implies, allBelow}
+use Rattle.buffers.specs.Decide.{implies, allBelow}
 use Rattle.format.specs.Limits.{firstNode, maxLen, maxTrans, indexThreshold, SPACE, RECORD}
 use Rattle.format.specs.Bytes.{bytesOf, packSize, largest}
 use Rattle.format.specs.CommonInputs.{commonIdx}

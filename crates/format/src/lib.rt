@@ -1,5 +1,9 @@
 // What every layer shares: the limits of document 01, its refusals by number, and a transition.
-// The meaning of the format stands in specs/; docs/FORMAT.md walks through it.
+// The meaning of the format stands in specs/; docs/FORMAT.md walks through it. `limits` and `refusals` hold each number here to the
+// definition of its name.
+ghost use mathlib.Core.Path.{_≡_};
+ghost use mathlib.Core.List.{[], _∷_};
+ghost use Rattle.format.specs.Limits as L;
 
 // Refusals, by the numbers of document 01's table.
 pub const SHORT: u8 = 1;
@@ -26,6 +30,10 @@ pub const STATE: u8 = 11;
 
 // The first byte of a file that a node may take: the header ends before it.
 pub const FIRST_NODE: usize = 16;
+// The longest path of an admitted file, and so the longest key, bound and key buffer that is needed.
+pub const MAX_KEY: usize = 255;
+// The most levels of a reading: one for the root, and one for each byte of a key.
+pub const LEVELS: usize = 256;
 // The smallest length of a file: a header of 16 bytes, and a trailer of 20 in version 3.
 pub const MIN_LEN: usize = 36;
 // The largest F that a node record may ask for, which is the largest length of a file.
@@ -53,4 +61,52 @@ pub enum State {
     OneTrans,
     // 00 or 01: any number of transitions; 01 is final
     AnyTrans,
+}
+
+// The limits of this file together.
+pub struct Named {
+    pub first: usize,
+    pub shortest: usize,
+    pub longest: usize,
+    pub transitions: usize,
+    pub threshold: usize,
+    pub key: usize,
+    pub levels: usize,
+    pub sum: u64,
+}
+
+// Each limit is the one that the definitions name; a number changed on one side alone is refused here.
+pub fn limits() -> Named
+    ensures { λ r. ⌜ (r .first ≡ L.firstNode) × (r .shortest ≡ L.minLen) × (r .longest ≡ L.maxLen) × (r .transitions ≡ L.maxTrans) ⌝ }
+    ensures { λ r. ⌜ (r .threshold ≡ L.indexThreshold) × (r .key ≡ L.maxPath) × (r .levels ≡ L.maxLevels) × (r .sum ≡ L.maxSum) ⌝ }
+{
+    Named {
+        first: FIRST_NODE,
+        shortest: MIN_LEN,
+        longest: MAX_LEN,
+        transitions: MAX_TRANS,
+        threshold: TRANS_INDEX_THRESHOLD,
+        key: MAX_KEY,
+        levels: LEVELS,
+        sum: u64::MAX,
+    }
+}
+
+// Each refusal has the number that the definitions give it.
+pub fn refusals() -> [u8; 11]
+    ensures { λ r. ⌜ r ≡ L.SHORT ∷ L.VERSION ∷ L.ROOT ∷ L.LARGE ∷ L.NODE ∷ L.DEEP ∷ L.SUM ∷ L.SPACE ∷ L.BOUND ∷ L.RECORD ∷ L.STATE ∷ [] ⌝ }
+{
+    [
+        SHORT,
+        VERSION,
+        ROOT,
+        LARGE,
+        NODE,
+        DEEP,
+        SUM,
+        SPACE,
+        BOUND,
+        RECORD,
+        STATE,
+    ]
 }

@@ -9,10 +9,10 @@ use native.Mathlib.Omega.{arith}
 use borrow.Author.Tests.{le-leb, lt-leb, eq-eqb, ne-eqb}
 use lib.Dec.{leb, eqb}
 use lib.ListN.{length}
-use Rattle.format.specs.Decide.{Decides}
-use Rattle.format.specs.DecideLaws.{decides-eq, decides-iff, decides-same}
+use Rattle.buffers.specs.Decide.{Decides}
+use Rattle.buffers.specs.DecideLaws.{decides-eq, decides-iff, decides-same}
 use Rattle.format.specs.Opening.{trailerLen, numberAt, metaOf, rootTest}
-use Rattle.format.specs.OpeningLaws.{root-none, root-some}
+use Rattle.format.specs.laws.OpeningLaws.{root-none, root-some}
 use Rattle.fst.specs.declared.Checksum.{Checksum}
 use Rattle.fst.specs.declared.Meta.{Meta}
 use Rattle.fst.specs.Open.{checksumIs, metaIs}

@@ -1,5 +1,5 @@
-// Opening a file and admitting it (src/raw/mod.rs: `Fst::new`; admission is document 01's own).
-// `open` reads only the header and the trailer.
+// Opening a file (src/raw/mod.rs: `Fst::new`), by its header and its trailer alone; and the refusal of a sum that leads to a node, which
+// lookups and readings share.
 ghost use mathlib.Core.Path.{_≡_};
 ghost use Prim.Native.Nat.{_+_, _-_, _≤_, _<_};
 ghost use lib.ListN.{length};
@@ -7,16 +7,21 @@ ghost use mathlib.Core.Bool.{cond};
 ghost use mathlib.Core.Option.{some, none};
 ghost use lib.Dec.{eqb};
 ghost use Rattle.format.specs.Opening.{trailerLen, numberAt, rootTest, opening};
+ghost use Rattle.format.specs.Node.{nodeAt};
+ghost use Rattle.format.specs.Lookup.{pastSum};
 ghost use Rattle.fst.specs.Open.{openingOf, checksumIs};
 use format::FIRST_NODE;
 use format::LARGE;
 use format::MAX_LEN;
 use format::MIN_LEN;
+use format::NODE;
 use format::ROOT;
 use format::SHORT;
+use format::SUM;
 use format::VERSION;
 use le_bytes::read_u32_le;
 use le_bytes::read_u64_le;
+use node::Judged;
 
 // The checksum of version 3, read and not verified; versions 1 and 2 have none.
 pub enum Checksum {
@@ -112,4 +117,15 @@ pub fn open(file: &[u8]) -> Opened
         root,
         checksum,
     })
+}
+
+// The refusal where the sum that leads to the node at addr passes 2^64 - 1: the node is judged first.
+pub fn past_sum(file: &[u8], version: u64, root: usize, addr: usize) -> u8
+    ensures { λ r. ⌜ r ≡ pastSum (nodeAt (now (file .entry)) version root addr) ⌝ }
+{
+    let judged = node::node_at(file, version, root, addr);
+    match judged {
+        Judged::Unsound => NODE,
+        Judged::Sound(_) => SUM,
+    }
 }

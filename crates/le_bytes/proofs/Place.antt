@@ -4,7 +4,7 @@ use mathlib.Core.List.{List}
 use Prim.Native.Nat.{ℕ, _+_, _-_, _*_, _^_, _≤_, _<_}
 use native.Mathlib.Omega.{arith}
 use lib.ListN.{length, take, drop, length-drop}
-use Rattle.format.specs.StoredLaws.{offset-le, part-rest}
+use Rattle.format.specs.laws.StoredLaws.{offset-le, part-rest}
 
 module _ (at j n k len : ℕ) (l : j < n) (h : at + n * k ≤ len) where
   pub place-le : at + j * k ≤ len

@@ -8,7 +8,7 @@ use native.Mathlib.Omega.{arith}
 use lib.ListN.{length, getD, take, drop, drop-of-length-le}
 use lib.Seq.{getD-take, length-take-le}
 use Rattle.format.specs.Bytes.{le}
-use Rattle.format.specs.BytesLaws.{le-drop, le-lt, pow-256-suc, pow-256-le}
+use Rattle.format.specs.laws.BytesLaws.{le-drop, le-lt, pow-256-suc, pow-256-le}
 
 -- n is the number of the bytes from i to k of s
 pub record ReadTo (s : List ℕ) (k i n : ℕ) : Type 0 where

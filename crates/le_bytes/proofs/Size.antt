@@ -7,7 +7,7 @@ use native.Mathlib.Omega.{arith}
 use lib.Pow.{pow-mono}
 use lib.Count.{leadingZeros, leading-top}
 use Rattle.format.specs.Bytes.{SizeOf}
-use Rattle.format.specs.BytesLaws.{pow-256-pow-2, size-of-pack, size-unique}
+use Rattle.format.specs.laws.BytesLaws.{pow-256-pow-2, size-of-pack, size-unique}
 use Rattle.le_bytes.specs.Size.{PackedIn}
 
 pub size-zero : SizeOf 0 1

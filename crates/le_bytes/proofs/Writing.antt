@@ -8,9 +8,9 @@ use native.Mathlib.Omega.{arith}
 use lib.ListN.{length, set, length-set}
 use lib.Seq.{sets}
 use Rattle.format.specs.Bytes.{bytesOf}
-use Rattle.format.specs.Put.{put}
-use Rattle.format.specs.PutLaws.{sets-put}
-use Rattle.format.specs.BytesLaws.{bytes-of-step, length-bytes-of}
+use Rattle.buffers.specs.Put.{put}
+use Rattle.buffers.specs.PutLaws.{sets-put}
+use Rattle.format.specs.laws.BytesLaws.{bytes-of-step, length-bytes-of}
 
 -- what is left to write, m in k bytes from i on, makes of out what the whole makes of out₀
 pub record Writing (out₀ : List ℕ) (at n nbytes : ℕ) (out : List ℕ) (m i k : ℕ) : Type 0 where

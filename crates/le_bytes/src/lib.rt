@@ -5,7 +5,7 @@ ghost use mathlib.Core.Path.{_≡_};
 ghost use Prim.Native.Nat.{_+_, _*_, _≤_, _<_};
 ghost use lib.ListN.{length, take, getD};
 ghost use Rattle.format.specs.Bytes.{le, bytesOf};
-ghost use Rattle.format.specs.Put.{put};
+ghost use Rattle.buffers.specs.Put.{put};
 ghost use Rattle.format.specs.Node.{numbersDown};
 ghost use Rattle.le_bytes.specs.Size.{PackedIn};
 

@@ -8,7 +8,7 @@ use native.Mathlib.Omega.{arith}
 use lib.ListN.{length}
 use Rattle.format.specs.Limits.{maxPath}
 use Rattle.format.specs.Opening.{metaOf}
-use Rattle.format.specs.OpeningLaws.{opened-facts}
+use Rattle.format.specs.laws.OpeningLaws.{opened-facts}
 use Rattle.format.specs.Paths.{Fst, fstOf}
 use Rattle.format.specs.Strings.{unbounded}
 use Rattle.format.specs.Admitted.{Admitted}

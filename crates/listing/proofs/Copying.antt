@@ -7,8 +7,8 @@ use native.Mathlib.Numerals.{add-one}
 use native.Mathlib.Omega.{arith}
 use lib.ListN.{length, getD, take, set, length-set}
 use lib.Seq.{take-suc, take-all, length-take-le}
-use Rattle.format.specs.Put.{put, PutAt}
-use Rattle.format.specs.PutLaws.{put-nil, put-next, set-put}
+use Rattle.buffers.specs.Put.{put, PutAt}
+use Rattle.buffers.specs.PutLaws.{put-nil, put-next, set-put}
 
 -- the first i bytes are copied
 pub record CopiedTo (out₀ : List ℕ) (at : ℕ) (bytes out : List ℕ) (i : ℕ) : Type 0 where

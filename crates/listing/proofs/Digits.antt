@@ -6,8 +6,8 @@ use mathlib.Core.List.{List, [], _∷_, _++_}
 use Prim.Native.Nat.{ℕ, zero, suc, _+_, _-_, _/_, _%_, _^_, _≤_, _<_}
 use native.Mathlib.Omega.{arith}
 use lib.ListN.{length, set, length-append, length-set}
-use Rattle.format.specs.Put.{put, PutAt}
-use Rattle.format.specs.PutLaws.{put-nil}
+use Rattle.buffers.specs.Put.{put, PutAt}
+use Rattle.buffers.specs.PutLaws.{put-nil}
 use Rattle.listing.specs.Lines.{decimalUpTo, decimal}
 use Rattle.listing.specs.LinesLaws.{Ways, few, many, ways, decimal-none, decimal-more, decimal-one, pow-10-suc}
 use Rattle.listing.proofs.Parts.{put-before}

@@ -6,8 +6,8 @@ use Prim.Native.Nat.{ℕ, _+_, _*_, _/_, _%_, _≤_, _<_}
 use native.Mathlib.Omega.{arith}
 use lib.ListN.{length, getD, take, set, length-set}
 use lib.Seq.{length-take-le}
-use Rattle.format.specs.Put.{put, PutAt}
-use Rattle.format.specs.PutLaws.{put-nil, put-next}
+use Rattle.buffers.specs.Put.{put, PutAt}
+use Rattle.buffers.specs.PutLaws.{put-nil, put-next}
 use Rattle.listing.specs.Lines.{hexDigit, hexOf}
 use Rattle.listing.specs.LinesLaws.{length-hex-of, hex-of-take}
 use Rattle.listing.proofs.Parts.{put-two-bytes}

@@ -6,9 +6,9 @@ use Prim.Native.Nat.{ℕ, suc, _+_, _≤_, _<_}
 use native.Mathlib.Omega.{arith}
 use lib.ListN.{length, take, drop, set, length-append, length-set}
 use lib.Seq.{drop-at, set-split, take-set-le, length-take-le}
-use Rattle.format.specs.Put.{put, PutAt}
-use Rattle.format.specs.PutLaws.{put-zero, put-next, set-put}
-use Rattle.format.specs.WritingLaws.{Writing, last-written}
+use Rattle.buffers.specs.Put.{put, PutAt}
+use Rattle.buffers.specs.PutLaws.{put-zero, put-next, set-put}
+use Rattle.buffers.specs.WritingLaws.{Writing, last-written}
 use Rattle.listing.specs.Lines.{Written}
 
 -- two bytes

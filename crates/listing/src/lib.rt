@@ -5,7 +5,7 @@ ghost use Prim.Native.Nat.{_+_, _*_, _≤_, _<_};
 ghost use lib.ListN.{length, take};
 ghost use Rattle.listing.specs.Lines.{hexDigit, hexOf, keyText, decimal, keyLine, endLine, refusedLine};
 ghost use Rattle.listing.specs.Lines.{Written};
-ghost use Rattle.format.specs.Put.{PutAt};
+ghost use Rattle.buffers.specs.Put.{PutAt};
 ghost use Rattle.stream.specs.Views.{viewOf};
 ghost use Rattle.listing.specs.Listing.{state, lineOf};
 ghost use Rattle.listing.specs.Lined.{Begins, Lined};

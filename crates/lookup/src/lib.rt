@@ -6,13 +6,14 @@ ghost use lib.ListN.{length, take, drop};
 ghost use lib.Dec.{eqb};
 ghost use mathlib.Core.Bool.{_&&_};
 ghost use mathlib.Core.List.{List, [], _++_};
-ghost use Rattle.format.specs.Limits.{maxSum};
+ghost use Rattle.format.specs.Limits.{maxPath};
 ghost use Rattle.format.specs.Lookup as L;
 ghost use Rattle.format.specs.Lookup.{getFrom, getKeyFrom, lastFitting};
 ghost use Rattle.node.specs.Read.{transitionsIn, Readable, placeOf};
 ghost use Rattle.lookup.specs.Answers.{answerIs, keyIs, KeyFits, KeyWritten};
 ghost use Rattle.format.specs.Paths.{fstIs};
 use format::DEEP;
+use format::MAX_KEY;
 use format::NODE;
 use format::SPACE;
 use format::SUM;
@@ -36,17 +37,6 @@ pub enum KeyAnswer {
 }
 
 // ---- by key
-
-// The answer where the sum that leads to the node at addr passes 2^64 - 1: the node is judged first.
-fn past_sum(file: &[u8], version: u64, root: usize, addr: usize) -> Answer
-    ensures { λ r. ⌜ ((k : List ℕ) (sum : ℕ) → maxSum < sum → answerIs r ≡ getFrom (fstIs (now (file .entry)) version root) k addr sum) ⌝ }
-{
-    let judged = node::node_at(file, version, root, addr);
-    match judged {
-        Judged::Unsound => Answer::Refused(NODE),
-        Judged::Sound(_) => Answer::Refused(SUM),
-    }
-}
 
 // The answer where the key ends at the node at last, with this running sum.
 fn at_end(file: &[u8], version: u64, root: usize, last: usize, sum: u64) -> Answer
@@ -83,7 +73,7 @@ fn get_from(file: &[u8], version: u64, root: usize, key: &[u8]) -> Answer
         let out = node::output(file, m, p);
         addr = node::transition_addr(file, m, p);
         if u64::MAX - sum < out {
-            return past_sum(file, version, root, addr);
+            return Answer::Refused(fst::past_sum(file, version, root, addr));
         }
         sum += out;
         i += 1;
@@ -129,9 +119,9 @@ fn last_fitting(file: &[u8], node: Node, left: u64) -> Found
 }
 
 // Searches from the root of a file that opens; the key's bytes stand at the front of path where a key is found.
-fn find_key(file: &[u8], version: u64, root: usize, value: u64, path: &mut [u8; 255]) -> KeyAnswer
-    requires { ⌜ length (now path) ≡ 255 ⌝ }
-    ensures { λ r. ⌜ keyIs r (now (path .exit)) ≡ getKeyFrom 255 (fstIs (now (file .entry)) version root) root value ⌝ }
+fn find_key(file: &[u8], version: u64, root: usize, value: u64, path: &mut [u8; MAX_KEY]) -> KeyAnswer
+    requires { ⌜ length (now path) ≡ maxPath ⌝ }
+    ensures { λ r. ⌜ keyIs r (now (path .exit)) ≡ getKeyFrom maxPath (fstIs (now (file .entry)) version root) root value ⌝ }
     ensures { λ r. ⌜ KeyFits r (now (path .exit)) ⌝ }
 {
     let mut addr = root;
@@ -148,7 +138,7 @@ fn find_key(file: &[u8], version: u64, root: usize, value: u64, path: &mut [u8; 
             return KeyAnswer::None;
         };
         // a key has at most 255 bytes
-        if 255 <= n {
+        if MAX_KEY <= n {
             return KeyAnswer::Refused(DEEP);
         }
         path[n] = node::input(file, m, i);
@@ -165,18 +155,6 @@ fn ends(left: u64, is_final: bool) -> bool
     if left == 0 { is_final } else { false }
 }
 
-// Copies the first n bytes of path to the front of key.
-fn put_key(path: &[u8; 255], n: usize, key: &mut [u8])
-    requires { ⌜ (length (now path) ≡ 255) × (n ≤ 255) × (255 ≤ length (now key)) ⌝ }
-    ensures { λ _. ⌜ now (key .exit) ≡ take n (now (path .entry)) ++ drop n (now (key .entry)) ⌝ }
-{
-    let mut i = 0;
-    while i < n {
-        key[i] = path[i];
-        i += 1;
-    }
-}
-
 // A key with this value. Opening's refusals, then SPACE for a buffer under 255; then NODE for each node entered, and DEEP before a
 // 256th byte. Final outputs are ignored, as in the Rust. The buffer is written only where a key is found: the key from its first
 // byte on. On a numbered file a found key has the value, and none comes exactly when no held key has it; on any other admitted file
@@ -188,14 +166,14 @@ pub fn get_key(file: &[u8], value: u64, key: &mut [u8]) -> KeyAnswer
     match opened {
         Opened::Refused(why) => KeyAnswer::Refused(why),
         Opened::Meta(m) => {
-            if key.len() < 255 {
+            if key.len() < MAX_KEY {
                 return KeyAnswer::Refused(SPACE);
             }
-            let mut path = [0u8; 255];
+            let mut path = [0u8; MAX_KEY];
             let found = find_key(file, m.version, m.root, value, &mut path);
             match found {
                 KeyAnswer::Key(n) => {
-                    put_key(&path, n, key);
+                    buffers::copy_front(&path, n, key);
                     KeyAnswer::Key(n)
                 }
                 KeyAnswer::None => KeyAnswer::None,

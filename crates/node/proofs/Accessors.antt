@@ -11,7 +11,7 @@ use Rattle.format.specs.declared.State.{State}
 use Rattle.format.specs.declared.State.the-variants.{OneTransNext, OneTrans, AnyTrans}
 use Rattle.format.specs.declared.Transition.{Transition}
 use Rattle.format.specs.Node.{bytesDown, numbersDown, inputsAt, deltasAt, inputsLen, inputsIn, deltasIn, targetOf, TargetsRight, transitionAt}
-use Rattle.format.specs.StoredLaws.{getD-bytes-down, length-bytes-down}
+use Rattle.format.specs.laws.StoredLaws.{getD-bytes-down, length-bytes-down}
 use Rattle.node.specs.declared.Node.{Node}
 use Rattle.node.specs.declared.Found.{Found}
 use Rattle.node.specs.Read.{transitionsIn, nodeInputs, nodeDeltas, nodeEntries, isAny, Readable, Finds, LooksUp}

@@ -8,7 +8,7 @@ use native.Mathlib.Nat.{eq-or-lt-of-le, not-le-of-lt}
 use native.Mathlib.Omega.{arith}
 use lib.ListN.{length, getD}
 use Rattle.format.specs.Node.{Ascending, bytesDown}
-use Rattle.format.specs.StoredLaws.{length-bytes-down, getD-bytes-down}
+use Rattle.format.specs.laws.StoredLaws.{length-bytes-down, getD-bytes-down}
 
 -- the bytes from at on descend, over j of them
 pub record Descends (s : List ℕ) (at j : ℕ) : Type 0 where

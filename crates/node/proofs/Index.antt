@@ -13,10 +13,10 @@ use lib.ListN.{length, getD, take, drop, set, length-set, length-drop, drop-of-l
 use native.Mathlib.Numerals.{add-one}
 use borrow.Author.Count.{below-more, below-none as below-no}
 use lib.Seq.{getD-set-same, getD-set-other, getD-take, getD-drop, drop-cons, length-take-le}
-use Rattle.format.specs.Decide.{Decides}
-use Rattle.format.specs.DecideLaws.{decides-eq, decides-iff}
+use Rattle.buffers.specs.Decide.{Decides}
+use Rattle.buffers.specs.DecideLaws.{decides-eq, decides-iff}
 use Rattle.format.specs.Node.{bytesDown, Absent, Indexed}
-use Rattle.format.specs.StoredLaws.{length-bytes-down, getD-bytes-down}
+use Rattle.format.specs.laws.StoredLaws.{length-bytes-down, getD-bytes-down}
 use Rattle.node.specs.Read.{Probed, below}
 
 -- the 256 entries from place at on

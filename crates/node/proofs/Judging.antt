@@ -13,7 +13,7 @@ use Rattle.format.specs.declared.State.the-variants.{OneTransNext, OneTrans, An
 use Rattle.format.specs.Bytes.{le}
 use Rattle.format.specs.Node as F
 use Rattle.format.specs.Node.{stateForm, isFinal, countOf, headLen, inputOf, ntransIn, ntransOf, sizesIn, sizesByte, sizesLen, inputsLen, indexLen, endLen, sizeOf, shapeOf, firstOf, outputsAt, deltasAt, inputsAt, inputsIn, shapeInputs, shapeDeltas, shapeNode, nodeOf, SoundShape, SoundAt, sound, unsound, nodeAt}
-use Rattle.format.specs.NodeLaws.{node-at-zero, node-at-sound, node-at-unsound}
+use Rattle.format.specs.laws.NodeLaws.{node-at-zero, node-at-sound, node-at-unsound}
 use Rattle.node.specs.declared.Node.{Node}
 use Rattle.node.specs.declared.Judged.the-variants.{Sound, Unsound}
 use Rattle.node.specs.Read.{meaning, judgedOf, isAny, Readable, Judges, emptyNode, transitionsIn}

@@ -8,7 +8,7 @@ use borrow.Author.Count.{below-more}
 use lib.ListN.{length, getD, take, drop}
 use lib.Seq.{getD-take, getD-drop}
 use Rattle.format.specs.Node.{bytesDown, Absent}
-use Rattle.format.specs.StoredLaws.{length-bytes-down, getD-bytes-down}
+use Rattle.format.specs.laws.StoredLaws.{length-bytes-down, getD-bytes-down}
 use Rattle.node.specs.declared.Found.the-variants.{At, Absent as Missing}
 use Rattle.node.specs.Read.{Finds}
 use Rattle.node.specs.ReadLaws.{finds-at, finds-missing}

@@ -13,9 +13,9 @@ use Rattle.format.specs.declared.State.the-variants.{OneTransNext, OneTrans, An
 use Rattle.format.specs.Bytes.{le}
 use Rattle.format.specs.Node as F
 use Rattle.format.specs.Node.{stateForm, isFinal, countOf, headLen, inputOf, ntransOf, sizesByte, indexLen, endLen, sizeOf, shapeOf, numbersDown, Ascending, TargetRight, TargetsRight, Useful, SoundShape}
-use Rattle.format.specs.NodeLaws.{form-next, form-one, form-any, not-final, final-any}
-use Rattle.format.specs.HeadLaws.{ntrans-next, ntrans-one, ntrans-any, sizes-next, sizes-one, sizes-any, index-len-few}
-use Rattle.format.specs.StoredLaws.{length-numbers-down}
+use Rattle.format.specs.laws.NodeLaws.{form-next, form-one, form-any, not-final, final-any}
+use Rattle.format.specs.laws.HeadLaws.{ntrans-next, ntrans-one, ntrans-any, sizes-next, sizes-one, sizes-any, index-len-few}
+use Rattle.format.specs.laws.StoredLaws.{length-numbers-down}
 use Rattle.node.specs.Read.{AtForm}
 
 pub ascending-single : (b : ℕ) → Ascending (b ∷ [])

@@ -10,12 +10,12 @@ use borrow.Author.Tests.{eqb-true, eqb-false, ne-eqb}
 use lib.Dec.{eqb}
 use lib.ListN.{length, getD, take, drop, length-drop}
 use lib.Seq.{getD-take, getD-drop, length-take-le}
-use Rattle.format.specs.Decide.{Decides}
-use Rattle.format.specs.DecideLaws.{decides-eq, decides-iff}
+use Rattle.buffers.specs.Decide.{Decides}
+use Rattle.buffers.specs.DecideLaws.{decides-eq, decides-iff}
 use Rattle.format.specs.Bytes.{le}
-use Rattle.format.specs.BytesLaws.{le-lt}
+use Rattle.format.specs.laws.BytesLaws.{le-lt}
 use Rattle.format.specs.Node.{numbersDown, targetOf, TargetRight, TargetsRight}
-use Rattle.format.specs.StoredLaws.{length-numbers-down, getD-numbers-down, offset-le}
+use Rattle.format.specs.laws.StoredLaws.{length-numbers-down, getD-numbers-down, offset-le}
 
 -- ---- one delta
 

@@ -13,8 +13,8 @@ use lib.ListN.{length, getD, length-map, List·getD-map}
 use Rattle.format.specs.declared.State.{State}
 use Rattle.format.specs.declared.State.the-variants.{OneTransNext, OneTrans, AnyTrans}
 use Rattle.format.specs.Node.{bytesDown, numbersDown, inputsAt, deltasAt, inputsIn, deltasIn, targetOf, Absent, Indexed, transitionAt, findInput, Place, at, absent, sound, unsound, nodeAt}
-use Rattle.format.specs.StoredLaws.{length-bytes-down, length-numbers-down}
-use Rattle.format.specs.TransitionLaws.{length-transitions-of, transition-at-of, find-input-at, find-input-absent, find-input-member}
+use Rattle.format.specs.laws.StoredLaws.{length-bytes-down, length-numbers-down}
+use Rattle.format.specs.laws.TransitionLaws.{length-transitions-of, transition-at-of, find-input-at, find-input-absent, find-input-member}
 use Rattle.node.specs.declared.Node.{Node}
 use Rattle.node.specs.declared.Judged.{Judged}
 use Rattle.node.specs.declared.Judged.the-variants.{Sound, Unsound}

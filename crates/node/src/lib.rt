@@ -5,7 +5,7 @@ ghost use mathlib.Core.Path.{_≡_};
 ghost use mathlib.Core.Bool.{true, false};
 ghost use Prim.Native.Nat.{_+_, _*_, _^_, _≤_, _<_};
 ghost use lib.ListN.{length, getD, take, drop};
-ghost use Rattle.format.specs.Decide.{Decides};
+ghost use Rattle.buffers.specs.Decide.{Decides};
 ghost use Rattle.format.specs.Node.{bytesDown, numbersDown, countOf, inputOf, indexLen, endLen, Ascending, Indexed, TargetRight, TargetsRight, Useful, shapeOf, transitionAt, findInput};
 ghost use Rattle.node.specs.Read.{Head, Probed, below, shapeIs, AtForm, emptyNode, Judges, transitionsIn, nodeInputs, nodeDeltas, Readable, Finds, LooksUp, placeOf};
 ghost use Rattle.format.specs.declared.State.the-variants.{AnyTrans};

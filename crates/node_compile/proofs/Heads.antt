@@ -9,11 +9,11 @@ use borrow.Author.Tests.{lt-ltb, le-ltb, eq-eqb, ne-eqb}
 use lib.Dec.{ltb, eqb}
 use lib.ListN.{length, set, length-set}
 use Rattle.format.specs.Limits.{indexThreshold}
-use Rattle.format.specs.DecideLaws.{decides-and, decides-lt, false-of}
-use Rattle.format.specs.PutLaws.{put-nil, set-put, put-next}
+use Rattle.buffers.specs.DecideLaws.{decides-and, decides-lt, false-of}
+use Rattle.buffers.specs.PutLaws.{put-nil, set-put, put-next}
 use Rattle.format.specs.CommonInputs.{commonIdx}
 use Rattle.format.specs.Packed.{indexOf, indexBytes, inputBytes, finalFlag, headOf}
-use Rattle.format.specs.Put.{PutAt}
+use Rattle.buffers.specs.Put.{PutAt}
 use Rattle.node_compile.specs.Parts.{stateBytes}
 
 -- ---- no byte, one byte, two bytes

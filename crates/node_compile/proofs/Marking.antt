@@ -14,9 +14,9 @@ use lib.Dec.{eqb}
 use lib.ListN.{length, getD, set, replicate, length-set, length-replicate, getD-replicate}
 use lib.Seq.{getD-set-same, getD-set-other, ext-getD}
 use Rattle.format.specs.Node.{Ascending, Absent}
-use Rattle.format.specs.TransitionLaws.{ascends-lt}
+use Rattle.format.specs.laws.TransitionLaws.{ascends-lt}
 use Rattle.format.specs.Packed.{indexOf}
-use Rattle.format.specs.PackedLaws.{length-index-of, getD-index-of, place-absent, place-first}
+use Rattle.format.specs.laws.PackedLaws.{length-index-of, getD-index-of, place-absent, place-first}
 
 abbrev pub run : List ℕ → List ℕ → ℕ → List ℕ
 run v bs zero = v

@@ -12,8 +12,8 @@ use borrow.Author.Count.{below-more}
 use lib.Dec.{ltb}
 use lib.ListN.{length, getD}
 use Rattle.format.specs.Limits.{firstNode}
-use Rattle.format.specs.Decide.{Decides}
-use Rattle.format.specs.DecideLaws.{decides-true, decides-false, decides-lt, decides-iff}
+use Rattle.buffers.specs.Decide.{Decides}
+use Rattle.buffers.specs.DecideLaws.{decides-true, decides-false, decides-lt, decides-iff}
 use Rattle.format.specs.Packed.{TargetOk, TargetsOk}
 
 -- ---- one target

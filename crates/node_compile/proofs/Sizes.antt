@@ -12,7 +12,7 @@ use Rattle.format.specs.Limits.{indexThreshold}
 use Rattle.format.specs.Node.{endLen, indexLen}
 use Rattle.format.specs.CommonInputs.{commonIdx}
 use Rattle.format.specs.Packed.{BuilderNode, RecordOk, deltaOf, inputBytes, deltaSize, packedAny}
-use Rattle.format.specs.PackedLaws.{length-deltas, length-index-bytes, length-input-bytes, length-packed-any}
+use Rattle.format.specs.laws.PackedLaws.{length-deltas, length-index-bytes, length-input-bytes, length-packed-any}
 use Rattle.node_compile.specs.Parts.{anyLen}
 
 -- no transition

@@ -9,11 +9,11 @@ use native.Mathlib.Omega.{arith}
 use lib.ListN.{length, getD, take, drop, set, length-drop, length-append, length-set}
 use lib.Seq.{take-suc, take-all, length-take-le}
 use Rattle.format.specs.Bytes.{bytesOf}
-use Rattle.format.specs.BytesLaws.{length-bytes-of}
-use Rattle.format.specs.Put.{put, PutAt}
-use Rattle.format.specs.PutLaws.{put-nil, put-next, set-put, length-put}
+use Rattle.format.specs.laws.BytesLaws.{length-bytes-of}
+use Rattle.buffers.specs.Put.{put, PutAt}
+use Rattle.buffers.specs.PutLaws.{put-nil, put-next, set-put, length-put}
 use Rattle.format.specs.Packed.{storedNumbers, storedBytes}
-use Rattle.format.specs.PackedLaws.{length-stored-numbers, length-stored-bytes, stored-numbers-drop, stored-bytes-drop, stored-numbers-none, stored-bytes-none}
+use Rattle.format.specs.laws.PackedLaws.{length-stored-numbers, length-stored-bytes, stored-numbers-drop, stored-bytes-drop, stored-numbers-none, stored-bytes-none}
 
 -- ---- bytes
 

@@ -6,9 +6,9 @@ use Prim.Native.Nat.{ℕ, _+_, _≤_}
 use native.Mathlib.Omega.{arith}
 use lib.ListN.{length, length-append}
 use Rattle.format.specs.Bytes.{bytesOf, packSize}
-use Rattle.format.specs.BytesLaws.{length-bytes-of}
-use Rattle.format.specs.Put.{put, PutAt}
-use Rattle.format.specs.WritingLaws.{Writing, part-room}
+use Rattle.format.specs.laws.BytesLaws.{length-bytes-of}
+use Rattle.buffers.specs.Put.{put, PutAt}
+use Rattle.buffers.specs.WritingLaws.{Writing, part-room}
 use Rattle.format.specs.Node.{endLen}
 use Rattle.format.specs.Packed.{BuilderNode, storedNumbers, storedBytes, indexBytes, outputSize, sizesOf, packedNext, packedOne, headOf, packedAny}
 use Rattle.node_compile.specs.Parts.{stateBytes}

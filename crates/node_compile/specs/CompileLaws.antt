@@ -6,11 +6,11 @@ use Prim.Native.Nat.{ℕ, _≤_, _<_}
 use borrow.Author.Tests.{le-leb, lt-leb}
 use lib.ListN.{length}
 use Rattle.format.specs.Limits.{SPACE, RECORD}
-use Rattle.format.specs.Put.{put}
-use Rattle.format.specs.PutLaws.{put-zero}
-use Rattle.format.specs.DecideLaws.{true-of}
+use Rattle.buffers.specs.Put.{put}
+use Rattle.buffers.specs.PutLaws.{put-zero}
+use Rattle.buffers.specs.DecideLaws.{true-of}
 use Rattle.format.specs.Packed.{BuilderNode, RecordOk, recordTest, packed, packing}
-use Rattle.format.specs.PackedLaws.{decides-record, packing-record}
+use Rattle.format.specs.laws.PackedLaws.{decides-record, packing-record}
 use Rattle.node_compile.specs.Compile.{Compiles}
 use Rattle.node_compile.specs.Parts.{Fitted}
 use Rattle.node_compile.specs.declared.Compiled.{Compiled}

@@ -14,7 +14,7 @@ use Prim.Native.Nat.{ℕ, _+_, _*_, _≤_}
 use lib.Dec.{leb}
 use lib.ListN.{length}
 use Rattle.format.specs.Limits.{SPACE}
-use Rattle.format.specs.Put.{put}
+use Rattle.buffers.specs.Put.{put}
 use Rattle.format.specs.Bytes.{largest}
 use Rattle.format.specs.CommonInputs.{commonIdx}
 use Rattle.format.specs.Node.{endLen, indexLen}

@@ -8,10 +8,10 @@ use mathlib.Core.Bool.{true, not}
 use mathlib.Core.Logic.{_⊎_, inl, inr, ⊎-elim}
 use mathlib.Core.List.{List}
 use Prim.Native.Nat.{ℕ}
-use Rattle.format.specs.Decide.{Decides}
-use Rattle.format.specs.DecideLaws.{decides-true, decides-false, decides-not, decides-iff, true-of}
+use Rattle.buffers.specs.Decide.{Decides}
+use Rattle.buffers.specs.DecideLaws.{decides-true, decides-false, decides-not, decides-iff, true-of}
 use Rattle.format.specs.Strings.{Before, Bound, unbounded, included, excluded, MeetsLower, no-lower, from-on, beyond, PassesUpper, above, from-off, beforeTest}
-use Rattle.format.specs.StringLaws.{before-irrefl, before-trans, before-asym, before-total, decides-before}
+use Rattle.format.specs.laws.StringLaws.{before-irrefl, before-trans, before-asym, before-total, decides-before}
 use Rattle.reading.specs.Reading.{meetsTest, passesTest}
 
 -- ---- the words taken apart

@@ -16,13 +16,13 @@ use Rattle.format.specs.Limits.{maxPath, maxSum}
 use Rattle.format.specs.Opening.{Meta, opened, opening}
 use Rattle.format.specs.Node.{Node, Judgement, sound, unsound}
 use Rattle.format.specs.Paths.{Fst, fstOf, nodeIn, Held}
-use Rattle.format.specs.PathLaws.{held-unique}
-use Rattle.format.specs.ReachedLaws.{held-from, from-held, held-here, held-nil}
+use Rattle.format.specs.laws.PathLaws.{held-unique}
+use Rattle.format.specs.laws.ReachedLaws.{held-from, from-held, held-here, held-nil}
 use Rattle.format.specs.Admitted.{Admitted}
-use Rattle.format.specs.Decide.{Decides}
-use Rattle.format.specs.DecideLaws.{true-of, false-of}
+use Rattle.buffers.specs.Decide.{Decides}
+use Rattle.buffers.specs.DecideLaws.{true-of, false-of}
 use Rattle.format.specs.Strings.{Before, shorter, Begins, Bound, MeetsLower, PassesUpper, Between}
-use Rattle.format.specs.StringLaws.{before-irrefl, before-trans, before-nil}
+use Rattle.format.specs.laws.StringLaws.{before-irrefl, before-trans, before-nil}
 use Rattle.reading.specs.Reading.{meetsTest, passesTest, boundBytes, isInclusive, Level, View, Started, started, startedAt, boundsTest, pendingAt, seek, start, Answer, key, end, Step, refuse}
 use Rattle.reading.specs.BoundLaws.{decides-meets, decides-passes, passes-up}
 use Rattle.reading.specs.Visits.{Visit, toCome, below, kept, Sane, AllV, RisingV, capped}
@@ -74,7 +74,7 @@ module _ {s : List ℕ} (A : Admitted s) (lo : Bound) where
   pending-of : (v : ℕ) → Held fst [] v → MeetsLower lo [] → pendingAt lo (nodeIn fst (A .meta .root)) ≡ some v
   pending-of v h meets =
       let t = true-of (meetsTest lo []) (decides-meets lo []) meets in
-      let n = Rattle.format.specs.ReachedLaws.path-reached A (Rattle.format.specs.Paths.here {a = A .meta .root}) in
+      let n = Rattle.format.specs.laws.ReachedLaws.path-reached A (Rattle.format.specs.Paths.here {a = A .meta .root}) in
       let q = held-nil fst (A .meta .root) (n .node) (n .judged) (held-from h) in
       rw (t, n .judged, q .0, ← (q .1))
 

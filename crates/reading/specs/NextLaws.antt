@@ -15,12 +15,12 @@ use native.Mathlib.Omega.{arith}
 use borrow.Author.Tests.{le-leb, lt-leb, eq-eqb, ne-eqb}
 use lib.Dec.{leb, eqb}
 use lib.ListN.{length}
-use Rattle.format.specs.Limits.{maxPath, SPACE, STATE}
+use Rattle.format.specs.Limits.{maxPath, maxLevels, SPACE, STATE}
 use Rattle.format.specs.Opening.{Meta, Opening, opened, opening}
 use Rattle.format.specs.Opening as Opening
 use Rattle.format.specs.Paths.{Fst, fstOf}
 use Rattle.format.specs.Strings.{Bound}
-use Rattle.reading.specs.Reading.{passesTest, Level, View, Step, key, end, Answer, refuse, moved, onOpened, Popped, pop, afterPop, afterDescend, walk, maxLevels, stateTest, next}
+use Rattle.reading.specs.Reading.{passesTest, Level, View, Step, key, end, Answer, refuse, moved, onOpened, Popped, pop, afterPop, afterDescend, walk, stateTest, next}
 use Rattle.reading.specs.Visits.{Visit, toCome, Sane, AllV, capped}
 use Rattle.reading.specs.RunLaws.{Idle, Go, key-at, past-at, go-come, Top, pop-come}
 

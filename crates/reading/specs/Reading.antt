@@ -15,7 +15,7 @@ use Prim.Native.Nat.{ℕ, zero, suc, _+_, _-_}
 use lib.Dec.{ltb, leb, eqb}
 use lib.ListN.{length, drop}
 use Rattle.format.specs.declared.Transition.{Transition}
-use Rattle.format.specs.Limits.{maxPath, maxSum, NODE, DEEP, SUM, SPACE, BOUND, STATE}
+use Rattle.format.specs.Limits.{maxPath, maxLevels, maxSum, NODE, DEEP, SUM, SPACE, BOUND, STATE}
 use Rattle.format.specs.Node.{Node, Judgement, sound, unsound, Place, at, absent, findInput, transitionAt}
 use Rattle.format.specs.Opening.{Meta, Opening, opened, opening}
 use Rattle.format.specs.Opening as Opening
@@ -223,10 +223,6 @@ abbrev pub afterDescend : View → Went → Step
 afterDescend r (found s v t) = record { answer = key (keyOf s) v; reading = moved r s t }
 afterDescend r (passed t) = record { answer = end; reading = moved r [] t }
 afterDescend r (Went.halted n) = refuse r n
-
--- a reading has at most 256 levels
-abbrev pub maxLevels : ℕ
-maxLevels = 256
 
 abbrev pub afterPop : Fst → View → Popped → Step
 afterPop f r (top l m s) = afterDescend r (descend (maxPath - length s) f (r .bound) l m s (r .total))

@@ -22,12 +22,12 @@ use lib.Seq.{drop-cons}
 use Rattle.format.specs.declared.Transition.{Transition}
 use Rattle.format.specs.Limits.{maxPath, maxSum}
 use Rattle.format.specs.Node.{Node, sound, transitionAt}
-use Rattle.format.specs.NodeLaws.{node-at-zero}
-use Rattle.format.specs.TransitionLaws.{at-member}
-use Rattle.format.specs.NodeFacts.{node-zero}
+use Rattle.format.specs.laws.NodeLaws.{node-at-zero}
+use Rattle.format.specs.laws.TransitionLaws.{at-member}
+use Rattle.format.specs.laws.NodeFacts.{node-zero}
 use Rattle.format.specs.Paths.{Fst, nodeIn}
 use Rattle.format.specs.Strings.{Bound}
-use Rattle.format.specs.LiveLaws.{target-not-root, live-below-root}
+use Rattle.format.specs.laws.LiveLaws.{target-not-root, live-below-root}
 use Rattle.format.specs.Tables.{finalOutputOf?}
 use Rattle.reading.specs.Reading.{passesTest, Level, levelIs, View, pathOf, keyOf, onNode, counted, Popped, top, used-up, bad, pop, nextTrans, child, stepped, Went, found, passed, descend}
 use Rattle.reading.specs.Visits.{Visit, under, final?, visitBy, row, transitionsAt, below, rest, toCome, Fine, Sane, AllV, capped}

@@ -23,10 +23,10 @@ use lib.Seq.{drop-cons}
 use Rattle.format.specs.declared.Transition.{Transition}
 use Rattle.format.specs.Limits.{maxPath, maxSum}
 use Rattle.format.specs.Node.{Node, sound, at, absent, findFrom, findInput, transitionAt}
-use Rattle.format.specs.NodeFacts.{node-ascending}
+use Rattle.format.specs.laws.NodeFacts.{node-ascending}
 use Rattle.format.specs.Paths.{Fst, nodeIn}
 use Rattle.format.specs.Strings.{Bound, unbounded, included, excluded, beforeTest}
-use Rattle.format.specs.TransitionLaws.{at-member, find-input-member}
+use Rattle.format.specs.laws.TransitionLaws.{at-member, find-input-member}
 use Rattle.reading.specs.Reading.{meetsTest, boundBytes, isInclusive, Level, levelIs, pathOf, keyOf, got, firstAbove, lastLevels, seek}
 use Rattle.reading.specs.Visits.{Visit, under, visitBy, row, transitionsAt, below, rest, toCome, Fine, Sane, AllV, kept}
 use Rattle.reading.specs.VisitLaws.{below-full}

@@ -23,13 +23,13 @@ use Rattle.format.specs.Node.{Node, sound, transitionAt}
 use Rattle.format.specs.Paths.{Fst, fstOf, nodeIn, Path, here, follow, Held}
 use Rattle.format.specs.Admitted.{Admitted}
 use Rattle.format.specs.Strings.{Before, shorter, lower, later, Begins, nothing, byte}
-use Rattle.format.specs.StringLaws.{begins-append}
-use Rattle.format.specs.TransitionLaws.{member-at}
-use Rattle.format.specs.NodeFacts.{node-ascending}
-use Rattle.format.specs.PathLaws.{path-nil, path-step, path-append, path-snoc, path-split, path-ends-low}
-use Rattle.format.specs.ChainLaws.{root-chain-root, root-chain-low}
-use Rattle.format.specs.LiveLaws.{FinalFrom, final-zero, target-below-root, live-below-root, leads-to-final, path-stays}
-use Rattle.format.specs.ReachedLaws.{path-reached}
+use Rattle.format.specs.laws.StringLaws.{begins-append}
+use Rattle.format.specs.laws.TransitionLaws.{member-at}
+use Rattle.format.specs.laws.NodeFacts.{node-ascending}
+use Rattle.format.specs.laws.PathLaws.{path-nil, path-step, path-append, path-snoc, path-split, path-ends-low}
+use Rattle.format.specs.laws.ChainLaws.{root-chain-root, root-chain-low}
+use Rattle.format.specs.laws.LiveLaws.{FinalFrom, final-zero, target-below-root, live-below-root, leads-to-final, path-stays}
+use Rattle.format.specs.laws.ReachedLaws.{path-reached}
 use Rattle.reading.specs.Visits.{Visit, under, visitBy, row, transitionsAt, below, Fine, AllV, RisingV, kept}
 use Rattle.reading.specs.VisitLists.{fine-node}
 

@@ -17,12 +17,13 @@ use lib.Dec.{leb}
 use lib.ListN.{length}
 use Rattle.format.specs.Limits.{maxPath, BOUND}
 use Rattle.format.specs.Paths.{Fst, fstOf, Held}
-use Rattle.format.specs.PathLaws.{held-unique}
+use Rattle.format.specs.laws.PathLaws.{held-unique}
 use Rattle.format.specs.Admitted.{Admitted}
 use Rattle.format.specs.Strings.{Bound, unbounded, MeetsLower, no-lower, PassesUpper, Between}
 use Rattle.format.specs.Lookup as L
 use Rattle.format.specs.Lookup.{get}
-use Rattle.format.specs.LookupHeld.{GetExact, get-exact}
+use Rattle.format.specs.Exact.{GetExact}
+use Rattle.format.specs.laws.LookupHeld.{get-exact}
 use Rattle.reading.specs.Reading.{boundBytes, boundsTest, View, Started, started, start, Answer, end, Step, next}
 use Rattle.reading.specs.Visits.{capped}
 use Rattle.reading.specs.RunLaws.{lt-or}

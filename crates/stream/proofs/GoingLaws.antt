@@ -15,9 +15,9 @@ use lib.Seq.{getD-set-same}
 use Rattle.format.specs.Limits.{maxSum, NODE, DEEP, SUM}
 use Rattle.format.specs.Node as F
 use Rattle.format.specs.Node.{sound, unsound, transitionAt}
-use Rattle.format.specs.NodeFacts.{node-zero, node-count}
-use Rattle.format.specs.LiveLaws.{target-below-root, live-below-root}
-use Rattle.format.specs.TransitionLaws.{at-member}
+use Rattle.format.specs.laws.NodeFacts.{node-zero, node-count}
+use Rattle.format.specs.laws.LiveLaws.{target-below-root, live-below-root}
+use Rattle.format.specs.laws.TransitionLaws.{at-member}
 use Rattle.format.specs.Paths.{Fst, fstIs, nodeIn}
 use Rattle.format.specs.Strings.{Bound}
 use Rattle.node.specs.declared.Node.{Node}

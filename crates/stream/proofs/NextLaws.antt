@@ -19,7 +19,7 @@ use lib.Seq.{length-take-le}
 use Rattle.format.specs.Limits.{NODE, SPACE, STATE}
 use Rattle.format.specs.Opening as Opening
 use Rattle.format.specs.Opening.{Meta, opened, opening}
-use Rattle.format.specs.OpeningLaws.{opened-facts, root-inside}
+use Rattle.format.specs.laws.OpeningLaws.{opened-facts, root-inside}
 use Rattle.format.specs.Paths.{Fst, fstIs, fstOf}
 use Rattle.node.specs.declared.Node.{Node}
 use Rattle.node.specs.Read.{meaning}

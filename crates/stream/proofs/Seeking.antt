@@ -12,9 +12,9 @@ use lib.ListN.{length, getD, drop}
 use Rattle.format.specs.Limits.{maxSum, NODE}
 use Rattle.format.specs.Node.{Node, sound, unsound, at, findInput, transitionAt}
 use Rattle.format.specs.Paths.{Fst, nodeIn}
-use Rattle.format.specs.NodeFacts.{find-member, node-count}
-use Rattle.format.specs.LiveLaws.{target-below-root}
-use Rattle.format.specs.TransitionLaws.{at-member}
+use Rattle.format.specs.laws.NodeFacts.{find-member, node-count}
+use Rattle.format.specs.laws.LiveLaws.{target-below-root}
+use Rattle.format.specs.laws.TransitionLaws.{at-member}
 use Rattle.reading.specs.Reading.{levelIs, got, halted, lastLevels, seek}
 use Rattle.stream.specs.declared.Entered.the-variants.{Hit, Miss, Unsound}
 use Rattle.stream.specs.Views.{Arrays, stackOf}

@@ -5,7 +5,7 @@ use borrow.Author.Tests.{lt-ltb, le-ltb, le-leb, lt-leb, eq-eqb, ne-eqb}
 use mathlib.Core.Option.{some}
 use Prim.Native.Nat.{_-_}
 use lib.ListN.{length}
-use Rattle.format.specs.StoredLaws.{part-rest}
+use Rattle.format.specs.laws.StoredLaws.{part-rest}
 use borrow.Author.Needs.{needs}
 use native.Mathlib.Omega.{arith}
 use denote.Ref.{now}

@@ -1,11 +1,11 @@
 -- `fst::open` meets its contract: each way out is a law of `opening`.
 -- Assumes nothing.
 use mathlib.Core.Path.{_≡_, refl, sym, ap, _∙_}
-use Rattle.format.specs.OpeningLaws.{opening-short, opening-large, opening-version, opening-root, opening-opened, version-low, version-high, version-right}
+use Rattle.format.specs.laws.OpeningLaws.{opening-short, opening-large, opening-version, opening-root, opening-opened, version-low, version-high, version-right}
 use Prim.Native.Nat.{_+_, _-_}
 use lib.ListN.{length}
 use mathlib.Core.Bool.{true, false}
-use Rattle.format.specs.StoredLaws.{part-rest}
+use Rattle.format.specs.laws.StoredLaws.{part-rest}
 use Rattle.format.specs.Opening.{numberAt, metaOf, versionTest, rootTest, opened}
 use Rattle.fst.proofs.Opens.{meta-is, version-is, root-is}
 use borrow.Author.Needs.{needs}

@@ -6,7 +6,7 @@ use native.Mathlib.Omega.{arith}
 use borrow.Author.Needs.{needs}
 use denote.Ref.{now}
 use lib.ListN.{length}
-use Rattle.format.specs.StoredLaws.{getD-numbers-down, part-rest}
+use Rattle.format.specs.laws.StoredLaws.{getD-numbers-down, part-rest}
 use Rattle.le_bytes.proofs.Place.{offset-lt, place-lt, place-le, place-room}
 use Rattle.le_bytes.proofs.number_of.Statement.{statement}
 use Rattle.le_bytes.proofs.number_of.Tie as tie

@@ -9,7 +9,7 @@ use borrow.Author.Needs.{needs}
 use denote.Ref.{now}
 use Rattle.listing.specs.Lines.{decimal, refusedLine}
 use Rattle.listing.specs.LinesLaws.{length-refused-line}
-use Rattle.format.specs.WritingLaws.{Writing, writing-none, part-room, part-written}
+use Rattle.buffers.specs.WritingLaws.{Writing, writing-none, part-room, part-written}
 use Rattle.listing.proofs.Parts.{line-written}
 use Rattle.listing.proofs.refused_line.Statement.{statement}
 use Rattle.listing.proofs.refused_line.Tie as tie

@@ -3,7 +3,7 @@
 use mathlib.Core.Path.{_≡_, refl, sym, ap, _∙_}
 use mathlib.Core.List.{[]}
 use Rattle.node.specs.ReadLaws.{answer-sound, answer-unsound}
-use Rattle.format.specs.LookupLaws.{get-from-unsound, get-from-end-value, get-from-end-sum, get-from-end-none}
+use Rattle.format.specs.laws.LookupLaws.{get-from-unsound, get-from-end-value, get-from-end-sum, get-from-end-none}
 use Rattle.node.specs.Read.{meaning}
 use Rattle.format.specs.Paths.{fstIs}
 use borrow.Author.Needs.{needs}

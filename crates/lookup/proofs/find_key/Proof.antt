@@ -10,8 +10,8 @@ use lib.ListN.{length}
 use Rattle.format.specs.Node.{sound, at, transitionAt}
 use Rattle.format.specs.Paths.{Fst, nodeIn}
 use Rattle.format.specs.Lookup.{lastFitting}
-use Rattle.format.specs.LookupLaws.{Fitting, at-fitting}
-use Rattle.format.specs.LookupWalks.{searching-unsound, searching-found, searching-stuck, searching-deep}
+use Rattle.format.specs.laws.LookupLaws.{Fitting, at-fitting}
+use Rattle.lookup.proofs.LookupWalks.{searching-unsound, searching-found, searching-stuck, searching-deep}
 use Rattle.node.specs.ReadLaws.{answer-sound, answer-unsound, place-is, place-none, length-node-transitions}
 use Rattle.node.specs.declared.Node.{Node}
 use Rattle.node.specs.Read.{meaning, transitionsIn, Readable}

@@ -1,7 +1,7 @@
 -- `lookup::get` meets its contract: what opening answered leads to an equation of `get`.
 -- Assumes nothing.
 use mathlib.Core.Path.{_≡_, refl, sym, ap, _∙_}
-use Rattle.format.specs.LookupLaws.{get-opened, get-refused}
+use Rattle.format.specs.laws.LookupLaws.{get-opened, get-refused}
 use Rattle.fst.specs.Open.{metaIs, openingOf}
 use borrow.Author.Needs.{needs}
 use native.Mathlib.Omega.{arith}

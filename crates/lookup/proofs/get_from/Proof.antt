@@ -8,7 +8,8 @@ use lib.ListN.{length, getD}
 use Rattle.format.specs.Limits.{maxSum}
 use Rattle.format.specs.Node.{sound, at, findInput, transitionAt}
 use Rattle.format.specs.Paths.{Fst, nodeIn}
-use Rattle.format.specs.LookupWalks.{Looking, looking-none, looking-unsound, looking-absent, looking-step}
+use Rattle.format.specs.laws.LookupLaws.{get-from-past}
+use Rattle.lookup.proofs.LookupWalks.{Looking, looking-none, looking-unsound, looking-absent, looking-step}
 use Rattle.format.specs.Lookup.{getFrom}
 use Rattle.node.specs.ReadLaws.{answer-sound, answer-unsound, place-is, place-none, place-lt, length-node-transitions}
 use Rattle.node.specs.declared.Node.{Node}
@@ -131,7 +132,8 @@ past-sum-requires c κs = search needs
 
 returns-3 : tie.Need-returns-3 Inv-loop μ-loop
 returns-3 c = let w = c .before .before .before .before in
-    sym (next w .same ∙ sym (c .past-sum .ensures (drop (i w + 1) (key w)) (sum w + transitionAt (transitionsIn (file (q-of w)) (m (q-of w))) (p w) .out) (omega (arith, c .before .before .before .output .ensures)) ∙ rw (c .before .before .transition-addr .ensures)))
+    let out = transitionAt (transitionsIn (file (q-of w)) (m (q-of w))) (p w) .out in
+    sym (next w .same ∙ (rw (c .past-sum .ensures, c .before .before .transition-addr .ensures) (get-from-past (f (q-of w)) (drop (i w + 1) (key w)) _ (sum w + out) (omega (arith, c .before .before .before .output .ensures)))))
 
 add-sum : tie.Need-add-sum Inv-loop μ-loop
 add-sum c = omega (arith, fits (q-of (c .before .before .before)))

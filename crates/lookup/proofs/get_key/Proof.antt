@@ -6,7 +6,7 @@ use Prim.Native.Nat.{ℕ, _≤_}
 use lib.ListN.{length}
 use Rattle.format.specs.Paths.{fstOf}
 use Rattle.format.specs.Lookup.{KeyAnswer, getKey, getKeyFrom}
-use Rattle.format.specs.LookupLaws.{get-key-opened, get-key-refused, get-key-space}
+use Rattle.format.specs.laws.LookupLaws.{get-key-opened, get-key-refused, get-key-space}
 use Rattle.fst.specs.Open.{metaIs, openingOf}
 use Rattle.format.specs.Opening as O
 use Rattle.lookup.specs.Answers.{keyIs}
@@ -58,9 +58,13 @@ find-key-requires c κs = search needs
 enum-known-found : tie.Need-enum-known-found
 enum-known-found c = search needs
 
-put-key-requires : tie.Need-put-key-requires
-put-key-requires c κs = let w = c .before .before .before .before .before in
-    (w .find-key .ensures .1 .len, key-fits (w .find-key .result) (path w) _ (w .find-key .ensures .1) (c .before .before .before .found .given .1), w .before .before .if1 .left)
+slice-aggregate-copy-front : tie.Need-slice-aggregate-copy-front
+slice-aggregate-copy-front c = search needs
+
+copy-front-requires : tie.Need-copy-front-requires
+copy-front-requires c κs = let w = c .before .before .before .before .before in
+    let fits = key-fits (w .find-key .result) (path w) _ (w .find-key .ensures .1) (c .before .before .before .found .given .1) in
+    (omega (arith, fits, w .find-key .ensures .1 .len), omega (arith, fits, w .before .before .if1 .left))
 
 enum-told : tie.Need-enum-told
 enum-told c = search needs
@@ -78,7 +82,7 @@ same-length c = search needs
 
 returns-3 : tie.Need-returns-3
 returns-3 c = let w = c .before .before .before .before .before .before .before .before in
-    written-key _ (path w) (buf w) _ _ (answered w ∙ ap (λ r. keyIs r (path w)) (c .before .before .before .before .before .before .found .given .1)) (omega (arith, w .find-key .ensures .1 .len, key-fits (w .find-key .result) (path w) _ (w .find-key .ensures .1) (c .before .before .before .before .before .before .found .given .1))) (c .before .before .put-key .ensures)
+    written-key _ (path w) (buf w) _ _ (answered w ∙ ap (λ r. keyIs r (path w)) (c .before .before .before .before .before .before .found .given .1)) (omega (arith, w .find-key .ensures .1 .len, key-fits (w .find-key .result) (path w) _ (w .find-key .ensures .1) (c .before .before .before .before .before .before .found .given .1))) (c .before .before .copy-front .ensures)
 
 returns-4 : tie.Need-returns-4
 returns-4 c = let w = c .before .before in written-none _ (buf w) (answered w ∙ ap (λ r. keyIs r (path w)) (c .enum-told .given .1))
@@ -96,7 +100,8 @@ get-key-spec =
     returns
     find-key-requires
     enum-known-found
-    put-key-requires
+    slice-aggregate-copy-front
+    copy-front-requires
     enum-told
     enum-known-found-2
     returns-2

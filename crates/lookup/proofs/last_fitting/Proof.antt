@@ -5,7 +5,7 @@ use mathlib.Core.Logic.{inl, inr}
 use Prim.Native.Nat.{ℕ, _-_, _≤_}
 use Rattle.format.specs.Node.{at}
 use Rattle.node.specs.ReadLaws.{length-node-transitions}
-use Rattle.format.specs.LookupLaws.{Scanned, scanned-none, scanned-step, fitting-last, fitting-none}
+use Rattle.format.specs.laws.LookupLaws.{Scanned, scanned-none, scanned-step, fitting-last, fitting-none}
 use Rattle.node.specs.Read.{transitionsIn}
 use borrow.Author.Needs.{needs}
 use native.Mathlib.Omega.{arith}

@@ -7,7 +7,7 @@ use lib.ListN.{length, take, drop, length-drop}
 use Rattle.format.specs.Bytes.{le}
 use Rattle.format.specs.Node as F
 use Rattle.format.specs.Node.{shapeOf, endLen, SoundShape}
-use Rattle.format.specs.StoredLaws.{part-rest}
+use Rattle.format.specs.laws.StoredLaws.{part-rest}
 use Rattle.node.specs.declared.Judged.the-variants.{Unsound}
 use Rattle.node.specs.declared.Shape.{Shape}
 use Rattle.node.specs.Read.{shapeIs, Judges}

@@ -1,7 +1,7 @@
 -- `node::entries_right` meets its contract.
 -- Assumes nothing.
 use mathlib.Core.Path.{_≡_, refl, sym, ap, _∙_}
-use Rattle.format.specs.DecideLaws.{decides-true, decides-iff}
+use Rattle.buffers.specs.DecideLaws.{decides-true, decides-iff}
 use borrow.Author.Needs.{needs}
 use native.Mathlib.Omega.{arith}
 use denote.Ref.{now}

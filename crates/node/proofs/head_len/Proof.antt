@@ -2,7 +2,7 @@
 -- Assumes nothing.
 use mathlib.Core.Path.{_≡_, refl, sym, ap, _∙_}
 use Prim.Native.Nat.{_%_}
-use Rattle.format.specs.HeadLaws.{head-len-one, head-len-two}
+use Rattle.format.specs.laws.HeadLaws.{head-len-one, head-len-two}
 use borrow.Author.Needs.{needs}
 use native.Mathlib.Omega.{arith}
 use denote.Ref.{now}

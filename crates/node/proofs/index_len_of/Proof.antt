@@ -2,7 +2,7 @@
 -- Assumes nothing.
 use mathlib.Core.Path.{_≡_, refl, sym, ap, _∙_}
 use borrow.Author.Tests.{lt-ltb, le-ltb, le-leb, lt-leb, eq-eqb, ne-eqb, leb-true}
-use Rattle.format.specs.HeadLaws.{index-len-few}
+use Rattle.format.specs.laws.HeadLaws.{index-len-few}
 use Rattle.format.specs.Node.{indexLen}
 use borrow.Author.Needs.{needs}
 use native.Mathlib.Omega.{arith}

@@ -1,7 +1,7 @@
 -- `node::index_right` meets its contract.
 -- Assumes nothing.
 use denote.Ref.{now}
-use Rattle.format.specs.DecideLaws.{decides-false}
+use Rattle.buffers.specs.DecideLaws.{decides-false}
 use Rattle.node.specs.Read.{Probed}
 use Rattle.node.proofs.Index.{index-decides}
 use borrow.Author.Needs.{needs}

@@ -1,7 +1,7 @@
 -- `node::input_of` meets its contract: the low six bits say where the input is.
 -- Assumes nothing.
 use mathlib.Core.Path.{_≡_, refl, sym, ap, _∙_}
-use Rattle.format.specs.HeadLaws.{input-of-byte, input-of-common}
+use Rattle.format.specs.laws.HeadLaws.{input-of-byte, input-of-common}
 use borrow.Author.Needs.{needs}
 use native.Mathlib.Omega.{arith}
 use denote.Ref.{now}

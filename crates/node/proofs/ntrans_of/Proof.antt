@@ -2,7 +2,7 @@
 -- Assumes nothing.
 use mathlib.Core.Path.{_≡_, refl, sym, ap, _∙_}
 use Prim.Native.Nat.{_-_, _%_}
-use Rattle.format.specs.HeadLaws.{count-of-bits, count-of-256, count-of-byte}
+use Rattle.format.specs.laws.HeadLaws.{count-of-bits, count-of-256, count-of-byte}
 use borrow.Author.Needs.{needs}
 use native.Mathlib.Omega.{arith}
 use denote.Ref.{now}

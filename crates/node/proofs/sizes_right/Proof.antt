@@ -1,7 +1,7 @@
 -- `node::sizes_right` meets its contract.
 -- Assumes nothing.
 use mathlib.Core.Path.{_≡_, refl, sym, ap, _∙_}
-use Rattle.format.specs.DecideLaws.{decides-true, decides-false, decides-iff, decides-lt, decides-eq}
+use Rattle.buffers.specs.DecideLaws.{decides-true, decides-false, decides-iff, decides-lt, decides-eq}
 use Prim.Native.Nat.{ℕ, _<_}
 use borrow.Author.Needs.{needs}
 use native.Mathlib.Omega.{arith}

@@ -1,6 +1,6 @@
 -- `node::target_right` meets its contract.
 -- Assumes nothing.
-use Rattle.format.specs.DecideLaws.{decides-true, decides-false, decides-iff, decides-lt, decides-eq}
+use Rattle.buffers.specs.DecideLaws.{decides-true, decides-false, decides-iff, decides-lt, decides-eq}
 use Rattle.node.proofs.Targets.{target-near, decides-far}
 use borrow.Author.Needs.{needs}
 use native.Mathlib.Omega.{arith}

@@ -2,7 +2,7 @@
 -- The invariant: the first i deltas are right. The measure is n less i.
 -- Assumes nothing.
 use mathlib.Core.Path.{_≡_, refl, sym, ap, _∙_}
-use Rattle.format.specs.DecideLaws.{decides-true, decides-false}
+use Rattle.buffers.specs.DecideLaws.{decides-true, decides-false}
 use Prim.Native.Nat.{ℕ, _-_}
 use Rattle.node.proofs.Targets.{numbers-near, RightTo, right-none, right-step, right-all, not-right}
 use borrow.Author.Needs.{needs}

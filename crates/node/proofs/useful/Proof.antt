@@ -1,7 +1,7 @@
 -- `node::useful` meets its contract.
 -- Assumes nothing.
 use mathlib.Core.Path.{_≡_, refl, sym, ap, _∙_}
-use Rattle.format.specs.DecideLaws.{decides-true, decides-false, decides-iff, decides-lt, decides-eq}
+use Rattle.buffers.specs.DecideLaws.{decides-true, decides-false, decides-iff, decides-lt, decides-eq}
 use mathlib.Core.Bool.{true≢false}
 use mathlib.Core.Logic.{inl, inr, ⊎-elim}
 use native.Mathlib.Nat.{not-le-of-lt}

@@ -2,7 +2,7 @@
 -- Assumes nothing.
 use native.Mathlib.Omega.{arith}
 use borrow.Author.Needs.{needs}
-use Rattle.format.specs.PackedLaws.{length-head-of}
+use Rattle.format.specs.laws.PackedLaws.{length-head-of}
 use Rattle.node_compile.proofs.Sizes.{AnyBounds, any-bounds}
 use Rattle.node_compile.proofs.any_len.Statement.{statement}
 use Rattle.node_compile.proofs.any_len.Tie as tie

@@ -8,9 +8,9 @@ use native.Mathlib.Omega.{arith}
 use borrow.Author.Needs.{needs}
 use denote.Ref.{now}
 use lib.ListN.{length, getD}
-use Rattle.format.specs.PutLaws.{put-nil}
+use Rattle.buffers.specs.PutLaws.{put-nil}
 use Rattle.format.specs.Packed.{BuilderNode, RecordOk, hasOne, leadsNext, deltaOf, packedNext, packedOne}
-use Rattle.format.specs.PackedLaws.{packed-nothing, packed-next-is, packed-one-is, packed-any-is, one-means}
+use Rattle.format.specs.laws.PackedLaws.{packed-nothing, packed-next-is, packed-one-is, packed-any-is, one-means}
 use Rattle.node_compile.specs.Compile.{builderOf}
 use Rattle.node_compile.specs.Parts.{anyBytes}
 use Rattle.node_compile.specs.CompileLaws.{fitted-written, compiles-record, compiles-fitted}

@@ -9,7 +9,7 @@ use denote.Ref.{now}
 use lib.ListN.{length}
 use Rattle.format.specs.Bytes.{largest}
 use Rattle.format.specs.Packed.{BuilderNode, deltaOf, outputSize}
-use Rattle.format.specs.PackedLaws.{output-size-le, delta-size-le}
+use Rattle.format.specs.laws.PackedLaws.{output-size-le, delta-size-le}
 use Rattle.node_compile.specs.Compile.{builderOf}
 use Rattle.node_compile.specs.Parts.{anyIn, anyBytes}
 use Rattle.node_compile.specs.CompileLaws.{fitted-space, fitted-written, fitted-same}

@@ -7,7 +7,7 @@ use borrow.Author.Needs.{needs}
 use denote.Ref.{now}
 use lib.ListN.{length}
 use Rattle.format.specs.Packed.{packedNext}
-use Rattle.format.specs.PackedLaws.{length-packed-next}
+use Rattle.format.specs.laws.PackedLaws.{length-packed-next}
 use Rattle.node_compile.specs.CompileLaws.{fitted-space, fitted-written}
 use Rattle.node_compile.proofs.Sizes.{input-bytes-le}
 use Rattle.node_compile.proofs.Whole.{next-parts}

@@ -8,7 +8,7 @@ use borrow.Author.Needs.{needs}
 use denote.Ref.{now}
 use lib.ListN.{length}
 use Rattle.format.specs.Packed.{deltaOf, packedOne}
-use Rattle.format.specs.PackedLaws.{output-size-le, length-packed-one}
+use Rattle.format.specs.laws.PackedLaws.{output-size-le, length-packed-one}
 use Rattle.node_compile.specs.CompileLaws.{fitted-space, fitted-written, fitted-same}
 use Rattle.node_compile.proofs.Sizes.{input-bytes-le}
 use Rattle.node_compile.proofs.compile_one.Statement.{statement}

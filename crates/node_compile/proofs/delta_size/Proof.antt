@@ -6,7 +6,7 @@ use native.Mathlib.Omega.{arith}
 use borrow.Author.Needs.{needs}
 use denote.Ref.{now}
 use Rattle.format.specs.Packed.{deltaOf}
-use Rattle.format.specs.PackedLaws.{length-deltas, delta-size-is}
+use Rattle.format.specs.laws.PackedLaws.{length-deltas, delta-size-is}
 use Rattle.node_compile.proofs.Sizes.{delta-size-none}
 use Rattle.node_compile.proofs.delta_size.Statement.{statement}
 use Rattle.node_compile.proofs.delta_size.Tie as tie

@@ -9,7 +9,7 @@ use borrow.Author.Needs.{needs}
 use borrow.Author.Count.{falls}
 use denote.Ref.{now}
 use lib.ListN.{length}
-use Rattle.format.specs.DecideLaws.{decides-true, decides-false}
+use Rattle.buffers.specs.DecideLaws.{decides-true, decides-false}
 use Rattle.node_compile.proofs.Ascending.{AscendingTo, ascending-one, ascending-step, ascending-all, not-ascending}
 use Rattle.node_compile.proofs.inputs_ascend.Statement.{statement}
 use Rattle.node_compile.proofs.inputs_ascend.Tie as tie

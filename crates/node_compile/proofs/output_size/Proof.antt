@@ -2,7 +2,7 @@
 -- Assumes nothing.
 use mathlib.Core.Path.{sym, _∙_}
 use borrow.Author.Needs.{needs}
-use Rattle.format.specs.PackedLaws.{output-size-zero, output-size-pos}
+use Rattle.format.specs.laws.PackedLaws.{output-size-zero, output-size-pos}
 use Rattle.node_compile.proofs.output_size.Statement.{statement}
 use Rattle.node_compile.proofs.output_size.Tie as tie
 

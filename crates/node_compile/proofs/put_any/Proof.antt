@@ -14,7 +14,7 @@ use Rattle.format.specs.Packed.{BuilderNode, deltaOf, storedNumbers, storedByte
 use Rattle.node_compile.specs.Compile.{builderOf}
 use Rattle.node_compile.specs.Parts.{anyIn}
 use Rattle.node_compile.proofs.Heads.{put-one-byte}
-use Rattle.format.specs.WritingLaws.{Writing, writing-none, writing-room, part-room, part-written, last-written}
+use Rattle.buffers.specs.WritingLaws.{Writing, writing-none, writing-room, part-room, part-written, last-written}
 use Rattle.node_compile.proofs.Whole.{number-written, number-room, any-parts}
 use Rattle.node_compile.proofs.put_any.Statement.{statement}
 use Rattle.node_compile.proofs.put_any.Tie as tie

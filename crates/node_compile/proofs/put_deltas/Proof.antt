@@ -8,7 +8,7 @@ use borrow.Author.Needs.{needs}
 use denote.Ref.{now}
 use lib.ListN.{length}
 use Rattle.format.specs.Packed.{deltaOf}
-use Rattle.format.specs.PackedLaws.{length-deltas, getD-deltas}
+use Rattle.format.specs.laws.PackedLaws.{length-deltas, getD-deltas}
 use Rattle.node_compile.proofs.Record.{targets-le}
 use Rattle.node_compile.proofs.Storing.{NumbersFrom, numbers-none, numbers-room, numbers-step, numbers-all}
 use Rattle.node_compile.proofs.put_deltas.Statement.{statement}

@@ -8,12 +8,12 @@ use native.Mathlib.Omega.{arith}
 use denote.Ref.{now}
 use lib.ListN.{set}
 use Rattle.format.specs.Bytes.{bytesOf, packSize}
-use Rattle.format.specs.BytesLaws.{pack-size-high}
+use Rattle.format.specs.laws.BytesLaws.{pack-size-high}
 use Rattle.format.specs.Packed.{outputSize, sizesOf, packedOne}
-use Rattle.format.specs.PackedLaws.{output-size-le}
+use Rattle.format.specs.laws.PackedLaws.{output-size-le}
 use Rattle.node_compile.specs.Parts.{stateBytes}
 use Rattle.node_compile.proofs.Heads.{put-one-byte}
-use Rattle.format.specs.WritingLaws.{Writing, writing-none, writing-room, part-room, part-written, last-written}
+use Rattle.buffers.specs.WritingLaws.{Writing, writing-none, writing-room, part-room, part-written, last-written}
 use Rattle.node_compile.proofs.Whole.{number-written, number-room, one-parts}
 use Rattle.node_compile.proofs.put_one.Statement.{statement}
 use Rattle.node_compile.proofs.put_one.Tie as tie

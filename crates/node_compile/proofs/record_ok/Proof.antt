@@ -3,7 +3,7 @@
 use mathlib.Core.Bool.{true≢false}
 use native.Mathlib.Nat.{not-le-of-lt}
 use borrow.Author.Needs.{needs}
-use Rattle.format.specs.DecideLaws.{decides-true, decides-false, decides-eq, decides-iff}
+use Rattle.buffers.specs.DecideLaws.{decides-true, decides-false, decides-eq, decides-iff}
 use Rattle.node_compile.proofs.record_ok.Statement.{statement}
 use Rattle.node_compile.proofs.record_ok.Tie as tie
 

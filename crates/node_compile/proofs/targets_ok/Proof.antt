@@ -5,7 +5,7 @@ use Prim.Native.Nat.{_-_, _≤_}
 use borrow.Author.Needs.{needs}
 use denote.Ref.{now}
 use lib.ListN.{length}
-use Rattle.format.specs.DecideLaws.{decides-true, decides-false}
+use Rattle.buffers.specs.DecideLaws.{decides-true, decides-false}
 use Rattle.node_compile.proofs.Record.{TargetsTo, targets-none, targets-step, targets-all, not-targets}
 use Rattle.node_compile.proofs.targets_ok.Statement.{statement}
 use Rattle.node_compile.proofs.targets_ok.Tie as tie

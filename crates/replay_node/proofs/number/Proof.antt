@@ -1,7 +1,7 @@
 -- `replay_node::number` meets its contract: the part of the list from `at` on is lent on.
 -- Assumes nothing.
 use mathlib.Core.Path.{_∙_}
-use Rattle.format.specs.StoredLaws.{part-rest}
+use Rattle.format.specs.laws.StoredLaws.{part-rest}
 use borrow.Author.Needs.{needs}
 use Rattle.replay_node.proofs.number.Statement.{statement}
 use Rattle.replay_node.proofs.number.Tie as tie

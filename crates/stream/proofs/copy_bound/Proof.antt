@@ -2,7 +2,7 @@
 -- Assumes nothing.
 use mathlib.Core.Path.{_≡_, refl, sym, ap, _∙_}
 use Prim.Native.Nat.{_-_}
-use Rattle.format.specs.CopyLaws.{Copied, copied-none, copied-step, copied-all}
+use Rattle.buffers.specs.CopyLaws.{Copied, copied-none, copied-step, copied-all}
 use denote.Ref.{now}
 use borrow.Author.Needs.{needs}
 use native.Mathlib.Omega.{arith}

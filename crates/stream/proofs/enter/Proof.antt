@@ -6,7 +6,7 @@ use mathlib.Core.List.{List}
 use Prim.Native.Nat.{ℕ, _<_, _≤_}
 use lib.ListN.{length, getD}
 use Rattle.format.specs.Node.{sound, at, absent, findInput, transitionAt}
-use Rattle.format.specs.NodeFacts.{node-count}
+use Rattle.format.specs.laws.NodeFacts.{node-count}
 use Rattle.format.specs.Paths.{Fst, fstIs, nodeIn}
 use Rattle.node.specs.declared.Node.{Node}
 use Rattle.node.specs.Read.{meaning, transitionsIn, Readable}

@@ -2,7 +2,7 @@
 -- Assumes nothing.
 use Prim.Native.Nat.{_-_}
 use denote.Ref.{now}
-use Rattle.format.specs.CopyLaws.{Copied, copied-none, copied-rest, copied-all}
+use Rattle.buffers.specs.CopyLaws.{Copied, copied-none, copied-rest, copied-all}
 use lib.ListN.{drop}
 use borrow.Author.Needs.{needs}
 use native.Mathlib.Omega.{arith}

@@ -2,7 +2,7 @@
 -- Assumes nothing.
 use mathlib.Core.Path.{_≡_, refl, sym, ap, _∙_}
 use Rattle.format.specs.Opening as O
-use Rattle.format.specs.OpeningLaws.{opened-facts, root-inside}
+use Rattle.format.specs.laws.OpeningLaws.{opened-facts, root-inside}
 use Rattle.fst.specs.Open.{metaIs, openingOf}
 use Rattle.stream.specs.Views.{boundOf}
 use Rattle.stream.proofs.StartLaws.{start-opened, start-refused}

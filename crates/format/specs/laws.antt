@@ -1,0 +1,20 @@
+-- The laws of the definitions, one file for each definition or for what is shown of several.
+pub mod BytesLaws
+pub mod CommonInputsLaws
+pub mod StoredLaws
+pub mod NodeLaws
+pub mod TransitionLaws
+pub mod PackedLaws
+pub mod HeadLaws
+pub mod OpeningLaws
+pub mod NodeFacts
+pub mod PathLaws
+pub mod LookupLaws
+pub mod ChainLaws
+pub mod TableLaws
+pub mod LiveLaws
+pub mod ReachedLaws
+pub mod LookupHeld
+pub mod FoundLaws
+pub mod NumberedLaws
+pub mod StringLaws
