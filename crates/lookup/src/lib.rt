@@ -119,7 +119,13 @@ fn last_fitting(file: &[u8], node: Node, left: u64) -> Found
 }
 
 // Searches from the root of a file that opens; the key's bytes stand at the front of path where a key is found.
-fn find_key(file: &[u8], version: u64, root: usize, value: u64, path: &mut [u8; MAX_KEY]) -> KeyAnswer
+fn find_key(
+    file: &[u8],
+    version: u64,
+    root: usize,
+    value: u64,
+    path: &mut [u8; MAX_KEY],
+) -> KeyAnswer
     requires { ⌜ length (now path) ≡ maxPath ⌝ }
     ensures { λ r. ⌜ keyIs r (now (path .exit)) ≡ getKeyFrom maxPath (fstIs (now (file .entry)) version root) root value ⌝ }
     ensures { λ r. ⌜ KeyFits r (now (path .exit)) ⌝ }
