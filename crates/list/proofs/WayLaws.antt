@@ -16,9 +16,9 @@ use Rattle.admission.specs.Outcome.{Admits}
 use Rattle.reading.specs.Reading.{View, Answer, key, end, Step, counted, next}
 use Rattle.reading.specs.ProgressLaws.{left}
 use Rattle.reading.specs.WholeLaws.{OnWay, OnWayNext, goes-on, comes-to-end, on-way-start, on-way-next}
-use Rattle.stream.specs.Views.{viewOf}
-use Rattle.stream.specs.declared.Started.{Started}
-use Rattle.stream.specs.declared.Begins.the-variants.{Began, Refused}
+use Rattle.stream_start.specs.Views.{viewOf}
+use Rattle.stream_start.specs.declared.Started.{Started}
+use Rattle.stream_start.specs.declared.Begins.the-variants.{Began, Refused}
 use Rattle.listing.specs.declared.Line.the-variants.{Key, Last}
 use Rattle.listing.specs.declared.Listed.{Listed}
 use Rattle.listing.specs.Lines.{keyLine, endLine}

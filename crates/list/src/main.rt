@@ -2,14 +2,14 @@
 // The work is crate `listing`'s; a line is written as soon as it is there, so that memory does not grow with the number of keys.
 ghost use Prim.Native.Nat.{_≤_};
 ghost use lib.ListN.{length};
-ghost use Rattle.stream.specs.Views.{viewOf};
+ghost use Rattle.stream_start.specs.Views.{viewOf};
 ghost use Rattle.list.specs.Stands.{Stands};
 use libc::STDIN_FILENO;
 use libc::STDOUT_FILENO;
 use listing::LINE;
 use listing::Line;
-use stream::Begins;
-use stream::Reading;
+use stream_start::Begins;
+use stream_start::Reading;
 
 // The longest file that is listed, and one byte more by which a longer one is seen.
 const ROOM: usize = 4_097;

@@ -10,9 +10,9 @@ use Rattle.format.specs.Limits.{LARGE}
 use Rattle.format.specs.Strings.{unbounded}
 use Rattle.admission.specs.Outcome.{RefusedFor, Admits}
 use Rattle.reading.specs.Reading as R
-use Rattle.stream.specs.Views.{viewOf}
-use Rattle.stream.specs.declared.Started.{Started}
-use Rattle.stream.specs.declared.Begins.the-variants.{Began, Refused}
+use Rattle.stream_start.specs.Views.{viewOf}
+use Rattle.stream_start.specs.declared.Started.{Started}
+use Rattle.stream_start.specs.declared.Begins.the-variants.{Began, Refused}
 use Rattle.listing.specs.declared.Line.{Line}
 use Rattle.listing.specs.declared.Line.the-variants.{Key, Last, Short}
 use Rattle.listing.specs.declared.Listed.{Listed}

@@ -6,15 +6,15 @@ ghost use lib.ListN.{length, take};
 ghost use Rattle.listing.specs.Lines.{hexDigit, hexOf, keyText, decimal, keyLine, endLine, refusedLine};
 ghost use Rattle.listing.specs.Lines.{Written};
 ghost use Rattle.buffers.specs.Put.{PutAt};
-ghost use Rattle.stream.specs.Views.{viewOf};
+ghost use Rattle.stream_start.specs.Views.{viewOf};
 ghost use Rattle.listing.specs.Listing.{state, lineOf};
 ghost use Rattle.listing.specs.Lined.{Begins, Lined};
 use admission::Admission;
 use format::LARGE;
-use stream::Answer;
-use stream::Bound;
-use stream::Reading;
-use stream::Started;
+use stream_next::Answer;
+use stream_start::Bound;
+use stream_start::Reading;
+use stream_start::Started;
 
 // The room that the longest line takes: 510 digits, a space, 20 digits, a newline.
 pub const LINE: usize = 532;
@@ -158,12 +158,12 @@ pub fn begin(file: &[u8], depths: &mut [u16], sums: &mut [u64]) -> Started
     ensures { λ r. ⌜ Begins (now (file .entry)) (now (depths .entry)) (now (sums .entry)) (now (depths .exit)) (now (sums .exit)) r ⌝ }
 {
     if LARGEST < file.len() {
-        return stream::refused(LARGE);
+        return stream_start::refused(LARGE);
     }
     let admitted = admission::admit(file, depths, sums);
     match admitted {
-        Admission::Refused(why) => stream::refused(why),
-        Admission::Admitted => stream::start(
+        Admission::Refused(why) => stream_start::refused(why),
+        Admission::Admitted => stream_start::start(
             file,
             Bound::Unbounded,
             &file[..0],
@@ -186,7 +186,7 @@ pub fn next_line(file: &[u8], reading: Reading, keys: u64, line: &mut [u8]) -> L
         };
     }
     let mut key = [0u8; 255];
-    let step = stream::next(file, reading, &mut key);
+    let step = stream_next::next(file, reading, &mut key);
     let answer = step.answer;
     let after = step.reading;
     match answer {
@@ -194,7 +194,7 @@ pub fn next_line(file: &[u8], reading: Reading, keys: u64, line: &mut [u8]) -> L
             let len = key_line(&key, n, value, line);
             Listed {
                 line: Line::Key(len),
-                keys: stream::counted(keys),
+                keys: stream_next::counted(keys),
                 reading: after,
             }
         }

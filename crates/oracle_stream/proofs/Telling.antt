@@ -8,18 +8,19 @@ use lib.ListN.{length}
 use native.Mathlib.Omega.{arith}
 use Rattle.reading.specs.Reading as R
 use Rattle.reading.specs.Reading.{View, key, end, written}
-use Rattle.stream.specs.declared.Bound.{Bound}
-use Rattle.stream.specs.declared.Bound.the-variants.{Included, Excluded, Unbounded}
-use Rattle.stream.specs.declared.EmptyOutput.{EmptyOutput}
-use Rattle.stream.specs.declared.EmptyOutput.the-variants.{Pending, Absent}
-use Rattle.stream.specs.declared.Reading.{Reading}
-use Rattle.stream.specs.declared.Started.{Started}
-use Rattle.stream.specs.declared.Begins.{Begins}
-use Rattle.stream.specs.declared.Begins.the-variants.{Began, Refused as NotStarted}
-use Rattle.stream.specs.declared.Answer.{Answer}
-use Rattle.stream.specs.declared.Answer.the-variants.{Key, End, Refused}
-use Rattle.stream.specs.declared.Step.{Step}
-use Rattle.stream.specs.Views.{boundOf, viewOf, startedIs, beganIs, answerIs, Stepped}
+use Rattle.stream_start.specs.declared.Bound.{Bound}
+use Rattle.stream_start.specs.declared.Bound.the-variants.{Included, Excluded, Unbounded}
+use Rattle.stream_start.specs.declared.EmptyOutput.{EmptyOutput}
+use Rattle.stream_start.specs.declared.EmptyOutput.the-variants.{Pending, Absent}
+use Rattle.stream_start.specs.declared.Reading.{Reading}
+use Rattle.stream_start.specs.declared.Started.{Started}
+use Rattle.stream_start.specs.declared.Begins.{Begins}
+use Rattle.stream_start.specs.declared.Begins.the-variants.{Began, Refused as NotStarted}
+use Rattle.stream_next.specs.declared.Answer.{Answer}
+use Rattle.stream_next.specs.declared.Answer.the-variants.{Key, End, Refused}
+use Rattle.stream_next.specs.declared.Step.{Step}
+use Rattle.stream_start.specs.Views.{boundOf, viewOf, startedIs, beganIs}
+use Rattle.stream_next.specs.Stepped.{answerIs, Stepped}
 use Rattle.oracle_stream.specs.Held.{kindIs, kindNumber, pendingIs, pendingFlag, pendingValue, Held, heldIs, heldOf, StartTold, nextNumber, valueIn, answerNumber, answerValue, Told, NextTold, keyTest, onKey, keysFrom, bufferFrom, KeysTold, StartKeysTold}
 
 -- ---- numbers for kinds and pending keys

@@ -17,14 +17,14 @@ use Prim.Native.Nat.{ℕ, zero, suc, _+_}
 use lib.ListN.{length, getD}
 use Rattle.reading.specs.Reading as R
 use Rattle.reading.specs.Reading.{View, key, end, written}
-use Rattle.stream.specs.declared.Bound.{Bound}
-use Rattle.stream.specs.declared.Bound.the-variants.{Included, Excluded, Unbounded}
-use Rattle.stream.specs.declared.EmptyOutput.{EmptyOutput}
-use Rattle.stream.specs.declared.EmptyOutput.the-variants.{Pending, Absent}
-use Rattle.stream.specs.declared.Reading.{Reading}
-use Rattle.stream.specs.declared.Answer.{Answer}
-use Rattle.stream.specs.declared.Answer.the-variants.{Key, End, Refused}
-use Rattle.stream.specs.Views.{viewOf}
+use Rattle.stream_start.specs.declared.Bound.{Bound}
+use Rattle.stream_start.specs.declared.Bound.the-variants.{Included, Excluded, Unbounded}
+use Rattle.stream_start.specs.declared.EmptyOutput.{EmptyOutput}
+use Rattle.stream_start.specs.declared.EmptyOutput.the-variants.{Pending, Absent}
+use Rattle.stream_start.specs.declared.Reading.{Reading}
+use Rattle.stream_next.specs.declared.Answer.{Answer}
+use Rattle.stream_next.specs.declared.Answer.the-variants.{Key, End, Refused}
+use Rattle.stream_start.specs.Views.{viewOf}
 
 -- ---- a reading in six arrays
 

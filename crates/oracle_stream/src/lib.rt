@@ -7,13 +7,13 @@
 ghost use mathlib.Core.Path.{_≡_};
 ghost use lib.ListN.{length};
 ghost use Rattle.reading.specs.Reading as R;
-ghost use Rattle.stream.specs.Views.{boundOf, viewOf};
+ghost use Rattle.stream_start.specs.Views.{boundOf, viewOf};
 ghost use Rattle.oracle_stream.specs.Held.{kindIs, kindNumber, pendingIs, pendingFlag, pendingValue, headOf, held, heldIs, heldOf, StartTold, Told, NextTold, keyTest, KeysTold, StartKeysTold};
-use stream::Answer;
-use stream::Begins;
-use stream::Bound;
-use stream::EmptyOutput;
-use stream::Reading;
+use stream_next::Answer;
+use stream_start::Begins;
+use stream_start::Bound;
+use stream_start::EmptyOutput;
+use stream_start::Reading;
 
 // ---- what stands for a kind and for a pending key
 
@@ -162,7 +162,7 @@ pub extern "C" fn baxhiso_start(
 {
     let lower_bound = kind_of(lower_kind);
     let upper_bound = kind_of(upper_kind);
-    let started = stream::start(file, lower_bound, lower, upper_bound, upper);
+    let started = stream_start::start(file, lower_bound, lower, upper_bound, upper);
     let answer = started.answer;
     match answer {
         Begins::Refused(why) => why as u64,
@@ -213,7 +213,7 @@ pub extern "C" fn baxhiso_next(
     let t = *trans;
     let o = *outs;
     let reading = reading_of(h, b, a, i, t, o);
-    let step = stream::next(file, reading, key);
+    let step = stream_next::next(file, reading, key);
     let after = step.reading;
     put(after, head, bound, addrs, inps, trans, outs);
     let answer = step.answer;
@@ -239,7 +239,7 @@ fn keys_from(file: &[u8], reading: Reading, most: u64, key: &mut [u8]) -> u64
     let mut here = reading;
     let mut n: u64 = 0;
     while n < most {
-        let step = stream::next(file, here, key);
+        let step = stream_next::next(file, here, key);
         let answer = step.answer;
         if is_key(answer) {} else {
             return n;
@@ -266,7 +266,7 @@ pub extern "C" fn baxhiso_keys(
 {
     let lower_bound = kind_of(lower_kind);
     let upper_bound = kind_of(upper_kind);
-    let started = stream::start(file, lower_bound, lower, upper_bound, upper);
+    let started = stream_start::start(file, lower_bound, lower, upper_bound, upper);
     let answer = started.answer;
     match answer {
         Begins::Refused(_) => 0,

@@ -10,11 +10,11 @@ use replay_list::Entry;
 use replay_list::FILE;
 use replay_list::Parsed;
 use replay_list::Place;
-use stream::Answer;
-use stream::Begins;
-use stream::Bound;
-use stream::EmptyOutput;
-use stream::Reading;
+use stream_next::Answer;
+use stream_start::Begins;
+use stream_start::Bound;
+use stream_start::EmptyOutput;
+use stream_start::Reading;
 
 // The list's length, and one byte more by which a longer list is seen.
 const LIST: usize = 191_643;
@@ -130,7 +130,7 @@ fn replay_start(
     let between = from + lower_len;
     let lower_kind = kind_of(entry.c / 3);
     let upper_kind = kind_of(entry.c % 3);
-    let started = stream::start(
+    let started = stream_start::start(
         file,
         lower_kind,
         &list[from..between],
@@ -240,7 +240,7 @@ fn replay_next(
     count_next(counts, entry.a);
     let space = at_most(entry.c as usize, SPACE);
     let mut key = [KEPT8; SPACE];
-    let step = stream::next(file, reading, &mut key[..space]);
+    let step = stream_next::next(file, reading, &mut key[..space]);
     let answer = step.answer;
     let after = step.reading;
     let alike = next_alike(list, entry, answer, after.total, after.levels, space, &key);

@@ -2,7 +2,7 @@
 -- Assumes nothing.
 use mathlib.Core.Path.{_≡_, refl, sym, ap, _∙_}
 use lib.ListN.{length}
-use Rattle.stream.specs.Views.{viewOf}
+use Rattle.stream_start.specs.Views.{viewOf}
 use Rattle.list.specs.Stands.{Stands}
 use Rattle.list.proofs.WayLaws.{leftIn, After, way-on, key-fits, last-fits}
 use denote.Ref.{now}
@@ -21,71 +21,56 @@ Inv-loop file line₀ reading₀ keys₀ line reading keys = Stands file (viewOf
 abbrev μ-loop : tie.MeasureT-loop
 μ-loop file line₀ reading₀ keys₀ line reading keys = leftIn file (viewOf reading)
 
--- src/main.rt:40:5
 loop-holds : tie.Need-loop-holds Inv-loop μ-loop
 loop-holds c = (c .before .pre, search needs)
 
--- src/main.rt:41:62
 slice-aggregate-next-line : tie.Need-slice-aggregate-next-line Inv-loop μ-loop
 slice-aggregate-next-line c = search needs
 
--- src/main.rt:41:13
 next-line-requires : tie.Need-next-line-requires Inv-loop μ-loop
 next-line-requires c κs = search needs
 
--- src/main.rt:44:23
 enum-known-got : tie.Need-enum-known-got Inv-loop μ-loop
 enum-known-got c = search needs
 
--- src/main.rt:45:24
 slice-aggregate-put : tie.Need-slice-aggregate-put Inv-loop μ-loop
 slice-aggregate-put c = search needs
 
--- src/main.rt:45:20
 put-requires : tie.Need-put-requires Inv-loop μ-loop
 put-requires c κs =
     let call = c .before .before .before .before .before in
     let fits = key-fits _ (call .next-line .ensures) (omega (arith, call .before .before .loop .inv .1)) (c .before .before .got .given .1) in
     search needs
 
--- src/main.rt:46:21
 returns : tie.Need-returns Inv-loop μ-loop
 returns c = search needs
 
--- src/main.rt:49:24
 enum-known-got-2 : tie.Need-enum-known-got-2 Inv-loop μ-loop
 enum-known-got-2 c = search needs
 
--- src/main.rt:50:21
 slice-aggregate-put-2 : tie.Need-slice-aggregate-put-2 Inv-loop μ-loop
 slice-aggregate-put-2 c = search needs
 
--- src/main.rt:50:17
 put-requires-2 : tie.Need-put-requires-2 Inv-loop μ-loop
 put-requires-2 c κs =
     let call = c .before .before .before .before .before in
     let fits = last-fits _ (call .next-line .ensures) (omega (arith, call .before .before .loop .inv .1)) (c .before .before .got2 .given .1) in
     search needs
 
--- src/main.rt:51:17
 returns-2 : tie.Need-returns-2 Inv-loop μ-loop
 returns-2 c = search needs
 
--- src/main.rt:54:17
 enum-told : tie.Need-enum-told Inv-loop μ-loop
 enum-told c = search needs
 
--- src/main.rt:54:17
 returns-3 : tie.Need-returns-3 Inv-loop μ-loop
 returns-3 c = search needs
 
--- src/main.rt:40:5
 loop-less : tie.Need-loop-less Inv-loop μ-loop
 loop-less c =
     let call = c .before .before .before .before .before .before .before .before in
     (way-on _ _ _ _ (call .next-line .result) _ (call .before .before .loop .inv .0) (omega (arith, call .before .before .loop .inv .1)) (call .next-line .ensures) (c .before .before .before .before .before .got .given .1)) .less
 
--- src/main.rt:40:5
 loop-again : tie.Need-loop-again Inv-loop μ-loop
 loop-again c =
     let call = c .before .before .before .before .before .before .before .before in

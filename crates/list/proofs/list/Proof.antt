@@ -10,39 +10,30 @@ use Rattle.list.proofs.lines.Reads as lines-reads
 use Rattle.list.proofs.refuse.Reads as refuse-reads
 use Rattle.listing.proofs.begin.Reads as begin-reads
 
--- src/main.rt:66:38
 slice-aggregate-begin : tie.Need-slice-aggregate-begin
 slice-aggregate-begin c = search needs
 
--- src/main.rt:66:51
 slice-aggregate-begin-2 : tie.Need-slice-aggregate-begin-2
 slice-aggregate-begin-2 c = search needs
 
--- src/main.rt:66:9
 begin-requires : tie.Need-begin-requires
 begin-requires c κs = search needs
 
--- src/main.rt:69:25
 enum-known-answer : tie.Need-enum-known-answer
 enum-known-answer c = search needs
 
--- src/main.rt:69:33
 refuse-requires : tie.Need-refuse-requires
 refuse-requires c κs = search needs
 
--- src/main.rt:70:26
 enum-told : tie.Need-enum-told
 enum-told c = search needs
 
--- src/main.rt:70:26
 lines-requires : tie.Need-lines-requires
 lines-requires c κs = way-begins _ (c .before .before .before .before .begin .ensures) (c .enum-told .given .1)
 
--- src/main.rt:63:1
 returns : tie.Need-returns
 returns c = search needs
 
--- src/main.rt:63:1
 returns-2 : tie.Need-returns-2
 returns-2 c = search needs
 

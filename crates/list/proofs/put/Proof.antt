@@ -9,15 +9,12 @@ use Rattle.list.proofs.put.Reads as reads
 use Rattle.list.proofs.put.Lts as lts
 use Rattle.io.proofs.write_all.Reads as write-all-reads
 
--- src/main.rt:23:34
 slice-aggregate-write-all : tie.Need-slice-aggregate-write-all
 slice-aggregate-write-all c = sym (length-take-le _ _ (c .before .before .pre))
 
--- src/main.rt:23:5
 write-all-requires : tie.Need-write-all-requires
 write-all-requires c κs = search needs
 
--- src/main.rt:20:1
 returns : tie.Need-returns
 returns c = search needs
 

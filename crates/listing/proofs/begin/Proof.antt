@@ -10,67 +10,53 @@ use Rattle.listing.proofs.begin.Tie as tie
 use Rattle.listing.proofs.begin.Reads as reads
 use Rattle.listing.proofs.begin.Lts as lts
 use Rattle.admission.proofs.admit.Reads as admit-reads
-use Rattle.stream.proofs.refused.Reads as refused-reads
-use Rattle.stream.proofs.start.Reads as start-reads
+use Rattle.stream_start.specs.declared.Started.{Started}
+use Rattle.stream_start.proofs.refused.Reads as refused-reads
+use Rattle.stream_start.proofs.start.Reads as start-reads
 
--- src/lib.rt:161:9
 refused-requires : tie.Need-refused-requires
 refused-requires c κs = search needs
 
--- src/lib.rt:161:9
 returns : tie.Need-returns
-returns c = too-large (c .before .if1 .taken) (c .refused .ensures) refl refl
+returns c = too-large (c .before .if1 .taken) (ap (λ (r : Started). r .answer) (c .refused .ensures)) refl refl
 
--- src/lib.rt:163:9
 admit-requires : tie.Need-admit-requires
 admit-requires c κs = search needs
 
--- src/lib.rt:165:28
 enum-known-admitted : tie.Need-enum-known-admitted
 enum-known-admitted c = search needs
 
--- src/lib.rt:165:36
 refused-requires-2 : tie.Need-refused-requires-2
 refused-requires-2 c κs = search needs
 
--- src/lib.rt:168:13
 enum-told : tie.Need-enum-told
 enum-told c = search needs
 
--- src/lib.rt:169:13
 slice-aggregate-start : tie.Need-slice-aggregate-start
 slice-aggregate-start c = search needs
 
--- src/lib.rt:171:13
 slice-aggregate-start-2 : tie.Need-slice-aggregate-start-2
 slice-aggregate-start-2 c = search needs
 
--- src/lib.rt:166:32
 start-requires : tie.Need-start-requires
 start-requires c κs = search needs
 
--- src/lib.rt:157:1
 same-length : tie.Need-same-length
 same-length c = search needs
 
--- src/lib.rt:157:1
 same-length-2 : tie.Need-same-length-2
 same-length-2 c = search needs
 
--- src/lib.rt:157:1
 returns-2 : tie.Need-returns-2
 returns-2 c =
-    not-admitted (c .before .before .before .before .before .before .before .before .before .before .before .if1 .left) _ (c .refused2 .ensures) (outcome-refused _ (c .before .before .before .before .before .before .before .before .admit .ensures) (c .before .before .admitted .given .1))
+    not-admitted (c .before .before .before .before .before .before .before .before .before .before .before .if1 .left) _ (ap (λ (r : Started). r .answer) (c .refused2 .ensures)) (outcome-refused _ (c .before .before .before .before .before .before .before .before .admit .ensures) (c .before .before .admitted .given .1))
 
--- src/lib.rt:157:1
 same-length-3 : tie.Need-same-length-3
 same-length-3 c = search needs
 
--- src/lib.rt:157:1
 same-length-4 : tie.Need-same-length-4
 same-length-4 c = search needs
 
--- src/lib.rt:157:1
 returns-3 : tie.Need-returns-3
 returns-3 c =
     begins-admitted _ (c .before .before .before .before .before .before .before .before .before .before .before .before .if1 .left) (outcome-admitted (c .before .before .before .before .before .before .before .before .before .admit .ensures) (c .before .before .before .enum-told .given .1)) (c .start .ensures)

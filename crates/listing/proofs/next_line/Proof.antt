@@ -11,30 +11,24 @@ use Rattle.listing.proofs.next_line.Lts as lts
 use Rattle.listing.proofs.end_line.Reads as end-line-reads
 use Rattle.listing.proofs.key_line.Reads as key-line-reads
 use Rattle.listing.proofs.refused_line.Reads as refused-line-reads
-use Rattle.stream.proofs.counted.Reads as counted-reads
-use Rattle.stream.proofs.next.Reads as next-reads
+use Rattle.stream_next.proofs.counted.Reads as counted-reads
+use Rattle.stream_next.proofs.next.Reads as next-reads
 
--- src/lib.rt:181:9
 returns : tie.Need-returns
 returns c = lined-short _ _ (now (c .before .before .before .args .line)) _ (c .if1 .taken) refl refl
 
--- src/lib.rt:188:44
 slice-aggregate-next : tie.Need-slice-aggregate-next
 slice-aggregate-next c = search needs
 
--- src/lib.rt:188:9
 next-requires : tie.Need-next-requires
 next-requires c κs = search needs
 
--- src/lib.rt:192:21
 enum-known-answer : tie.Need-enum-known-answer
 enum-known-answer c = search needs
 
--- src/lib.rt:193:32
 slice-aggregate-key-line : tie.Need-slice-aggregate-key-line
 slice-aggregate-key-line c = search needs
 
--- src/lib.rt:193:17
 key-line-requires : tie.Need-key-line-requires
 key-line-requires c κs =
     let q = c .before .before .before .before .before .before .before in
@@ -42,53 +36,42 @@ key-line-requires c κs =
     let fits = step-fits (q .next .ensures) _ _ e (search needs) in
     (search needs, search needs, q .before .before .if1 .left)
 
--- src/lib.rt:196:23
 counted-requires : tie.Need-counted-requires
 counted-requires c κs = search needs
 
--- src/lib.rt:201:51
 enum-told : tie.Need-enum-told
 enum-told c = search needs
 
--- src/lib.rt:201:17
 end-line-requires : tie.Need-end-line-requires
 end-line-requires c κs = search needs
 
--- src/lib.rt:208:25
 enum-known-answer-2 : tie.Need-enum-known-answer-2
 enum-known-answer-2 c = search needs
 
--- src/lib.rt:209:17
 refused-line-requires : tie.Need-refused-line-requires
 refused-line-requires c κs = search needs
 
--- src/lib.rt:177:1
 same-length : tie.Need-same-length
 same-length c = search needs
 
--- src/lib.rt:177:1
 returns-2 : tie.Need-returns-2
 returns-2 c =
     let q = c .before .before .before .before .before .before .before .before .before .before .before in
     let a = q .before .before .before .before .before .args in
     lined-key (now (a .file)) _ (a .keys) _ refl (q .next .ensures) (now (a .line)) _ _ _ refl (q .before .before .if1 .left) _ _ (c .before .before .before .before .before .before .before .answer .given .1) (c .before .before .before .key-line .ensures) refl (c .counted .ensures)
 
--- src/lib.rt:177:1
 same-length-2 : tie.Need-same-length-2
 same-length-2 c = search needs
 
--- src/lib.rt:177:1
 returns-3 : tie.Need-returns-3
 returns-3 c =
     let q = c .before .before .before .before .before .before .before .before in
     let a = q .before .before .before .before .before .args in
     lined-end (now (a .file)) _ (a .keys) _ refl (q .next .ensures) (now (a .line)) _ _ _ refl (q .before .before .if1 .left) (c .before .before .before .before .enum-told .given .1) (c .before .before .end-line .ensures) refl refl
 
--- src/lib.rt:177:1
 same-length-3 : tie.Need-same-length-3
 same-length-3 c = search needs
 
--- src/lib.rt:177:1
 returns-4 : tie.Need-returns-4
 returns-4 c =
     let q = c .before .before .before .before .before .before .before .before .before in

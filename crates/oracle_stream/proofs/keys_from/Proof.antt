@@ -5,7 +5,7 @@ use Prim.Native.Nat.{_-_}
 use lib.ListN.{length}
 use borrow.Author.Needs.{needs}
 use denote.Ref.{now}
-use Rattle.stream.specs.Views.{viewOf}
+use Rattle.stream_start.specs.Views.{viewOf}
 use Rattle.oracle_stream.proofs.Telling.{Reached, reached-first, reached-next, reached-stop, reached-end}
 use Rattle.oracle_stream.proofs.keys_from.Statement.{statement}
 use Rattle.oracle_stream.proofs.keys_from.Tie as tie

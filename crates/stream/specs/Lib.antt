@@ -1,3 +1,0 @@
-pub mod Views
-pub mod Steps
-pub mod Seeks

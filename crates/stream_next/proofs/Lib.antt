@@ -1,0 +1,5 @@
+pub mod OrderLaws
+pub mod PopLaws
+pub mod DescendLaws
+pub mod GoingLaws
+pub mod NextCases

@@ -1,0 +1,17 @@
+-- `stream_next::state_right` meets its contract: one law for each way out.
+-- Assumes nothing.
+use Rattle.stream_next.proofs.NextCases.{state-high, state-bound, state-len}
+use Rattle.stream_next.proofs.state_right.Statement.{statement}
+use Rattle.stream_next.proofs.state_right.Tie as tie
+
+returns : tie.Need-returns
+returns c = let a = c .before .args in state-high (a .levels) (a .bound-len) (a .held) (a .len) (c .if1 .taken)
+
+returns-2 : tie.Need-returns-2
+returns-2 c = let a = c .before .before .args in state-bound (a .levels) (a .bound-len) (a .held) (a .len) (c .before .if1 .left) (c .if2 .taken)
+
+returns-3 : tie.Need-returns-3
+returns-3 c = let a = c .before .before .args in state-len (a .levels) (a .bound-len) (a .held) (a .len) (c .before .if1 .left) (c .if2 .left)
+
+pub state-right-spec : {M : Type 1} → statement M
+state-right-spec = tie.close (tie.spec returns returns-2 returns-3)

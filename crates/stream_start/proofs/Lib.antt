@@ -1,0 +1,4 @@
+pub mod SeekCases
+pub mod LevelWrites
+pub mod Seeking
+pub mod StartLaws

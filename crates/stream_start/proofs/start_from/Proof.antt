@@ -1,0 +1,120 @@
+-- `stream_start::start_from` meets its contract: BOUND for a long bound, else the reading of the walk along the lower bound, with the upper
+-- bound and the pending empty key.
+-- Assumes nothing.
+use mathlib.Core.Path.{_≡_, refl, sym, ap, _∙_}
+use lib.ListN.{length, take}
+use lib.Seq.{length-take-le}
+use Rattle.format.specs.Paths.{Fst, fstIs, nodeIn}
+use Rattle.format.specs.Strings as S
+use Rattle.stream_start.specs.Seeks.{BoundTaken, pendingIf}
+use Rattle.stream_start.specs.Views.{boundOf}
+use Rattle.stream_start.proofs.StartLaws.{same-walk, bound-is, from-lower, from-upper, from-reading}
+use denote.Ref.{now}
+use borrow.Author.Needs.{needs}
+use native.Mathlib.Omega.{arith}
+use Rattle.stream_start.proofs.start_from.Statement.{statement}
+use Rattle.stream_start.proofs.start_from.Tie as tie
+
+-- ---- what is known once both bounds are measured, and where neither is long
+
+abbrev At : Type 0
+At = tie.After-len-of2
+
+abbrev start : At → tie.Start
+start q = q .before .before .before .before .before
+
+abbrev f : At → Fst
+f q = let a = start q .args in fstIs (now (a .file)) (a .version) (a .root)
+
+abbrev lo : At → S.Bound
+lo q = boundOf (start q .args .lower-kind) (now (start q .args .lower))
+
+abbrev hi : At → S.Bound
+hi q = boundOf (start q .args .upper-kind) (now (start q .args .upper))
+
+lower-taken : (q : At) → BoundTaken (start q .args .lower-kind) (now (start q .args .lower)) (q .before .len-of .result)
+lower-taken q = q .before .len-of .ensures
+
+lower-len : (q : At) → length (take (q .before .len-of .result) (now (start q .args .lower))) ≡ q .before .len-of .result
+lower-len q = length-take-le (q .before .len-of .result) (now (start q .args .lower)) (lower-taken q .inside)
+
+upper-taken : (q : At) → BoundTaken (start q .args .upper-kind) (now (start q .args .upper)) (q .len-of2 .result)
+upper-taken q = q .len-of2 .ensures
+
+abbrev tests : tie.After-reading-from-arg → tie.Else2
+tests w = w .before .before .before .before .before .before .before
+
+len-of-requires : tie.Need-len-of-requires
+len-of-requires c κs = search needs
+
+len-of-requires-2 : tie.Need-len-of-requires-2
+len-of-requires-2 c κs = search needs
+
+refused-requires : tie.Need-refused-requires
+refused-requires c κs = search needs
+
+-- a long lower bound
+returns : tie.Need-returns
+returns c = let q = c .before .before in
+    rw (c .refused .ensures) (from-lower (f q) (lo q) (hi q) (omega (arith, c .before .if1 .taken, lower-taken q .count)))
+
+refused-requires-2 : tie.Need-refused-requires-2
+refused-requires-2 c κs = search needs
+
+-- a long upper bound
+returns-2 : tie.Need-returns-2
+returns-2 c = let q = c .before .before .before in
+    rw (c .refused2 .ensures) (from-upper (f q) (lo q) (hi q) (omega (arith, c .before .if2 .taken, upper-taken q .count)))
+
+slice-aggregate-copy-front : tie.Need-slice-aggregate-copy-front
+slice-aggregate-copy-front c = search needs
+
+copy-front-requires : tie.Need-copy-front-requires
+copy-front-requires c κs = let q = c .before .before .before in (upper-taken q .inside, c .before .if2 .left)
+
+meets-empty-requires : tie.Need-meets-empty-requires
+meets-empty-requires c κs = search needs
+
+empty-output-requires : tie.Need-empty-output-requires
+empty-output-requires c κs = search needs
+
+is-inclusive-requires : tie.Need-is-inclusive-requires
+is-inclusive-requires c κs = search needs
+
+slice-aggregate-reading-from : tie.Need-slice-aggregate-reading-from
+slice-aggregate-reading-from c = let q = tests c .before .before in sym (lower-len q)
+
+reading-from-requires : tie.Need-reading-from-requires
+reading-from-requires c κs = let q = tests c .before .before in (start q .pre, omega (arith, tests c .before .if1 .left, lower-len q))
+
+-- neither is long
+returns-3 : tie.Need-returns-3
+returns-3 c = let called = c .before in
+    let q = tests called .before .before in
+    let a = start q .args in
+    c .reading-from .ensures
+    ∙ from-reading (f q) (lo q) (hi q) (omega (arith, tests called .before .if1 .left, lower-taken q .count)) (omega (arith, tests called .if2 .left, upper-taken q .count)) _ _ _ _
+    (bound-is (a .upper-kind) (now (a .upper)) (q .len-of2 .result) (upper-taken q) _ _ (called .before .before .before .before .before .copy-front .ensures))
+    (upper-taken q .count)
+    (called .before .before .empty-output .ensures
+    ∙ ap (λ t. pendingIf t (nodeIn (f q) (f q .root))) (called .before .before .before .meets-empty .ensures (now (a .lower)) (lower-taken q)))
+    (same-walk (f q) (f q .root) (called .before .is-inclusive .ensures (now (a .lower))) (lower-taken q .bytes))
+
+pub start-from-spec : {M : Type 1} → statement M
+start-from-spec =
+    tie.close
+    (tie.spec
+    len-of-requires
+    len-of-requires-2
+    refused-requires
+    returns
+    refused-requires-2
+    returns-2
+    slice-aggregate-copy-front
+    copy-front-requires
+    meets-empty-requires
+    empty-output-requires
+    is-inclusive-requires
+    slice-aggregate-reading-from
+    reading-from-requires
+    returns-3)

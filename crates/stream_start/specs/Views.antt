@@ -1,0 +1,85 @@
+-- What the values of this crate stand for: document 01's number and values for each case of an answer, and the view of a reading that
+-- drops what carries no meaning.
+--     Arrays xs is ps os             four arrays of 256 entries
+--     levelAt k .., stackOf k ..     level k of the four arrays; the first k levels, highest first
+--     boundOf kind bytes             a bound
+--     viewOf r                       what a reading says
+--     startedIs r                    what a start answered
+--     noReading                      a reading without levels
+--     refusedStart why               a refused start, with that reading beside the refusal
+-- Assumes nothing.
+use mathlib.Core.Path.{_≡_}
+use mathlib.Core.Option.{Option, none, some}
+use mathlib.Core.List.{List, [], _∷_}
+use Prim.Native.Nat.{ℕ, zero, suc}
+use lib.ListN.{length, getD, take, replicate}
+use Rattle.format.specs.Limits.{maxPath, maxLevels}
+use Rattle.format.specs.Strings as S
+use Rattle.format.specs.Strings.{unbounded, included, excluded}
+use Rattle.reading.specs.Reading as R
+use Rattle.reading.specs.Reading.{Level, View, levelIs}
+use Rattle.stream_start.specs.declared.Bound.{Bound}
+use Rattle.stream_start.specs.declared.Bound.the-variants.{Included, Excluded, Unbounded}
+use Rattle.stream_start.specs.declared.EmptyOutput.{EmptyOutput}
+use Rattle.stream_start.specs.declared.EmptyOutput.the-variants.{Pending, Absent}
+use Rattle.stream_start.specs.declared.Reading.{Reading}
+use Rattle.stream_start.specs.declared.Started.{Started}
+use Rattle.stream_start.specs.declared.Begins.{Begins}
+use Rattle.stream_start.specs.declared.Begins.the-variants.{Began, Refused}
+
+pub record Arrays (xs is ps os : List ℕ) : Type 0 where
+  pub addrs-len : length xs ≡ maxLevels
+  pub inps-len : length is ≡ maxLevels
+  pub trans-len : length ps ≡ maxLevels
+  pub outs-len : length os ≡ maxLevels
+
+abbrev pub levelAt : ℕ → List ℕ → List ℕ → List ℕ → List ℕ → Level
+levelAt k xs is ps os = levelIs (getD xs k 0) (getD is k 0) (getD ps k 0) (getD os k 0)
+
+unfoldable pub stackOf : ℕ → List ℕ → List ℕ → List ℕ → List ℕ → List Level
+stackOf zero xs is ps os = []
+stackOf (suc k) xs is ps os = levelAt k xs is ps os ∷ stackOf k xs is ps os
+
+abbrev pub boundOf : Bound → List ℕ → S.Bound
+boundOf Included bs = included bs
+boundOf Excluded bs = excluded bs
+boundOf Unbounded bs = unbounded
+
+abbrev pub emptyOf : EmptyOutput → Option ℕ
+emptyOf (Pending v) = some v
+emptyOf Absent = none
+
+abbrev pub viewOf : Reading → View
+viewOf r = record {
+  len = r .len;
+  bound = boundOf (r .kind) (take (r .«bound_len») (r .bound));
+  boundLen = r .«bound_len»;
+  empty = emptyOf (r .«empty_output»);
+  total = r .total;
+  levels = stackOf (r .levels) (r .addrs) (r .inps) (r .trans) (r .outs);
+}
+
+abbrev pub beganIs : Begins → Reading → R.Started
+beganIs Began r = R.started (viewOf r)
+beganIs (Refused n) r = R.Started.refused n
+
+abbrev pub startedIs : Started → R.Started
+startedIs s = beganIs (s .answer) (s .reading)
+
+abbrev pub noReading : Reading
+noReading = record {
+  len = 0;
+  kind = Unbounded;
+  «bound_len» = 0;
+  bound = replicate maxPath 0;
+  «empty_output» = Absent;
+  total = 0;
+  levels = 0;
+  addrs = replicate maxLevels 0;
+  inps = replicate maxLevels 0;
+  trans = replicate maxLevels 0;
+  outs = replicate maxLevels 0;
+}
+
+abbrev pub refusedStart : ℕ → Started
+refusedStart why = record { answer = Refused why; reading = noReading }
