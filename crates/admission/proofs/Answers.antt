@@ -13,13 +13,13 @@ use Rattle.format.specs.Paths.{Fst, fstOf}
 use Rattle.fst.specs.declared.Meta.{Meta}
 use Rattle.fst.specs.declared.Opened.{Opened}
 use Rattle.fst.specs.declared.Opened.the-variants.{Meta as Read, Refused as Turned}
-use Rattle.fst.specs.Open.{metaIs, openingOf}
+use Rattle.fst.specs.Open.{metaIs, openingIs}
 use Rattle.admission.specs.declared.Admission.{Admission}
 use Rattle.admission.specs.declared.Admission.the-variants.{Refused}
 use Rattle.admission.specs.declared.Verdict.{Verdict}
 use Rattle.admission.specs.declared.Verdict.the-variants.{Good, Lost, Deep, Heavy}
 use Rattle.admission.specs.Passes.{Kept}
-use Rattle.format.specs.Paths.{fstIs}
+use Rattle.format.specs.Paths.{fstWith}
 use Rattle.admission.specs.Outcome.{Holds, Wiped, RefusedFor, not-opened, no-space, no-nodes, too-deep, too-heavy, Admits, Outcome, Opens, Cleared, JudgeCase, Judges}
 use Rattle.admission.proofs.Stores.{kept-then, length-wiped, wiped-kept, wiped-at, wiped-after}
 
@@ -28,12 +28,12 @@ use Rattle.admission.proofs.Stores.{kept-then, length-wiped, wiped-kept
 pub space-refused : {s : List ℕ} {v root : ℕ} (d₀ s₀ : List ℕ) → Opens s v root → (length d₀ < length s) ⊎ (length s₀ < length s) → RefusedFor s d₀ s₀ d₀ s₀ SPACE
 space-refused d₀ s₀ o short = no-space (o .meta) (o .opens) refl short refl refl
 
-module _ {s : List ℕ} {r : Opened} (e : openingOf r ≡ opening s) where
+module _ {s : List ℕ} {r : Opened} (e : openingIs r ≡ opening s) where
   pub opening-refused : (d₀ s₀ : List ℕ) (n : ℕ) → r ≡ Turned n → RefusedFor s d₀ s₀ d₀ s₀ n
-  opening-refused d₀ s₀ n is = not-opened (sym e ∙ ap openingOf is) refl refl
+  opening-refused d₀ s₀ n is = not-opened (sym e ∙ ap openingIs is) refl refl
 
   pub opening-opens : (m : Meta) → r ≡ Read m → Opens s (m .version) (m .root)
-  opening-opens m is = record { meta = metaIs m; opens = sym e ∙ ap openingOf is; version = refl; root-is = refl }
+  opening-opens m is = record { meta = metaIs m; opens = sym e ∙ ap openingIs is; version = refl; root-is = refl }
 
 -- ---- refused with tables wiped, or admitted
 
@@ -52,9 +52,9 @@ pub record AllJudged (s : List ℕ) (version root : ℕ) (d₀ s₀ d₁ s₁ d 
   pub room-sums : length s ≤ length s₀
   pub depths-wiped : Wiped (length s) d₀ d₁
   pub sums-wiped : Wiped (length s) s₀ s₁
-  pub judged : Judges (fstIs s version root) d₁ s₁ d t v
+  pub judged : Judges (fstWith s version root) d₁ s₁ d t v
 
-opens-fst : {s : List ℕ} {v root : ℕ} (o : Opens s v root) → fstIs s v root ≡ fstOf s (o .meta)
+opens-fst : {s : List ℕ} {v root : ℕ} (o : Opens s v root) → fstWith s v root ≡ fstOf s (o .meta)
 opens-fst o = rw (o .version, o .root-is)
 
 holds-after : {g : ℕ → ℕ} {l : List ℕ} {n : ℕ} {d₀ d₁ d : List ℕ} → Kept n d₀ d₁ → Holds g l n d₁ d → Holds g l n d₀ d

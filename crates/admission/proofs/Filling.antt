@@ -23,7 +23,7 @@ use Rattle.format.specs.laws.NodeFacts.{node-target-lt, node-final-lt}
 use Rattle.format.specs.Tables.{longest, largestSum}
 use Rattle.admission.specs.declared.Total.{Total}
 use Rattle.admission.specs.declared.Survey.the-variants.{Lost as NoEntry, Found}
-use Rattle.admission.specs.Passes.{Kept, Marked, heaviest, entryOf, orOver, Surveyable, LostTarget, MarkedTargets, Surveyed, SoundMarks, ClosedMarks, LostOne, DeepOne, HeavyOne, GoodAll, HeavyCase}
+use Rattle.admission.specs.Passes.{Kept, Marked, heaviest, entryIs, orOver, Surveyable, LostTarget, MarkedTargets, Surveyed, SoundMarks, ClosedMarks, LostOne, DeepOne, HeavyOne, GoodAll, HeavyCase}
 use Rattle.admission.proofs.Stores.{kept-none, kept-set}
 use Rattle.admission.proofs.Totals.{total-cases}
 use Rattle.admission.proofs.HalfFilled.{Half, half-none, half-skip, half-store, half-map}
@@ -182,7 +182,7 @@ module _ {f : Fst} {d₀ s₀ d s : List ℕ} {deep heavy : Bool} {a : ℕ} (h :
               fine = λ e _. let k = deep-down (ltb 256 x) deep e in omega (arith, is-longest (k .1), ltb-false 256 x (k .0));
             }
 
-        sum-entry : SumE f d₀ (orOver heavy t) a (entryOf t)
+        sum-entry : SumE f d₀ (orOver heavy t) a (entryIs t)
         sum-entry =
             total-cases (heaviest s (m .finalOutput) (m .transitions)) t (r .total x t refl)
             (λ p i. rw i (record { off = λ z. absurd (was-marked marked z); on = λ e _. is-largest e; fine = λ e _. omega (arith, is-largest e) }))
@@ -209,11 +209,11 @@ module _ {f : Fst} {d₀ s₀ d s : List ℕ} {deep heavy : Bool} {a : ℕ} (h :
 
         -- a marked address, with both its entries stored
         pub filling-store : length (f .bytes) ≤ length d₀ → length (f .bytes) ≤ length s₀
-            → Filling f d₀ s₀ (set d a (min x 257)) (set s a (entryOf t)) (cond (ltb 256 x) true deep) (orOver heavy t) (a + 1)
+            → Filling f d₀ s₀ (set d a (min x 257)) (set s a (entryIs t)) (cond (ltb 256 x) true deep) (orOver heavy t) (a + 1)
         filling-store room-d room-s =
             record {
               depths-kept = kept-set a (min x 257) inside (h .depths-kept);
-              sums-kept = kept-set a (entryOf t) inside (h .sums-kept);
+              sums-kept = kept-set a (entryIs t) inside (h .sums-kept);
               depths = half-store (min x 257) (omega (arith, h .depths-kept .long))
                   (half-map
                   (λ j y k.
@@ -226,7 +226,7 @@ module _ {f : Fst} {d₀ s₀ d s : List ℕ} {deep heavy : Bool} {a : ℕ} (h :
                   })
                   (h .depths))
                   depth-entry;
-              sums = half-store (entryOf t) (omega (arith, h .sums-kept .long))
+              sums = half-store (entryIs t) (omega (arith, h .sums-kept .long))
                   (half-map (λ j y k. record { off = k .off; on = λ e. k .on (heavy-down e); fine = λ e. k .fine (heavy-down e) }) (h .sums))
                   sum-entry;
               closed = closed-step (h .closed)

@@ -8,12 +8,12 @@ use Rattle.format.specs.Paths.{nodeIn}
 use Rattle.node.specs.declared.Node.{Node}
 use Rattle.node.specs.declared.Judged.{Judged}
 use Rattle.node.specs.declared.Judged.the-variants.{Sound, Unsound}
-use Rattle.node.specs.Read.{meaning, judgedOf, Judges}
-use Rattle.format.specs.Paths.{fstIs}
+use Rattle.node.specs.Read.{meaning, judgedIs, Judges}
+use Rattle.format.specs.Paths.{fstWith}
 
 module _ {s : List ℕ} {v root a : ℕ} {r : Judged} (j : Judges s v root a r) where
-  pub judged-sound : (m : Node) → r ≡ Sound m → nodeIn (fstIs s v root) a ≡ sound (meaning s m)
-  judged-sound m e = sym (j .answer) ∙ ap (judgedOf s) e
+  pub judged-sound : (m : Node) → r ≡ Sound m → nodeIn (fstWith s v root) a ≡ sound (meaning s m)
+  judged-sound m e = sym (j .answer) ∙ ap (judgedIs s) e
 
-  pub judged-unsound : r ≡ Unsound → nodeIn (fstIs s v root) a ≡ unsound
-  judged-unsound e = sym (j .answer) ∙ ap (judgedOf s) e
+  pub judged-unsound : r ≡ Unsound → nodeIn (fstWith s v root) a ≡ unsound
+  judged-unsound e = sym (j .answer) ∙ ap (judgedIs s) e

@@ -18,7 +18,7 @@ use Rattle.admission.specs.declared.Total.{Total}
 use Rattle.admission.specs.declared.Total.the-variants.{Is}
 use Rattle.admission.specs.declared.Survey.{Survey}
 use Rattle.admission.specs.declared.Survey.the-variants.{Lost as NoEntry, Found}
-use Rattle.admission.specs.Passes.{childDepth, childSum, deepest, heaviest, totalOf, raisedBy, Surveyable, MarkedTargets, Surveyed}
+use Rattle.admission.specs.Passes.{childDepth, childSum, deepest, heaviest, totalAs, raisedBy, Surveyable, MarkedTargets, Surveyed}
 use Rattle.admission.proofs.Totals.{total-of-le, raised-total}
 
 -- ---- the largest over one transition more
@@ -58,7 +58,7 @@ pub record SurveyedTo (d s : List ℕ) (out : ℕ) (ts : List Transition) (i bes
   pub low : best ≤ maxPath + 2
   pub marked : MarkedTargets d (take i ts)
   pub best-is : best ≡ deepest d (take i ts)
-  pub total-is : total ≡ totalOf (heaviest s out (take i ts))
+  pub total-is : total ≡ totalAs (heaviest s out (take i ts))
 
 pub surveyed-none : {d s : List ℕ} {out : ℕ} {ts : List Transition} → Surveyable d s out ts → SurveyedTo d s out ts 0 0 (Is out)
 unfolding deepest heaviest maxOf
@@ -69,7 +69,7 @@ surveyed-none {out = out} ok =
       low = omega arith;
       marked = λ t m. absurd (List·Memᴰ·not-nil m);
       best-is = refl;
-      total-is = total-of-le out (ok .out-le) ∙ ap totalOf same;
+      total-is = total-of-le out (ok .out-le) ∙ ap totalAs same;
     }
 
 module _ {d s : List ℕ} {out : ℕ} {ts : List Transition} (ok : Surveyable d s out ts) (i : ℕ) (l : i < length ts) (a : ℕ) (a-is : a ≡ transitionAt ts i .addr) where
@@ -107,8 +107,8 @@ module _ {d s : List ℕ} {out : ℕ} {ts : List Transition} (ok : Surveyable d 
               total-now
               ∙ ap (λ u. raisedBy u (w + x)) (before .total-is)
               ∙ raised-total (heaviest s out (take i ts)) (w + x)
-              ∙ ap (λ u. totalOf (max (heaviest s out (take i ts)) u)) sum-is
-              ∙ ap totalOf (sym (heaviest-more s out ts i l));
+              ∙ ap (λ u. totalAs (max (heaviest s out (take i ts)) u)) sum-is
+              ∙ ap totalAs (sym (heaviest-more s out ts i l));
         }
 
 pub surveyed-all : {d s : List ℕ} {out : ℕ} {ts : List Transition} {i best : ℕ} {total : Total} → SurveyedTo d s out ts i best total → length ts ≤ i
@@ -123,7 +123,7 @@ surveyed-all {d} {s} {out} {ts} {i} {best} {total} h l =
           sym x-is ∙ ap (λ u. u + 1) (h .best-is ∙ ap (deepest d) all);
       total = λ x t e.
           let t-is : total ≡ t = cc in
-          sym t-is ∙ h .total-is ∙ ap (λ u. totalOf (heaviest s out u)) all;
+          sym t-is ∙ h .total-is ∙ ap (λ u. totalAs (heaviest s out u)) all;
     }
 
 -- the answer by another name

@@ -8,7 +8,7 @@ use borrow.Author.Tests.{le-leb, lt-leb}
 use Rattle.format.specs.Limits.{maxSum}
 use Rattle.admission.specs.declared.Total.{Total}
 use Rattle.admission.specs.declared.Total.the-variants.{Is, Over}
-use Rattle.admission.specs.Passes.{totalOf, raisedBy}
+use Rattle.admission.specs.Passes.{totalAs, raisedBy}
 
 pub raised-over : (t : Total) (b x : ℕ) → t ≡ Is b → maxSum < x → Over ≡ raisedBy t x
 raised-over t b x e h = sym (ap (λ u. raisedBy u x) e ∙ rw (lt-leb x maxSum h))
@@ -16,10 +16,10 @@ raised-over t b x e h = sym (ap (λ u. raisedBy u x) e ∙ rw (lt-leb x maxSum h
 pub raised-is : (t : Total) (b x r : ℕ) → t ≡ Is b → x ≤ maxSum → r ≡ max b x → Is r ≡ raisedBy t x
 raised-is t b x r e h k = ap Is k ∙ sym (ap (λ u. raisedBy u x) e ∙ rw (le-leb x maxSum h))
 
-pub total-of-le : (n : ℕ) → n ≤ maxSum → Is n ≡ totalOf n
+pub total-of-le : (n : ℕ) → n ≤ maxSum → Is n ≡ totalAs n
 total-of-le n h = rw (le-leb n maxSum h)
 
-pub raised-total : (n x : ℕ) → raisedBy (totalOf n) x ≡ totalOf (max n x)
+pub raised-total : (n x : ℕ) → raisedBy (totalAs n) x ≡ totalAs (max n x)
 raised-total n x =
     elim (decLe n maxSum) [
       | yes p ↦ elim (decLe x maxSum) [
@@ -30,7 +30,7 @@ raised-total n x =
     ]
 
 -- a total within the limit, or past it
-pub total-cases : {X : Type 0} (n : ℕ) (t : Total) → t ≡ totalOf n → (n ≤ maxSum → t ≡ Is n → X) → (maxSum < n → t ≡ Over → X) → X
+pub total-cases : {X : Type 0} (n : ℕ) (t : Total) → t ≡ totalAs n → (n ≤ maxSum → t ≡ Is n → X) → (maxSum < n → t ≡ Over → X) → X
 total-cases n t e f g =
     elim (decLe n maxSum) [
       | yes p ↦ f p (e ∙ rw (le-leb n maxSum p))

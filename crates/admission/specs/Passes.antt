@@ -3,7 +3,7 @@
 --     Marked d a              the table d has an entry for a
 --     childDepth, childSum    what the tables say of a target
 --     deepest, heaviest       the largest of these over a node's transitions
---     totalOf, raisedBy, entryOf, orOver     sums that may pass the limit
+--     totalAs, raisedBy, entryIs, orOver     sums that may pass the limit
 --     Surveyed, Walked, Filled               the passes' answers
 -- Assumes nothing.
 use mathlib.Core.Path.{_≡_}
@@ -50,17 +50,17 @@ unfolding maxOf
 heaviest s out ts = max out (maxOf (λ t. t .out + childSum s (t .addr)) ts)
 
 -- n as a total
-abbrev pub totalOf : ℕ → Total
-totalOf n = cond (leb n maxSum) (Is n) Over
+abbrev pub totalAs : ℕ → Total
+totalAs n = cond (leb n maxSum) (Is n) Over
 
 -- the larger of a total and x
 abbrev pub raisedBy : Total → ℕ → Total
 raisedBy (Is b) x = cond (leb x maxSum) (Is (max b x)) Over
 raisedBy Over x = Over
 
-abbrev pub entryOf : Total → ℕ
-entryOf (Is x) = x
-entryOf Over = maxSum
+abbrev pub entryIs : Total → ℕ
+entryIs (Is x) = x
+entryIs Over = maxSum
 
 abbrev pub orOver : Bool → Total → Bool
 orOver heavy (Is x) = heavy
@@ -86,7 +86,7 @@ pub record Surveyed (d s : List ℕ) (out : ℕ) (ts : List Transition) (r : Sur
   pub lost : r ≡ NoEntry → LostTarget d ts
   pub marked : (x : ℕ) (t : Total) → r ≡ Found x t → MarkedTargets d ts
   pub depth : (x : ℕ) (t : Total) → r ≡ Found x t → x ≡ deepest d ts + 1
-  pub total : (x : ℕ) (t : Total) → r ≡ Found x t → t ≡ totalOf (heaviest s out ts)
+  pub total : (x : ℕ) (t : Total) → r ≡ Found x t → t ≡ totalAs (heaviest s out ts)
 
 -- ---- the walk down the chain
 

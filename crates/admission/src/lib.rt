@@ -9,8 +9,8 @@ ghost use Prim.Native.Nat.{max, min, _+_, _≤_, _<_};
 ghost use lib.Dec.{ltb};
 ghost use lib.ListN.{length, drop, replicate};
 ghost use Rattle.node.specs.Read.{transitionsIn, Readable};
-ghost use Rattle.admission.specs.Passes.{Kept, childDepth, childSum, raisedBy, Surveyable, Surveyed, entryOf, orOver, Walked, Fillable, Filled};
-ghost use Rattle.format.specs.Paths.{fstIs};
+ghost use Rattle.admission.specs.Passes.{Kept, childDepth, childSum, raisedBy, Surveyable, Surveyed, entryIs, orOver, Walked, Fillable, Filled};
+ghost use Rattle.format.specs.Paths.{fstWith};
 ghost use Rattle.admission.specs.Outcome.{Cleared, Judges, Opens, Outcome};
 use format::DEEP;
 use format::NODE;
@@ -178,7 +178,7 @@ fn or_deep(deep: bool, d: u16) -> bool
 
 // A total as an entry.
 fn entry_of(t: Total) -> u64
-    ensures { λ r. ⌜ r ≡ entryOf t ⌝ }
+    ensures { λ r. ⌜ r ≡ entryIs t ⌝ }
 {
     match t {
         Total::Over => u64::MAX,
@@ -202,7 +202,7 @@ fn or_over(heavy: bool, t: Total) -> bool
 fn walk(file: &[u8], version: u64, root: usize, depths: &mut [u16]) -> bool
     requires { ⌜ (length (now file) ≤ length (now depths)) × (¬ (root ≡ 0)) ⌝ }
     ensures kept { λ r. ⌜ Kept (length (now (file .entry))) (now (depths .entry)) (now (depths .exit)) ⌝ }
-    ensures walked { λ r. ⌜ Walked (fstIs (now (file .entry)) version root) (now (depths .entry)) (now (depths .exit)) r ⌝ }
+    ensures walked { λ r. ⌜ Walked (fstWith (now (file .entry)) version root) (now (depths .entry)) (now (depths .exit)) r ⌝ }
 {
     let mut a = root;
     loop {
@@ -220,8 +220,8 @@ fn walk(file: &[u8], version: u64, root: usize, depths: &mut [u16]) -> bool
 
 // Fills both tables at the marks, in ascending order of addresses. The sums' entries are zeros at entry.
 fn fill(file: &[u8], version: u64, root: usize, depths: &mut [u16], sums: &mut [u64]) -> Verdict
-    requires { ⌜ Fillable (fstIs (now file) version root) (now depths) (now sums) ⌝ }
-    ensures { λ r. ⌜ Filled (fstIs (now (file .entry)) version root) (now (depths .entry)) (now (sums .entry)) (now (depths .exit)) (now (sums .exit)) r ⌝ }
+    requires { ⌜ Fillable (fstWith (now file) version root) (now depths) (now sums) ⌝ }
+    ensures { λ r. ⌜ Filled (fstWith (now (file .entry)) version root) (now (depths .entry)) (now (sums .entry)) (now (depths .exit)) (now (sums .exit)) r ⌝ }
 {
     let mut deep = false;
     let mut heavy = false;
@@ -254,7 +254,7 @@ fn fill(file: &[u8], version: u64, root: usize, depths: &mut [u16], sums: &mut [
 // Judges all nodes, with both tables at zero over the file; root 0 has no chain.
 fn judge(file: &[u8], version: u64, root: usize, depths: &mut [u16], sums: &mut [u64]) -> Verdict
     requires { ⌜ Cleared (now file) (now depths) (now sums) ⌝ }
-    ensures { λ r. ⌜ Judges (fstIs (now (file .entry)) version root) (now (depths .entry)) (now (sums .entry)) (now (depths .exit)) (now (sums .exit)) r ⌝ }
+    ensures { λ r. ⌜ Judges (fstWith (now (file .entry)) version root) (now (depths .entry)) (now (sums .entry)) (now (depths .exit)) (now (sums .exit)) r ⌝ }
 {
     if root == 0 {
         return Verdict::Good;

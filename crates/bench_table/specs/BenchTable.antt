@@ -15,7 +15,7 @@ use Rattle.format.specs.Opening.{metaOf, rootTest, opening}
 use Rattle.format.specs.Strings.{Bound, unbounded, included, excluded, beforeTest}
 use Rattle.reading.specs.Reading.{pathOf, firstAbove, seek, View, started, start, pop, descend, next}
 use Rattle.reading.specs.Demand.{Entry, entry}
-use Rattle.reading.specs.WholeLaws.{Runs, run-end, run-key}
+use Rattle.reading.specs.WholeRun.{Runs, run-end, run-key}
 use Rattle.format.specs.Lookup.{value, getFrom, get, found, fittingFrom, lastFitting, getKeyFrom, getKey, KeyAnswer}
 
 abbrev one : ℕ → ℕ → ℕ → BuilderNode
@@ -30,7 +30,7 @@ abbrev packs : ℕ → BuilderNode → List ℕ → Type 0
 packs first b bytes = packing first b 16 ≡ written bytes
 
 -- version 3, type 0, the nodes, count 3, root 29, checksum 0
-abbrev D : List ℕ
+abbrev pub D : List ℕ
 D =
     bytesOf 8 3 ++ bytesOf 8 0 ++ (0 ∷ 2 ∷ 0 ∷ 116 ∷ 17 ∷ 65 ∷ 4 ∷ 1 ∷ 0 ∷ 1 ∷ 101 ∷ 97 ∷ 17 ∷ 2 ∷ []) ++ bytesOf 8 3 ++ bytesOf 8 29
     ++ replicate 4 0

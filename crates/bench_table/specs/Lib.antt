@@ -1,1 +1,3 @@
 pub mod BenchTable
+pub mod DAdmitted
+pub mod DValues

@@ -16,7 +16,7 @@ use Rattle.format.specs.Lookup.{value, found}
 use Rattle.fst.specs.declared.Meta.{Meta}
 use Rattle.fst.specs.declared.Opened.{Opened}
 use Rattle.fst.specs.declared.Opened.the-variants.{Meta as Read, Refused as Turned}
-use Rattle.fst.specs.Open.{metaIs, checksumIs, openingOf}
+use Rattle.fst.specs.Open.{metaIs, checksumIs, openingIs}
 use Rattle.lookup.specs.declared.Answer.{Answer}
 use Rattle.lookup.specs.declared.Answer.the-variants.{Value, None, Refused}
 use Rattle.lookup.specs.declared.KeyAnswer.{KeyAnswer}
@@ -34,13 +34,13 @@ code-is z fits e = toZ-ofZ {w = w32} (record { sfits = fits }) ∙ e
 
 -- ---- opening
 
-module _ {r : Opened} {w : Opening} (e : openingOf r ≡ w) (meta : List ℕ) where
+module _ {r : Opened} {w : Opening} (e : openingIs r ≡ w) (meta : List ℕ) where
   pub open-refused : (n : ℕ) (z : ℤ) → r ≡ Turned n → z ≡ code n → OpenLeaves w meta meta z
-  open-refused n z is is-z = let o : w ≡ O.Opening.refused n = sym e ∙ ap openingOf is in rw (o, is-z) (record { result = refl; numbers = refl })
+  open-refused n z is is-z = let o : w ≡ O.Opening.refused n = sym e ∙ ap openingIs is in rw (o, is-z) (record { result = refl; numbers = refl })
 
   pub open-opened : (m : Meta) (x : ℕ) → r ≡ Read m → x ≡ checksumNumber (checksumIs (m .checksum))
       → OpenLeaves w meta (m .version ∷ (m .ty ∷ (m .len ∷ (m .root ∷ (x ∷ []))))) OK
-  open-opened m x is is-x = let o : w ≡ opened (metaIs m) = sym e ∙ ap openingOf is in rw (o, is-x) (record { result = refl; numbers = refl })
+  open-opened m x is is-x = let o : w ≡ opened (metaIs m) = sym e ∙ ap openingIs is in rw (o, is-x) (record { result = refl; numbers = refl })
 
 -- ---- by key
 

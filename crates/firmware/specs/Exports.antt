@@ -15,7 +15,7 @@ use Rattle.format.specs.Opening as O
 use Rattle.format.specs.Opening.{Meta, Opening, opened}
 use Rattle.format.specs.Lookup as L
 use Rattle.format.specs.Lookup.{value, found}
-use Rattle.lookup.specs.Answers.{keyBufferOf}
+use Rattle.lookup.specs.Answers.{keyBufferAfter}
 use Rattle.admission.specs.Outcome.{Admits, RefusedFor}
 
 -- ---- results
@@ -38,15 +38,15 @@ checksumNumber (some n) = n
 checksumNumber none = 4294967296
 
 -- version, type, key count, root address, checksum
-abbrev pub numbersOf : Meta → List ℕ
-numbersOf m = m .version ∷ (m .ty ∷ (m .len ∷ (m .root ∷ (checksumNumber (m .checksum) ∷ []))))
+abbrev pub numbersAs : Meta → List ℕ
+numbersAs m = m .version ∷ (m .ty ∷ (m .len ∷ (m .root ∷ (checksumNumber (m .checksum) ∷ []))))
 
 abbrev pub openResult : Opening → ℤ
 openResult (opened m) = OK
 openResult (O.Opening.refused n) = code n
 
 abbrev pub openNumbers : Opening → List ℕ → List ℕ
-openNumbers (opened m) out = numbersOf m
+openNumbers (opened m) out = numbersAs m
 openNumbers (O.Opening.refused n) out = out
 
 pub record OpenLeaves (w : Opening) (meta₀ meta : List ℕ) (r : ℤ) : Type 0 where
@@ -84,7 +84,7 @@ keyLen (L.KeyAnswer.refused n) n₀ = n₀
 pub record KeyLeaves (w : L.KeyAnswer) (buf₀ buf : List ℕ) (n₀ n : ℕ) (r : ℤ) : Type 0 where
   pub result : r ≡ keyResult w
   -- a found key from the buffer's first byte on and its other bytes as given, else the buffer as given
-  pub buffer : buf ≡ keyBufferOf w buf₀
+  pub buffer : buf ≡ keyBufferAfter w buf₀
   pub len : n ≡ keyLen w n₀
 
 -- ---- admission

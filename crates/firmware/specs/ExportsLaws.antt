@@ -29,9 +29,9 @@ use Rattle.format.specs.Lookup as L
 use Rattle.format.specs.Lookup.{value, found, entered, followed, openedAs, keyEntered, keyFollowed, keyOpenedAs, getFrom, getKeyFrom, lastFitting, withByte, Numbered}
 use Rattle.format.specs.laws.LookupHeld.{get-exact}
 use Rattle.format.specs.laws.NumberedLaws.{get-key-exact}
-use Rattle.lookup.specs.Answers.{keyBufferOf}
+use Rattle.lookup.specs.Answers.{keyBufferAfter}
 use Rattle.admission.specs.Outcome.{RefusedFor, not-opened, no-space, no-nodes, too-deep, too-heavy}
-use Rattle.firmware.specs.Exports.{OK, NONE, code, checksumNumber, numbersOf, OpenLeaves, getResult, getValue, GetLeaves, keyResult, keyLen, KeyLeaves, AdmitLeaves}
+use Rattle.firmware.specs.Exports.{OK, NONE, code, checksumNumber, numbersAs, OpenLeaves, getResult, getValue, GetLeaves, keyResult, keyLen, KeyLeaves, AdmitLeaves}
 
 picked : {A : Type 0} (P : A → Type 0) (t : Bool) {x y : A} → P x → P y → P (cond t x y)
 picked P true px py = px
@@ -147,10 +147,10 @@ not-none n e = let z : _≡_ {A = ℕ} 0 1 = cc in omega arith
 none-not-0 : ¬ (NONE ≡ OK)
 none-not-0 e = let z : _≡_ {A = ℕ} 0 1 = cc in omega arith
 
-pub open-ok : (s meta₀ meta : List ℕ) (r : ℤ) → OpenLeaves (opening s) meta₀ meta r → r ≡ OK → (m : Meta) × (opening s ≡ opened m) × (meta ≡ numbersOf m)
+pub open-ok : (s meta₀ meta : List ℕ) (r : ℤ) → OpenLeaves (opening s) meta₀ meta r → r ≡ OK → (m : Meta) × (opening s ≡ opened m) × (meta ≡ numbersAs m)
 open-ok s meta₀ meta r h e = go (opening s) (opening-nonzero s) h
   where
-    go : (w : Opening) → OpeningNonzero w → OpenLeaves w meta₀ meta r → (m : Meta) × (w ≡ opened m) × (meta ≡ numbersOf m)
+    go : (w : Opening) → OpeningNonzero w → OpenLeaves w meta₀ meta r → (m : Meta) × (w ≡ opened m) × (meta ≡ numbersAs m)
     go w (opens m) h = (m, refl, h .numbers)
     go w (turns n) h = absurd (positive-not-0 n (sym (h .result) ∙ e))
 
@@ -251,9 +251,9 @@ key-tells {s} N v buf₀ buf n₀ n r room h =
     record {
       answered = key-answered (L.getKey s v (length buf₀)) (get-key-nonzero s v (length buf₀)) (exact .not-refused room) h;
       ok-held = λ e. let a = key-ok s v (length buf₀) buf₀ buf n₀ n r h e in (a .0, exact .get-key-found (a .0) (a .1), a .2, a .3);
-      held-ok = λ k held. let w = exact .get-key-held room k held in (h .result ∙ ap keyResult w, h .buffer ∙ ap (λ x. keyBufferOf x buf₀) w, h .len ∙ ap (λ x. keyLen x n₀) w);
+      held-ok = λ k held. let w = exact .get-key-held room k held in (h .result ∙ ap keyResult w, h .buffer ∙ ap (λ x. keyBufferAfter x buf₀) w, h .len ∙ ap (λ x. keyLen x n₀) w);
       none-held = λ e. exact .none-key-held room (key-none s v (length buf₀) buf₀ buf n₀ n r h e);
-      held-none = λ unheld. let w = exact .get-key-none room unheld in (h .result ∙ ap keyResult w, h .buffer ∙ ap (λ x. keyBufferOf x buf₀) w, h .len ∙ ap (λ x. keyLen x n₀) w);
+      held-none = λ unheld. let w = exact .get-key-none room unheld in (h .result ∙ ap keyResult w, h .buffer ∙ ap (λ x. keyBufferAfter x buf₀) w, h .len ∙ ap (λ x. keyLen x n₀) w);
     }
 
 -- ---- for a caller that asked for admission first

@@ -41,7 +41,8 @@ fn checksum_number(checksum: Checksum) -> u64
 // Opens a file. On 0 the five numbers are version, type, key count, root address and checksum; on a refusal they stay as given.
 #[no_mangle]
 pub extern "C" fn fst_open(file: &[u8], meta: &mut [u64; 5]) -> i32
-    ensures { λ r. ⌜ OpenLeaves (opening (now (file .entry))) (now (meta .entry)) (now (meta .exit)) r ⌝ }
+    ensures { λ r. ⌜ OpenLeaves (opening (now (file .entry))) (now (meta .entry)) (now (meta .exit))
+        r ⌝ }
 {
     let opened = fst::open(file);
     match opened {
@@ -58,7 +59,8 @@ pub extern "C" fn fst_open(file: &[u8], meta: &mut [u64; 5]) -> i32
 // The value of a key. The value is written on 0 only.
 #[no_mangle]
 pub extern "C" fn fst_get(file: &[u8], key: &[u8], value: &mut u64) -> i32
-    ensures { λ r. ⌜ GetLeaves (L.get (now (file .entry)) (now (key .entry))) (now (value .entry)) (now (value .exit)) r ⌝ }
+    ensures { λ r. ⌜ GetLeaves (L.get (now (file .entry)) (now (key .entry))) (now (value .entry))
+        (now (value .exit)) r ⌝ }
 {
     let answer = lookup::get(file, key);
     match answer {
@@ -74,7 +76,8 @@ pub extern "C" fn fst_get(file: &[u8], key: &[u8], value: &mut u64) -> i32
 // A key with this value. On 0 the key stands from the buffer's first byte on, and its length is written; else both stay as given.
 #[no_mangle]
 pub extern "C" fn fst_get_key(file: &[u8], value: u64, key: &mut [u8], len: &mut usize) -> i32
-    ensures { λ r. ⌜ KeyLeaves (L.getKey (now (file .entry)) value (length (now (key .entry)))) (now (key .entry)) (now (key .exit)) (now (len .entry)) (now (len .exit)) r ⌝ }
+    ensures { λ r. ⌜ KeyLeaves (L.getKey (now (file .entry)) value (length (now (key .entry))))
+        (now (key .entry)) (now (key .exit)) (now (len .entry)) (now (len .exit)) r ⌝ }
 {
     let answer = lookup::get_key(file, value, key);
     match answer {
@@ -90,7 +93,8 @@ pub extern "C" fn fst_get_key(file: &[u8], value: u64, key: &mut [u8], len: &mut
 // Admits a file and fills the two tables, or refuses it.
 #[no_mangle]
 pub extern "C" fn fst_admit(file: &[u8], depths: &mut [u16], sums: &mut [u64]) -> i32
-    ensures { λ r. ⌜ AdmitLeaves (now (file .entry)) (now (depths .entry)) (now (sums .entry)) (now (depths .exit)) (now (sums .exit)) r ⌝ }
+    ensures { λ r. ⌜ AdmitLeaves (now (file .entry)) (now (depths .entry)) (now (sums .entry))
+        (now (depths .exit)) (now (sums .exit)) r ⌝ }
 {
     let answer = admission::admit(file, depths, sums);
     match answer {

@@ -1,5 +1,5 @@
 -- Held keys (document 01, "A reading": the words of demand 3; docs/FORMAT.md, "Keys").
---     Fst, fstIs, fstOf    a file's bytes with its version and its root
+--     Fst, fstWith, fstOf    a file's bytes with its version and its root
 --     nodeIn f a           the node at the address a of f, where it is sound
 --     Path f a k sum b     the transitions with the inputs k lead from a to b, through sound nodes; their outputs add up to sum
 --     Held f k v           the key k is held, with the value v (document 01's word)
@@ -17,12 +17,12 @@ pub record Fst : Type 0 where
   pub version : ℕ
   pub root : ℕ
 
-abbrev pub fstIs : List ℕ → ℕ → ℕ → Fst
-fstIs s v root = record { bytes = s; version = v; root = root }
+abbrev pub fstWith : List ℕ → ℕ → ℕ → Fst
+fstWith s v root = record { bytes = s; version = v; root = root }
 
 -- as opening reads it
 abbrev pub fstOf : List ℕ → Meta → Fst
-fstOf s m = fstIs s (m .version) (m .root)
+fstOf s m = fstWith s (m .version) (m .root)
 
 abbrev pub nodeIn : Fst → ℕ → Judgement
 nodeIn f a = nodeAt (f .bytes) (f .version) (f .root) a

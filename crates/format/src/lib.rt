@@ -77,8 +77,10 @@ pub struct Named {
 
 // Each limit is the one that the definitions name; a number changed on one side alone is refused here.
 pub fn limits() -> Named
-    ensures { λ r. ⌜ (r .first ≡ L.firstNode) × (r .shortest ≡ L.minLen) × (r .longest ≡ L.maxLen) × (r .transitions ≡ L.maxTrans) ⌝ }
-    ensures { λ r. ⌜ (r .threshold ≡ L.indexThreshold) × (r .key ≡ L.maxPath) × (r .levels ≡ L.maxLevels) × (r .sum ≡ L.maxSum) ⌝ }
+    ensures { λ r. ⌜ (r .first ≡ L.firstNode) × (r .shortest ≡ L.minLen) × (r .longest ≡ L.maxLen)
+        × (r .transitions ≡ L.maxTrans) ⌝ }
+    ensures { λ r. ⌜ (r .threshold ≡ L.indexThreshold) × (r .key ≡ L.maxPath)
+        × (r .levels ≡ L.maxLevels) × (r .sum ≡ L.maxSum) ⌝ }
 {
     Named {
         first: FIRST_NODE,
@@ -94,7 +96,8 @@ pub fn limits() -> Named
 
 // Each refusal has the number that the definitions give it.
 pub fn refusals() -> [u8; 11]
-    ensures { λ r. ⌜ r ≡ L.SHORT ∷ L.VERSION ∷ L.ROOT ∷ L.LARGE ∷ L.NODE ∷ L.DEEP ∷ L.SUM ∷ L.SPACE ∷ L.BOUND ∷ L.RECORD ∷ L.STATE ∷ [] ⌝ }
+    ensures { λ r. ⌜ r ≡ L.SHORT ∷ L.VERSION ∷ L.ROOT ∷ L.LARGE ∷ L.NODE ∷ L.DEEP ∷ L.SUM ∷ L.SPACE
+        ∷ L.BOUND ∷ L.RECORD ∷ L.STATE ∷ [] ⌝ }
 {
     [
         SHORT,

@@ -1,7 +1,7 @@
 -- What the answers of opening stand for: document 01's number and values for each case.
 --     checksumIs c     the checksum, none in versions 1 and 2
 --     metaIs m         what the file says
---     openingOf r      what opening answered
+--     openingIs r      what opening answered
 -- Assumes nothing.
 use mathlib.Core.Option.{Option, none, some}
 use Prim.Native.Nat.{ℕ}
@@ -20,6 +20,6 @@ checksumIs Missing = none
 abbrev pub metaIs : Meta → F.Meta
 metaIs m = record { version = m .version; ty = m .ty; len = m .len; root = m .root; checksum = checksumIs (m .checksum) }
 
-abbrev pub openingOf : Opened → Opening
-openingOf (Read m) = opened (metaIs m)
-openingOf (Refused n) = refused n
+abbrev pub openingIs : Opened → Opening
+openingIs (Read m) = opened (metaIs m)
+openingIs (Refused n) = refused n

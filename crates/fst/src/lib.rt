@@ -9,7 +9,7 @@ ghost use lib.Dec.{eqb};
 ghost use Rattle.format.specs.Opening.{trailerLen, numberAt, rootTest, opening};
 ghost use Rattle.format.specs.Node.{nodeAt};
 ghost use Rattle.format.specs.Lookup.{pastSum};
-ghost use Rattle.fst.specs.Open.{openingOf, checksumIs};
+ghost use Rattle.fst.specs.Open.{openingIs, checksumIs};
 use format::FIRST_NODE;
 use format::LARGE;
 use format::MAX_LEN;
@@ -74,7 +74,8 @@ fn root_right(version: u64, root: usize, len: usize) -> bool
 // The stored checksum, if the version has one.
 fn checksum_of(file: &[u8], version: u64) -> Checksum
     requires { ⌜ 4 ≤ length (now file) ⌝ }
-    ensures { λ r. ⌜ checksumIs r ≡ cond (eqb version 3) (some (numberAt (now (file .entry)) (length (now (file .entry)) - 4) 4)) none ⌝ }
+    ensures { λ r. ⌜ checksumIs r ≡ cond (eqb version 3)
+        (some (numberAt (now (file .entry)) (length (now (file .entry)) - 4) 4)) none ⌝ }
 {
     if version == 3 {
         let at = file.len() - 4;
@@ -85,7 +86,7 @@ fn checksum_of(file: &[u8], version: u64) -> Checksum
 
 // Opens a file: what it says, or SHORT, LARGE, VERSION or ROOT, judged in this order.
 pub fn open(file: &[u8]) -> Opened
-    ensures { λ r. ⌜ openingOf r ≡ opening (now (file .entry)) ⌝ }
+    ensures { λ r. ⌜ openingIs r ≡ opening (now (file .entry)) ⌝ }
 {
     let n = file.len();
     if n < MIN_LEN {

@@ -16,14 +16,14 @@ use Rattle.admission.specs.Outcome.{Admits}
 use Rattle.reading.specs.Reading.{View, Answer, key, end, Step, counted, next}
 use Rattle.reading.specs.ProgressLaws.{left}
 use Rattle.reading.specs.WholeLaws.{OnWay, OnWayNext, goes-on, comes-to-end, on-way-start, on-way-next}
-use Rattle.stream_start.specs.Views.{viewOf}
+use Rattle.stream_start.specs.Views.{viewIs}
 use Rattle.stream_start.specs.declared.Started.{Started}
 use Rattle.stream_start.specs.declared.Begins.the-variants.{Began, Refused}
 use Rattle.listing.specs.declared.Line.the-variants.{Key, Last}
 use Rattle.listing.specs.declared.Listed.{Listed}
 use Rattle.listing.specs.Lines.{keyLine, endLine}
 use Rattle.listing.specs.Listing.{Line, State, state, more, last, lineBy, lineOf}
-use Rattle.listing.specs.Lined.{Begins, too-large, not-admitted, begins, stateOf, Wrote, Lined}
+use Rattle.listing.specs.Lined.{Begins, too-large, not-admitted, begins, stateIs, Wrote, Lined}
 use Rattle.list.specs.Stands.{Stands}
 
 -- what is left to visit, read off the file and the reading alone
@@ -61,8 +61,8 @@ last-fits {x} {st} {buf₀} {buf} {r} n l room e = last-short x buf₀ buf r n (
 -- ---- a key's line
 
 pub record After (s : List ℕ) (v : View) (r : Listed) : Type 0 where
-  pub stands : Stands s (viewOf (r .reading))
-  pub less : leftIn s (viewOf (r .reading)) < leftIn s v
+  pub stands : Stands s (viewIs (r .reading))
+  pub less : leftIn s (viewIs (r .reading)) < leftIn s v
 
 module _ {s : List ℕ} (v : View) (keys : ℕ) (buf₀ buf : List ℕ) (r : Listed) (n : ℕ) where
   way-goes : (A : Admitted s) → OnWayNext A unbounded unbounded v (next s v maxPath) → Wrote (lineOf s (state v keys)) buf₀ buf r → r .line ≡ Key n → After s v r
@@ -71,7 +71,7 @@ module _ {s : List ℕ} (v : View) (keys : ℕ) (buf₀ buf : List ℕ) (r : Lis
       let line-is : lineOf s (state v keys) ≡ more (keyLine (e .key) (e .value)) (state (next s v maxPath .reading) (counted keys)) =
       ap (λ (a : Answer). lineBy a (next s v maxPath .reading) keys) is in
       let w′ = subst (λ x. Wrote x buf₀ buf r) line-is w in
-      let same : viewOf (r .reading) ≡ next s v maxPath .reading = ap (λ (st : State). st .reading) (w′ .2) in
+      let same : viewIs (r .reading) ≡ next s v maxPath .reading = ap (λ (st : State). st .reading) (w′ .2) in
       record {
         stands = record { admitted = A; on-way = subst (λ x. OnWay A unbounded unbounded x) (sym same) way };
         less = omega (arith, less, left-is A (next s v maxPath .reading), left-is A v, ap (leftIn s) same);
@@ -88,8 +88,8 @@ module _ {s : List ℕ} (v : View) (keys : ℕ) (buf₀ buf : List ℕ) (r : Lis
 
 -- ---- the beginning
 
-pub way-begins : {s d₀ s₀ d t : List ℕ} (r : Started) → Begins s d₀ s₀ d t r → r .answer ≡ Began → Stands s (viewOf (r .reading))
+pub way-begins : {s d₀ s₀ d t : List ℕ} (r : Started) → Begins s d₀ s₀ d t r → r .answer ≡ Began → Stands s (viewIs (r .reading))
 way-begins r (too-large h e p q) is = let z : _≡_ {A = ℕ} 0 1 = cc in absurd (omega arith)
 way-begins r (not-admitted h n e p) is = let z : _≡_ {A = ℕ} 0 1 = cc in absurd (omega arith)
 way-begins r (begins h e a st) is =
-    record { admitted = a .admitted; on-way = on-way-start (a .admitted) unbounded unbounded (omega arith) (omega arith) (viewOf (r .reading)) st }
+    record { admitted = a .admitted; on-way = on-way-start (a .admitted) unbounded unbounded (omega arith) (omega arith) (viewIs (r .reading)) st }

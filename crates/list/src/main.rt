@@ -2,7 +2,7 @@
 // The work is crate `listing`'s; a line is written as soon as it is there, so that memory does not grow with the number of keys.
 ghost use Prim.Native.Nat.{_≤_};
 ghost use lib.ListN.{length};
-ghost use Rattle.stream_start.specs.Views.{viewOf};
+ghost use Rattle.stream_start.specs.Views.{viewIs};
 ghost use Rattle.list.specs.Stands.{Stands};
 use libc::STDIN_FILENO;
 use libc::STDOUT_FILENO;
@@ -32,7 +32,7 @@ fn refuse(why: u8) {
 
 // Writes the lines of an admitted file, from its unbounded reading on. Each key that is handed out leaves fewer visits to come.
 fn lines(file: &[u8], first: Reading)
-    requires { ⌜ Stands (now file) (viewOf first) ⌝ }
+    requires { ⌜ Stands (now file) (viewIs first) ⌝ }
 {
     let mut line = [0u8; LINE];
     let mut reading = first;

@@ -20,8 +20,8 @@ use Rattle.admission.specs.declared.Admission.the-variants.{Admitted as Yes, Re
 use Rattle.reading.specs.Reading as R
 use Rattle.reading.specs.Reading.{View, key, end, written, counted}
 use Rattle.reading.specs.WholeLaws.{start-only-bound}
-use Rattle.stream_start.specs.Views.{viewOf, beganIs, startedIs}
-use Rattle.stream_next.specs.Stepped.{answerIs, Stepped}
+use Rattle.stream_start.specs.Views.{viewIs, beganIs, startedIs}
+use Rattle.stream_next.specs.Stepped.{answerAs, Stepped}
 use Rattle.stream_start.specs.declared.Reading.{Reading}
 use Rattle.stream_next.specs.declared.Step.{Step}
 use Rattle.stream_start.specs.declared.Started.{Started}
@@ -33,7 +33,7 @@ use Rattle.listing.specs.declared.Line.the-variants.{Key as KeyLine, Las
 use Rattle.listing.specs.declared.Listed.{Listed}
 use Rattle.listing.specs.Lines.{keyLine, endLine, refusedLine, Written}
 use Rattle.listing.specs.Listing.{State, state, more, last, lineBy, lineOf}
-use Rattle.listing.specs.Lined.{Begins as BeginsAs, begins, stateOf, Wrote, Lined}
+use Rattle.listing.specs.Lined.{Begins as BeginsAs, begins, stateIs, Wrote, Lined}
 
 -- ---- the answer behind an answer
 
@@ -41,7 +41,7 @@ module _ {w : R.Step} {buf₀ buf : List ℕ} {o : Step} (h : Stepped w buf₀ b
   pub step-key : (n v : ℕ) → o .answer ≡ Key n v → (k : List ℕ) × (w .answer ≡ key k v) × (length k ≡ n) × (buf ≡ k ++ drop (length k) buf₀)
   step-key n v e = by (w .answer) refl (sym (h .answer) ∙ e) (h .buffer)
     where
-      by : (a : R.Answer) → w .answer ≡ a → answerIs a ≡ Key n v → buf ≡ written a buf₀
+      by : (a : R.Answer) → w .answer ≡ a → answerAs a ≡ Key n v → buf ≡ written a buf₀
           → (k : List ℕ) × (w .answer ≡ key k v) × (length k ≡ n) × (buf ≡ k ++ drop (length k) buf₀)
       by (key k u) is q b =
           let len : length k ≡ n = cc in
@@ -53,7 +53,7 @@ module _ {w : R.Step} {buf₀ buf : List ℕ} {o : Step} (h : Stepped w buf₀ b
   pub step-end : o .answer ≡ End → w .answer ≡ end
   step-end e = by (w .answer) refl (sym (h .answer) ∙ e)
     where
-      by : (a : R.Answer) → w .answer ≡ a → answerIs a ≡ End → w .answer ≡ end
+      by : (a : R.Answer) → w .answer ≡ a → answerAs a ≡ End → w .answer ≡ end
       by (key k u) is q = let z : _≡_ {A = ℕ} 0 1 = cc in absurd (omega arith)
       by end is q = is
       by (R.Answer.refused c) is q = let z : _≡_ {A = ℕ} 0 1 = cc in absurd (omega arith)
@@ -61,7 +61,7 @@ module _ {w : R.Step} {buf₀ buf : List ℕ} {o : Step} (h : Stepped w buf₀ b
   pub step-refused : (n : ℕ) → o .answer ≡ Refused n → w .answer ≡ R.Answer.refused n
   step-refused n e = by (w .answer) refl (sym (h .answer) ∙ e)
     where
-      by : (a : R.Answer) → w .answer ≡ a → answerIs a ≡ Refused n → w .answer ≡ R.Answer.refused n
+      by : (a : R.Answer) → w .answer ≡ a → answerAs a ≡ Refused n → w .answer ≡ R.Answer.refused n
       by (key k u) is q = let z : _≡_ {A = ℕ} 0 1 = cc in absurd (omega arith)
       by end is q = let z : _≡_ {A = ℕ} 0 1 = cc in absurd (omega arith)
       by (R.Answer.refused c) is q = let same : c ≡ n = cc in is ∙ ap R.Answer.refused same
@@ -80,12 +80,12 @@ module _ {w : R.Step} {buf₀ buf : List ℕ} {o : Step} (h : Stepped w buf₀ b
 
 -- ---- the ways out of `next_line`
 
-pub lined-short : (w : Rattle.listing.specs.Listing.Line) (st : State) (buf : List ℕ) (r : Listed) → length buf < 532 → r .line ≡ Short → stateOf r ≡ st → Lined w st buf buf r
+pub lined-short : (w : Rattle.listing.specs.Listing.Line) (st : State) (buf : List ℕ) (r : Listed) → length buf < 532 → r .line ≡ Short → stateIs r ≡ st → Lined w st buf buf r
 lined-short w st buf r h e s = record { short = λ _. (e, refl, s); wrote = λ g. absurd (omega arith) }
 
 module _ (s : List ℕ) (v : View) (keys space : ℕ) (room : space ≡ maxPath) {buf₀ buf : List ℕ} {o : Step} (h : Stepped (R.next s v space) buf₀ buf o)
-    (line₀ line : List ℕ) (len : ℕ) (r : Listed) (rest : viewOf (r .reading) ≡ viewOf (o .reading)) (long : 532 ≤ length line₀) where
-  by-line : (a : R.Answer) → R.next s v space .answer ≡ a → lineOf s (state v keys) ≡ lineBy a (viewOf (r .reading)) keys
+    (line₀ line : List ℕ) (len : ℕ) (r : Listed) (rest : viewIs (r .reading) ≡ viewIs (o .reading)) (long : 532 ≤ length line₀) where
+  by-line : (a : R.Answer) → R.next s v space .answer ≡ a → lineOf s (state v keys) ≡ lineBy a (viewIs (r .reading)) keys
   unfolding lineOf
   by-line a e =
       ap (λ (n : ℕ). lineBy (R.next s v n .answer) (R.next s v n .reading) keys) (sym room)
@@ -98,22 +98,22 @@ module _ (s : List ℕ) (v : View) (keys space : ℕ) (room : space ≡ maxPath)
   pub lined-key : (n value : ℕ) → o .answer ≡ Key n value → Written (keyLine (take n buf) value) line₀ line len → r .line ≡ KeyLine len → r .keys ≡ counted keys
       → Lined (lineOf s (state v keys)) (state v keys) line₀ line r
   lined-key n value e wr is count =
-      lined (more (keyLine (take n buf) value) (state (viewOf (r .reading)) (counted keys))) (by-line (key (take n buf) value) (step-text h n value e))
-      (is ∙ ap KeyLine (wr .answer), wr .buffer, ap (state (viewOf (r .reading))) count, omega (arith, wr .answer, wr .short))
+      lined (more (keyLine (take n buf) value) (state (viewIs (r .reading)) (counted keys))) (by-line (key (take n buf) value) (step-text h n value e))
+      (is ∙ ap KeyLine (wr .answer), wr .buffer, ap (state (viewIs (r .reading))) count, omega (arith, wr .answer, wr .short))
 
-  pub lined-end : o .answer ≡ End → Written (endLine keys (viewOf (o .reading) .total)) line₀ line len → r .line ≡ Last len → r .keys ≡ keys
+  pub lined-end : o .answer ≡ End → Written (endLine keys (viewIs (o .reading) .total)) line₀ line len → r .line ≡ Last len → r .keys ≡ keys
       → Lined (lineOf s (state v keys)) (state v keys) line₀ line r
   lined-end e wr is count =
-      let t : viewOf (r .reading) .total ≡ viewOf (o .reading) .total = ap (λ (x : View). x .total) rest in
-      let q = by-line end (step-end h e) ∙ ap (λ (n : ℕ). last (endLine keys n) (state (viewOf (r .reading)) keys)) t in
-      lined (last (endLine keys (viewOf (o .reading) .total)) (state (viewOf (r .reading)) keys)) q
-      (is ∙ ap Last (wr .answer), wr .buffer, ap (state (viewOf (r .reading))) count, omega (arith, wr .answer, wr .short))
+      let t : viewIs (r .reading) .total ≡ viewIs (o .reading) .total = ap (λ (x : View). x .total) rest in
+      let q = by-line end (step-end h e) ∙ ap (λ (n : ℕ). last (endLine keys n) (state (viewIs (r .reading)) keys)) t in
+      lined (last (endLine keys (viewIs (o .reading) .total)) (state (viewIs (r .reading)) keys)) q
+      (is ∙ ap Last (wr .answer), wr .buffer, ap (state (viewIs (r .reading))) count, omega (arith, wr .answer, wr .short))
 
   pub lined-refused : (n : ℕ) → o .answer ≡ Refused n → Written (refusedLine n) line₀ line len → r .line ≡ Last len → r .keys ≡ keys
       → Lined (lineOf s (state v keys)) (state v keys) line₀ line r
   lined-refused n e wr is count =
-      lined (last (refusedLine n) (state (viewOf (r .reading)) keys)) (by-line (R.Answer.refused n) (step-refused h n e))
-      (is ∙ ap Last (wr .answer), wr .buffer, ap (state (viewOf (r .reading))) count, omega (arith, wr .answer, wr .short))
+      lined (last (refusedLine n) (state (viewIs (r .reading)) keys)) (by-line (R.Answer.refused n) (step-refused h n e))
+      (is ∙ ap Last (wr .answer), wr .buffer, ap (state (viewIs (r .reading))) count, omega (arith, wr .answer, wr .short))
 
 -- ---- the beginning
 

@@ -1,5 +1,6 @@
 pub mod Lines
 pub mod LinesLaws
 pub mod Listing
+pub mod HeldLines
 pub mod ListingLaws
 pub mod Lined

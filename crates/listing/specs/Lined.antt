@@ -1,6 +1,6 @@
 -- What the answers of this crate stand for: where a listing begins, and a line that was written.
 --     Begins s ..            the answer and both tables of beginning a listing
---     stateOf r, Wrote, Lined w st buf₀ buf r     what is left, the line and the buffer of a call whose definition answers w
+--     stateIs r, Wrote, Lined w st buf₀ buf r     what is left, the line and the buffer of a call whose definition answers w
 -- Assumes nothing.
 use mathlib.Core.Path.{_≡_}
 use mathlib.Core.List.{List, _++_}
@@ -10,12 +10,13 @@ use Rattle.format.specs.Limits.{LARGE}
 use Rattle.format.specs.Strings.{unbounded}
 use Rattle.admission.specs.Outcome.{RefusedFor, Admits}
 use Rattle.reading.specs.Reading as R
-use Rattle.stream_start.specs.Views.{viewOf}
+use Rattle.stream_start.specs.Views.{viewIs}
 use Rattle.stream_start.specs.declared.Started.{Started}
 use Rattle.stream_start.specs.declared.Begins.the-variants.{Began, Refused}
 use Rattle.listing.specs.declared.Line.{Line}
 use Rattle.listing.specs.declared.Line.the-variants.{Key, Last, Short}
 use Rattle.listing.specs.declared.Listed.{Listed}
+use Rattle.listing.specs.Lines.{longestLine}
 use Rattle.listing.specs.Listing as L
 use Rattle.listing.specs.Listing.{State, state, more, last}
 
@@ -25,19 +26,19 @@ use Rattle.listing.specs.Listing.{State, state, more, last}
 pub data Begins (s d₀ s₀ d t : List ℕ) (r : Started) : Type 0 where
   too-large : 4096 < length s → r .answer ≡ Refused LARGE → d ≡ d₀ → t ≡ s₀ → Begins s d₀ s₀ d t r
   not-admitted : length s ≤ 4096 → (n : ℕ) → r .answer ≡ Refused n → RefusedFor s d₀ s₀ d t n → Begins s d₀ s₀ d t r
-  begins : length s ≤ 4096 → r .answer ≡ Began → Admits s d₀ s₀ d t → R.start s unbounded unbounded ≡ R.started (viewOf (r .reading)) → Begins s d₀ s₀ d t r
+  begins : length s ≤ 4096 → r .answer ≡ Began → Admits s d₀ s₀ d t → R.start s unbounded unbounded ≡ R.started (viewIs (r .reading)) → Begins s d₀ s₀ d t r
 
 -- ---- a line
 
-abbrev pub stateOf : Listed → State
-stateOf r = state (viewOf (r .reading)) (r .keys)
+abbrev pub stateIs : Listed → State
+stateIs r = state (viewIs (r .reading)) (r .keys)
 
--- the line from the buffer's first byte on, the rest as given; no line is longer than 532
+-- the line from the buffer's first byte on, the rest as given; no line is longer than the longest
 abbrev pub Wrote : L.Line → List ℕ → List ℕ → Listed → Type 0
-Wrote (more b st) buf₀ buf r = (r .line ≡ Key (length b)) × (buf ≡ b ++ drop (length b) buf₀) × (stateOf r ≡ st) × (length b ≤ 532)
-Wrote (last b st) buf₀ buf r = (r .line ≡ Last (length b)) × (buf ≡ b ++ drop (length b) buf₀) × (stateOf r ≡ st) × (length b ≤ 532)
+Wrote (more b st) buf₀ buf r = (r .line ≡ Key (length b)) × (buf ≡ b ++ drop (length b) buf₀) × (stateIs r ≡ st) × (length b ≤ longestLine)
+Wrote (last b st) buf₀ buf r = (r .line ≡ Last (length b)) × (buf ≡ b ++ drop (length b) buf₀) × (stateIs r ≡ st) × (length b ≤ longestLine)
 
 pub record Lined (w : L.Line) (st : State) (buf₀ buf : List ℕ) (r : Listed) : Type 0 where
   -- no room for a line: nothing changes
-  pub short : length buf₀ < 532 → (r .line ≡ Short) × (buf ≡ buf₀) × (stateOf r ≡ st)
-  pub wrote : 532 ≤ length buf₀ → Wrote w buf₀ buf r
+  pub short : length buf₀ < longestLine → (r .line ≡ Short) × (buf ≡ buf₀) × (stateIs r ≡ st)
+  pub wrote : longestLine ≤ length buf₀ → Wrote w buf₀ buf r

@@ -7,6 +7,7 @@
 --     keyLine k v             the line of the key k, whose value is v
 --     endLine keys followed   the last line of a listing
 --     refusedLine n           the only line where the file is refused
+--     longestLine             the bytes that the longest line takes
 --     Written v out₀ out r    what writing the line v answers and leaves in a lent buffer
 -- Read back, for the laws:
 --     valueOf ds              the number that the decimal digits ds stand for
@@ -60,11 +61,15 @@ refusedLine n = 114 ∷ 101 ∷ 102 ∷ 117 ∷ 115 ∷ 101 ∷ 100 ∷ 32 ∷ (
 
 -- ---- the buffer
 
--- the line from the first byte on, the rest as given; no line is longer than 532
+-- 510 digits of a key, a space, 20 digits of a value, a newline
+abbrev pub longestLine : ℕ
+longestLine = 532
+
+-- the line from the first byte on, the rest as given; no line is longer than the longest
 pub record Written (v out₀ out : List ℕ) (r : ℕ) : Type 0 where
   pub buffer : out ≡ v ++ drop (length v) out₀
   pub answer : r ≡ length v
-  pub short : r ≤ 532
+  pub short : r ≤ longestLine
 
 -- ---- read back
 

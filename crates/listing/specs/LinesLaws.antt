@@ -12,7 +12,8 @@ use borrow.Author.Tests.{lt-ltb, le-ltb, ltb-true, ltb-false, ne-eqb}
 use lib.Dec.{ltb}
 use lib.ListN.{length, getD, take, length-append}
 use lib.Seq.{take-suc}
-use Rattle.listing.specs.Lines.{hexDigit, hexOf, keyText, decimalUpTo, decimal, keyLine, endLine, refusedLine}
+use Rattle.listing.specs.Lines.{hexDigit, hexOf, keyText, decimalUpTo, decimal, keyLine, endLine, refusedLine, longestLine}
+use Rattle.format.specs.Limits.{maxPath}
 use Rattle.listing.specs.Lines.{valueFrom, valueOf, hexValue, fromHex, keyOf, DecimalOf, Bytes}
 
 -- ---- lengths
@@ -23,7 +24,7 @@ length-hex-of [] = refl
 length-hex-of (b ∷ bs) = let rest = length-hex-of bs in omega arith
 
 -- a key of at most 255 bytes takes at most 510
-pub key-text-le : (k : List ℕ) → length k ≤ 255 → length (keyText k) ≤ 510
+pub key-text-le : (k : List ℕ) → length k ≤ maxPath → length (keyText k) ≤ 510
 unfolding keyText
 key-text-le [] h = omega arith
 key-text-le (b ∷ bs) h = omega (arith, length-hex-of (b ∷ bs))
@@ -65,17 +66,17 @@ pub length-decimal : (n : ℕ) → length (decimal n) ≤ 20
 unfolding decimal
 length-decimal n = length-decimal-up-to 20 n
 
--- no line is longer than LINE
-pub length-key-line : (k : List ℕ) (v : ℕ) → length k ≤ 255 → length (keyLine k v) ≤ 532
+-- no line is longer than the longest
+pub length-key-line : (k : List ℕ) (v : ℕ) → length k ≤ maxPath → length (keyLine k v) ≤ longestLine
 unfolding keyLine
 length-key-line k v h =
     simp length-append (omega (arith, key-text-le k h, length-decimal v))
 
-pub length-end-line : (keys followed : ℕ) → length (endLine keys followed) ≤ 532
+pub length-end-line : (keys followed : ℕ) → length (endLine keys followed) ≤ longestLine
 unfolding endLine
 length-end-line keys followed = simp length-append (omega (arith, length-decimal keys, length-decimal followed))
 
-pub length-refused-line : (n : ℕ) → length (refusedLine n) ≤ 532
+pub length-refused-line : (n : ℕ) → length (refusedLine n) ≤ longestLine
 unfolding refusedLine
 length-refused-line n = simp length-append (omega (arith, length-decimal n))
 

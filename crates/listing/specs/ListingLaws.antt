@@ -1,6 +1,6 @@
 -- The lines of an admitted file: its held keys, ascending, each once with its value, and then the two numbers.
 --     lines-run              the lines of a reading from start to end
---     Listed, listed         the claim, over the held keys
+--     listed                 the claim over the held keys (`HeldLines`)
 --     lists-same             a listing has one list of lines
 -- Assumes nothing.
 use mathlib.Core.Path.{_≡_, refl, sym, _∙_, ap}
@@ -14,15 +14,13 @@ use Rattle.format.specs.Paths.{Fst, fstOf, Held}
 use Rattle.format.specs.Admitted.{Admitted}
 use Rattle.format.specs.Strings.{unbounded}
 use Rattle.reading.specs.Reading.{View, started, start, counted, next}
-use Rattle.reading.specs.Visits.{capped}
 use Rattle.reading.specs.RunLaws.{counted-capped}
-use Rattle.reading.specs.Demand.{Rising, NumberOf, BeginsHeld, Within, Beyond, Extra, one-more, no-more, EmptyExcluded, Entry, entry}
-use Rattle.reading.specs.WholeLaws.{Runs, run-end, run-key, Whole, whole, between-all}
+use Rattle.reading.specs.Demand.{Rising, NumberOf, BeginsHeld, Within, Beyond, Extra, one-more, no-more, EmptyExcluded, Entry, entry, capped}
+use Rattle.reading.specs.WholeRun.{Runs, run-end, run-key, Whole}
+use Rattle.reading.specs.WholeLaws.{whole, between-all}
+use Rattle.listing.specs.HeldLines.{lineFor, HeldLines}
 use Rattle.listing.specs.Lines.{keyLine, endLine}
 use Rattle.listing.specs.Listing.{State, state, Line, more, last, lineBy, lineOf, Lists, last-line, line-more}
-
-abbrev pub lineFor : Entry → List ℕ
-lineFor e = keyLine (e .key) (e .value)
 
 -- ---- the lines of a reading from start to end
 
@@ -38,27 +36,12 @@ lines-run {r = r} (run-key {r₁ = r₁} {es = es} e is rest) n =
 
 -- ---- the claim
 
-pub record Listed {s : List ℕ} (A : Admitted s) : Type 0 where
-  -- the unbounded reading
-  pub reading : View
-  pub starts : start s unbounded unbounded ≡ started reading
-  -- the held keys, ascending, each once with its value
-  pub entries : List Entry
-  pub ascending : Rising (map (λ (e : Entry). e .key) entries)
-  pub held : (e : Entry) → List·Memᴰ e entries → Held (fstOf s (A .meta)) (e .key) (e .value)
-  pub all : (k : List ℕ) (v : ℕ) → Held (fstOf s (A .meta)) k v → List·Memᴰ (entry k v) entries
-  -- one transition is followed for each non-empty string that begins a held key
-  pub followed : ℕ
-  pub number : NumberOf (BeginsHeld (fstOf s (A .meta))) followed
-  -- a line for each key, and the last line
-  pub lists : Lists s (state reading 0) (map lineFor entries ++ (endLine (capped (length entries)) (capped followed) ∷ []))
-
 -- nothing passes where there is no upper bound
 none-beyond : (f : Fst) (e : ℕ) → Extra f unbounded unbounded e → e ≡ 0
 none-beyond f e (one-more x b) = elim (b .1 .1) [ ]
 none-beyond f e (no-more h) = refl
 
-pub listed : {s : List ℕ} (A : Admitted s) → Listed A
+pub listed : {s : List ℕ} (A : Admitted s) → HeldLines A
 listed {s} A =
     let W : Whole A unbounded unbounded maxPath = whole A unbounded unbounded (omega arith) (omega arith) maxPath (omega arith) in
     let t = W .total (λ x. elim (x .passes) [ ]) in

@@ -4,13 +4,15 @@ ghost use mathlib.Core.Path.{_≡_};
 ghost use Prim.Native.Nat.{_+_, _*_, _≤_, _<_};
 ghost use lib.ListN.{length, take};
 ghost use Rattle.listing.specs.Lines.{hexDigit, hexOf, keyText, decimal, keyLine, endLine, refusedLine};
-ghost use Rattle.listing.specs.Lines.{Written};
+ghost use Rattle.listing.specs.Lines.{longestLine, Written};
+ghost use Rattle.format.specs.Limits.{maxPath};
 ghost use Rattle.buffers.specs.Put.{PutAt};
-ghost use Rattle.stream_start.specs.Views.{viewOf};
+ghost use Rattle.stream_start.specs.Views.{viewIs};
 ghost use Rattle.listing.specs.Listing.{state, lineOf};
 ghost use Rattle.listing.specs.Lined.{Begins, Lined};
 use admission::Admission;
 use format::LARGE;
+use format::MAX_KEY;
 use stream_next::Answer;
 use stream_start::Bound;
 use stream_start::Reading;
@@ -61,7 +63,8 @@ fn put_text(line: &mut [u8], at: usize, text: &[u8]) -> usize
 // Writes the first n bytes of key in hexadecimal from place at on; returns the place past them.
 fn put_hex(line: &mut [u8], at: usize, key: &[u8], n: usize) -> usize
     requires { ⌜ (n ≤ length (now key)) × (at + 2 * n ≤ length (now line)) ⌝ }
-    ensures { λ r. ⌜ PutAt (now (line .entry)) at (hexOf (take n (now (key .entry)))) (now (line .exit)) r ⌝ }
+    ensures { λ r. ⌜ PutAt (now (line .entry)) at (hexOf (take n (now (key .entry))))
+        (now (line .exit)) r ⌝ }
 {
     let mut p = at;
     let mut i = 0;
@@ -77,8 +80,9 @@ fn put_hex(line: &mut [u8], at: usize, key: &[u8], n: usize) -> usize
 // Writes the first n bytes of key, or `-` for none, from the line's first byte on; returns the place
 // past them.
 fn put_key(line: &mut [u8], key: &[u8], n: usize) -> usize
-    requires { ⌜ (n ≤ length (now key)) × (n ≤ 255) × (532 ≤ length (now line)) ⌝ }
-    ensures { λ r. ⌜ PutAt (now (line .entry)) 0 (keyText (take n (now (key .entry)))) (now (line .exit)) r ⌝ }
+    requires { ⌜ (n ≤ length (now key)) × (n ≤ maxPath) × (longestLine ≤ length (now line)) ⌝ }
+    ensures { λ r. ⌜ PutAt (now (line .entry)) 0 (keyText (take n (now (key .entry))))
+        (now (line .exit)) r ⌝ }
 {
     if n == 0 {
         return put_text(line, 0, b"-");
@@ -120,8 +124,9 @@ fn put_number(line: &mut [u8], at: usize, n: u64) -> usize
 
 // The line of the key that is the first n bytes of key: the key, a space, its value, a newline.
 pub fn key_line(key: &[u8], n: usize, value: u64, line: &mut [u8]) -> usize
-    requires { ⌜ (n ≤ length (now key)) × (n ≤ 255) × (532 ≤ length (now line)) ⌝ }
-    ensures { λ r. ⌜ Written (keyLine (take n (now (key .entry))) value) (now (line .entry)) (now (line .exit)) r ⌝ }
+    requires { ⌜ (n ≤ length (now key)) × (n ≤ maxPath) × (longestLine ≤ length (now line)) ⌝ }
+    ensures { λ r. ⌜ Written (keyLine (take n (now (key .entry))) value) (now (line .entry))
+        (now (line .exit)) r ⌝ }
 {
     let space_at = put_key(line, key, n);
     let value_at = put_text(line, space_at, b" ");
@@ -131,7 +136,7 @@ pub fn key_line(key: &[u8], n: usize, value: u64, line: &mut [u8]) -> usize
 
 // The last line of a listing: `end`, how many keys, how many transitions were followed.
 pub fn end_line(keys: u64, followed: u64, line: &mut [u8]) -> usize
-    requires { ⌜ 532 ≤ length (now line) ⌝ }
+    requires { ⌜ longestLine ≤ length (now line) ⌝ }
     ensures { λ r. ⌜ Written (endLine keys followed) (now (line .entry)) (now (line .exit)) r ⌝ }
 {
     let keys_at = put_text(line, 0, b"end ");
@@ -143,7 +148,7 @@ pub fn end_line(keys: u64, followed: u64, line: &mut [u8]) -> usize
 
 // The only line where the file is refused: `refused` and the refusal's number.
 pub fn refused_line(number: u8, line: &mut [u8]) -> usize
-    requires { ⌜ 532 ≤ length (now line) ⌝ }
+    requires { ⌜ longestLine ≤ length (now line) ⌝ }
     ensures { λ r. ⌜ Written (refusedLine number) (now (line .entry)) (now (line .exit)) r ⌝ }
 {
     let number_at = put_text(line, 0, b"refused ");
@@ -155,7 +160,8 @@ pub fn refused_line(number: u8, line: &mut [u8]) -> usize
 
 // Begins the listing of a file: LARGE over 4,096 bytes, then admission's refusals; else the unbounded reading. Both tables are admission's.
 pub fn begin(file: &[u8], depths: &mut [u16], sums: &mut [u64]) -> Started
-    ensures { λ r. ⌜ Begins (now (file .entry)) (now (depths .entry)) (now (sums .entry)) (now (depths .exit)) (now (sums .exit)) r ⌝ }
+    ensures { λ r. ⌜ Begins (now (file .entry)) (now (depths .entry)) (now (sums .entry))
+        (now (depths .exit)) (now (sums .exit)) r ⌝ }
 {
     if LARGEST < file.len() {
         return stream_start::refused(LARGE);
@@ -176,7 +182,8 @@ pub fn begin(file: &[u8], depths: &mut [u16], sums: &mut [u64]) -> Started
 // Writes the next line of a listing, after keys lines of keys: a key's, or the last. The line stands from the buffer's first byte on, the rest as
 // given; a buffer under LINE bytes is left as it is, and so is the listing.
 pub fn next_line(file: &[u8], reading: Reading, keys: u64, line: &mut [u8]) -> Listed
-    ensures { λ r. ⌜ Lined (lineOf (now (file .entry)) (state (viewOf reading) keys)) (state (viewOf reading) keys) (now (line .entry)) (now (line .exit)) r ⌝ }
+    ensures { λ r. ⌜ Lined (lineOf (now (file .entry)) (state (viewIs reading) keys))
+        (state (viewIs reading) keys) (now (line .entry)) (now (line .exit)) r ⌝ }
 {
     if line.len() < LINE {
         return Listed {
@@ -185,7 +192,7 @@ pub fn next_line(file: &[u8], reading: Reading, keys: u64, line: &mut [u8]) -> L
             reading,
         };
     }
-    let mut key = [0u8; 255];
+    let mut key = [0u8; MAX_KEY];
     let step = stream_next::next(file, reading, &mut key);
     let answer = step.answer;
     let after = step.reading;

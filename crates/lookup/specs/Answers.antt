@@ -37,16 +37,16 @@ pub record KeyFits (r : KeyAnswer) (path : List ℕ) : Type 0 where
   pub fits : keyLen r ≤ maxPath
 
 -- a key is written from the buffer's first byte, the rest as given; after none or a refusal the buffer is as given
-abbrev pub keyAnswerOf : L.KeyAnswer → KeyAnswer
-keyAnswerOf (found k) = Key (length k)
-keyAnswerOf L.KeyAnswer.none = NoKey
-keyAnswerOf (L.KeyAnswer.refused n) = KeyRefused n
+abbrev pub keyAnswerAs : L.KeyAnswer → KeyAnswer
+keyAnswerAs (found k) = Key (length k)
+keyAnswerAs L.KeyAnswer.none = NoKey
+keyAnswerAs (L.KeyAnswer.refused n) = KeyRefused n
 
-abbrev pub keyBufferOf : L.KeyAnswer → List ℕ → List ℕ
-keyBufferOf (found k) buf = k ++ drop (length k) buf
-keyBufferOf L.KeyAnswer.none buf = buf
-keyBufferOf (L.KeyAnswer.refused n) buf = buf
+abbrev pub keyBufferAfter : L.KeyAnswer → List ℕ → List ℕ
+keyBufferAfter (found k) buf = k ++ drop (length k) buf
+keyBufferAfter L.KeyAnswer.none buf = buf
+keyBufferAfter (L.KeyAnswer.refused n) buf = buf
 
 pub record KeyWritten (w : L.KeyAnswer) (buf₀ buf : List ℕ) (r : KeyAnswer) : Type 0 where
-  pub answer : r ≡ keyAnswerOf w
-  pub buffer : buf ≡ keyBufferOf w buf₀
+  pub answer : r ≡ keyAnswerAs w
+  pub buffer : buf ≡ keyBufferAfter w buf₀

@@ -9,9 +9,9 @@ ghost use mathlib.Core.List.{List, [], _++_};
 ghost use Rattle.format.specs.Limits.{maxPath};
 ghost use Rattle.format.specs.Lookup as L;
 ghost use Rattle.format.specs.Lookup.{getFrom, getKeyFrom, lastFitting};
-ghost use Rattle.node.specs.Read.{transitionsIn, Readable, placeOf};
+ghost use Rattle.node.specs.Read.{transitionsIn, Readable, placeIs};
 ghost use Rattle.lookup.specs.Answers.{answerIs, keyIs, KeyFits, KeyWritten};
-ghost use Rattle.format.specs.Paths.{fstIs};
+ghost use Rattle.format.specs.Paths.{fstWith};
 use format::DEEP;
 use format::MAX_KEY;
 use format::NODE;
@@ -40,7 +40,7 @@ pub enum KeyAnswer {
 
 // The answer where the key ends at the node at last, with this running sum.
 fn at_end(file: &[u8], version: u64, root: usize, last: usize, sum: u64) -> Answer
-    ensures { λ r. ⌜ answerIs r ≡ getFrom (fstIs (now (file .entry)) version root) [] last sum ⌝ }
+    ensures { λ r. ⌜ answerIs r ≡ getFrom (fstWith (now (file .entry)) version root) [] last sum ⌝ }
 {
     let Judged::Sound(m) = node::node_at(file, version, root, last) else {
         return Answer::Refused(NODE);
@@ -57,7 +57,8 @@ fn at_end(file: &[u8], version: u64, root: usize, last: usize, sum: u64) -> Answ
 
 // Follows the key from the root of a file that opens.
 fn get_from(file: &[u8], version: u64, root: usize, key: &[u8]) -> Answer
-    ensures { λ r. ⌜ answerIs r ≡ getFrom (fstIs (now (file .entry)) version root) (now (key .entry)) root 0 ⌝ }
+    ensures { λ r. ⌜ answerIs r ≡ getFrom (fstWith (now (file .entry)) version root)
+        (now (key .entry)) root 0 ⌝ }
 {
     let mut addr = root;
     let mut sum: u64 = 0;
@@ -98,7 +99,7 @@ pub fn get(file: &[u8], key: &[u8]) -> Answer
 // The last of the leading transitions whose output is not above what is left.
 fn last_fitting(file: &[u8], node: Node, left: u64) -> Found
     requires { ⌜ Readable (now file) node ⌝ }
-    ensures { λ r. ⌜ placeOf r ≡ lastFitting (transitionsIn (now (file .entry)) node) left ⌝ }
+    ensures { λ r. ⌜ placeIs r ≡ lastFitting (transitionsIn (now (file .entry)) node) left ⌝ }
 {
     let n = node.ntrans;
     let mut i = 0;
@@ -127,7 +128,8 @@ fn find_key(
     path: &mut [u8; MAX_KEY],
 ) -> KeyAnswer
     requires { ⌜ length (now path) ≡ maxPath ⌝ }
-    ensures { λ r. ⌜ keyIs r (now (path .exit)) ≡ getKeyFrom maxPath (fstIs (now (file .entry)) version root) root value ⌝ }
+    ensures { λ r. ⌜ keyIs r (now (path .exit)) ≡ getKeyFrom maxPath
+        (fstWith (now (file .entry)) version root) root value ⌝ }
     ensures { λ r. ⌜ KeyFits r (now (path .exit)) ⌝ }
 {
     let mut addr = root;
@@ -166,7 +168,8 @@ fn ends(left: u64, is_final: bool) -> bool
 // byte on. On a numbered file a found key has the value, and none comes exactly when no held key has it; on any other admitted file
 // the outputs on a found key's path add up to the value, and a key that has it may be missed.
 pub fn get_key(file: &[u8], value: u64, key: &mut [u8]) -> KeyAnswer
-    ensures { λ r. ⌜ KeyWritten (L.getKey (now (file .entry)) value (length (now (key .entry)))) (now (key .entry)) (now (key .exit)) r ⌝ }
+    ensures { λ r. ⌜ KeyWritten (L.getKey (now (file .entry)) value (length (now (key .entry))))
+        (now (key .entry)) (now (key .exit)) r ⌝ }
 {
     let opened = fst::open(file);
     match opened {

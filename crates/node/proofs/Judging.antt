@@ -16,7 +16,7 @@ use Rattle.format.specs.Node.{stateForm, isFinal, countOf, headLen, inputOf, nt
 use Rattle.format.specs.laws.NodeLaws.{node-at-zero, node-at-sound, node-at-unsound}
 use Rattle.node.specs.declared.Node.{Node}
 use Rattle.node.specs.declared.Judged.the-variants.{Sound, Unsound}
-use Rattle.node.specs.Read.{meaning, judgedOf, isAny, Readable, Judges, emptyNode, transitionsIn}
+use Rattle.node.specs.Read.{meaning, judgedIs, isAny, Readable, Judges, emptyNode, transitionsIn}
 
 pub mul-small : (n d : ℕ) → n ≤ 256 → d ≤ 15 → n * d ≤ 3840
 mul-small n d hn hd = le-trans (mul-le-mul-right d hn) (mul-le-mul-left 256 hd)

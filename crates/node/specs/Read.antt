@@ -1,9 +1,9 @@
 -- What the answers of this crate stand for, and what its functions ask and promise; the format itself is in `format`.
 --     transitionsIn s m       the transitions of the judged node m, out of the file s
---     judgedOf s r            what an answer says: the node's meaning, or that it is not sound
+--     judgedIs s r            what an answer says: the node's meaning, or that it is not sound
 --     Readable s m            what reading the judged node m leans on
 --     Judges s v root a r     the answer r is `nodeAt`, and a node that it hands out can be read
---     placeOf r               what an answer says of the place of an input
+--     placeIs r               what an answer says of the place of an input
 --     Head, AtForm, shapeIs, Probed, below, Finds, LooksUp     parts of the private functions' contracts
 -- Assumes nothing.
 use mathlib.Core.Path.{_≡_}
@@ -37,13 +37,13 @@ meaning s m = record {
   transitions = transitionsIn s m;
 }
 
-abbrev pub judgedOf : List ℕ → Judged → Judgement
-judgedOf s (Sound m) = sound (meaning s m)
-judgedOf s Unsound = unsound
+abbrev pub judgedIs : List ℕ → Judged → Judgement
+judgedIs s (Sound m) = sound (meaning s m)
+judgedIs s Unsound = unsound
 
-abbrev pub placeOf : Found → Place
-placeOf (At i) = at i
-placeOf Missing = absent
+abbrev pub placeIs : Found → Place
+placeIs (At i) = at i
+placeIs Missing = absent
 
 -- ---- what reading a judged node leans on
 
@@ -73,7 +73,7 @@ pub record Readable (s : List ℕ) (m : Node) : Type 0 where
   pub entries : ¬ (m .«index_len» ≡ 0) → Indexed (nodeInputs s m) (nodeEntries s m)
 
 pub record Judges (s : List ℕ) (v root a : ℕ) (r : Judged) : Type 0 where
-  pub answer : judgedOf s r ≡ nodeAt s v root a
+  pub answer : judgedIs s r ≡ nodeAt s v root a
   pub readable : (m : Node) → r ≡ Sound m → Readable s m
 
 -- address 0

@@ -20,7 +20,7 @@ use Rattle.node.specs.declared.Judged.{Judged}
 use Rattle.node.specs.declared.Judged.the-variants.{Sound, Unsound}
 use Rattle.node.specs.declared.Found.{Found}
 use Rattle.node.specs.declared.Found.the-variants.{At, Absent as Missing}
-use Rattle.node.specs.Read.{meaning, judgedOf, Judges, transitionsIn, nodeInputs, nodeDeltas, isAny, Readable, placeOf, Finds, LooksUp}
+use Rattle.node.specs.Read.{meaning, judgedIs, Judges, transitionsIn, nodeInputs, nodeDeltas, isAny, Readable, placeIs, Finds, LooksUp}
 
 -- ---- a place or none
 
@@ -117,7 +117,7 @@ module _ (s : List ℕ) (m : Node) (r : Readable s m) where
       (omega (arith, length-node-inputs))
       ∙ rw (List·getD-map (targetOf (m .first)) (nodeDeltas s m) i 0)
 
-  pub node-find : (b : ℕ) (f : Found) → Finds (nodeInputs s m) b f → placeOf f ≡ findInput (transitionsIn s m) b
+  pub node-find : (b : ℕ) (f : Found) → Finds (nodeInputs s m) b f → placeIs f ≡ findInput (transitionsIn s m) b
   node-find b (At i) h =
       sym (find-input-at (nodeInputs s m) (numbersDown s (m .outputs) (m .osize) (m .ntrans)) (map (targetOf (m .first)) (nodeDeltas s m)) b i outputs-len targets-len
       (r .ascending) (h .found i refl .0) (h .found i refl .1))
@@ -129,17 +129,17 @@ module _ (s : List ℕ) (m : Node) (r : Readable s m) where
 
 module _ {s : List ℕ} {v root a : ℕ} {r : Judged} (j : Judges s v root a r) where
   pub answer-sound : (m : Node) → r ≡ Sound m → nodeAt s v root a ≡ sound (meaning s m)
-  answer-sound m e = sym (j .answer) ∙ ap (judgedOf s) e
+  answer-sound m e = sym (j .answer) ∙ ap (judgedIs s) e
 
   pub answer-unsound : r ≡ Unsound → nodeAt s v root a ≡ unsound
-  answer-unsound e = sym (j .answer) ∙ ap (judgedOf s) e
+  answer-unsound e = sym (j .answer) ∙ ap (judgedIs s) e
 
 -- the place that `find_input` and the like answered
-pub place-is : (p : Place) (f : Found) → placeOf f ≡ p → (i : ℕ) → f ≡ At i → p ≡ at i
-place-is p f e i is = sym e ∙ ap placeOf is
+pub place-is : (p : Place) (f : Found) → placeIs f ≡ p → (i : ℕ) → f ≡ At i → p ≡ at i
+place-is p f e i is = sym e ∙ ap placeIs is
 
-pub place-none : (p : Place) (f : Found) → placeOf f ≡ p → f ≡ Missing → p ≡ absent
-place-none p f e is = sym e ∙ ap placeOf is
+pub place-none : (p : Place) (f : Found) → placeIs f ≡ p → f ≡ Missing → p ≡ absent
+place-none p f e is = sym e ∙ ap placeIs is
 
 pub place-lt : (s : List ℕ) (m : Node) (r : Readable s m) (b i : ℕ) → findInput (transitionsIn s m) b ≡ at i → i < m .ntrans
 place-lt s m r b i e = omega (arith, find-input-member (transitionsIn s m) b i e .0, length-node-transitions s m r)

@@ -7,7 +7,7 @@ ghost use Prim.Native.Nat.{_+_, _*_, _^_, _≤_, _<_};
 ghost use lib.ListN.{length, getD, take, drop};
 ghost use Rattle.buffers.specs.Decide.{Decides};
 ghost use Rattle.format.specs.Node.{bytesDown, numbersDown, countOf, inputOf, indexLen, endLen, Ascending, Indexed, TargetRight, TargetsRight, Useful, shapeOf, transitionAt, findInput};
-ghost use Rattle.node.specs.Read.{Head, Probed, below, shapeIs, AtForm, emptyNode, Judges, transitionsIn, nodeInputs, nodeDeltas, Readable, Finds, LooksUp, placeOf};
+ghost use Rattle.node.specs.Read.{Head, Probed, below, shapeIs, AtForm, emptyNode, Judges, transitionsIn, nodeInputs, nodeDeltas, Readable, Finds, LooksUp, placeIs};
 ghost use Rattle.format.specs.declared.State.the-variants.{AnyTrans};
 ghost use mathlib.Core.List.{[], _∷_};
 use common_inputs::common_input;
@@ -570,7 +570,7 @@ fn find_one(input: u8, b: u8) -> Found
 // The place of the input b, or its absence.
 pub fn find_input(file: &[u8], node: Node, b: u8) -> Found
     requires { ⌜ Readable (now file) node ⌝ }
-    ensures { λ r. ⌜ placeOf r ≡ findInput (transitionsIn (now (file .entry)) node) b ⌝ }
+    ensures { λ r. ⌜ placeIs r ≡ findInput (transitionsIn (now (file .entry)) node) b ⌝ }
 {
     let state = node.state;
     match state {

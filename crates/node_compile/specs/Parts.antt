@@ -20,7 +20,7 @@ use Rattle.format.specs.CommonInputs.{commonIdx}
 use Rattle.format.specs.Node.{endLen, indexLen}
 use Rattle.format.specs.Packed.{BuilderNode, RecordOk, deltaOf, inputBytes, outputSize, deltaSize, headOf, packedAny, Packing, written, refused}
 use Rattle.node_compile.specs.declared.Compiled.{Compiled}
-use Rattle.node_compile.specs.Compile.{answerOf, bufferOf}
+use Rattle.node_compile.specs.Compile.{answerAs, bufferAfter}
 
 -- ---- a node's bytes
 
@@ -51,5 +51,5 @@ abbrev pub fitting : List ℕ → ℕ → Packing
 fitting bs room = cond (leb (length bs) room) (written bs) (refused SPACE)
 
 pub record Fitted (bs out₀ out : List ℕ) (r : Compiled) : Type 0 where
-  pub answer : r ≡ answerOf (fitting bs (length out₀))
-  pub buffer : out ≡ bufferOf (fitting bs (length out₀)) out₀
+  pub answer : r ≡ answerAs (fitting bs (length out₀))
+  pub buffer : out ≡ bufferAfter (fitting bs (length out₀)) out₀

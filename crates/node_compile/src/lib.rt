@@ -13,7 +13,7 @@ ghost use Rattle.format.specs.Bytes.{packSize, largest};
 ghost use Rattle.format.specs.Node.{Ascending, endLen, indexLen};
 ghost use Rattle.format.specs.Packed.{TargetOk, TargetsOk, RecordOk, deltaOf, storedNumbers, storedBytes, indexOf, indexBytes};
 ghost use Rattle.format.specs.Packed.{outputSize, deltaSize, sizesOf, inputBytes, packedNext, packedOne, finalFlag, headOf, lastAddr};
-ghost use Rattle.node_compile.specs.Compile.{builderOf, Compiles};
+ghost use Rattle.node_compile.specs.Compile.{builderWith, Compiles};
 ghost use Rattle.node_compile.specs.Parts.{stateBytes, anyIn, anyBytes, AnyFits, anyLen, Fitted};
 ghost use Rattle.buffers.specs.Put.{PutAt};
 use common_inputs::common_idx;
@@ -82,7 +82,7 @@ fn record_ok(
     first: usize,
 ) -> bool
     ensures { λ r. ⌜ Decides r (RecordOk first
-        (builderOf «is_final» «final_output» (now (inputs .entry)) (now (outputs .entry)) (now (targets .entry)))) ⌝ }
+        (builderWith «is_final» «final_output» (now (inputs .entry)) (now (outputs .entry)) (now (targets .entry)))) ⌝ }
 {
     if MAX_TRANS < inputs.len() {
         return false;
@@ -190,7 +190,8 @@ fn sizes_byte(tsize: usize, osize: usize) -> u8
 // Writes each number in size bytes, last first, from place at on; returns the place past them.
 fn put_numbers(out: &mut [u8], at: usize, numbers: &[u64], size: usize) -> usize
     requires { ⌜ at + length (storedNumbers size (now numbers)) ≤ length (now out) ⌝ }
-    ensures { λ r. ⌜ PutAt (now (out .entry)) at (storedNumbers size (now (numbers .entry))) (now (out .exit)) r ⌝ }
+    ensures { λ r. ⌜ PutAt (now (out .entry)) at (storedNumbers size (now (numbers .entry)))
+        (now (out .exit)) r ⌝ }
 {
     let mut p = at;
     let mut i = numbers.len();
@@ -223,7 +224,8 @@ fn put_deltas(out: &mut [u8], at: usize, targets: &[usize], first: usize, size: 
 // Writes the bytes, last first, from place at on; returns the place past them.
 fn put_bytes(out: &mut [u8], at: usize, bytes: &[u8]) -> usize
     requires { ⌜ at + length (storedBytes (now bytes)) ≤ length (now out) ⌝ }
-    ensures { λ r. ⌜ PutAt (now (out .entry)) at (storedBytes (now (bytes .entry))) (now (out .exit)) r ⌝ }
+    ensures { λ r. ⌜ PutAt (now (out .entry)) at (storedBytes (now (bytes .entry)))
+        (now (out .exit)) r ⌝ }
 {
     let mut p = at;
     let mut i = bytes.len();
@@ -268,7 +270,8 @@ fn put_all(out: &mut [u8], at: usize, bytes: &[u8]) -> usize
 fn put_index(out: &mut [u8], at: usize, inputs: &[u8]) -> usize
     requires { ⌜ (at + length (indexBytes (now inputs)) ≤ length (now out)) × (length (now inputs) ≤ 256)
         × Ascending (now inputs) ⌝ }
-    ensures { λ r. ⌜ PutAt (now (out .entry)) at (indexBytes (now (inputs .entry))) (now (out .exit)) r ⌝ }
+    ensures { λ r. ⌜ PutAt (now (out .entry)) at (indexBytes (now (inputs .entry)))
+        (now (out .exit)) r ⌝ }
 {
     if TRANS_INDEX_THRESHOLD < inputs.len() {
         let index = index_of(inputs);
@@ -350,7 +353,8 @@ fn compile_next(input: u8, out: &mut [u8]) -> Compiled
 fn put_one(out: &mut [u8], input: u8, output: u64, osize: usize, delta: u64, tsize: usize) -> usize
     requires { ⌜ (length (packedOne input output delta) ≤ length (now out)) × (osize ≡ outputSize output)
         × (tsize ≡ packSize delta) ⌝ }
-    ensures { λ r. ⌜ PutAt (now (out .entry)) 0 (packedOne input output delta) (now (out .exit)) r ⌝ }
+    ensures { λ r. ⌜ PutAt (now (out .entry)) 0 (packedOne input output delta) (now (out .exit))
+        r ⌝ }
 {
     pack_uint_in(out, 0, output, osize);
     pack_uint_in(out, osize, delta, tsize);
@@ -361,7 +365,8 @@ fn put_one(out: &mut [u8], input: u8, output: u64, osize: usize, delta: u64, tsi
 // Packs a node of the form 10: one transition.
 fn compile_one(first: usize, input: u8, output: u64, target: usize, out: &mut [u8]) -> Compiled
     requires { ⌜ target ≤ first ⌝ }
-    ensures { λ r. ⌜ Fitted (packedOne input output (deltaOf first target)) (now (out .entry)) (now (out .exit)) r ⌝ }
+    ensures { λ r. ⌜ Fitted (packedOne input output (deltaOf first target)) (now (out .entry))
+        (now (out .exit)) r ⌝ }
 {
     let delta = delta_of(first, target);
     let osize = output_size(output);
@@ -417,10 +422,10 @@ fn put_any(
     osize: usize,
     tsize: usize,
 ) -> usize
-    requires { ⌜ AnyFits first (builderOf «is_final» «final_output» (now inputs) (now outputs) (now targets))
+    requires { ⌜ AnyFits first (builderWith «is_final» «final_output» (now inputs) (now outputs) (now targets))
         osize tsize (length (now out)) ⌝ }
     ensures { λ r. ⌜ PutAt (now (out .entry)) 0
-        (anyIn first (builderOf «is_final» «final_output» (now (inputs .entry)) (now (outputs .entry)) (now (targets .entry)))
+        (anyIn first (builderWith «is_final» «final_output» (now (inputs .entry)) (now (outputs .entry)) (now (targets .entry)))
         osize tsize) (now (out .exit)) r ⌝ }
 {
     let end = end_len(is_final, osize);
@@ -443,9 +448,10 @@ fn compile_any(
     first: usize,
     out: &mut [u8],
 ) -> Compiled
-    requires { ⌜ RecordOk first (builderOf «is_final» «final_output» (now inputs) (now outputs) (now targets)) ⌝ }
+    requires { ⌜ RecordOk first (builderWith «is_final» «final_output» (now inputs) (now outputs)
+        (now targets)) ⌝ }
     ensures { λ r. ⌜ Fitted
-        (anyBytes first (builderOf «is_final» «final_output» (now (inputs .entry)) (now (outputs .entry)) (now (targets .entry))))
+        (anyBytes first (builderWith «is_final» «final_output» (now (inputs .entry)) (now (outputs .entry)) (now (targets .entry))))
         (now (out .entry)) (now (out .exit)) r ⌝ }
 {
     let osize = output_size(larger(final_output, largest_of(outputs)));
@@ -515,7 +521,7 @@ pub fn compile(
     out: &mut [u8],
 ) -> Compiled
     ensures { λ r. ⌜ Compiles
-        (builderOf «is_final» «final_output» (now (inputs .entry)) (now (outputs .entry)) (now (targets .entry))) first
+        (builderWith «is_final» «final_output» (now (inputs .entry)) (now (outputs .entry)) (now (targets .entry))) first
         (now (out .entry)) (now (out .exit)) r ⌝ }
 {
     if record_ok(is_final, final_output, inputs, outputs, targets, first) {} else {

@@ -13,7 +13,7 @@ use Rattle.node.specs.declared.Judged.{Judged}
 use Rattle.node.specs.declared.Judged.the-variants.{Sound, Unsound}
 use Rattle.node.specs.declared.Found.{Found}
 use Rattle.node.specs.declared.Found.the-variants.{Absent as Missing}
-use Rattle.node.specs.Read.{Judges, transitionsIn, placeOf}
+use Rattle.node.specs.Read.{Judges, transitionsIn, placeIs}
 use Rattle.node.specs.ReadLaws.{answer-sound, answer-unsound, length-node-transitions}
 use Rattle.node_view.specs.declared.TransitionAnswer.the-variants.{Is, None}
 use Rattle.node_view.specs.View.{transitionIn, placeIn}
@@ -22,7 +22,7 @@ module _ {s : List ℕ} {v root a : ℕ} {r : Judged} (j : Judges s v root a r) 
   pub transition-in-unsound : r ≡ Unsound → (i : ℕ) → None ≡ transitionIn (nodeAt s v root a) i
   transition-in-unsound e i = rw (answer-unsound j e)
 
-  pub place-in-unsound : r ≡ Unsound → (b : ℕ) → placeOf Missing ≡ placeIn (nodeAt s v root a) b
+  pub place-in-unsound : r ≡ Unsound → (b : ℕ) → placeIs Missing ≡ placeIn (nodeAt s v root a) b
   place-in-unsound e b = rw (answer-unsound j e)
 
   module _ (m : Node) (e : r ≡ Sound m) where
@@ -36,5 +36,5 @@ module _ {s : List ℕ} {v root a : ℕ} {r : Judged} (j : Judges s v root a r) 
         let le : length (transitionsIn s m) ≤ i = omega (arith, length-node-transitions s m (j .readable m e)) in
         rw (answer-sound j m e, le-ltb i (length (transitionsIn s m)) le)
 
-    pub place-in-sound : (b : ℕ) (f : Found) → placeOf f ≡ findInput (transitionsIn s m) b → placeOf f ≡ placeIn (nodeAt s v root a) b
+    pub place-in-sound : (b : ℕ) (f : Found) → placeIs f ≡ findInput (transitionsIn s m) b → placeIs f ≡ placeIn (nodeAt s v root a) b
     place-in-sound b f is = rw (answer-sound j m e) is

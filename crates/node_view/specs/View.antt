@@ -1,5 +1,5 @@
 -- A view of a node, and what it answers, out of what the node at its address means (`format`, `nodeAt`).
---     viewOf file v root a     the view of the node at a
+--     viewWith file v root a     the view of the node at a
 --     transitionIn j i         transition i of the judged node, or none where it is not sound or has no transition i
 --     placeIn j b              the place of the byte b among its inputs, or absent where it is not sound or has no such input
 -- Assumes nothing.
@@ -14,8 +14,8 @@ use Rattle.node_view.specs.declared.Node.{Node}
 use Rattle.node_view.specs.declared.TransitionAnswer.{TransitionAnswer}
 use Rattle.node_view.specs.declared.TransitionAnswer.the-variants.{Is, None}
 
-abbrev pub viewOf : RefT (List ℕ) → ℕ → ℕ → ℕ → Node
-viewOf file v root a = record { «data» = file; version = v; root = root; addr = a }
+abbrev pub viewWith : RefT (List ℕ) → ℕ → ℕ → ℕ → Node
+viewWith file v root a = record { «data» = file; version = v; root = root; addr = a }
 
 abbrev pub transitionIn : Judgement → ℕ → TransitionAnswer
 transitionIn (sound m) i = cond (ltb i (length (m .transitions))) (Is (transitionAt (m .transitions) i)) None

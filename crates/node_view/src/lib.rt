@@ -4,8 +4,8 @@
 // (In contracts the field is «data»: the word alone is a keyword there.)
 ghost use mathlib.Core.Path.{_≡_};
 ghost use Rattle.format.specs.Node.{nodeAt};
-ghost use Rattle.node.specs.Read.{Judges, placeOf};
-ghost use Rattle.node_view.specs.View.{viewOf, transitionIn, placeIn};
+ghost use Rattle.node.specs.Read.{Judges, placeIs};
+ghost use Rattle.node_view.specs.View.{viewWith, transitionIn, placeIn};
 use format::Transition;
 use node::Found;
 use node::Judged;
@@ -43,7 +43,7 @@ fn transition_in(file: &[u8], version: u64, root: usize, addr: usize, i: usize) 
 
 // The place of the input b in the node at addr; absent too where the node is not sound.
 fn place_in(file: &[u8], version: u64, root: usize, addr: usize, b: u8) -> Found
-    ensures { λ r. ⌜ placeOf r ≡ placeIn (nodeAt (now (file .entry)) version root addr) b ⌝ }
+    ensures { λ r. ⌜ placeIs r ≡ placeIn (nodeAt (now (file .entry)) version root addr) b ⌝ }
 {
     let Judged::Sound(m) = node::node_at(file, version, root, addr) else {
         return Found::Absent;
@@ -55,7 +55,7 @@ fn place_in(file: &[u8], version: u64, root: usize, addr: usize, b: u8) -> Found
 
 // The view of the node at addr.
 pub fn new<'f>(data: &'f [u8], version: u64, root: usize, addr: usize) -> Node<'f>
-    ensures { λ r. ⌜ r ≡ viewOf («data» .entry) version root addr ⌝ }
+    ensures { λ r. ⌜ r ≡ viewWith («data» .entry) version root addr ⌝ }
 {
     Node {
         data,
@@ -81,7 +81,7 @@ pub fn transition<'f>(v: Node<'f>, i: usize) -> TransitionAnswer
 
 // The place of the input b in the node; absent too where the node is not sound.
 pub fn find_input<'f>(v: Node<'f>, b: u8) -> Found
-    ensures { λ r. ⌜ placeOf r ≡ placeIn (nodeAt (now (v .entry .«data»)) (v .entry .version) (v .entry .root) (v .entry .addr)) b ⌝ }
+    ensures { λ r. ⌜ placeIs r ≡ placeIn (nodeAt (now (v .entry .«data»)) (v .entry .version) (v .entry .root) (v .entry .addr)) b ⌝ }
 {
     place_in(v.data, v.version, v.root, v.addr, b)
 }

@@ -13,7 +13,7 @@ use Rattle.format.specs.Lookup as L
 use Rattle.fst.specs.declared.Meta.{Meta}
 use Rattle.fst.specs.declared.Opened.{Opened}
 use Rattle.fst.specs.declared.Opened.the-variants.{Meta as Read, Refused as Turned}
-use Rattle.fst.specs.Open.{metaIs, checksumIs, openingOf}
+use Rattle.fst.specs.Open.{metaIs, checksumIs, openingIs}
 use Rattle.admission.specs.declared.Admission.{Admission}
 use Rattle.admission.specs.declared.Admission.the-variants.{Admitted, Refused}
 use Rattle.admission.specs.Outcome.{RefusedFor, not-opened, no-space, no-nodes, too-deep, too-heavy, Outcome}
@@ -21,19 +21,19 @@ use Rattle.lookup.specs.declared.Answer.{Answer}
 use Rattle.lookup.specs.declared.Answer.the-variants.{Value, None, Refused as NotGot}
 use Rattle.lookup.specs.declared.KeyAnswer.{KeyAnswer}
 use Rattle.lookup.specs.declared.KeyAnswer.the-variants.{Key, None as NoKey, Refused as KeyRefused}
-use Rattle.lookup.specs.Answers.{answerIs, keyAnswerOf, KeyWritten}
-use Rattle.oracle_fst.specs.Answers.{front, checksumNumber, OpenTold, admissionOf, GetTold, keyNumber, KeyTold}
+use Rattle.lookup.specs.Answers.{answerIs, keyAnswerAs, KeyWritten}
+use Rattle.oracle_fst.specs.Answers.{front, checksumNumber, OpenTold, admissionIs, GetTold, keyNumber, KeyTold}
 
 -- ---- opening
 
-module _ {w : Opening} {o : Opened} (e : openingOf o ≡ w) where
+module _ {w : Opening} {o : Opened} (e : openingIs o ≡ w) where
   pub open-refused : (n : ℕ) (out : List ℕ) → o ≡ Turned n → OpenTold w out out n
-  open-refused n out is = let q : w ≡ refused n = sym e ∙ ap openingOf is in rw q (record { answer = refl; buffer = refl })
+  open-refused n out is = let q : w ≡ refused n = sym e ∙ ap openingIs is in rw q (record { answer = refl; buffer = refl })
 
   pub open-told : (m : Meta) (c : ℕ) (out₀ out : List ℕ) → o ≡ Read m → c ≡ checksumNumber (checksumIs (m .checksum))
       → out ≡ front (m .version ∷ (m .ty ∷ (m .len ∷ (m .root ∷ (c ∷ []))))) out₀ → OpenTold w out₀ out 0
   open-told m c out₀ out is is-c is-out =
-      let q : w ≡ opened (metaIs m) = sym e ∙ ap openingOf is in rw q (record { answer = refl; buffer = is-out ∙ rw is-c })
+      let q : w ≡ opened (metaIs m) = sym e ∙ ap openingIs is in rw q (record { answer = refl; buffer = is-out ∙ rw is-c })
 
 -- ---- admission: no refusal is 0
 
@@ -58,13 +58,13 @@ refused-not-0 (too-deep m l o rd rs e n long p q) = omega (arith, e)
 refused-not-0 (too-heavy m l o rd rs e n shallow large p q) = omega (arith, e)
 
 module _ (s d₀ s₀ d t : List ℕ) (r : Admission) (outcome : Outcome s d₀ s₀ d t r) where
-  pub admitted-told : r ≡ Admitted → Outcome s d₀ s₀ d t (admissionOf 0)
+  pub admitted-told : r ≡ Admitted → Outcome s d₀ s₀ d t (admissionIs 0)
   admitted-told e = subst (λ x. Outcome s d₀ s₀ d t x) e outcome
 
-  pub refused-told : (n : ℕ) → r ≡ Refused n → Outcome s d₀ s₀ d t (admissionOf n)
+  pub refused-told : (n : ℕ) → r ≡ Refused n → Outcome s d₀ s₀ d t (admissionIs n)
   refused-told n e = go n (subst (λ x. Outcome s d₀ s₀ d t x) e outcome)
     where
-      go : (k : ℕ) → RefusedFor s d₀ s₀ d t k → Outcome s d₀ s₀ d t (admissionOf k)
+      go : (k : ℕ) → RefusedFor s d₀ s₀ d t k → Outcome s d₀ s₀ d t (admissionIs k)
       go zero h = absurd (refused-not-0 h)
       go (suc k) h = h
 
@@ -88,7 +88,7 @@ number (Key n) = n
 number NoKey = 1000
 number (KeyRefused n) = 2000 + n
 
-number-is : (w : L.KeyAnswer) → number (keyAnswerOf w) ≡ keyNumber w
+number-is : (w : L.KeyAnswer) → number (keyAnswerAs w) ≡ keyNumber w
 number-is (L.KeyAnswer.found k) = refl
 number-is L.KeyAnswer.none = refl
 number-is (L.KeyAnswer.refused n) = refl

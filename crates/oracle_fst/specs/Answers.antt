@@ -2,7 +2,7 @@
 --     front v out              out with v at its front where it has room for v, else out as it was
 --     checksumNumber c         a checksum, 2 ^ 32 for none
 --     OpenTold o out₀ out r    what is told of the opening o of a file
---     admissionOf r            the answer of admission that the number r stands for
+--     admissionIs r            the answer of admission that the number r stands for
 --     GetTold a out₀ out r     what is told of the answer a to a lookup by key
 --     KeyTold w buf₀ buf r     what is told of the answer w to a search by value
 -- Assumes nothing.
@@ -17,7 +17,7 @@ use Rattle.format.specs.Opening.{Meta, Opening, opened, refused}
 use Rattle.format.specs.Lookup as L
 use Rattle.admission.specs.declared.Admission.{Admission}
 use Rattle.admission.specs.declared.Admission.the-variants.{Admitted, Refused}
-use Rattle.lookup.specs.Answers.{keyBufferOf}
+use Rattle.lookup.specs.Answers.{keyBufferAfter}
 
 unfoldable pub front : List ℕ → List ℕ → List ℕ
 front v out = cond (leb (length v) (length out)) (v ++ drop (length v) out) out
@@ -45,9 +45,9 @@ pub record OpenTold (o : Opening) (out₀ out : List ℕ) (r : ℕ) : Type 0 whe
 
 -- ---- admission: 0, or the refusal, which is never 0
 
-abbrev pub admissionOf : ℕ → Admission
-admissionOf zero = Admitted
-admissionOf (suc n) = Refused (suc n)
+abbrev pub admissionIs : ℕ → Admission
+admissionIs zero = Admitted
+admissionIs (suc n) = Refused (suc n)
 
 -- ---- a value for a key: 0 and the value, 100 for none, or the refusal
 
@@ -74,4 +74,4 @@ keyNumber (L.KeyAnswer.refused n) = 2000 + n
 
 pub record KeyTold (w : L.KeyAnswer) (buf₀ buf : List ℕ) (r : ℕ) : Type 0 where
   pub answer : r ≡ keyNumber w
-  pub buffer : buf ≡ keyBufferOf w buf₀
+  pub buffer : buf ≡ keyBufferAfter w buf₀

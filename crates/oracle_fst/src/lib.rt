@@ -8,7 +8,7 @@ ghost use Rattle.format.specs.Opening.{opening};
 ghost use Rattle.format.specs.Lookup as L;
 ghost use Rattle.fst.specs.Open.{checksumIs};
 ghost use Rattle.admission.specs.Outcome.{Outcome};
-ghost use Rattle.oracle_fst.specs.Answers.{front, checksumNumber, OpenTold, admissionOf, GetTold, KeyTold};
+ghost use Rattle.oracle_fst.specs.Answers.{front, checksumNumber, OpenTold, admissionIs, GetTold, KeyTold};
 use admission::Admission;
 use fst::Checksum;
 use fst::Opened;
@@ -45,7 +45,8 @@ fn put_five(out: &mut [u64], a: u64, b: u64, c: u64, d: u64, e: u64)
 // five places; else the refusal, out as it was.
 #[no_mangle]
 pub extern "C" fn baxhiso_open(file: &[u8], out: &mut [u64]) -> u64
-    ensures { λ r. ⌜ OpenTold (opening (now (file .entry))) (now (out .entry)) (now (out .exit)) r ⌝ }
+    ensures { λ r. ⌜ OpenTold (opening (now (file .entry))) (now (out .entry)) (now (out .exit))
+        r ⌝ }
 {
     match fst::open(file) {
         Opened::Refused(why) => why as u64,
@@ -63,7 +64,8 @@ pub extern "C" fn baxhiso_open(file: &[u8], out: &mut [u64]) -> u64
 // 0 for an admitted file, else the refusal; the two tables are left as admission leaves them.
 #[no_mangle]
 pub extern "C" fn baxhiso_admit(file: &[u8], depths: &mut [u16], sums: &mut [u64]) -> u64
-    ensures { λ r. ⌜ Outcome (now (file .entry)) (now (depths .entry)) (now (sums .entry)) (now (depths .exit)) (now (sums .exit)) (admissionOf r) ⌝ }
+    ensures { λ r. ⌜ Outcome (now (file .entry)) (now (depths .entry)) (now (sums .entry))
+        (now (depths .exit)) (now (sums .exit)) (admissionIs r) ⌝ }
 {
     match admission::admit(file, depths, sums) {
         Admission::Admitted => 0,
@@ -87,7 +89,8 @@ fn put_one(out: &mut [u64], a: u64)
 // refusal. The rest of out stays.
 #[no_mangle]
 pub extern "C" fn baxhiso_get(file: &[u8], key: &[u8], out: &mut [u64]) -> u64
-    ensures { λ r. ⌜ GetTold (L.get (now (file .entry)) (now (key .entry))) (now (out .entry)) (now (out .exit)) r ⌝ }
+    ensures { λ r. ⌜ GetTold (L.get (now (file .entry)) (now (key .entry))) (now (out .entry))
+        (now (out .exit)) r ⌝ }
 {
     match lookup::get(file, key) {
         Answer::Value(v) => {
@@ -103,7 +106,8 @@ pub extern "C" fn baxhiso_get(file: &[u8], key: &[u8], out: &mut [u64]) -> u64
 // as it was.
 #[no_mangle]
 pub extern "C" fn baxhiso_get_key(file: &[u8], value: u64, key: &mut [u8]) -> u64
-    ensures { λ r. ⌜ KeyTold (L.getKey (now (file .entry)) value (length (now (key .entry)))) (now (key .entry)) (now (key .exit)) r ⌝ }
+    ensures { λ r. ⌜ KeyTold (L.getKey (now (file .entry)) value (length (now (key .entry))))
+        (now (key .entry)) (now (key .exit)) r ⌝ }
 {
     match lookup::get_key(file, value, key) {
         KeyAnswer::Key(n) => n as u64,

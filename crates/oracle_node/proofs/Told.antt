@@ -17,13 +17,13 @@ use Rattle.node.specs.declared.Judged.{Judged}
 use Rattle.node.specs.declared.Judged.the-variants.{Sound, Unsound}
 use Rattle.node.specs.declared.Found.{Found}
 use Rattle.node.specs.declared.Found.the-variants.{At, Absent as Missing}
-use Rattle.node.specs.Read.{transitionsIn, meaning, judgedOf, placeOf, Readable, Judges}
+use Rattle.node.specs.Read.{transitionsIn, meaning, judgedIs, placeIs, Readable, Judges}
 use Rattle.node.specs.ReadLaws.{length-node-transitions}
 use Rattle.node_compile.specs.declared.Compiled.{Compiled}
 use Rattle.node_compile.specs.declared.Compiled.the-variants.{Len, Refused}
-use Rattle.node_compile.specs.Compile.{answerOf, bufferOf, Compiles}
+use Rattle.node_compile.specs.Compile.{answerAs, bufferAfter, Compiles}
 use Rattle.oracle_node.proofs.Front.{front-short}
-use Rattle.oracle_node.specs.Answers.{unpacked, flagOf, front, transitionNumbers, placeNumber, packingNumber, packingBuffer, PackingTold, NodeTold, TransitionTold, foundOf}
+use Rattle.oracle_node.specs.Answers.{unpacked, flagAs, front, transitionNumbers, placeNumber, packingNumber, packingBuffer, PackingTold, NodeTold, TransitionTold, foundAs}
 
 -- ---- stored numbers
 
@@ -41,7 +41,7 @@ unpacked-within s k small within = rw (le-leb k 8 small, le-leb k (length s) wit
 
 -- ---- packing
 
-buffer-is : (p : Packing) (out : List ℕ) → bufferOf p out ≡ packingBuffer p out
+buffer-is : (p : Packing) (out : List ℕ) → bufferAfter p out ≡ packingBuffer p out
 buffer-is (written bs) out = refl
 buffer-is (refused k) out = refl
 
@@ -52,7 +52,7 @@ module _ {b : BuilderNode} {first : ℕ} {out₀ out : List ℕ} {r : Compiled} 
     buffer = compiles .buffer ∙ buffer-is (packing first b (length out₀)) out₀;
   }
     where
-      len : (p : Packing) → r ≡ answerOf p → n ≡ packingNumber p
+      len : (p : Packing) → r ≡ answerAs p → n ≡ packingNumber p
       len (written bs) is = cc
       len (refused k) is = absurd (let z : _≡_ {A = ℕ} 0 1 = cc in omega arith)
 
@@ -62,7 +62,7 @@ module _ {b : BuilderNode} {first : ℕ} {out₀ out : List ℕ} {r : Compiled} 
     buffer = compiles .buffer ∙ buffer-is (packing first b (length out₀)) out₀;
   }
     where
-      number : (p : Packing) → r ≡ answerOf p → 4294967296 + k ≡ packingNumber p
+      number : (p : Packing) → r ≡ answerAs p → 4294967296 + k ≡ packingNumber p
       number (written bs) is = absurd (let z : _≡_ {A = ℕ} 0 1 = cc in omega arith)
       number (refused j) is = let same : k ≡ j = cc in rw same
 
@@ -78,7 +78,7 @@ module _ {s : List ℕ} {v root a : ℕ} {j : Judged} (judged : Judges s v root 
   pub node-unsound : (out : List ℕ) → j ≡ Unsound → NodeTold (nodeAt s v root a) out out 0
   node-unsound out e = rw (is-unsound e) (record { answer = refl; buffer = refl })
 
-  pub node-sound : (m : Node) (flag : ℕ) (out₀ out : List ℕ) → j ≡ Sound m → flag ≡ flagOf (m .«is_final»)
+  pub node-sound : (m : Node) (flag : ℕ) (out₀ out : List ℕ) → j ≡ Sound m → flag ≡ flagAs (m .«is_final»)
       → out ≡ front (m .first ∷ (flag ∷ (m .«final_output» ∷ (m .ntrans ∷ [])))) out₀
       → NodeTold (nodeAt s v root a) out₀ out 1
   node-sound m flag out₀ out e is-flag is =
@@ -108,11 +108,11 @@ module _ {s : List ℕ} {v root a : ℕ} {j : Judged} (judged : Judges s v root 
       let is-one = lt-ltb i (length (transitionsIn s m)) (omega arith) in
       rw (is-sound m e) (record { answer = rw (is-one, le-leb 3 (length out₀) room); buffer = rw is-one (is ∙ rw is-t) })
 
-  pub found-unsound : (b : ℕ) → j ≡ Unsound → 257 ≡ foundOf (nodeAt s v root a) b
+  pub found-unsound : (b : ℕ) → j ≡ Unsound → 257 ≡ foundAs (nodeAt s v root a) b
   found-unsound b e = rw (is-unsound e)
 
-  pub found-absent : (m : Node) (b : ℕ) (f : Found) → j ≡ Sound m → f ≡ Missing → placeOf f ≡ findInput (transitionsIn s m) b → 256 ≡ foundOf (nodeAt s v root a) b
+  pub found-absent : (m : Node) (b : ℕ) (f : Found) → j ≡ Sound m → f ≡ Missing → placeIs f ≡ findInput (transitionsIn s m) b → 256 ≡ foundAs (nodeAt s v root a) b
   found-absent m b f e none is = rw (is-sound m e) (ap placeNumber ((rw none at is)))
 
-  pub found-at : (m : Node) (b : ℕ) (f : Found) (i : ℕ) → j ≡ Sound m → f ≡ At i → placeOf f ≡ findInput (transitionsIn s m) b → i ≡ foundOf (nodeAt s v root a) b
+  pub found-at : (m : Node) (b : ℕ) (f : Found) (i : ℕ) → j ≡ Sound m → f ≡ At i → placeIs f ≡ findInput (transitionsIn s m) b → i ≡ foundAs (nodeAt s v root a) b
   found-at m b f i e one is = rw (is-sound m e) (ap placeNumber ((rw one at is)))

@@ -1,11 +1,11 @@
 -- What the exported functions answer: numbers, and what a lent buffer holds afterwards. The format itself is in `format`.
 --     unpacked s k             the number of the first k bytes of s; 0 where k is over 8 or over the length of s
---     flagOf b                 1 for true, 0 for false
+--     flagAs b                 1 for true, 0 for false
 --     front v out              out with v at its front where it has room for v, else out as it was
 --     NodeTold j out₀ out r    what is told of the judgement j of a node
 --     TransitionTold j i out₀ out r     what is told of transition i of that node
 --     PackingTold p out₀ out r          what is told of the packing p of a node record
---     foundOf j b              the place of the input b in that node, 256 for an absent one, 257 for an unsound node
+--     foundAs j b              the place of the input b in that node, 256 for an absent one, 257 for an unsound node
 -- Assumes nothing.
 use mathlib.Core.Path.{_≡_}
 use mathlib.Core.Bool.{Bool, cond, not, _&&_}
@@ -21,8 +21,8 @@ use Rattle.format.specs.Packed.{Packing, written, refused}
 unfoldable pub unpacked : List ℕ → ℕ → ℕ
 unpacked s k = cond (leb k 8 && leb k (length s)) (le (take k s)) 0
 
-abbrev pub flagOf : Bool → ℕ
-flagOf b = cond b 1 0
+abbrev pub flagAs : Bool → ℕ
+flagAs b = cond b 1 0
 
 unfoldable pub front : List ℕ → List ℕ → List ℕ
 front v out = cond (leb (length v) (length out)) (v ++ drop (length v) out) out
@@ -54,7 +54,7 @@ nodeNumber unsound = 0
 
 -- F, final or not, final output, number of transitions
 abbrev pub nodeNumbers : Node → List ℕ
-nodeNumbers m = m .first ∷ (flagOf (m .final) ∷ (m .finalOutput ∷ (length (m .transitions) ∷ [])))
+nodeNumbers m = m .first ∷ (flagAs (m .final) ∷ (m .finalOutput ∷ (length (m .transitions) ∷ [])))
 
 abbrev pub nodeBuffer : Judgement → List ℕ → List ℕ
 nodeBuffer (sound m) out = front (nodeNumbers m) out
@@ -88,6 +88,6 @@ abbrev pub placeNumber : Place → ℕ
 placeNumber (at i) = i
 placeNumber absent = 256
 
-abbrev pub foundOf : Judgement → ℕ → ℕ
-foundOf (sound m) b = placeNumber (findInput (m .transitions) b)
-foundOf unsound b = 257
+abbrev pub foundAs : Judgement → ℕ → ℕ
+foundAs (sound m) b = placeNumber (findInput (m .transitions) b)
+foundAs unsound b = 257

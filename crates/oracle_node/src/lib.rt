@@ -8,8 +8,8 @@ ghost use Rattle.format.specs.Bytes.{packSize};
 ghost use Rattle.format.specs.CommonInputs.{commonInputs, commonInputsInv, commonIdx};
 ghost use Rattle.format.specs.Node.{nodeAt};
 ghost use Rattle.format.specs.Packed.{packing};
-ghost use Rattle.node_compile.specs.Compile.{builderOf};
-ghost use Rattle.oracle_node.specs.Answers.{unpacked, flagOf, isSet, PackingTold, front, NodeTold, TransitionTold, foundOf};
+ghost use Rattle.node_compile.specs.Compile.{builderWith};
+ghost use Rattle.oracle_node.specs.Answers.{unpacked, flagAs, isSet, PackingTold, front, NodeTold, TransitionTold, foundAs};
 use node::Found;
 use node::Judged;
 use node_compile::Compiled;
@@ -78,7 +78,10 @@ pub extern "C" fn baxhiso_compile(
     first: usize,
     out: &mut [u8],
 ) -> u64
-    ensures { λ r. ⌜ PackingTold (packing first (builderOf (isSet «is_final») «final_output» (now (inputs .entry)) (now (outputs .entry)) (now (targets .entry))) (length (now (out .entry)))) (now (out .entry)) (now (out .exit)) r ⌝ }
+    ensures { λ r. ⌜ PackingTold (packing first
+        (builderWith (isSet «is_final») «final_output» (now (inputs .entry)) (now (outputs .entry))
+        (now (targets .entry))) (length (now (out .entry)))) (now (out .entry)) (now (out .exit))
+        r ⌝ }
 {
     match node_compile::compile(
         is_final != 0,
@@ -96,7 +99,7 @@ pub extern "C" fn baxhiso_compile(
 
 // 1 for true, 0 for false.
 fn flag(b: bool) -> u64
-    ensures { λ r. ⌜ r ≡ flagOf b ⌝ }
+    ensures { λ r. ⌜ r ≡ flagAs b ⌝ }
 {
     if b { 1 } else { 0 }
 }
@@ -136,7 +139,8 @@ pub extern "C" fn baxhiso_node(
     addr: usize,
     out: &mut [u64],
 ) -> u64
-    ensures { λ r. ⌜ NodeTold (nodeAt (now (file .entry)) version root addr) (now (out .entry)) (now (out .exit)) r ⌝ }
+    ensures { λ r. ⌜ NodeTold (nodeAt (now (file .entry)) version root addr) (now (out .entry))
+        (now (out .exit)) r ⌝ }
 {
     let Judged::Sound(n) = node::node_at(file, version, root, addr) else {
         return 0;
@@ -163,7 +167,8 @@ pub extern "C" fn baxhiso_transition(
     i: usize,
     out: &mut [u64],
 ) -> u64
-    ensures { λ r. ⌜ TransitionTold (nodeAt (now (file .entry)) version root addr) i (now (out .entry)) (now (out .exit)) r ⌝ }
+    ensures { λ r. ⌜ TransitionTold (nodeAt (now (file .entry)) version root addr) i
+        (now (out .entry)) (now (out .exit)) r ⌝ }
 {
     let Judged::Sound(n) = node::node_at(file, version, root, addr) else {
         return 0;
@@ -188,7 +193,7 @@ pub extern "C" fn baxhiso_find_input(
     addr: usize,
     b: u8,
 ) -> u64
-    ensures { λ r. ⌜ r ≡ foundOf (nodeAt (now (file .entry)) version root addr) b ⌝ }
+    ensures { λ r. ⌜ r ≡ foundAs (nodeAt (now (file .entry)) version root addr) b ⌝ }
 {
     let Judged::Sound(n) = node::node_at(file, version, root, addr) else {
         return 257;

@@ -19,9 +19,9 @@ use Rattle.stream_start.specs.declared.Begins.the-variants.{Began, Refused as N
 use Rattle.stream_next.specs.declared.Answer.{Answer}
 use Rattle.stream_next.specs.declared.Answer.the-variants.{Key, End, Refused}
 use Rattle.stream_next.specs.declared.Step.{Step}
-use Rattle.stream_start.specs.Views.{boundOf, viewOf, startedIs, beganIs}
-use Rattle.stream_next.specs.Stepped.{answerIs, Stepped}
-use Rattle.oracle_stream.specs.Held.{kindIs, kindNumber, pendingIs, pendingFlag, pendingValue, Held, heldIs, heldOf, StartTold, nextNumber, valueIn, answerNumber, answerValue, Told, NextTold, keyTest, onKey, keysFrom, bufferFrom, KeysTold, StartKeysTold}
+use Rattle.stream_start.specs.Views.{boundIs, viewIs, startedIs, beganIs}
+use Rattle.stream_next.specs.Stepped.{answerAs, Stepped}
+use Rattle.oracle_stream.specs.Held.{kindIs, kindNumber, pendingIs, pendingFlag, pendingValue, Held, heldIs, heldAs, StartTold, nextNumber, valueIn, answerNumber, answerValue, Told, NextTold, keyTest, onKey, keysFrom, bufferFrom, KeysTold, StartKeysTold}
 
 -- ---- numbers for kinds and pending keys
 
@@ -44,16 +44,16 @@ pending-back Absent = refl
 pending-back (Pending v) = refl
 
 -- the arrays hold the reading that was put into them
-pub held-back : (r : Reading) → viewOf (heldIs (heldOf r)) ≡ viewOf r
+pub held-back : (r : Reading) → viewIs (heldIs (heldAs r)) ≡ viewIs r
 held-back r = rw (kind-back (r .kind)) (rw (pending-back (r .«empty_output»)) refl)
 
 -- ---- start
 
 -- the bounds are those whose kinds the numbers stand for
 pub start-bounds : {w : R.Started} (f lo hi : List ℕ) {k l : Bound} (n m : ℕ) → k ≡ kindIs n → l ≡ kindIs m
-    → w ≡ R.start f (boundOf k lo) (boundOf l hi) → w ≡ R.start f (boundOf (kindIs n) lo) (boundOf (kindIs m) hi)
+    → w ≡ R.start f (boundIs k lo) (boundIs l hi) → w ≡ R.start f (boundIs (kindIs n) lo) (boundIs (kindIs m) hi)
 start-bounds {w} f lo hi {k} {l} n m a b e =
-    e ∙ ap (λ x. R.start f (boundOf x lo) (boundOf l hi)) a ∙ ap (λ x. R.start f (boundOf (kindIs n) lo) (boundOf x hi)) b
+    e ∙ ap (λ x. R.start f (boundIs x lo) (boundIs l hi)) a ∙ ap (λ x. R.start f (boundIs (kindIs n) lo) (boundIs x hi)) b
 
 module _ {w : R.Started} (s : Started) (e : startedIs s ≡ w) where
   pub start-refused : (n : ℕ) (h : Held) → s .answer ≡ NotStarted n → StartTold w h h n
@@ -61,39 +61,39 @@ module _ {w : R.Started} (s : Started) (e : startedIs s ≡ w) where
       let q : w ≡ R.Started.refused n = sym e ∙ ap (λ b. beganIs b (s .reading)) is in
       rw q (record { answer = refl; reading = λ v no. absurd (let z : _≡_ {A = ℕ} 0 1 = cc in omega arith); kept = λ m same. refl })
 
-  pub start-told : (h₀ h : Held) → s .answer ≡ Began → h ≡ heldOf (s .reading) → StartTold w h₀ h 0
+  pub start-told : (h₀ h : Held) → s .answer ≡ Began → h ≡ heldAs (s .reading) → StartTold w h₀ h 0
   start-told h₀ h is put =
-      let q : w ≡ R.started (viewOf (s .reading)) = sym e ∙ ap (λ b. beganIs b (s .reading)) is in
+      let q : w ≡ R.started (viewIs (s .reading)) = sym e ∙ ap (λ b. beganIs b (s .reading)) is in
       rw q
       (record {
         answer = refl;
-        reading = λ v same. ap (λ x. viewOf (heldIs x)) put ∙ held-back (s .reading) ∙ (let z : viewOf (s .reading) ≡ v = cc in z);
+        reading = λ v same. ap (λ x. viewIs (heldIs x)) put ∙ held-back (s .reading) ∙ (let z : viewIs (s .reading) ≡ v = cc in z);
         kept = λ m no. absurd (let z : _≡_ {A = ℕ} 0 1 = cc in omega arith);
       })
 
 -- ---- next
 
-number-is : (a : R.Answer) → answerNumber (answerIs a) ≡ nextNumber a
+number-is : (a : R.Answer) → answerNumber (answerAs a) ≡ nextNumber a
 number-is (key k v) = refl
 number-is end = refl
 number-is (R.Answer.refused n) = refl
 
-value-is : (a : R.Answer) (v : List ℕ) → answerValue (answerIs a) v ≡ valueIn a v
+value-is : (a : R.Answer) (v : List ℕ) → answerValue (answerAs a) v ≡ valueIn a v
 value-is (key k x) v = refl
 value-is end v = refl
 value-is (R.Answer.refused n) v = refl
 
 -- the reading that is handed on is the one that the arrays hold
 pub next-of : (f : List ℕ) (n : ℕ) (h : Held) {k₀ k : List ℕ} {r : Reading} {s : Step} → r ≡ heldIs h
-    → Stepped (R.next f (viewOf r) n) k₀ k s → Stepped (R.next f (viewOf (heldIs h)) n) k₀ k s
-next-of f n h {k₀} {k} {r} {s} e st = subst (λ x. Stepped (R.next f (viewOf x) n) k₀ k s) e st
+    → Stepped (R.next f (viewIs r) n) k₀ k s → Stepped (R.next f (viewIs (heldIs h)) n) k₀ k s
+next-of f n h {k₀} {k} {r} {s} e st = subst (λ x. Stepped (R.next f (viewIs x) n) k₀ k s) e st
 
-pub next-told : {w : R.Step} {k₀ k v₀ v : List ℕ} {s : Step} → Stepped w k₀ k s → (h : Held) → h ≡ heldOf (s .reading)
+pub next-told : {w : R.Step} {k₀ k v₀ v : List ℕ} {s : Step} → Stepped w k₀ k s → (h : Held) → h ≡ heldAs (s .reading)
     → (r : ℕ) → Told (s .answer) v₀ v r → NextTold w h k₀ k v₀ v r
 next-told {w} {k₀} {k} {v₀} {v} {s} st h put r told =
     record {
       answer = told .number ∙ ap answerNumber (st .answer) ∙ number-is (w .answer);
-      reading = ap (λ x. viewOf (heldIs x)) put ∙ held-back (s .reading) ∙ st .reading;
+      reading = ap (λ x. viewIs (heldIs x)) put ∙ held-back (s .reading) ∙ st .reading;
       buffer = st .buffer;
       value = told .value ∙ ap (λ a. answerValue a v₀) (st .answer) ∙ value-is (w .answer) v₀;
     }
@@ -110,37 +110,37 @@ refused-told a n v is = rw is (record { number = refl; value = refl })
 
 -- ---- calls one after the other
 
-on-key : {A : Type 0} (a : R.Answer) (go stop : A) → keyTest (answerIs a) ≡ true → onKey a go stop ≡ go
+on-key : {A : Type 0} (a : R.Answer) (go stop : A) → keyTest (answerAs a) ≡ true → onKey a go stop ≡ go
 on-key (key k x) go stop e = refl
 on-key end go stop e = absurd (let z : _≡_ {A = ℕ} 0 1 = cc in omega arith)
 on-key (R.Answer.refused n) go stop e = absurd (let z : _≡_ {A = ℕ} 0 1 = cc in omega arith)
 
-off-key : {A : Type 0} (a : R.Answer) (go stop : A) → keyTest (answerIs a) ≡ false → onKey a go stop ≡ stop
+off-key : {A : Type 0} (a : R.Answer) (go stop : A) → keyTest (answerAs a) ≡ false → onKey a go stop ≡ stop
 off-key (key k x) go stop e = absurd (let z : _≡_ {A = ℕ} 0 1 = cc in omega arith)
 off-key end go stop e = refl
 off-key (R.Answer.refused n) go stop e = refl
 
 -- no key, nothing written
-off-written : (a : R.Answer) (k : List ℕ) → keyTest (answerIs a) ≡ false → written a k ≡ k
+off-written : (a : R.Answer) (k : List ℕ) → keyTest (answerAs a) ≡ false → written a k ≡ k
 off-written (key j x) k e = absurd (let z : _≡_ {A = ℕ} 0 1 = cc in omega arith)
 off-written end k e = refl
 off-written (R.Answer.refused n) k e = refl
 
 module _ (f : List ℕ) (v : View) {k₀ k : List ℕ} {t : Step} (st : Stepped (R.next f v (length k₀)) k₀ k t) where
   -- a call that hands out a key, with m calls left after it
-  pub keys-on : (m : ℕ) → keyTest (t .answer) ≡ true → keysFrom (suc m) f v k₀ ≡ suc (keysFrom m f (viewOf (t .reading)) k)
+  pub keys-on : (m : ℕ) → keyTest (t .answer) ≡ true → keysFrom (suc m) f v k₀ ≡ suc (keysFrom m f (viewIs (t .reading)) k)
   unfolding keysFrom
   keys-on m e =
       on-key (R.next f v (length k₀) .answer) _ _ (ap keyTest (sym (st .answer)) ∙ e)
       ∙ ap (λ x. suc (keysFrom m f x (written (R.next f v (length k₀) .answer) k₀))) (sym (st .reading))
-      ∙ ap (λ x. suc (keysFrom m f (viewOf (t .reading)) x)) (sym (st .buffer))
+      ∙ ap (λ x. suc (keysFrom m f (viewIs (t .reading)) x)) (sym (st .buffer))
 
-  pub buffer-on : (m : ℕ) → keyTest (t .answer) ≡ true → bufferFrom (suc m) f v k₀ ≡ bufferFrom m f (viewOf (t .reading)) k
+  pub buffer-on : (m : ℕ) → keyTest (t .answer) ≡ true → bufferFrom (suc m) f v k₀ ≡ bufferFrom m f (viewIs (t .reading)) k
   unfolding bufferFrom
   buffer-on m e =
       on-key (R.next f v (length k₀) .answer) _ _ (ap keyTest (sym (st .answer)) ∙ e)
       ∙ ap (λ x. bufferFrom m f x (written (R.next f v (length k₀) .answer) k₀)) (sym (st .reading))
-      ∙ ap (λ x. bufferFrom m f (viewOf (t .reading)) x) (sym (st .buffer))
+      ∙ ap (λ x. bufferFrom m f (viewIs (t .reading)) x) (sym (st .buffer))
 
   pub keys-off : (m : ℕ) → keyTest (t .answer) ≡ false → keysFrom (suc m) f v k₀ ≡ 0
   unfolding keysFrom
@@ -174,7 +174,7 @@ module _ (m : ℕ) (f : List ℕ) {v₀ : View} {k₀ : List ℕ} (v : View) {k 
   buffer-left = r .buffer ∙ ap (λ x. bufferFrom x f v k) (left-is m n h)
 
   pub reached-next : {k' : List ℕ} {t : Step} → Stepped (R.next f v (length k)) k k' t → keyTest (t .answer) ≡ true
-      → Reached m f v₀ k₀ (viewOf (t .reading)) k' (n + 1)
+      → Reached m f v₀ k₀ (viewIs (t .reading)) k' (n + 1)
   reached-next st e =
       let q = keys-left ∙ ap (λ x. n + x) (keys-on f v st (m - (n + 1)) e) in
       record { at-most = omega (arith, h); keys = omega (arith, q); buffer = buffer-left ∙ buffer-on f v st (m - (n + 1)) e }
@@ -197,11 +197,11 @@ module _ (m : ℕ) (f : List ℕ) {w : R.Started} (s : Started) (e : startedIs s
       let q : w ≡ R.Started.refused n = sym e ∙ ap (λ b. beganIs b (s .reading)) is in
       rw q (record { reading = λ v no. absurd (let z : _≡_ {A = ℕ} 0 1 = cc in omega arith); refused = λ i same. (refl, refl) })
 
-  pub keys-told : (k₀ k : List ℕ) (r : ℕ) → s .answer ≡ Began → KeysTold m f (viewOf (s .reading)) k₀ k r → StartKeysTold m f w k₀ k r
+  pub keys-told : (k₀ k : List ℕ) (r : ℕ) → s .answer ≡ Began → KeysTold m f (viewIs (s .reading)) k₀ k r → StartKeysTold m f w k₀ k r
   keys-told k₀ k r is told =
-      let q : w ≡ R.started (viewOf (s .reading)) = sym e ∙ ap (λ b. beganIs b (s .reading)) is in
+      let q : w ≡ R.started (viewIs (s .reading)) = sym e ∙ ap (λ b. beganIs b (s .reading)) is in
       rw q
       (record {
-        reading = λ v same. let z : viewOf (s .reading) ≡ v = cc in subst (λ x. KeysTold m f x k₀ k r) z told;
+        reading = λ v same. let z : viewIs (s .reading) ≡ v = cc in subst (λ x. KeysTold m f x k₀ k r) z told;
         refused = λ i no. absurd (let z : _≡_ {A = ℕ} 0 1 = cc in omega arith);
       })

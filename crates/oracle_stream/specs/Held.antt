@@ -2,7 +2,7 @@
 --     kindIs n, kindNumber k        the kind of a bound that a number stands for, and back
 --     pendingIs n v                 the pending empty key that two numbers stand for; pendingFlag and pendingValue go back
 --     Held, heldIs h                six arrays, and the reading that they hold
---     headOf r, heldOf r            the first of the arrays, and all of them, for a reading
+--     headAs r, heldAs r            the first of the arrays, and all of them, for a reading
 --     StartTold w h₀ h r            what is told of the answer w to a start
 --     Told a v₀ v r                 the number and the value that are told of an answer
 --     NextTold w h k₀ k v₀ v r      what is told of the answer w to a call of next
@@ -24,7 +24,7 @@ use Rattle.stream_start.specs.declared.EmptyOutput.the-variants.{Pending, Absen
 use Rattle.stream_start.specs.declared.Reading.{Reading}
 use Rattle.stream_next.specs.declared.Answer.{Answer}
 use Rattle.stream_next.specs.declared.Answer.the-variants.{Key, End, Refused}
-use Rattle.stream_start.specs.Views.{viewOf}
+use Rattle.stream_start.specs.Views.{viewIs}
 
 -- ---- a reading in six arrays
 
@@ -76,14 +76,14 @@ heldIs h = record {
   outs = h .outs;
 }
 
-abbrev pub headOf : Reading → List ℕ
-headOf r =
+abbrev pub headAs : Reading → List ℕ
+headAs r =
     r .len
     ∷ (kindNumber (r .kind)
     ∷ (r .«bound_len» ∷ (pendingFlag (r .«empty_output») ∷ (pendingValue (r .«empty_output») ∷ (r .total ∷ (r .levels ∷ []))))))
 
-abbrev pub heldOf : Reading → Held
-heldOf r = held (headOf r) (r .bound) (r .addrs) (r .inps) (r .trans) (r .outs)
+abbrev pub heldAs : Reading → Held
+heldAs r = held (headAs r) (r .bound) (r .addrs) (r .inps) (r .trans) (r .outs)
 
 -- ---- start: 0 and the reading, or the refusal
 
@@ -93,7 +93,7 @@ startNumber (R.Started.refused n) = n
 
 pub record StartTold (w : R.Started) (h₀ h : Held) (r : ℕ) : Type 0 where
   pub answer : r ≡ startNumber w
-  pub reading : (v : View) → w ≡ R.started v → viewOf (heldIs h) ≡ v
+  pub reading : (v : View) → w ≡ R.started v → viewIs (heldIs h) ≡ v
   pub kept : (n : ℕ) → w ≡ R.Started.refused n → h ≡ h₀
 
 -- ---- next: a key's length, 1000 for the end, or 2000 and the refusal; and a key's value
@@ -125,7 +125,7 @@ pub record Told (a : Answer) (v₀ v : List ℕ) (r : ℕ) : Type 0 where
 
 pub record NextTold (w : R.Step) (h : Held) (k₀ k v₀ v : List ℕ) (r : ℕ) : Type 0 where
   pub answer : r ≡ nextNumber (w .answer)
-  pub reading : viewOf (heldIs h) ≡ w .reading
+  pub reading : viewIs (heldIs h) ≡ w .reading
   pub buffer : k ≡ written (w .answer) k₀
   pub value : v ≡ valueIn (w .answer) v₀
 

@@ -7,8 +7,8 @@
 ghost use mathlib.Core.Path.{_≡_};
 ghost use lib.ListN.{length};
 ghost use Rattle.reading.specs.Reading as R;
-ghost use Rattle.stream_start.specs.Views.{boundOf, viewOf};
-ghost use Rattle.oracle_stream.specs.Held.{kindIs, kindNumber, pendingIs, pendingFlag, pendingValue, headOf, held, heldIs, heldOf, StartTold, Told, NextTold, keyTest, KeysTold, StartKeysTold};
+ghost use Rattle.stream_start.specs.Views.{boundIs, viewIs};
+ghost use Rattle.oracle_stream.specs.Held.{kindIs, kindNumber, pendingIs, pendingFlag, pendingValue, headAs, held, heldIs, heldAs, StartTold, Told, NextTold, keyTest, KeysTold, StartKeysTold};
 use stream_next::Answer;
 use stream_start::Begins;
 use stream_start::Bound;
@@ -100,7 +100,7 @@ fn reading_of(
 
 // The first of the arrays, for a reading.
 fn head_of(reading: Reading) -> [u64; 7]
-    ensures { λ r. ⌜ r ≡ headOf reading ⌝ }
+    ensures { λ r. ⌜ r ≡ headAs reading ⌝ }
 {
     let kind = reading.kind;
     let empty = reading.empty_output;
@@ -125,7 +125,8 @@ fn put(
     trans: &mut [u16; 256],
     outs: &mut [u64; 256],
 )
-    ensures { λ _. ⌜ held (now (head .exit)) (now (bound .exit)) (now (addrs .exit)) (now (inps .exit)) (now (trans .exit)) (now (outs .exit)) ≡ heldOf reading ⌝ }
+    ensures { λ _. ⌜ held (now (head .exit)) (now (bound .exit)) (now (addrs .exit))
+        (now (inps .exit)) (now (trans .exit)) (now (outs .exit)) ≡ heldAs reading ⌝ }
 {
     let h = head_of(reading);
     *head = h;
@@ -158,7 +159,13 @@ pub extern "C" fn baxhiso_start(
     trans: &mut [u16; 256],
     outs: &mut [u64; 256],
 ) -> u64
-    ensures { λ r. ⌜ StartTold (R.start (now (file .entry)) (boundOf (kindIs «lower_kind») (now (lower .entry))) (boundOf (kindIs «upper_kind») (now (upper .entry)))) (held (now (head .entry)) (now (bound .entry)) (now (addrs .entry)) (now (inps .entry)) (now (trans .entry)) (now (outs .entry))) (held (now (head .exit)) (now (bound .exit)) (now (addrs .exit)) (now (inps .exit)) (now (trans .exit)) (now (outs .exit))) r ⌝ }
+    ensures { λ r. ⌜ StartTold (R.start (now (file .entry))
+        (boundIs (kindIs «lower_kind») (now (lower .entry)))
+        (boundIs (kindIs «upper_kind») (now (upper .entry))))
+        (held (now (head .entry)) (now (bound .entry)) (now (addrs .entry)) (now (inps .entry))
+        (now (trans .entry)) (now (outs .entry)))
+        (held (now (head .exit)) (now (bound .exit)) (now (addrs .exit)) (now (inps .exit))
+        (now (trans .exit)) (now (outs .exit))) r ⌝ }
 {
     let lower_bound = kind_of(lower_kind);
     let upper_bound = kind_of(upper_kind);
@@ -204,7 +211,12 @@ pub extern "C" fn baxhiso_next(
     key: &mut [u8],
     value: &mut [u64; 1],
 ) -> u64
-    ensures { λ r. ⌜ NextTold (R.next (now (file .entry)) (viewOf (heldIs (held (now (head .entry)) (now (bound .entry)) (now (addrs .entry)) (now (inps .entry)) (now (trans .entry)) (now (outs .entry))))) (length (now (key .entry)))) (held (now (head .exit)) (now (bound .exit)) (now (addrs .exit)) (now (inps .exit)) (now (trans .exit)) (now (outs .exit))) (now (key .entry)) (now (key .exit)) (now (value .entry)) (now (value .exit)) r ⌝ }
+    ensures { λ r. ⌜ NextTold (R.next (now (file .entry))
+        (viewIs (heldIs (held (now (head .entry)) (now (bound .entry)) (now (addrs .entry))
+        (now (inps .entry)) (now (trans .entry)) (now (outs .entry))))) (length (now (key .entry))))
+        (held (now (head .exit)) (now (bound .exit)) (now (addrs .exit)) (now (inps .exit))
+        (now (trans .exit)) (now (outs .exit))) (now (key .entry)) (now (key .exit))
+        (now (value .entry)) (now (value .exit)) r ⌝ }
 {
     let h = *head;
     let b = *bound;
@@ -234,7 +246,8 @@ fn is_key(answer: Answer) -> bool
 
 // How many calls hand out a key, from this reading on, up to the first that does not and at most so many.
 fn keys_from(file: &[u8], reading: Reading, most: u64, key: &mut [u8]) -> u64
-    ensures { λ r. ⌜ KeysTold most (now (file .entry)) (viewOf reading) (now (key .entry)) (now (key .exit)) r ⌝ }
+    ensures { λ r. ⌜ KeysTold most (now (file .entry)) (viewIs reading) (now (key .entry))
+        (now (key .exit)) r ⌝ }
 {
     let mut here = reading;
     let mut n: u64 = 0;
@@ -262,7 +275,10 @@ pub extern "C" fn baxhiso_keys(
     most: u64,
     key: &mut [u8],
 ) -> u64
-    ensures { λ r. ⌜ StartKeysTold most (now (file .entry)) (R.start (now (file .entry)) (boundOf (kindIs «lower_kind») (now (lower .entry))) (boundOf (kindIs «upper_kind») (now (upper .entry)))) (now (key .entry)) (now (key .exit)) r ⌝ }
+    ensures { λ r. ⌜ StartKeysTold most (now (file .entry))
+        (R.start (now (file .entry)) (boundIs (kindIs «lower_kind») (now (lower .entry)))
+        (boundIs (kindIs «upper_kind») (now (upper .entry)))) (now (key .entry)) (now (key .exit))
+        r ⌝ }
 {
     let lower_bound = kind_of(lower_kind);
     let upper_bound = kind_of(upper_kind);

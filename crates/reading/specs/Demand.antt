@@ -28,16 +28,17 @@
 -- Assumes nothing.
 use Prim.{Unit, tt}
 use mathlib.Core.Path.{_≡_}
+use mathlib.Core.Bool.{cond}
 use mathlib.Core.Logic.{_⊎_}
 use mathlib.Core.List.{List, [], _∷_, _++_, map, List·Memᴰ}
 use Prim.Native.Nat.{ℕ, _+_, _≤_, _<_}
+use lib.Dec.{leb}
 use lib.ListN.{length, replicate}
-use Rattle.format.specs.Limits.{maxPath}
+use Rattle.format.specs.Limits.{maxPath, maxSum}
 use Rattle.format.specs.Paths.{Fst, fstOf, Held}
 use Rattle.format.specs.Admitted.{Admitted}
 use Rattle.format.specs.Strings.{Before, Begins, Bound, MeetsLower, PassesUpper, Between}
 use Rattle.reading.specs.Reading.{View, Started, started, start, Answer, key, end, Step, refuse, next}
-use Rattle.reading.specs.Visits.{capped}
 
 -- ---- strings, and their number
 
@@ -83,6 +84,10 @@ pub record EmptyExcluded (f : Fst) (lo hi : Bound) : Type 0 where
   pub held : Held f [] value
   pub meets : MeetsLower lo []
   pub passes : PassesUpper hi []
+
+-- the total for n transitions followed: it stays at 2^64 - 1
+abbrev pub capped : ℕ → ℕ
+capped n = cond (leb n maxSum) n maxSum
 
 -- ---- calls
 

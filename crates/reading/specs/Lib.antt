@@ -7,6 +7,9 @@ pub mod SeekLaws
 pub mod RunLaws
 pub mod NextLaws
 pub mod Demand
+pub mod WholeRun
 pub mod ProgressLaws
 pub mod DemandLaws
 pub mod WholeLaws
+pub mod EndLaws
+pub mod FollowedLaws

@@ -21,7 +21,8 @@ use Rattle.format.specs.Opening as Opening
 use Rattle.format.specs.Paths.{Fst, fstOf}
 use Rattle.format.specs.Strings.{Bound}
 use Rattle.reading.specs.Reading.{passesTest, Level, View, Step, key, end, Answer, refuse, moved, onOpened, Popped, pop, afterPop, afterDescend, walk, stateTest, next}
-use Rattle.reading.specs.Visits.{Visit, toCome, Sane, AllV, capped}
+use Rattle.reading.specs.Visits.{Visit, toCome, Sane, AllV}
+use Rattle.reading.specs.Demand.{capped}
 use Rattle.reading.specs.RunLaws.{Idle, Go, key-at, past-at, go-come, Top, pop-come}
 
 pub sane-length : (f : Fst) (s : List Level) → Sane f s → length s ≤ maxLevels

@@ -19,12 +19,12 @@ use Rattle.format.specs.Opening.{Meta, opened, opening}
 use Rattle.format.specs.Paths.{Fst, fstOf, Held}
 use Rattle.format.specs.Strings.{Before, Bound, MeetsLower, PassesUpper, Between}
 use Rattle.reading.specs.Reading.{passesTest, Level, View, Answer, key, end, Step, refuse}
-use Rattle.reading.specs.Visits.{Visit, toCome, Sane, AllV, RisingV, capped}
+use Rattle.reading.specs.Visits.{Visit, toCome, Sane, AllV, RisingV}
 use Rattle.reading.specs.VisitLists.{all-append}
 use Rattle.reading.specs.VisitLaws.{all-mem, mem-all}
 use Rattle.reading.specs.RunLaws.{Idle, lt-or}
 use Rattle.reading.specs.NextLaws.{viewAt, next-short, next-other, next-pending-on, next-pending-off, Ways, at-end, over-at, handed-at, next-come}
-use Rattle.reading.specs.Demand.{Call, Allowed, call, readingAfter, answers, unrefused, unrefusedThen, Entry, entry, handOut, handedIn, handedThen}
+use Rattle.reading.specs.Demand.{Call, Allowed, call, readingAfter, answers, unrefused, unrefusedThen, Entry, entry, handOut, handedIn, handedThen, capped}
 
 -- ---- the keys among visits
 

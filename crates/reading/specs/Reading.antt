@@ -55,8 +55,8 @@ pub record Level : Type 0 where
   pub trans : ℕ
   pub out : ℕ
 
-abbrev pub levelIs : ℕ → ℕ → ℕ → ℕ → Level
-levelIs a i p sum = record { addr = a; inp = i; trans = p; out = sum }
+abbrev pub levelWith : ℕ → ℕ → ℕ → ℕ → Level
+levelWith a i p sum = record { addr = a; inp = i; trans = p; out = sum }
 
 pub record View : Type 0 where
   -- the file's length
@@ -106,7 +106,7 @@ firstAbove (t ∷ ts) b = cond (ltb b (t .inp)) 0 (suc (firstAbove ts b))
 -- ends at the root
 abbrev pub lastLevels : Bool → Level → List Level → List Level
 lastLevels true l [] = l ∷ []
-lastLevels true l (p ∷ s) = levelIs (p .addr) (p .inp) (p .trans - 1) (p .out) ∷ s
+lastLevels true l (p ∷ s) = levelWith (p .addr) (p .inp) (p .trans - 1) (p .out) ∷ s
 lastLevels false l s = l ∷ s
 
 -- the rest of the lower bound from the node at a, to which the byte i led, over the levels s: 5 for the node as it is entered, then 7
@@ -115,14 +115,14 @@ unfoldable pub seek : Fst → Bool → ℕ → ℕ → ℕ → List Level → Li
 unfolding firstAbove
 seek f inclusive a i sum s [] =
     onNode (nodeIn f a)
-    (λ m. cond (leb sum maxSum) (got (lastLevels inclusive (levelIs a i 0 sum) s)) (halted SUM))
+    (λ m. cond (leb sum maxSum) (got (lastLevels inclusive (levelWith a i 0 sum) s)) (halted SUM))
     (halted NODE)
 seek f inclusive a i sum s (b ∷ lo) =
     onNode (nodeIn f a)
     (λ m. cond (leb sum maxSum)
     (onPlace (findInput (m .transitions) b)
-    (λ p. seek f inclusive (transitionAt (m .transitions) p .addr) b (sum + transitionAt (m .transitions) p .out) (levelIs a i (p + 1) sum ∷ s) lo)
-    (got (levelIs a i (firstAbove (m .transitions) b) sum ∷ s)))
+    (λ p. seek f inclusive (transitionAt (m .transitions) p .addr) b (sum + transitionAt (m .transitions) p .out) (levelWith a i (p + 1) sum ∷ s) lo)
+    (got (levelWith a i (firstAbove (m .transitions) b) sum ∷ s)))
     (halted SUM))
     (halted NODE)
 
@@ -190,10 +190,10 @@ nextTrans l m = transitionAt (m .transitions) (l .trans)
 
 -- the level that the next transition leads to, and the level left behind
 abbrev pub child : Level → Node → Level
-child l m = levelIs (nextTrans l m .addr) (nextTrans l m .inp) 0 (l .out + nextTrans l m .out)
+child l m = levelWith (nextTrans l m .addr) (nextTrans l m .inp) 0 (l .out + nextTrans l m .out)
 
 abbrev pub stepped : Level → Level
-stepped l = levelIs (l .addr) (l .inp) (l .trans + 1) (l .out)
+stepped l = levelWith (l .addr) (l .inp) (l .trans + 1) (l .out)
 
 -- where a key is found, with its value and the total; where the upper bound is passed; or why neither
 pub data Went : Type 0 where

@@ -29,8 +29,9 @@ use Rattle.format.specs.Paths.{Fst, nodeIn}
 use Rattle.format.specs.Strings.{Bound}
 use Rattle.format.specs.laws.LiveLaws.{target-not-root, live-below-root}
 use Rattle.format.specs.Tables.{finalOutputOf?}
-use Rattle.reading.specs.Reading.{passesTest, Level, levelIs, View, pathOf, keyOf, onNode, counted, Popped, top, used-up, bad, pop, nextTrans, child, stepped, Went, found, passed, descend}
-use Rattle.reading.specs.Visits.{Visit, under, final?, visitBy, row, transitionsAt, below, rest, toCome, Fine, Sane, AllV, capped}
+use Rattle.reading.specs.Reading.{passesTest, Level, levelWith, View, pathOf, keyOf, onNode, counted, Popped, top, used-up, bad, pop, nextTrans, child, stepped, Went, found, passed, descend}
+use Rattle.reading.specs.Visits.{Visit, under, final?, visitBy, row, transitionsAt, below, rest, toCome, Fine, Sane, AllV}
+use Rattle.reading.specs.Demand.{capped}
 use Rattle.reading.specs.VisitLists.{map-append, map-under, key-push, key-length, below-rest, fine-node, fine-step}
 
 -- ---- numbers

@@ -27,7 +27,7 @@ use Rattle.format.specs.laws.NodeFacts.{node-ascending}
 use Rattle.format.specs.Paths.{Fst, nodeIn}
 use Rattle.format.specs.Strings.{Bound, unbounded, included, excluded, beforeTest}
 use Rattle.format.specs.laws.TransitionLaws.{at-member, find-input-member}
-use Rattle.reading.specs.Reading.{meetsTest, boundBytes, isInclusive, Level, levelIs, pathOf, keyOf, got, firstAbove, lastLevels, seek}
+use Rattle.reading.specs.Reading.{meetsTest, boundBytes, isInclusive, Level, levelWith, pathOf, keyOf, got, firstAbove, lastLevels, seek}
 use Rattle.reading.specs.Visits.{Visit, under, visitBy, row, transitionsAt, below, rest, toCome, Fine, Sane, AllV, kept}
 use Rattle.reading.specs.VisitLaws.{below-full}
 use Rattle.reading.specs.VisitLists.{all-append, all-imp, all-under, map-append, map-under, map-nil, key-push, below-rest, fine-node}
@@ -239,9 +239,9 @@ record Stands (f : Fst) (a i sum : ℕ) (s : List Level) (own : List Visit) : Ty
   short : length s ≤ maxPath
   fine : Fine (maxPath - length s) f a sum
   sane : Sane f s
-  end-sane : Sane f (lastLevels true (levelIs a i 0 sum) s)
-  end-come : toCome f (lastLevels true (levelIs a i 0 sum) s)
-      ≡ own ++ (map (under (keyOf (levelIs a i 0 sum ∷ s)) sum) (below (maxPath - length s) f a) ++ toCome f s)
+  end-sane : Sane f (lastLevels true (levelWith a i 0 sum) s)
+  end-come : toCome f (lastLevels true (levelWith a i 0 sum) s)
+      ≡ own ++ (map (under (keyOf (levelWith a i 0 sum ∷ s)) sum) (below (maxPath - length s) f a) ++ toCome f s)
 
 -- own where it meets the bound, what meets the rest of the bound below the node, and then what the levels s have
 record Comes (f : Fst) (c : Bool) (a i sum : ℕ) (s : List Level) (lo : List ℕ) (own : List Visit) : Type 0 where
@@ -249,7 +249,7 @@ record Comes (f : Fst) (c : Bool) (a i sum : ℕ) (s : List Level) (lo : List �
   seeks : seek f c a i sum s lo ≡ got levels
   sane : Sane f levels
   comes : toCome f levels
-      ≡ cond (meets c lo []) own [] ++ (map (under (keyOf (levelIs a i 0 sum ∷ s)) sum) (kept (meets c lo) (below (maxPath - length s) f a)) ++ toCome f s)
+      ≡ cond (meets c lo []) own [] ++ (map (under (keyOf (levelWith a i 0 sum ∷ s)) sum) (kept (meets c lo) (below (maxPath - length s) f a)) ++ toCome f s)
 
 -- the bound ends at the node
 seek-end : (f : Fst) (c : Bool) (a i sum : ℕ) (s : List Level) (own : List Visit) → Stands f a i sum s own → Comes f c a i sum s [] own
@@ -258,7 +258,7 @@ seek-end f true a i sum s own st =
     let m = fine-node (maxPath - length s) f a sum (st .fine) in
     let fits : sum ≤ maxSum = omega (arith, m .2) in
     record {
-      levels = lastLevels true (levelIs a i 0 sum) s;
+      levels = lastLevels true (levelWith a i 0 sum) s;
       seeks = rw (m .1, le-leb sum maxSum fits);
       sane = st .end-sane;
       comes = rw (kept-below true (maxPath - length s) f a) (st .end-come);
@@ -267,7 +267,7 @@ seek-end f false a i sum s own st =
     let m = fine-node (maxPath - length s) f a sum (st .fine) in
     let fits : sum ≤ maxSum = omega (arith, m .2) in
     record {
-      levels = levelIs a i 0 sum ∷ s;
+      levels = levelWith a i 0 sum ∷ s;
       seeks = rw (m .1, le-leb sum maxSum fits);
       sane = (st .short, st .fine, st .sane);
       comes = rw (kept-below false (maxPath - length s) f a, below-rest (maxPath - length s) f a);
@@ -285,13 +285,13 @@ module _ (f : Fst) (a i sum : ℕ) (s : List Level) (d : ℕ) (deep : maxPath - 
   by-p = transitionAt (m .transitions) p
 
   abbrev left : List Level
-  left = levelIs a i (p + 1) sum ∷ s
+  left = levelWith a i (p + 1) sum ∷ s
 
   abbrev later : List Visit
   later = row (below d f) f (drop (suc p) (m .transitions))
 
   abbrev key-here : List ℕ
-  key-here = keyOf (levelIs a i 0 sum ∷ s)
+  key-here = keyOf (levelWith a i 0 sum ∷ s)
 
   abbrev own-p : List Visit
   own-p = under key-here sum (visitBy f by-p) ∷ []
@@ -301,11 +301,11 @@ module _ (f : Fst) (a i sum : ℕ) (s : List Level) (d : ℕ) (deep : maxPath - 
   left-come = rw (deep, e, add-one p)
 
   go-on : (xs : List Visit)
-      → map (under (keyOf (levelIs (by-p .addr) b 0 (sum + by-p .out) ∷ left)) (sum + by-p .out)) xs ++ toCome f left
+      → map (under (keyOf (levelWith (by-p .addr) b 0 (sum + by-p .out) ∷ left)) (sum + by-p .out)) xs ++ toCome f left
       ≡ map (under key-here sum) (map (under (b ∷ []) (by-p .out)) xs ++ later) ++ toCome f s
   unfolding pathOf
   go-on xs =
-      ap (λ (k : List ℕ). map (under k (sum + by-p .out)) xs ++ toCome f left) (key-push (levelIs (by-p .addr) b 0 (sum + by-p .out)) (levelIs a i (p + 1) sum) s)
+      ap (λ (k : List ℕ). map (under k (sum + by-p .out)) xs ++ toCome f left) (key-push (levelWith (by-p .addr) b 0 (sum + by-p .out)) (levelWith a i (p + 1) sum) s)
       ∙ ap (λ (r : List Visit). r ++ toCome f left) (sym (map-under key-here (b ∷ []) sum (by-p .out) xs))
       ∙ ap (λ (r : List Visit). map (under key-here sum) (map (under (b ∷ []) (by-p .out)) xs) ++ r) left-come
       ∙ sym (append-assoc (map (under key-here sum) (map (under (b ∷ []) (by-p .out)) xs)) (map (under key-here sum) later) (toCome f s))
@@ -316,7 +316,7 @@ module _ (f : Fst) (a i sum : ℕ) (s : List Level) (d : ℕ) (deep : maxPath - 
       rw (deep, e, drop-cons (m .transitions) p (record { inp = 0; out = 0; addr = 0 }) l)
       (ap (λ (x : ℕ). visitBy f by-p ∷ (map (under (x ∷ []) (by-p .out)) (below d f (by-p .addr)) ++ later)) is)
 
-  stands-on : Fine d f (by-p .addr) (sum + by-p .out) → Sane f (levelIs a i 0 sum ∷ s) → Stands f (by-p .addr) b (sum + by-p .out) left own-p
+  stands-on : Fine d f (by-p .addr) (sum + by-p .out) → Sane f (levelWith a i 0 sum ∷ s) → Stands f (by-p .addr) b (sum + by-p .out) left own-p
   unfolding pathOf
   stands-on fine sane =
       let deeper : maxPath - suc (length s) ≡ d = omega arith in
@@ -327,7 +327,7 @@ module _ (f : Fst) (a i sum : ℕ) (s : List Level) (d : ℕ) (deep : maxPath - 
         sane = sane;
         end-sane = sane;
         end-come =
-            ap (λ (q : ℕ). toCome f (levelIs a i q sum ∷ s)) back
+            ap (λ (q : ℕ). toCome f (levelWith a i q sum ∷ s)) back
             ∙ ap (λ (r : List Visit). map (under key-here sum) r ++ toCome f s) here-rest
             ∙ ap (λ (r : List Visit). own-p ++ r) (sym (go-on (below d f (by-p .addr))))
             ∙ rw deeper;
@@ -350,7 +350,7 @@ module _ (f : Fst) (a i sum : ℕ) (s : List Level) (d : ℕ) (deep : maxPath - 
             ∙ ap
             (λ (q : ℕ).
             cond (meets c lo []) own-p []
-            ++ (map (under (keyOf (levelIs (by-p .addr) b 0 (sum + by-p .out) ∷ left)) (sum + by-p .out)) (kept (meets c lo) (below q f (by-p .addr))) ++ toCome f left))
+            ++ (map (under (keyOf (levelWith (by-p .addr) b 0 (sum + by-p .out) ∷ left)) (sum + by-p .out)) (kept (meets c lo) (below q f (by-p .addr))) ++ toCome f left))
             deeper
             ∙ ap (λ (r : List Visit). cond (meets c lo []) own-p [] ++ r) (go-on xs)
             ∙ own-map (meets c lo []) key-here sum (visitBy f by-p) (map (under (b ∷ []) (by-p .out)) xs ++ later) (toCome f s)
@@ -359,13 +359,13 @@ module _ (f : Fst) (a i sum : ℕ) (s : List Level) (d : ℕ) (deep : maxPath - 
 
 -- no transition takes the bound's next byte
 comes-away : (f : Fst) (c : Bool) (a i sum : ℕ) (s : List Level) (m : Node) (b : ℕ) (lo : List ℕ) (own : List Visit)
-    → Sane f (levelIs a i 0 sum ∷ s) → nodeIn f a ≡ sound m → sum ≤ maxSum → findInput (m .transitions) b ≡ absent
+    → Sane f (levelWith a i 0 sum ∷ s) → nodeIn f a ≡ sound m → sum ≤ maxSum → findInput (m .transitions) b ≡ absent
     → kept (meets c (b ∷ lo)) (below (maxPath - length s) f a) ≡ rest (maxPath - length s) f a (firstAbove (m .transitions) b)
     → Comes f c a i sum s (b ∷ lo) own
 unfolding seek pathOf
 comes-away f c a i sum s m b lo own sane e fits none keeps =
     record {
-      levels = levelIs a i (firstAbove (m .transitions) b) sum ∷ s;
+      levels = levelWith a i (firstAbove (m .transitions) b) sum ∷ s;
       seeks = rw (e, le-leb sum maxSum fits, none);
       sane = sane;
       comes = sym (rw (meets-nil c b lo, keeps));
@@ -377,7 +377,7 @@ seek-step : (f : Fst) (c : Bool) (a i sum : ℕ) (s : List Level) (b : ℕ) (lo 
     → Comes f c a i sum s (b ∷ lo) own
 seek-step f c a i sum s b lo own st next = by (maxPath - length s) refl
   where
-    sane : Sane f (levelIs a i 0 sum ∷ s)
+    sane : Sane f (levelWith a i 0 sum ∷ s)
     sane = (st .short, st .fine, st .sane)
 
     by : (d : ℕ) → maxPath - length s ≡ d → Comes f c a i sum s (b ∷ lo) own

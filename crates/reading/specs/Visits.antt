@@ -6,7 +6,6 @@
 --     Sane f levels            levels whose nodes are fine
 --     AllV, RisingV            a fact of each visit; each string comes before all that follow
 --     kept P vs                the visits whose string passes a test
---     capped n                 the total for n transitions followed
 -- Assumes nothing.
 use Prim.{Unit, tt}
 use mathlib.Core.Path.{_≡_}
@@ -14,7 +13,6 @@ use mathlib.Core.Bool.{Bool, true, false, cond}
 use mathlib.Core.List.{List, [], _∷_, _++_, map, List·Memᴰ}
 use Prim.Native.Nat.{ℕ, zero, suc, _+_, _-_, _≤_}
 use lib.ListN.{length, drop}
-use lib.Dec.{leb}
 use Rattle.format.specs.declared.Transition.{Transition}
 use Rattle.format.specs.Limits.{maxPath, maxSum}
 use Rattle.format.specs.Node.{Node, Judgement, sound, unsound}
@@ -86,7 +84,3 @@ RisingV (v ∷ vs) = AllV (λ w. Before (v .key) (w .key)) vs × RisingV vs
 abbrev pub kept : (List ℕ → Bool) → List Visit → List Visit
 kept P [] = []
 kept P (v ∷ vs) = cond (P (v .key)) (v ∷ kept P vs) (kept P vs)
-
--- it stays at 2^64 - 1
-abbrev pub capped : ℕ → ℕ
-capped n = cond (leb n maxSum) n maxSum

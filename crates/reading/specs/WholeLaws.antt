@@ -1,6 +1,5 @@
 -- A reading of an admitted file from its start to its end, call after call, and what it has to do with lookup.
---     Runs s space r es r′     calls with the file and a buffer of space bytes hand out es, then answer "end" and leave r′
---     Whole, whole             from the start: the held keys between the bounds, and the total
+--     whole                    a reading from its start to its end (`WholeRun`: `Whole`)
 --     OnWay, on-way-next       a reading on its way: the next call hands out a key and leaves fewer visits, or ends it
 --     start-only-bound         on an admitted file a start is refused only for a bound
 --     lookup-agrees            the unbounded reading hands out a key with v exactly when lookup answers v
@@ -25,28 +24,11 @@ use Rattle.format.specs.Lookup.{get}
 use Rattle.format.specs.Exact.{GetExact}
 use Rattle.format.specs.laws.LookupHeld.{get-exact}
 use Rattle.reading.specs.Reading.{boundBytes, boundsTest, View, Started, started, start, Answer, end, Step, next}
-use Rattle.reading.specs.Visits.{capped}
 use Rattle.reading.specs.RunLaws.{lt-or}
-use Rattle.reading.specs.Demand.{Rising, NumberOf, Within, Extra, EmptyExcluded, Entry, entry, handOut, NoneLeft}
+use Rattle.reading.specs.Demand.{Rising, NumberOf, Within, Extra, EmptyExcluded, Entry, entry, handOut, NoneLeft, capped}
+use Rattle.reading.specs.WholeRun.{Runs, run-end, run-key, Whole}
 use Rattle.reading.specs.ProgressLaws.{left, Called, hands, ended, ask-step}
 use Rattle.reading.specs.DemandLaws.{visits, pend, Comes, keysOut, comes-held, comes-rising, comes-none-left, comes-total-ended, start-comes, sought, reading₀, start-given}
-
-pub data Runs (s : List ℕ) (space : ℕ) : View → List Entry → View → Type 0 where
-  run-end : {r r′ : View} → next s r space ≡ record { answer = end; reading = r′ } → Runs s space r [] r′
-  run-key : {r r₁ r′ : View} {es : List Entry} (e : Entry) → next s r space ≡ record { answer = handOut e; reading = r₁ } → Runs s space r₁ es r′
-      → Runs s space r (e ∷ es) r′
-
-pub record Whole {s : List ℕ} (A : Admitted s) (lo hi : Bound) (space : ℕ) : Type 0 where
-  pub reading : View
-  pub starts : start s lo hi ≡ started reading
-  pub entries : List Entry
-  pub last : View
-  pub runs : Runs s space reading entries last
-  pub ascending : Rising (keysOut entries)
-  pub held : (e : Entry) → List·Memᴰ e entries → Held (fstOf s (A .meta)) (e .key) (e .value) × Between lo hi (e .key)
-  pub none-left : NoneLeft (fstOf s (A .meta)) lo hi entries
-  pub total : ¬ EmptyExcluded (fstOf s (A .meta)) lo hi
-      → (n e : ℕ) × NumberOf (Within (fstOf s (A .meta)) lo hi) n × Extra (fstOf s (A .meta)) lo hi e × (last .total ≡ capped (n + e))
 
 answered : (o : Step) (a : Answer) → o .answer ≡ a → o ≡ record { answer = a; reading = o .reading }
 answered o a e = ap (λ (x : Answer). record { answer = x; reading = o .reading }) e

@@ -17,9 +17,9 @@ use Rattle.format.specs.Limits.{maxSum, NODE, DEEP, SUM}
 use Rattle.format.specs.Node.{Node, sound, unsound}
 use Rattle.format.specs.Paths.{Fst, nodeIn}
 use Rattle.format.specs.Strings.{Bound}
-use Rattle.reading.specs.Reading.{Level, levelIs, passesTest, keyOf, counted, Went, found, passed, nextTrans, child, stepped, descend}
+use Rattle.reading.specs.Reading.{Level, levelWith, passesTest, keyOf, counted, Went, found, passed, nextTrans, child, stepped, descend}
 use Rattle.stream_next.specs.declared.Down.the-variants.{Found, Halted}
-use Rattle.stream_start.specs.Views.{levelAt, stackOf}
+use Rattle.stream_start.specs.Views.{levelAt, stackIs}
 use Rattle.stream_next.specs.declared.Added.the-variants.{Within, Past}
 use Rattle.stream_next.specs.Steps.{foundAt, Adds}
 use Rattle.stream_start.specs.StackLaws.{stack-more, stack-ext}
@@ -87,7 +87,7 @@ module _ (k : ℕ) (f : Fst) (hi : Bound) (l : Level) (m : Node) (s : List Level
 -- ---- a level is pushed: the level below it has its place moved on
 
 module _ (k : ℕ) (xs is ps os : List ℕ) (a b p o : ℕ) (hx : k + 1 < length xs) (hi : k + 1 < length is) (hp : k + 1 < length ps) (ho : k + 1 < length os) where
-  pub pushed-top : levelAt (k + 1) (set xs (k + 1) a) (set is (k + 1) b) (set (set ps k p) (k + 1) 0) (set os (k + 1) o) ≡ levelIs a b 0 o
+  pub pushed-top : levelAt (k + 1) (set xs (k + 1) a) (set is (k + 1) b) (set (set ps k p) (k + 1) 0) (set os (k + 1) o) ≡ levelWith a b 0 o
   pushed-top =
       let lp : k + 1 < length (set ps k p) = simp length-set hp in
       simp (
@@ -97,12 +97,12 @@ module _ (k : ℕ) (xs is ps os : List ℕ) (a b p o : ℕ) (hx : k + 1 < length
         getD-set-same os (k + 1) o 0 ho,
       )
 
-  pub pushed-below : stackOf (k + 1) (set xs (k + 1) a) (set is (k + 1) b) (set (set ps k p) (k + 1) 0) (set os (k + 1) o)
-      ≡ levelIs (getD xs k 0) (getD is k 0) p (getD os k 0) ∷ stackOf k xs is ps os
+  pub pushed-below : stackIs (k + 1) (set xs (k + 1) a) (set is (k + 1) b) (set (set ps k p) (k + 1) 0) (set os (k + 1) o)
+      ≡ levelWith (getD xs k 0) (getD is k 0) p (getD os k 0) ∷ stackIs k xs is ps os
   pushed-below =
       let ne : k ≡ k + 1 → ⊥ = λ e. omega arith in
       let lp : k < length ps = omega arith in
-      let rest : stackOf k (set xs (k + 1) a) (set is (k + 1) b) (set (set ps k p) (k + 1) 0) (set os (k + 1) o) ≡ stackOf k xs is ps os =
+      let rest : stackIs k (set xs (k + 1) a) (set is (k + 1) b) (set (set ps k p) (k + 1) 0) (set os (k + 1) o) ≡ stackIs k xs is ps os =
       stack-ext k (set xs (k + 1) a) (set is (k + 1) b) (set (set ps k p) (k + 1) 0) (set os (k + 1) o) xs is ps os
       (λ j h. getD-set-other xs (k + 1) j a 0 (λ e. omega arith))
       (λ j h. getD-set-other is (k + 1) j b 0 (λ e. omega arith))

@@ -18,7 +18,7 @@ use Rattle.format.specs.Node.{sound, unsound, transitionAt}
 use Rattle.format.specs.laws.NodeFacts.{node-zero, node-count}
 use Rattle.format.specs.laws.LiveLaws.{target-below-root, live-below-root}
 use Rattle.format.specs.laws.TransitionLaws.{at-member}
-use Rattle.format.specs.Paths.{Fst, fstIs, nodeIn}
+use Rattle.format.specs.Paths.{Fst, fstWith, nodeIn}
 use Rattle.format.specs.Strings.{Bound}
 use Rattle.node.specs.declared.Node.{Node}
 use Rattle.node.specs.Read.{meaning, Readable, transitionsIn}
@@ -26,7 +26,7 @@ use Rattle.node.specs.ReadLaws.{length-node-transitions}
 use Rattle.reading.specs.Reading.{Level, passesTest, keyOf, counted, Went, found, nextTrans, child, stepped}
 use Rattle.stream_next.specs.declared.Down.{Down}
 use Rattle.stream_next.specs.declared.Down.the-variants.{Found, Passed, Halted}
-use Rattle.stream_start.specs.Views.{Arrays, levelAt, stackOf}
+use Rattle.stream_start.specs.Views.{Arrays, levelAt, stackIs}
 use Rattle.stream_next.specs.Steps.{Ready, downFrom, downSeen, downAt, Descends, foundAt}
 use Rattle.stream_start.specs.StackLaws.{key-stack}
 use Rattle.stream_next.proofs.DescendLaws.{down-deep, down-sum, down-bad, down-passed, down-final, down-on, pushed-top, pushed-below}
@@ -52,18 +52,18 @@ found-low k sum end t h = go (leb (sum + end) maxSum)
 
 found-seen : (xs is ps os : List ℕ) (k sum end t : ℕ)
     → downSeen xs is ps os (foundAt k sum end t)
-    ≡ cond (leb (sum + end) maxSum) (found (levelAt k xs is ps os ∷ stackOf k xs is ps os) (sum + end) t) (Went.halted SUM)
+    ≡ cond (leb (sum + end) maxSum) (found (levelAt k xs is ps os ∷ stackIs k xs is ps os) (sum + end) t) (Went.halted SUM)
 found-seen xs is ps os k sum end t = go (leb (sum + end) maxSum)
   where
     go : (b : Bool) → downSeen xs is ps os (cond b (Found k (sum + end) t) (Halted SUM))
-        ≡ cond b (found (levelAt k xs is ps os ∷ stackOf k xs is ps os) (sum + end) t) (Went.halted SUM)
+        ≡ cond b (found (levelAt k xs is ps os ∷ stackIs k xs is ps os) (sum + end) t) (Went.halted SUM)
     go true = refl
     go false = refl
 
 module _ {s : List ℕ} {v root : ℕ} {hi : Bound} {want : Went} {xs is ps os : List ℕ} {k : ℕ} {m : Node} {t : ℕ}
     (g : Going s v root hi want xs is ps os k m t) where
   abbrev f : Fst
-  f = fstIs s v root
+  f = fstWith s v root
 
   abbrev l : Level
   l = levelAt k xs is ps os
@@ -72,7 +72,7 @@ module _ {s : List ℕ} {v root : ℕ} {hi : Bound} {want : Went} {xs is ps os :
   going-deep h = record {
     low = omega arith;
     len = g .arrays .inps-len;
-    seen = sym (g .same ∙ down-deep k f hi l (meaning s m) (stackOf k xs is ps os) t h);
+    seen = sym (g .same ∙ down-deep k f hi l (meaning s m) (stackIs k xs is ps os) t h);
   }
 
   -- ---- a turn, with the place of the transition and its output
@@ -102,7 +102,7 @@ module _ {s : List ℕ} {v root : ℕ} {hi : Bound} {want : Went} {xs is ps os :
       going-sum h = record {
         low = omega arith;
         len = g .arrays .inps-len;
-        seen = sym (g .same ∙ down-sum k f hi l (meaning s m) (stackOf k xs is ps os) t hk (rw out-is at h));
+        seen = sym (g .same ∙ down-sum k f hi l (meaning s m) (stackIs k xs is ps os) t hk (rw out-is at h));
       }
 
       module _ (fits : getD os k 0 + out ≤ maxSum) {a : ℕ} (ea : a ≡ transitionAt (transitionsIn s m) i .addr) where
@@ -116,7 +116,7 @@ module _ {s : List ℕ} {v root : ℕ} {hi : Bound} {want : Went} {xs is ps os :
         going-bad e = record {
           low = omega arith;
           len = g .arrays .inps-len;
-          seen = sym (g .same ∙ down-bad k f hi l (meaning s m) (stackOf k xs is ps os) t hk fit (rw target-is at e));
+          seen = sym (g .same ∙ down-bad k f hi l (meaning s m) (stackIs k xs is ps os) t hk fit (rw target-is at e));
         }
 
         -- ---- the target is judged, its level is written, and the transition is counted
@@ -146,7 +146,7 @@ module _ {s : List ℕ} {v root : ℕ} {hi : Bound} {want : Went} {xs is ps os :
               pushed-top k xs is ps os a b (i + 1) (sum) (omega (arith, g .arrays .addrs-len)) (omega (arith, g .arrays .inps-len)) (omega (arith, g .arrays .trans-len)) (omega (arith, g .arrays .outs-len))
               ∙ rw (target-is, input-is, sum-is)
 
-          below⁺ : stackOf (k + 1) xs⁺ is⁺ ps⁺ os⁺ ≡ stepped l ∷ stackOf k xs is ps os
+          below⁺ : stackIs (k + 1) xs⁺ is⁺ ps⁺ os⁺ ≡ stepped l ∷ stackIs k xs is ps os
           below⁺ =
               pushed-below k xs is ps os a b (i + 1) (sum) (omega (arith, g .arrays .addrs-len)) (omega (arith, g .arrays .inps-len)) (omega (arith, g .arrays .trans-len)) (omega (arith, g .arrays .outs-len))
               ∙ rw ei
@@ -157,9 +157,9 @@ module _ {s : List ℕ} {v root : ℕ} {hi : Bound} {want : Went} {xs is ps os :
           len⁺ : length is⁺ ≡ 256
           len⁺ = length-set is (k + 1) b ∙ g .arrays .inps-len
 
-          key⁺ : keyOf (child l (meaning s m) ∷ stepped l ∷ stackOf k xs is ps os) ≡ take (k + 1) (drop 1 is⁺)
+          key⁺ : keyOf (child l (meaning s m) ∷ stepped l ∷ stackIs k xs is ps os) ≡ take (k + 1) (drop 1 is⁺)
           key⁺ =
-              sym (ap (λ (c : Level). keyOf (c ∷ stepped l ∷ stackOf k xs is ps os)) top⁺)
+              sym (ap (λ (c : Level). keyOf (c ∷ stepped l ∷ stackIs k xs is ps os)) top⁺)
               ∙ sym (ap (λ (r : List Level). keyOf (levelAt (k + 1) xs⁺ is⁺ ps⁺ os⁺ ∷ r)) below⁺)
               ∙ key-stack (k + 1) xs⁺ is⁺ ps⁺ os⁺ (omega (arith, len⁺))
 
@@ -167,7 +167,7 @@ module _ {s : List ℕ} {v root : ℕ} {hi : Bound} {want : Went} {xs is ps os :
           going-passed p = record {
             low = omega arith;
             len = len⁺;
-            seen = sym (g .same ∙ down-passed k f hi l (meaning s m) (stackOf k xs is ps os) t hk fit (meaning s n) target⁺ (ap (passesTest hi) key⁺ ∙ p) ∙ sym (rw eu));
+            seen = sym (g .same ∙ down-passed k f hi l (meaning s m) (stackIs k xs is ps os) t hk fit (meaning s n) target⁺ (ap (passesTest hi) key⁺ ∙ p) ∙ sym (rw eu));
           }
 
           module _ (p : passesTest hi (take (k + 1) (drop 1 is⁺)) ≡ false) where
@@ -177,7 +177,7 @@ module _ {s : List ℕ} {v root : ℕ} {hi : Bound} {want : Went} {xs is ps os :
               len = len⁺;
               seen =
                   ap (downSeen xs⁺ is⁺ ps⁺ os⁺) er ∙ found-seen xs⁺ is⁺ ps⁺ os⁺ (k + 1) (sum) (n .«final_output») u
-                  ∙ sym (g .same ∙ down-final k f hi l (meaning s m) (stackOf k xs is ps os) t hk fit (meaning s n) target⁺ (ap (passesTest hi) key⁺ ∙ p) e ∙ sym (rw (top⁺, below⁺, eu, sum-is)));
+                  ∙ sym (g .same ∙ down-final k f hi l (meaning s m) (stackIs k xs is ps os) t hk fit (meaning s n) target⁺ (ap (passesTest hi) key⁺ ∙ p) e ∙ sym (rw (top⁺, below⁺, eu, sum-is)));
             }
 
             live : n .«is_final» ≡ false → 0 < length (transitionsIn s n)
@@ -200,5 +200,5 @@ module _ {s : List ℕ} {v root : ℕ} {hi : Bound} {want : Went} {xs is ps os :
                     outs-len = length-set os (k + 1) (sum) ∙ g .arrays .outs-len;
                   };
                   ready = record { node = rw x en; readable = readable; next = rw y (omega (arith, live e, length-node-transitions s n readable)) };
-                  same = g .same ∙ down-on k f hi l (meaning s m) (stackOf k xs is ps os) t hk fit (meaning s n) target⁺ (ap (passesTest hi) key⁺ ∙ p) e ∙ sym (rw (top⁺, below⁺, eu));
+                  same = g .same ∙ down-on k f hi l (meaning s m) (stackIs k xs is ps os) t hk fit (meaning s n) target⁺ (ap (passesTest hi) key⁺ ∙ p) e ∙ sym (rw (top⁺, below⁺, eu));
                 }

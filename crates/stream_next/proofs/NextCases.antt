@@ -20,7 +20,7 @@ use Rattle.format.specs.Limits.{maxPath, maxLevels, NODE, SPACE, STATE}
 use Rattle.format.specs.Opening as Opening
 use Rattle.format.specs.Opening.{Meta, opened, opening}
 use Rattle.format.specs.laws.OpeningLaws.{opened-facts, root-inside}
-use Rattle.format.specs.Paths.{Fst, fstIs, fstOf}
+use Rattle.format.specs.Paths.{Fst, fstWith, fstOf}
 use Rattle.node.specs.declared.Node.{Node}
 use Rattle.node.specs.Read.{meaning}
 use Rattle.reading.specs.Reading as R
@@ -31,7 +31,7 @@ use Rattle.stream_next.specs.declared.Step.{Step}
 use Rattle.stream_next.specs.declared.Popped.{Popped}
 use Rattle.stream_next.specs.declared.Down.{Down}
 use Rattle.stream_next.specs.declared.Down.the-variants.{Found}
-use Rattle.stream_start.specs.Views.{levelAt, stackOf, viewOf, emptyOf}
+use Rattle.stream_start.specs.Views.{levelAt, stackIs, viewIs, emptyIs}
 use Rattle.stream_next.specs.Stepped.{Stepped}
 use Rattle.stream_next.specs.Steps.{popSeen, Pops, downSeen, downAt, downOf, Descends, stateRight, placedAt, endedAt}
 use Rattle.stream_start.specs.StackLaws.{stack-length, stack-more, key-stack}
@@ -53,23 +53,23 @@ filled q xs is ps os = record {
   outs = os;
 }
 
-filled-view : (r q : Reading) (k t : ℕ) → q ≡ placedAt r k t → (xs is ps os : List ℕ) → viewOf (filled q xs is ps os) ≡ moved (viewOf r) (stackOf k xs is ps os) t
-filled-view r q k t e xs is ps os = ap (λ (x : Reading). viewOf (filled x xs is ps os)) e
+filled-view : (r q : Reading) (k t : ℕ) → q ≡ placedAt r k t → (xs is ps os : List ℕ) → viewIs (filled q xs is ps os) ≡ moved (viewIs r) (stackIs k xs is ps os) t
+filled-view r q k t e xs is ps os = ap (λ (x : Reading). viewIs (filled x xs is ps os)) e
 
-pub ended-is : (r q : Reading) (t : ℕ) → q ≡ placedAt r 0 t → (buf : List ℕ) → Stepped (endedAt (viewOf r) t) buf buf (record { answer = End; reading = q })
-unfolding stackOf
-ended-is r q t e buf = record { answer = refl; reading = ap viewOf e; buffer = refl }
+pub ended-is : (r q : Reading) (t : ℕ) → q ≡ placedAt r 0 t → (buf : List ℕ) → Stepped (endedAt (viewIs r) t) buf buf (record { answer = End; reading = q })
+unfolding stackIs
+ended-is r q t e buf = record { answer = refl; reading = ap viewIs e; buffer = refl }
 
 -- ---- the pending empty key
 
 module _ (f : Fst) (r : Reading) (v : ℕ) (buf : List ℕ) where
-  pub pending-passed : passesTest (viewOf r .bound) [] ≡ true → (x : Step) → Stepped (endedAt (viewOf r) (r .total)) buf buf x
-      → Stepped (R.walk f (viewOf r) (some v)) buf buf x
+  pub pending-passed : passesTest (viewIs r .bound) [] ≡ true → (x : Step) → Stepped (endedAt (viewIs r) (r .total)) buf buf x
+      → Stepped (R.walk f (viewIs r) (some v)) buf buf x
   pending-passed p x h = rw p h
 
-  pub pending-key : passesTest (viewOf r .bound) [] ≡ false → (q : Reading) → q ≡ placedAt r (r .levels) (r .total)
-      → Stepped (R.walk f (viewOf r) (some v)) buf buf (record { answer = Key 0 v; reading = q })
-  pending-key p q e = rw p (record { answer = refl; reading = ap viewOf e; buffer = refl })
+  pub pending-key : passesTest (viewIs r .bound) [] ≡ false → (q : Reading) → q ≡ placedAt r (r .levels) (r .total)
+      → Stepped (R.walk f (viewIs r) (some v)) buf buf (record { answer = Key 0 v; reading = q })
+  pending-key p q e = rw p (record { answer = refl; reading = ap viewIs e; buffer = refl })
 
 -- ---- the descent
 
@@ -80,22 +80,22 @@ pub descends-low : {want : Went} {xs is ps os : List ℕ} {d : Down} {k v t : �
 descends-low h e = rw (ap downAt e) at (h .low)
 
 module _ (r : Reading) (w : Went) where
-  pub after-halted : (buf : List ℕ) (n : ℕ) → w ≡ Went.halted n → Stepped (afterDescend (viewOf r) w) buf buf (record { answer = Refused n; reading = r })
+  pub after-halted : (buf : List ℕ) (n : ℕ) → w ≡ Went.halted n → Stepped (afterDescend (viewIs r) w) buf buf (record { answer = Refused n; reading = r })
   after-halted buf n e = rw e (record { answer = refl; reading = refl; buffer = refl })
 
-  pub after-passed : (buf : List ℕ) (t : ℕ) → w ≡ passed t → (x : Step) → Stepped (endedAt (viewOf r) t) buf buf x
-      → Stepped (afterDescend (viewOf r) w) buf buf x
+  pub after-passed : (buf : List ℕ) (t : ℕ) → w ≡ passed t → (x : Step) → Stepped (endedAt (viewIs r) t) buf buf x
+      → Stepped (afterDescend (viewIs r) w) buf buf x
   after-passed buf t e x h = rw e h
 
-  pub after-found : (k v t : ℕ) (xs is ps os buf₀ buf : List ℕ) → w ≡ found (levelAt k xs is ps os ∷ stackOf k xs is ps os) v t → k + 1 ≤ length is
+  pub after-found : (k v t : ℕ) (xs is ps os buf₀ buf : List ℕ) → w ≡ found (levelAt k xs is ps os ∷ stackIs k xs is ps os) v t → k + 1 ≤ length is
       → buf ≡ take k (drop 1 is) ++ drop k buf₀ → (q : Reading) → q ≡ placedAt r (k + 1) t
-      → Stepped (afterDescend (viewOf r) w) buf₀ buf (record { answer = Key k v; reading = filled q xs is ps os })
+      → Stepped (afterDescend (viewIs r) w) buf₀ buf (record { answer = Key k v; reading = filled q xs is ps os })
   after-found k v t xs is ps os buf₀ buf e low copy q placed =
       let key = key-stack k xs is ps os low in
       let len : length (take k (drop 1 is)) ≡ k = length-take-le k (drop 1 is) (simp length-drop (omega arith)) in
       rw e (record {
         answer = rw (key, len);
-        reading = filled-view r q (k + 1) t placed xs is ps os ∙ ap (λ (s : List Level). moved (viewOf r) s t) (stack-more k xs is ps os);
+        reading = filled-view r q (k + 1) t placed xs is ps os ∙ ap (λ (s : List Level). moved (viewIs r) s t) (stack-more k xs is ps os);
         buffer = rw (key, len) copy;
       })
 
@@ -111,21 +111,21 @@ inputs-copied {is = is} h k buf₀ buf low copy = copy ∙ ap (λ (l : List ℕ)
 -- ---- the pops
 
 pub pops-is : {s : List ℕ} {v root : ℕ} {xs ps : List ℕ} {levels : ℕ} {p p′ : Popped} → Pops s v root xs ps levels p → p ≡ p′ → (is os : List ℕ)
-    → pop (fstIs s v root) (stackOf levels xs is ps os) ≡ popSeen s xs is ps os p′
+    → pop (fstWith s v root) (stackIs levels xs is ps os) ≡ popSeen s xs is ps os p′
 pops-is {s} {xs = xs} {ps = ps} h e is os = sym (h .seen is os) ∙ ap (popSeen s xs is ps os) e
 
 module _ (s : List ℕ) (v root : ℕ) (r : Reading) where
-  pub walk-empty : (buf : List ℕ) → pop (fstIs s v root) (viewOf r .levels) ≡ used-up → (x : Step) → Stepped (endedAt (viewOf r) (r .total)) buf buf x
-      → Stepped (R.walk (fstIs s v root) (viewOf r) none) buf buf x
+  pub walk-empty : (buf : List ℕ) → pop (fstWith s v root) (viewIs r .levels) ≡ used-up → (x : Step) → Stepped (endedAt (viewIs r) (r .total)) buf buf x
+      → Stepped (R.walk (fstWith s v root) (viewIs r) none) buf buf x
   walk-empty buf e x h = rw e h
 
-  pub walk-bad : (buf : List ℕ) → pop (fstIs s v root) (viewOf r .levels) ≡ bad
-      → Stepped (R.walk (fstIs s v root) (viewOf r) none) buf buf (record { answer = Refused NODE; reading = r })
+  pub walk-bad : (buf : List ℕ) → pop (fstWith s v root) (viewIs r .levels) ≡ bad
+      → Stepped (R.walk (fstWith s v root) (viewIs r) none) buf buf (record { answer = Refused NODE; reading = r })
   walk-bad buf e = rw e (record { answer = refl; reading = refl; buffer = refl })
 
   pub walk-at : (buf₀ buf : List ℕ) (k : ℕ) (m : Node)
-      → pop (fstIs s v root) (viewOf r .levels) ≡ top (levelAt k (r .addrs) (r .inps) (r .trans) (r .outs)) (meaning s m) (stackOf k (r .addrs) (r .inps) (r .trans) (r .outs))
-      → (x : Step) → Stepped (afterDescend (viewOf r) (downOf s v root r k m)) buf₀ buf x → Stepped (R.walk (fstIs s v root) (viewOf r) none) buf₀ buf x
+      → pop (fstWith s v root) (viewIs r .levels) ≡ top (levelAt k (r .addrs) (r .inps) (r .trans) (r .outs)) (meaning s m) (stackIs k (r .addrs) (r .inps) (r .trans) (r .outs))
+      → (x : Step) → Stepped (afterDescend (viewIs r) (downOf s v root r k m)) buf₀ buf x → Stepped (R.walk (fstWith s v root) (viewIs r) none) buf₀ buf x
   walk-at buf₀ buf k m e x h = rw (e, stack-length k (r .addrs) (r .inps) (r .trans) (r .outs)) h
 
 -- ---- what comes before the walk
@@ -151,7 +151,7 @@ state-facts r len e =
     let q = and-both (leb (r .«bound_len») 255) (eqb (r .len) len) (p .1) in
     (leb-true (r .levels) 256 (p .0), leb-true (r .«bound_len») 255 (q .0))
 
-state-is : (r : Reading) (len : ℕ) → stateRight (r .levels) (r .«bound_len») (r .len) len ≡ stateTest (viewOf r) len
+state-is : (r : Reading) (len : ℕ) → stateRight (r .levels) (r .«bound_len») (r .len) len ≡ stateTest (viewIs r) len
 state-is r len = rw (stack-length (r .levels) (r .addrs) (r .inps) (r .trans) (r .outs))
 
 -- an address of a file that opens fits 32 bits
@@ -159,31 +159,31 @@ pub root-fits : (s : List ℕ) (m : Meta) → opening s ≡ opened m → m .root
 root-fits s m e = let h = opened-facts s m e in omega (arith, root-inside s m h, h .high)
 
 module _ (s : List ℕ) (r : Reading) (buf₀ : List ℕ) where
-  refused-by : (n : ℕ) → R.next s (viewOf r) (length buf₀) ≡ refuse (viewOf r) n
-      → Stepped (R.next s (viewOf r) (length buf₀)) buf₀ buf₀ (record { answer = Refused n; reading = r })
+  refused-by : (n : ℕ) → R.next s (viewIs r) (length buf₀) ≡ refuse (viewIs r) n
+      → Stepped (R.next s (viewIs r) (length buf₀)) buf₀ buf₀ (record { answer = Refused n; reading = r })
   refused-by n e = rw e (record { answer = refl; reading = refl; buffer = refl })
 
-  pub next-refused : (n : ℕ) → opening s ≡ Opening.refused n → Stepped (R.next s (viewOf r) (length buf₀)) buf₀ buf₀ (record { answer = Refused n; reading = r })
+  pub next-refused : (n : ℕ) → opening s ≡ Opening.refused n → Stepped (R.next s (viewIs r) (length buf₀)) buf₀ buf₀ (record { answer = Refused n; reading = r })
   unfolding R.next
   next-refused n e = refused-by n (rw e)
 
   module _ (m : Meta) (opens : opening s ≡ opened m) where
     pub next-state : stateRight (r .levels) (r .«bound_len») (r .len) (length s) ≡ false
-        → Stepped (R.next s (viewOf r) (length buf₀)) buf₀ buf₀ (record { answer = Refused STATE; reading = r })
+        → Stepped (R.next s (viewIs r) (length buf₀)) buf₀ buf₀ (record { answer = Refused STATE; reading = r })
     unfolding R.next
     next-state h = let t = sym (state-is r (length s)) ∙ h in refused-by STATE (rw (opens, t))
 
     module _ (h : stateRight (r .levels) (r .«bound_len») (r .len) (length s) ≡ true) where
-      pub next-space : length buf₀ < 255 → Stepped (R.next s (viewOf r) (length buf₀)) buf₀ buf₀ (record { answer = Refused SPACE; reading = r })
+      pub next-space : length buf₀ < 255 → Stepped (R.next s (viewIs r) (length buf₀)) buf₀ buf₀ (record { answer = Refused SPACE; reading = r })
       unfolding R.next
       next-space g = let t = sym (state-is r (length s)) ∙ h in refused-by SPACE (rw (opens, t, lt-leb 255 (length buf₀) g))
 
-      module _ (g : 255 ≤ length buf₀) {e : Option ℕ} (is : emptyOf (r .«empty_output») ≡ e) where
-        next-walks : R.next s (viewOf r) (length buf₀) ≡ R.walk (fstOf s m) (viewOf r) e
+      module _ (g : 255 ≤ length buf₀) {e : Option ℕ} (is : emptyIs (r .«empty_output») ≡ e) where
+        next-walks : R.next s (viewIs r) (length buf₀) ≡ R.walk (fstOf s m) (viewIs r) e
         unfolding R.next
         next-walks =
             let t = sym (state-is r (length s)) ∙ h in
-            rw (opens, t, le-leb 255 (length buf₀) g) (ap (R.walk (fstOf s m) (viewOf r)) is)
+            rw (opens, t, le-leb 255 (length buf₀) g) (ap (R.walk (fstOf s m) (viewIs r)) is)
 
-        pub next-walk : (buf : List ℕ) (x : Step) → Stepped (R.walk (fstOf s m) (viewOf r) e) buf₀ buf x → Stepped (R.next s (viewOf r) (length buf₀)) buf₀ buf x
+        pub next-walk : (buf : List ℕ) (x : Step) → Stepped (R.walk (fstOf s m) (viewIs r) e) buf₀ buf x → Stepped (R.next s (viewIs r) (length buf₀)) buf₀ buf x
         next-walk buf x w = rw next-walks w

@@ -18,7 +18,7 @@ use Rattle.stream_next.specs.declared.Order.the-variants.{Less, Equal, G
 use Rattle.stream_start.specs.declared.Bound.{Bound}
 use Rattle.stream_start.specs.declared.Bound.the-variants.{Included, Excluded, Unbounded}
 use Rattle.reading.specs.Reading.{passesTest}
-use Rattle.stream_start.specs.Views.{boundOf}
+use Rattle.stream_start.specs.Views.{boundIs}
 use Rattle.stream_next.specs.Steps.{Ordered}
 
 -- ---- two strings
@@ -66,7 +66,7 @@ overOf Excluded Less = false
 overOf Excluded Equal = true
 overOf Excluded Greater = true
 
-over-is : (kind : Bound) (order : Order) (k b : List ℕ) → Ordered k b order → overOf kind order ≡ passesTest (boundOf kind b) k
+over-is : (kind : Bound) (order : Order) (k b : List ℕ) → Ordered k b order → overOf kind order ≡ passesTest (boundIs kind b) k
 over-is Unbounded order k b o = refl
 over-is Included Less k b o = sym (o .greater)
 over-is Included Equal k b o = sym (o .greater)
@@ -76,10 +76,10 @@ over-is Excluded Equal k b o = rw (o .less)
 over-is Excluded Greater k b o = rw (o .less)
 
 pub over-by : {kind kind′ : Bound} {order order′ : Order} (k b : List ℕ) → kind ≡ kind′ → order ≡ order′ → Ordered k b order
-    → overOf kind′ order′ ≡ passesTest (boundOf kind b) k
+    → overOf kind′ order′ ≡ passesTest (boundIs kind b) k
 over-by {kind} {kind′} {order} {order′} k b e q o = rw (← e, ← q) (over-is kind order k b o)
 
-pub over-free : {kind : Bound} (k b : List ℕ) → kind ≡ Unbounded → false ≡ passesTest (boundOf kind b) k
+pub over-free : {kind : Bound} (k b : List ℕ) → kind ≡ Unbounded → false ≡ passesTest (boundIs kind b) k
 over-free {kind} k b e = rw e
 
 -- ---- the k bytes after the first, and the first n bytes of a bound

@@ -1,2 +1,4 @@
 pub mod Stepped
 pub mod Steps
+pub mod Calls
+pub mod CallsLaws

@@ -20,7 +20,7 @@ use lib.Dec.{leb, eqb}
 use lib.ListN.{length, getD, take}
 use Rattle.format.specs.Limits.{maxPath, maxLevels, maxSum, SUM}
 use Rattle.format.specs.Node.{sound}
-use Rattle.format.specs.Paths.{fstIs, nodeIn}
+use Rattle.format.specs.Paths.{fstWith, nodeIn}
 use Rattle.format.specs.Strings as S
 use Rattle.format.specs.Strings.{beforeTest}
 use Rattle.node.specs.declared.Node.{Node}
@@ -37,30 +37,30 @@ use Rattle.stream_next.specs.declared.Added.{Added}
 use Rattle.stream_next.specs.declared.Added.the-variants.{Within, Past}
 use Rattle.stream_next.specs.declared.Order.{Order}
 use Rattle.stream_next.specs.declared.Order.the-variants.{Less, Equal, Greater}
-use Rattle.stream_start.specs.Views.{levelAt, stackOf, boundOf}
+use Rattle.stream_start.specs.Views.{levelAt, stackIs, boundIs}
 
 -- ---- the pops
 
 abbrev pub popSeen : List ℕ → List ℕ → List ℕ → List ℕ → List ℕ → Popped → R.Popped
-popSeen s xs is ps os (At k m) = top (levelAt k xs is ps os) (meaning s m) (stackOf k xs is ps os)
+popSeen s xs is ps os (At k m) = top (levelAt k xs is ps os) (meaning s m) (stackIs k xs is ps os)
 popSeen s xs is ps os Empty = used-up
 popSeen s xs is ps os Bad = bad
 
 pub record Ready (s : List ℕ) (v root a i : ℕ) (m : Node) : Type 0 where
-  pub node : nodeIn (fstIs s v root) a ≡ sound (meaning s m)
+  pub node : nodeIn (fstWith s v root) a ≡ sound (meaning s m)
   pub readable : Readable s m
   pub next : i < m .ntrans
 
 -- the pops see neither the inputs nor the sums
 pub record Pops (s : List ℕ) (v root : ℕ) (xs ps : List ℕ) (levels : ℕ) (r : Popped) : Type 0 where
-  pub seen : (is os : List ℕ) → popSeen s xs is ps os r ≡ pop (fstIs s v root) (stackOf levels xs is ps os)
+  pub seen : (is os : List ℕ) → popSeen s xs is ps os r ≡ pop (fstWith s v root) (stackIs levels xs is ps os)
   pub low : (k : ℕ) (m : Node) → r ≡ At k m → k < maxLevels
   pub ready : (k : ℕ) (m : Node) → r ≡ At k m → Ready s v root (getD xs k 0) (getD ps k 0) m
 
 -- ---- the descent
 
 abbrev pub downSeen : List ℕ → List ℕ → List ℕ → List ℕ → Down → Went
-downSeen xs is ps os (Found k v t) = found (levelAt k xs is ps os ∷ stackOf k xs is ps os) v t
+downSeen xs is ps os (Found k v t) = found (levelAt k xs is ps os ∷ stackIs k xs is ps os) v t
 downSeen xs is ps os (Passed t) = passed t
 downSeen xs is ps os (Halted n) = Went.halted n
 
@@ -71,12 +71,12 @@ downAt (Halted n) = 0
 
 -- from level k, whose node m is judged, down
 abbrev pub downFrom : List ℕ → ℕ → ℕ → S.Bound → List ℕ → List ℕ → List ℕ → List ℕ → ℕ → Node → ℕ → Went
-downFrom s v root hi xs is ps os k m t = descend (maxPath - k) (fstIs s v root) hi (levelAt k xs is ps os) (meaning s m) (stackOf k xs is ps os) t
+downFrom s v root hi xs is ps os k m t = descend (maxPath - k) (fstWith s v root) hi (levelAt k xs is ps os) (meaning s m) (stackIs k xs is ps os) t
 
 -- from level k of a reading down
 abbrev pub downOf : List ℕ → ℕ → ℕ → Reading → ℕ → Node → Went
 downOf s v root r k m =
-    downFrom s v root (boundOf (r .kind) (take (r .«bound_len») (r .bound))) (r .addrs) (r .inps) (r .trans) (r .outs) k m (r .total)
+    downFrom s v root (boundIs (r .kind) (take (r .«bound_len») (r .bound))) (r .addrs) (r .inps) (r .trans) (r .outs) k m (r .total)
 
 pub record Descends (want : Went) (xs is ps os : List ℕ) (r : Down) : Type 0 where
   pub low : downAt r < maxLevels

@@ -6,9 +6,9 @@ ghost use mathlib.Core.List.{List};
 ghost use Prim.Native.Nat.{ℕ, _≤_, _<_};
 ghost use lib.ListN.{length, take, drop, getD};
 ghost use Rattle.format.specs.Limits.{maxPath, maxLevels};
-ghost use Rattle.format.specs.Paths.{Fst, fstIs};
+ghost use Rattle.format.specs.Paths.{Fst, fstWith};
 ghost use Rattle.reading.specs.Reading as R;
-ghost use Rattle.stream_start.specs.Views.{Arrays, boundOf, viewOf};
+ghost use Rattle.stream_start.specs.Views.{Arrays, boundIs, viewIs};
 ghost use Rattle.stream_next.specs.Stepped.{Stepped};
 ghost use Rattle.stream_next.specs.Steps.{Ready, Pops, Descends, downFrom, downOf, foundAt, Adds, Ordered, stateRight, placedAt, endedAt};
 use format::DEEP;
@@ -100,7 +100,8 @@ fn highest(
     levels: usize,
 ) -> Popped
     requires { ⌜ levels ≤ maxLevels ⌝ }
-    ensures { λ r. ⌜ Pops (now (file .entry)) version root (now (addrs .entry)) (now (trans .entry)) levels r ⌝ }
+    ensures { λ r. ⌜ Pops (now (file .entry)) version root (now (addrs .entry)) (now (trans .entry))
+        levels r ⌝ }
 {
     let mut k = levels;
     while 0 < k {
@@ -119,8 +120,10 @@ fn highest(
 
 // How the k inputs after the first stand to the first n bytes of a bound.
 fn compare(inps: &[u8; LEVELS], k: usize, bound: &[u8; MAX_KEY], n: usize) -> Order
-    requires { ⌜ (length (now inps) ≡ maxLevels) × (length (now bound) ≡ maxPath) × (k < maxLevels) × (n ≤ maxPath) ⌝ }
-    ensures { λ r. ⌜ Ordered (take k (drop 1 (now (inps .entry)))) (take n (now (bound .entry))) r ⌝ }
+    requires { ⌜ (length (now inps) ≡ maxLevels) × (length (now bound) ≡ maxPath) × (k < maxLevels)
+        × (n ≤ maxPath) ⌝ }
+    ensures { λ r. ⌜ Ordered (take k (drop 1 (now (inps .entry)))) (take n (now (bound .entry)))
+        r ⌝ }
 {
     let mut i = 0;
     while i < k {
@@ -142,8 +145,10 @@ fn compare(inps: &[u8; LEVELS], k: usize, bound: &[u8; MAX_KEY], n: usize) -> Or
 
 // Whether the key of the k inputs after the first passes the upper bound (`Bound::exceeded_by`).
 fn exceeded(inps: &[u8; LEVELS], k: usize, bound: &[u8; MAX_KEY], n: usize, kind: Bound) -> bool
-    requires { ⌜ (length (now inps) ≡ maxLevels) × (length (now bound) ≡ maxPath) × (k < maxLevels) × (n ≤ maxPath) ⌝ }
-    ensures { λ r. ⌜ r ≡ R.passesTest (boundOf kind (take n (now (bound .entry)))) (take k (drop 1 (now (inps .entry)))) ⌝ }
+    requires { ⌜ (length (now inps) ≡ maxLevels) × (length (now bound) ≡ maxPath) × (k < maxLevels)
+        × (n ≤ maxPath) ⌝ }
+    ensures { λ r. ⌜ r ≡ R.passesTest (boundIs kind (take n (now (bound .entry))))
+        (take k (drop 1 (now (inps .entry)))) ⌝ }
 {
     match kind {
         Bound::Unbounded => false,
@@ -197,9 +202,14 @@ fn descend(
     bound_len: usize,
     kind: Bound,
 ) -> Down
-    requires { ⌜ Arrays (now addrs) (now inps) (now trans) (now outs) × (length (now bound) ≡ maxPath) × («bound_len» ≤ maxPath) ⌝ }
-    requires { ⌜ (top < maxLevels) × (root < 4294967296) × Ready (now file) version root (getD (now addrs) top 0) (getD (now trans) top 0) node ⌝ }
-    ensures { λ r. ⌜ Descends (downFrom (now (file .entry)) version root (boundOf kind (take «bound_len» (now (bound .entry)))) (now (addrs .entry)) (now (inps .entry)) (now (trans .entry)) (now (outs .entry)) top node total) (now (addrs .exit)) (now (inps .exit)) (now (trans .exit)) (now (outs .exit)) r ⌝ }
+    requires { ⌜ Arrays (now addrs) (now inps) (now trans) (now outs)
+        × (length (now bound) ≡ maxPath) × («bound_len» ≤ maxPath) ⌝ }
+    requires { ⌜ (top < maxLevels) × (root < 4294967296) × Ready (now file) version root
+        (getD (now addrs) top 0) (getD (now trans) top 0) node ⌝ }
+    ensures { λ r. ⌜ Descends (downFrom (now (file .entry)) version root
+        (boundIs kind (take «bound_len» (now (bound .entry)))) (now (addrs .entry))
+        (now (inps .entry)) (now (trans .entry)) (now (outs .entry)) top node total)
+        (now (addrs .exit)) (now (inps .exit)) (now (trans .exit)) (now (outs .exit)) r ⌝ }
 {
     let mut k = top;
     let mut m = node;
@@ -274,7 +284,7 @@ fn placed(reading: Reading, levels: usize, total: u64) -> Reading
 
 // The end: no level is left, so that every later call ends too.
 fn ended(reading: Reading, total: u64) -> Step
-    ensures { λ r. ⌜ ((buf : List ℕ) → Stepped (endedAt (viewOf reading) total) buf buf r) ⌝ }
+    ensures { λ r. ⌜ ((buf : List ℕ) → Stepped (endedAt (viewIs reading) total) buf buf r) ⌝ }
 {
     Step {
         answer: Answer::End,
@@ -285,7 +295,8 @@ fn ended(reading: Reading, total: u64) -> Step
 // The pending empty key, or the end where that key passes the upper bound.
 fn pending(reading: Reading, value: u64) -> Step
     requires { ⌜ reading .«bound_len» ≤ maxPath ⌝ }
-    ensures { λ r. ⌜ ((f : Fst) (buf : List ℕ) → Stepped (R.walk f (viewOf reading) (some value)) buf buf r) ⌝ }
+    ensures { λ r. ⌜ ((f : Fst) (buf : List ℕ) → Stepped (R.walk f (viewIs reading) (some value))
+        buf buf r) ⌝ }
 {
     let inps = reading.inps;
     let bound = reading.bound;
@@ -310,9 +321,13 @@ fn advance(
     node: Node,
     key: &mut [u8],
 ) -> Step
-    requires { ⌜ (reading .«bound_len» ≤ maxPath) × (root < 4294967296) × (maxPath ≤ length (now key)) × (top < maxLevels) ⌝ }
-    requires { ⌜ Ready (now file) version root (getD (reading .addrs) top 0) (getD (reading .trans) top 0) node ⌝ }
-    ensures { λ r. ⌜ Stepped (R.afterDescend (viewOf reading) (downOf (now (file .entry)) version root reading top node)) (now (key .entry)) (now (key .exit)) r ⌝ }
+    requires { ⌜ (reading .«bound_len» ≤ maxPath) × (root < 4294967296)
+        × (maxPath ≤ length (now key)) × (top < maxLevels) ⌝ }
+    requires { ⌜ Ready (now file) version root (getD (reading .addrs) top 0)
+        (getD (reading .trans) top 0) node ⌝ }
+    ensures { λ r. ⌜ Stepped (R.afterDescend (viewIs reading)
+        (downOf (now (file .entry)) version root reading top node)) (now (key .entry))
+        (now (key .exit)) r ⌝ }
 {
     let mut addrs = reading.addrs;
     let mut inps = reading.inps;
@@ -365,8 +380,10 @@ fn advance(
 
 // The walk, where no empty key is pending.
 fn walk(file: &[u8], version: u64, root: usize, reading: Reading, key: &mut [u8]) -> Step
-    requires { ⌜ (reading .levels ≤ maxLevels) × (reading .«bound_len» ≤ maxPath) × (root < 4294967296) × (maxPath ≤ length (now key)) ⌝ }
-    ensures { λ r. ⌜ Stepped (R.walk (fstIs (now (file .entry)) version root) (viewOf reading) none) (now (key .entry)) (now (key .exit)) r ⌝ }
+    requires { ⌜ (reading .levels ≤ maxLevels) × (reading .«bound_len» ≤ maxPath)
+        × (root < 4294967296) × (maxPath ≤ length (now key)) ⌝ }
+    ensures { λ r. ⌜ Stepped (R.walk (fstWith (now (file .entry)) version root) (viewIs reading)
+        none) (now (key .entry)) (now (key .exit)) r ⌝ }
 {
     let addrs = reading.addrs;
     let trans = reading.trans;
@@ -387,7 +404,8 @@ fn walk(file: &[u8], version: u64, root: usize, reading: Reading, key: &mut [u8]
 // SUM for the running sum, NODE for its target, the upper bound, and SUM with the final output. The buffer is written only where a key is
 // found: the key from its first byte on. After a refusal the reading is the one given.
 pub fn next(file: &[u8], reading: Reading, key: &mut [u8]) -> Step
-    ensures { λ r. ⌜ Stepped (R.next (now (file .entry)) (viewOf reading) (length (now (key .entry)))) (now (key .entry)) (now (key .exit)) r ⌝ }
+    ensures { λ r. ⌜ Stepped (R.next (now (file .entry)) (viewIs reading)
+        (length (now (key .entry)))) (now (key .entry)) (now (key .exit)) r ⌝ }
 {
     let opened = fst::open(file);
     match opened {

@@ -1,4 +1,4 @@
--- Levels written to the four arrays by a start, as `stackOf` reads them.
+-- Levels written to the four arrays by a start, as `stackIs` reads them.
 --     level-put      level k is written, over the k levels below it
 --     level-back     the highest level goes back to the transition before
 --     level-over     the level of the bound's own node stands over the others
@@ -11,13 +11,13 @@ use Prim.Native.Nat.{ℕ, zero, suc, _+_, _-_, _<_, _≤_}
 use native.Mathlib.Omega.{arith}
 use lib.ListN.{length, getD, set, length-set}
 use lib.Seq.{getD-set-same, getD-set-other}
-use Rattle.reading.specs.Reading.{Level, levelIs, lastLevels}
-use Rattle.stream_start.specs.Views.{Arrays, levelAt, stackOf}
+use Rattle.reading.specs.Reading.{Level, levelWith, lastLevels}
+use Rattle.stream_start.specs.Views.{Arrays, levelAt, stackIs}
 use Rattle.stream_start.specs.Seeks.{LevelPut, LevelsEnd}
 use Rattle.stream_start.specs.StackLaws.{stack-more, stack-suc, stack-ext}
 
 module _ (k : ℕ) (xs is ps os : List ℕ) (fits : k < 256) (h : Arrays xs is ps os) (a i p o : ℕ) where
-  below-same : stackOf k (set xs k a) (set is k i) (set ps k p) (set os k o) ≡ stackOf k xs is ps os
+  below-same : stackIs k (set xs k a) (set is k i) (set ps k p) (set os k o) ≡ stackIs k xs is ps os
   below-same =
       stack-ext k (set xs k a) (set is k i) (set ps k p) (set os k o) xs is ps os
       (λ j l. getD-set-other xs k j a 0 (λ e. omega arith))
@@ -25,7 +25,7 @@ module _ (k : ℕ) (xs is ps os : List ℕ) (fits : k < 256) (h : Arrays xs is p
       (λ j l. getD-set-other ps k j p 0 (λ e. omega arith))
       (λ j l. getD-set-other os k j o 0 (λ e. omega arith))
 
-  pub level-put : LevelPut k (levelIs a i p o) (stackOf k xs is ps os) (set xs k a) (set is k i) (set ps k p) (set os k o)
+  pub level-put : LevelPut k (levelWith a i p o) (stackIs k xs is ps os) (set xs k a) (set is k i) (set ps k p) (set os k o)
   level-put = record {
     arrays = record {
       addrs-len = length-set xs k a ∙ h .addrs-len;
@@ -49,18 +49,18 @@ module _ (k : ℕ) (xs is ps os : List ℕ) (pos : 0 < k) (inside : k ≤ length
   abbrev ps⁻ : List ℕ
   ps⁻ = set ps (k - 1) (getD ps (k - 1) 0 - 1)
 
-  rest-same : stackOf (k - 1) xs is ps⁻ os ≡ stackOf (k - 1) xs is ps os
+  rest-same : stackIs (k - 1) xs is ps⁻ os ≡ stackIs (k - 1) xs is ps os
   rest-same =
       stack-ext (k - 1) xs is ps⁻ os xs is ps os
       (λ j l. refl) (λ j l. refl) (λ j l. getD-set-other ps (k - 1) j (getD ps (k - 1) 0 - 1) 0 (λ e. omega arith)) (λ j l. refl)
 
-  pub level-back : (c : Bool) (l : Level) → c ≡ true → stackOf k xs is ps⁻ os ≡ lastLevels c l (stackOf k xs is ps os)
+  pub level-back : (c : Bool) (l : Level) → c ≡ true → stackIs k xs is ps⁻ os ≡ lastLevels c l (stackIs k xs is ps os)
   level-back c l e =
       let same : getD ps⁻ (k - 1) 0 ≡ getD ps (k - 1) 0 - 1 = getD-set-same ps (k - 1) (getD ps (k - 1) 0 - 1) 0 (omega arith) in
       stack-suc k xs is ps⁻ os pos ∙ rw (same, rest-same) (sym (rw (e, stack-suc k xs is ps os pos)))
 
-pub level-over : (k : ℕ) (xs is ps os : List ℕ) (c : Bool) (l : Level) → (c ≡ true → 0 < k → ⊥) → lastLevels c l (stackOf k xs is ps os) ≡ l ∷ stackOf k xs is ps os
-unfolding stackOf
+pub level-over : (k : ℕ) (xs is ps os : List ℕ) (c : Bool) (l : Level) → (c ≡ true → 0 < k → ⊥) → lastLevels c l (stackIs k xs is ps os) ≡ l ∷ stackIs k xs is ps os
+unfolding stackIs
 level-over zero xs is ps os true l none = refl
 level-over zero xs is ps os false l none = refl
 level-over (suc k) xs is ps os true l none = absurd (none refl (omega arith))

@@ -18,7 +18,7 @@ use Rattle.format.specs.Limits.{maxSum, NODE, SUM}
 use Rattle.format.specs.Node.{Node, Judgement, sound, unsound, Place, at, absent, findInput, transitionAt}
 use Rattle.format.specs.Paths.{Fst, nodeIn}
 use Rattle.format.specs.Lookup.{pastSum}
-use Rattle.reading.specs.Reading.{Level, levelIs, onNode, onPlace, Sought, got, halted, firstAbove, lastLevels, seek}
+use Rattle.reading.specs.Reading.{Level, levelWith, onNode, onPlace, Sought, got, halted, firstAbove, lastLevels, seek}
 use Rattle.stream_start.specs.declared.Entered.{Entered}
 use Rattle.stream_start.specs.declared.Entered.the-variants.{Hit, Miss, Unsound}
 use Rattle.stream_start.specs.Seeks.{enterOf}
@@ -84,7 +84,7 @@ module _ (f : Fst) (c : Bool) (a i sum : ℕ) (s : List Level) where
       by unsound e = rw e (seek-unsound lo e)
 
   module _ (fits : sum ≤ maxSum) where
-    pub seek-done : (m : Node) → nodeIn f a ≡ sound m → seek f c a i sum s [] ≡ got (lastLevels c (levelIs a i 0 sum) s)
+    pub seek-done : (m : Node) → nodeIn f a ≡ sound m → seek f c a i sum s [] ≡ got (lastLevels c (levelWith a i 0 sum) s)
     unfolding seek
     seek-done m e = simp (e, le-leb sum maxSum fits)
 
@@ -92,20 +92,20 @@ module _ (f : Fst) (c : Bool) (a i sum : ℕ) (s : List Level) where
     seek-turn : (b : ℕ) (lo : List ℕ)
         → seek f c a i sum s (b ∷ lo)
         ≡ onEntered (enterOf f a b)
-        (λ p t o. seek f c t b (sum + o) (levelIs a i (p + 1) sum ∷ s) lo)
-        (λ p. got (levelIs a i p sum ∷ s))
+        (λ p t o. seek f c t b (sum + o) (levelWith a i (p + 1) sum ∷ s) lo)
+        (λ p. got (levelWith a i p sum ∷ s))
         (halted NODE)
     unfolding seek enterOf
     seek-turn b lo = simp (le-leb sum maxSum fits) (judged (nodeIn f a))
       where
         placed : (m : Node) (p : Place)
             → onPlace p
-            (λ p. seek f c (transitionAt (m .transitions) p .addr) b (sum + transitionAt (m .transitions) p .out) (levelIs a i (p + 1) sum ∷ s) lo)
-            (got (levelIs a i (firstAbove (m .transitions) b) sum ∷ s))
+            (λ p. seek f c (transitionAt (m .transitions) p .addr) b (sum + transitionAt (m .transitions) p .out) (levelWith a i (p + 1) sum ∷ s) lo)
+            (got (levelWith a i (firstAbove (m .transitions) b) sum ∷ s))
             ≡ onEntered
             (onPlace p (λ p. Hit p (transitionAt (m .transitions) p .addr) (transitionAt (m .transitions) p .out)) (Miss (firstAbove (m .transitions) b)))
-            (λ p t o. seek f c t b (sum + o) (levelIs a i (p + 1) sum ∷ s) lo)
-            (λ p. got (levelIs a i p sum ∷ s))
+            (λ p t o. seek f c t b (sum + o) (levelWith a i (p + 1) sum ∷ s) lo)
+            (λ p. got (levelWith a i p sum ∷ s))
             (halted NODE)
         placed m (at p) = refl
         placed m absent = refl
@@ -114,15 +114,15 @@ module _ (f : Fst) (c : Bool) (a i sum : ℕ) (s : List Level) where
             → onNode j
             (λ m.
             onPlace (findInput (m .transitions) b)
-            (λ p. seek f c (transitionAt (m .transitions) p .addr) b (sum + transitionAt (m .transitions) p .out) (levelIs a i (p + 1) sum ∷ s) lo)
-            (got (levelIs a i (firstAbove (m .transitions) b) sum ∷ s)))
+            (λ p. seek f c (transitionAt (m .transitions) p .addr) b (sum + transitionAt (m .transitions) p .out) (levelWith a i (p + 1) sum ∷ s) lo)
+            (got (levelWith a i (firstAbove (m .transitions) b) sum ∷ s)))
             (halted NODE)
             ≡ onEntered
             (onNode j
             (λ m. onPlace (findInput (m .transitions) b) (λ p. Hit p (transitionAt (m .transitions) p .addr) (transitionAt (m .transitions) p .out)) (Miss (firstAbove (m .transitions) b)))
             Unsound)
-            (λ p t o. seek f c t b (sum + o) (levelIs a i (p + 1) sum ∷ s) lo)
-            (λ p. got (levelIs a i p sum ∷ s))
+            (λ p t o. seek f c t b (sum + o) (levelWith a i (p + 1) sum ∷ s) lo)
+            (λ p. got (levelWith a i p sum ∷ s))
             (halted NODE)
         judged (sound m) = placed m (findInput (m .transitions) b)
         judged unsound = refl
@@ -130,7 +130,7 @@ module _ (f : Fst) (c : Bool) (a i sum : ℕ) (s : List Level) where
     -- ---- with k bytes of the bound passed
 
     module _ (lo : List ℕ) (k : ℕ) where
-      pub bound-done : length lo ≤ k → (m : Node) → nodeIn f a ≡ sound m → seek f c a i sum s (drop k lo) ≡ got (lastLevels c (levelIs a i 0 sum) s)
+      pub bound-done : length lo ≤ k → (m : Node) → nodeIn f a ≡ sound m → seek f c a i sum s (drop k lo) ≡ got (lastLevels c (levelWith a i 0 sum) s)
       bound-done h m e = rw (drop-of-length-le lo {i = k} h) (seek-done m e)
 
       module _ (h : k < length lo) where
@@ -140,9 +140,9 @@ module _ (f : Fst) (c : Bool) (a i sum : ℕ) (s : List Level) where
         pub bound-bad : enterOf f a (getD lo k 0) ≡ Unsound → seek f c a i sum s (drop k lo) ≡ halted NODE
         bound-bad e = rw cut (seek-turn (getD lo k 0) (drop (k + 1) lo) ∙ rw e)
 
-        pub bound-miss : (p : ℕ) → enterOf f a (getD lo k 0) ≡ Miss p → seek f c a i sum s (drop k lo) ≡ got (levelIs a i p sum ∷ s)
+        pub bound-miss : (p : ℕ) → enterOf f a (getD lo k 0) ≡ Miss p → seek f c a i sum s (drop k lo) ≡ got (levelWith a i p sum ∷ s)
         bound-miss p e = rw cut (seek-turn (getD lo k 0) (drop (k + 1) lo) ∙ rw e)
 
         pub bound-on : (p t o : ℕ) → enterOf f a (getD lo k 0) ≡ Hit p t o
-            → seek f c a i sum s (drop k lo) ≡ seek f c t (getD lo k 0) (sum + o) (levelIs a i (p + 1) sum ∷ s) (drop (k + 1) lo)
+            → seek f c a i sum s (drop k lo) ≡ seek f c t (getD lo k 0) (sum + o) (levelWith a i (p + 1) sum ∷ s) (drop (k + 1) lo)
         bound-on p t o e = rw cut (seek-turn (getD lo k 0) (drop (k + 1) lo) ∙ rw e)

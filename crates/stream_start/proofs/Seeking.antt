@@ -15,9 +15,9 @@ use Rattle.format.specs.Paths.{Fst, nodeIn}
 use Rattle.format.specs.laws.NodeFacts.{find-member, node-count}
 use Rattle.format.specs.laws.LiveLaws.{target-below-root}
 use Rattle.format.specs.laws.TransitionLaws.{at-member}
-use Rattle.reading.specs.Reading.{levelIs, got, halted, lastLevels, seek}
+use Rattle.reading.specs.Reading.{levelWith, got, halted, lastLevels, seek}
 use Rattle.stream_start.specs.declared.Entered.the-variants.{Hit, Miss, Unsound}
-use Rattle.stream_start.specs.Views.{Arrays, stackOf}
+use Rattle.stream_start.specs.Views.{Arrays, stackIs}
 use Rattle.stream_start.specs.Seeks.{enterOf, LevelPut, LevelsEnd}
 use Rattle.stream_start.proofs.SeekCases.{seek-unsound, bound-done, bound-bad, bound-miss, bound-on}
 
@@ -38,34 +38,34 @@ pub record Seeking (f : Fst) (c : Bool) (lo xs is ps os : List ℕ) (k a i sum :
   pub arrays : Arrays xs is ps os
   -- the highest level has followed a transition
   pub followed : 0 < k → 0 < getD ps (k - 1) 0
-  pub same : seek f c (f .root) 0 0 [] lo ≡ seek f c a i sum (stackOf k xs is ps os) (drop k lo)
+  pub same : seek f c (f .root) 0 0 [] lo ≡ seek f c a i sum (stackIs k xs is ps os) (drop k lo)
 
 pub seeking-none : (f : Fst) (c : Bool) (lo xs is ps os : List ℕ) → Arrays xs is ps os → Seeking f c lo xs is ps os 0 (f .root) 0 0
-unfolding stackOf
+unfolding stackIs
 seeking-none f c lo xs is ps os h = record { within = omega arith; fits = omega arith; arrays = h; followed = λ l. absurd (omega arith); same = refl }
 
 module _ {f : Fst} {c : Bool} {lo xs is ps os : List ℕ} {k a i sum : ℕ} (h : Seeking f c lo xs is ps os k a i sum) where
   pub seeking-unsound : nodeIn f a ≡ unsound → halted NODE ≡ seek f c (f .root) 0 0 [] lo
-  seeking-unsound e = sym (h .same ∙ seek-unsound f c a i sum (stackOf k xs is ps os) (drop k lo) e)
+  seeking-unsound e = sym (h .same ∙ seek-unsound f c a i sum (stackIs k xs is ps os) (drop k lo) e)
 
   pub seeking-done : length lo ≤ k → (m : Node) → nodeIn f a ≡ sound m → {n : ℕ} {xs′ is′ ps′ os′ : List ℕ}
-      → LevelsEnd n (lastLevels c (levelIs a i 0 sum) (stackOf k xs is ps os)) xs′ is′ ps′ os′ → got (stackOf n xs′ is′ ps′ os′) ≡ seek f c (f .root) 0 0 [] lo
-  seeking-done l m e put = ap got (put .levels) ∙ sym (h .same ∙ bound-done f c a i sum (stackOf k xs is ps os) (h .fits) lo k l m e)
+      → LevelsEnd n (lastLevels c (levelWith a i 0 sum) (stackIs k xs is ps os)) xs′ is′ ps′ os′ → got (stackIs n xs′ is′ ps′ os′) ≡ seek f c (f .root) 0 0 [] lo
+  seeking-done l m e put = ap got (put .levels) ∙ sym (h .same ∙ bound-done f c a i sum (stackIs k xs is ps os) (h .fits) lo k l m e)
 
   module _ (more : k < length lo) where
     pub seeking-bad : enterOf f a (getD lo k 0) ≡ Unsound → halted NODE ≡ seek f c (f .root) 0 0 [] lo
-    seeking-bad e = sym (h .same ∙ bound-bad f c a i sum (stackOf k xs is ps os) (h .fits) lo k more e)
+    seeking-bad e = sym (h .same ∙ bound-bad f c a i sum (stackIs k xs is ps os) (h .fits) lo k more e)
 
     pub seeking-miss : (p : ℕ) → enterOf f a (getD lo k 0) ≡ Miss p → {xs′ is′ ps′ os′ : List ℕ}
-        → LevelPut k (levelIs a i p sum) (stackOf k xs is ps os) xs′ is′ ps′ os′ → got (stackOf (k + 1) xs′ is′ ps′ os′) ≡ seek f c (f .root) 0 0 [] lo
-    seeking-miss p e put = ap got (put .levels) ∙ sym (h .same ∙ bound-miss f c a i sum (stackOf k xs is ps os) (h .fits) lo k more p e)
+        → LevelPut k (levelWith a i p sum) (stackIs k xs is ps os) xs′ is′ ps′ os′ → got (stackIs (k + 1) xs′ is′ ps′ os′) ≡ seek f c (f .root) 0 0 [] lo
+    seeking-miss p e put = ap got (put .levels) ∙ sym (h .same ∙ bound-miss f c a i sum (stackIs k xs is ps os) (h .fits) lo k more p e)
 
     pub seeking-on : (p t o : ℕ) → enterOf f a (getD lo k 0) ≡ Hit p t o
-        → seek f c (f .root) 0 0 [] lo ≡ seek f c t (getD lo k 0) (sum + o) (levelIs a i (p + 1) sum ∷ stackOf k xs is ps os) (drop (k + 1) lo)
-    seeking-on p t o e = h .same ∙ bound-on f c a i sum (stackOf k xs is ps os) (h .fits) lo k more p t o e
+        → seek f c (f .root) 0 0 [] lo ≡ seek f c t (getD lo k 0) (sum + o) (levelWith a i (p + 1) sum ∷ stackIs k xs is ps os) (drop (k + 1) lo)
+    seeking-on p t o e = h .same ∙ bound-on f c a i sum (stackIs k xs is ps os) (h .fits) lo k more p t o e
 
     pub seeking-step : (p t o : ℕ) → enterOf f a (getD lo k 0) ≡ Hit p t o → sum + o ≤ maxSum → {xs′ is′ ps′ os′ : List ℕ}
-        → LevelPut k (levelIs a i (p + 1) sum) (stackOf k xs is ps os) xs′ is′ ps′ os′
+        → LevelPut k (levelWith a i (p + 1) sum) (stackIs k xs is ps os) xs′ is′ ps′ os′
         → Seeking f c lo xs′ is′ ps′ os′ (k + 1) t (getD lo k 0) (sum + o)
     seeking-step p t o e l {xs′} {is′} {ps′} {os′} put =
         let last : k + 1 - 1 ≡ k = omega arith in

@@ -28,7 +28,7 @@ use Rattle.reading.specs.Reading as R
 use Rattle.reading.specs.Reading.{Level, got, meetsTest, isInclusive, boundBytes, pendingAt}
 use Rattle.stream_start.specs.declared.Bound.{Bound}
 use Rattle.stream_start.specs.declared.Bound.the-variants.{Included, Excluded, Unbounded}
-use Rattle.stream_start.specs.Views.{boundOf}
+use Rattle.stream_start.specs.Views.{boundIs}
 use Rattle.stream_start.specs.Seeks.{BoundTaken, pendingIf, readingAt, startFrom}
 
 -- ---- a bound, by its kind
@@ -43,13 +43,13 @@ module _ (kind : Bound) (bs : List ℕ) where
   pub taken-unbounded : kind ≡ Unbounded → BoundTaken kind bs 0
   taken-unbounded e = rw e (record { inside = omega arith; count = refl; bytes = refl })
 
-  pub inclusive-included : kind ≡ Included → true ≡ isInclusive (boundOf kind bs)
+  pub inclusive-included : kind ≡ Included → true ≡ isInclusive (boundIs kind bs)
   inclusive-included e = rw e
 
-  pub inclusive-excluded : kind ≡ Excluded → false ≡ isInclusive (boundOf kind bs)
+  pub inclusive-excluded : kind ≡ Excluded → false ≡ isInclusive (boundIs kind bs)
   inclusive-excluded e = rw e
 
-  pub inclusive-unbounded : kind ≡ Unbounded → true ≡ isInclusive (boundOf kind bs)
+  pub inclusive-unbounded : kind ≡ Unbounded → true ≡ isInclusive (boundIs kind bs)
   inclusive-unbounded e = rw e
 
 meets-count : (bs : List ℕ) (n : ℕ) → n ≡ length bs → eqb n 0 ≡ not (beforeTest [] bs)
@@ -63,23 +63,23 @@ before-nothing [] = refl
 before-nothing (b ∷ bs) = refl
 
 module _ (kind : Bound) (bs : List ℕ) where
-  pub meets-included : kind ≡ Included → (n : ℕ) → BoundTaken kind bs n → eqb n 0 ≡ meetsTest (boundOf kind bs) []
+  pub meets-included : kind ≡ Included → (n : ℕ) → BoundTaken kind bs n → eqb n 0 ≡ meetsTest (boundIs kind bs) []
   meets-included e n h = rw e (meets-count bs n (rw e at (h .count)))
 
-  pub meets-excluded : kind ≡ Excluded → false ≡ meetsTest (boundOf kind bs) []
+  pub meets-excluded : kind ≡ Excluded → false ≡ meetsTest (boundIs kind bs) []
   meets-excluded e = rw e (before-nothing bs)
 
-  pub meets-unbounded : kind ≡ Unbounded → true ≡ meetsTest (boundOf kind bs) []
+  pub meets-unbounded : kind ≡ Unbounded → true ≡ meetsTest (boundIs kind bs) []
   meets-unbounded e = rw e
 
 -- ---- the upper bound's bytes
 
-of-kind : (kind : Bound) (bs cs : List ℕ) → cs ≡ boundBytes (boundOf kind bs) → boundOf kind cs ≡ boundOf kind bs
+of-kind : (kind : Bound) (bs cs : List ℕ) → cs ≡ boundBytes (boundIs kind bs) → boundIs kind cs ≡ boundIs kind bs
 of-kind Included bs cs e = ap included e
 of-kind Excluded bs cs e = ap excluded e
 of-kind Unbounded bs cs e = refl
 
-pub bound-is : (kind : Bound) (bs : List ℕ) (n : ℕ) → BoundTaken kind bs n → (to₀ to : List ℕ) → to ≡ take n bs ++ drop n to₀ → boundOf kind (take n to) ≡ boundOf kind bs
+pub bound-is : (kind : Bound) (bs : List ℕ) (n : ℕ) → BoundTaken kind bs n → (to₀ to : List ℕ) → to ≡ take n bs ++ drop n to₀ → boundIs kind (take n to) ≡ boundIs kind bs
 bound-is kind bs n h to₀ to e =
     of-kind kind bs (take n to) (ap (take n) e ∙ take-at (take n bs) (drop n to₀) n (length-take-le n bs (h .inside)) ∙ h .bytes)
 

@@ -25,7 +25,7 @@ use Rattle.stream_start.specs.declared.Entered.the-variants.{Hit, Miss, 
 use Rattle.stream_start.specs.declared.Sought.{Sought}
 use Rattle.stream_start.specs.declared.Sought.the-variants.{Levels, Halted}
 use Rattle.stream_start.specs.declared.Bound.{Bound}
-use Rattle.stream_start.specs.Views.{Arrays, stackOf, boundOf}
+use Rattle.stream_start.specs.Views.{Arrays, stackIs, boundIs}
 
 unfoldable pub enterOf : Fst → ℕ → ℕ → Entered
 enterOf f a b =
@@ -46,21 +46,21 @@ placeIn Unsound = 0
 pub record LevelPut (k : ℕ) (l : Level) (s : List Level) (xs is ps os : List ℕ) : Type 0 where
   pub arrays : Arrays xs is ps os
   pub place : getD ps k 0 ≡ l .trans
-  pub levels : stackOf (k + 1) xs is ps os ≡ l ∷ s
+  pub levels : stackIs (k + 1) xs is ps os ≡ l ∷ s
 
 pub record LevelsEnd (n : ℕ) (s : List Level) (xs is ps os : List ℕ) : Type 0 where
-  pub levels : stackOf n xs is ps os ≡ s
+  pub levels : stackIs n xs is ps os ≡ s
 
 abbrev pub soughtIs : Sought → List ℕ → List ℕ → List ℕ → List ℕ → R.Sought
-soughtIs (Levels n) xs is ps os = got (stackOf n xs is ps os)
+soughtIs (Levels n) xs is ps os = got (stackIs n xs is ps os)
 soughtIs (Halted n) xs is ps os = R.Sought.halted n
 
 -- ---- a start on a file that opens
 
 pub record BoundTaken (kind : Bound) (bs : List ℕ) (n : ℕ) : Type 0 where
   pub inside : n ≤ length bs
-  pub count : n ≡ length (boundBytes (boundOf kind bs))
-  pub bytes : take n bs ≡ boundBytes (boundOf kind bs)
+  pub count : n ≡ length (boundBytes (boundIs kind bs))
+  pub bytes : take n bs ≡ boundBytes (boundIs kind bs)
 
 abbrev pub pendingIf : Bool → Judgement → Option ℕ
 pendingIf c j = cond c (onNode j (λ m. cond (m .final) (some (m .finalOutput)) none) none) none

@@ -1,9 +1,9 @@
 -- What the values of this crate stand for: document 01's number and values for each case of an answer, and the view of a reading that
 -- drops what carries no meaning.
 --     Arrays xs is ps os             four arrays of 256 entries
---     levelAt k .., stackOf k ..     level k of the four arrays; the first k levels, highest first
---     boundOf kind bytes             a bound
---     viewOf r                       what a reading says
+--     levelAt k .., stackIs k ..     level k of the four arrays; the first k levels, highest first
+--     boundIs kind bytes             a bound
+--     viewIs r                       what a reading says
 --     startedIs r                    what a start answered
 --     noReading                      a reading without levels
 --     refusedStart why               a refused start, with that reading beside the refusal
@@ -17,7 +17,7 @@ use Rattle.format.specs.Limits.{maxPath, maxLevels}
 use Rattle.format.specs.Strings as S
 use Rattle.format.specs.Strings.{unbounded, included, excluded}
 use Rattle.reading.specs.Reading as R
-use Rattle.reading.specs.Reading.{Level, View, levelIs}
+use Rattle.reading.specs.Reading.{Level, View, levelWith}
 use Rattle.stream_start.specs.declared.Bound.{Bound}
 use Rattle.stream_start.specs.declared.Bound.the-variants.{Included, Excluded, Unbounded}
 use Rattle.stream_start.specs.declared.EmptyOutput.{EmptyOutput}
@@ -34,33 +34,33 @@ pub record Arrays (xs is ps os : List ℕ) : Type 0 where
   pub outs-len : length os ≡ maxLevels
 
 abbrev pub levelAt : ℕ → List ℕ → List ℕ → List ℕ → List ℕ → Level
-levelAt k xs is ps os = levelIs (getD xs k 0) (getD is k 0) (getD ps k 0) (getD os k 0)
+levelAt k xs is ps os = levelWith (getD xs k 0) (getD is k 0) (getD ps k 0) (getD os k 0)
 
-unfoldable pub stackOf : ℕ → List ℕ → List ℕ → List ℕ → List ℕ → List Level
-stackOf zero xs is ps os = []
-stackOf (suc k) xs is ps os = levelAt k xs is ps os ∷ stackOf k xs is ps os
+unfoldable pub stackIs : ℕ → List ℕ → List ℕ → List ℕ → List ℕ → List Level
+stackIs zero xs is ps os = []
+stackIs (suc k) xs is ps os = levelAt k xs is ps os ∷ stackIs k xs is ps os
 
-abbrev pub boundOf : Bound → List ℕ → S.Bound
-boundOf Included bs = included bs
-boundOf Excluded bs = excluded bs
-boundOf Unbounded bs = unbounded
+abbrev pub boundIs : Bound → List ℕ → S.Bound
+boundIs Included bs = included bs
+boundIs Excluded bs = excluded bs
+boundIs Unbounded bs = unbounded
 
-abbrev pub emptyOf : EmptyOutput → Option ℕ
-emptyOf (Pending v) = some v
-emptyOf Absent = none
+abbrev pub emptyIs : EmptyOutput → Option ℕ
+emptyIs (Pending v) = some v
+emptyIs Absent = none
 
-abbrev pub viewOf : Reading → View
-viewOf r = record {
+abbrev pub viewIs : Reading → View
+viewIs r = record {
   len = r .len;
-  bound = boundOf (r .kind) (take (r .«bound_len») (r .bound));
+  bound = boundIs (r .kind) (take (r .«bound_len») (r .bound));
   boundLen = r .«bound_len»;
-  empty = emptyOf (r .«empty_output»);
+  empty = emptyIs (r .«empty_output»);
   total = r .total;
-  levels = stackOf (r .levels) (r .addrs) (r .inps) (r .trans) (r .outs);
+  levels = stackIs (r .levels) (r .addrs) (r .inps) (r .trans) (r .outs);
 }
 
 abbrev pub beganIs : Begins → Reading → R.Started
-beganIs Began r = R.started (viewOf r)
+beganIs Began r = R.started (viewIs r)
 beganIs (Refused n) r = R.Started.refused n
 
 abbrev pub startedIs : Started → R.Started

@@ -5,10 +5,10 @@ ghost use mathlib.Core.List.{List, []};
 ghost use Prim.Native.Nat.{ℕ, _-_, _≤_, _<_};
 ghost use lib.ListN.{length, take, getD};
 ghost use Rattle.format.specs.Limits.{maxPath, maxLevels};
-ghost use Rattle.format.specs.Paths.{fstIs, nodeIn};
+ghost use Rattle.format.specs.Paths.{fstWith, nodeIn};
 ghost use Rattle.node.specs.Read.{transitionsIn, Readable};
 ghost use Rattle.reading.specs.Reading as R;
-ghost use Rattle.stream_start.specs.Views.{Arrays, stackOf, boundOf, emptyOf, startedIs, noReading, refusedStart};
+ghost use Rattle.stream_start.specs.Views.{Arrays, stackIs, boundIs, emptyIs, startedIs, noReading, refusedStart};
 ghost use Rattle.stream_start.specs.Seeks.{enterOf, placeIn, soughtIs, LevelPut, LevelsEnd, BoundTaken, pendingIf, readingAt, startFrom};
 use format::BOUND;
 use format::LEVELS;
@@ -83,7 +83,8 @@ enum Sought {
 // How many inputs of a judged node are not above b.
 fn first_above(file: &[u8], node: Node, b: u8) -> usize
     requires { ⌜ Readable (now file) node ⌝ }
-    ensures { λ r. ⌜ (r ≡ R.firstAbove (transitionsIn (now (file .entry)) node) b) × (r ≤ node .ntrans) ⌝ }
+    ensures { λ r. ⌜ (r ≡ R.firstAbove (transitionsIn (now (file .entry)) node) b)
+        × (r ≤ node .ntrans) ⌝ }
 {
     let n = node.ntrans;
     let mut i = 0;
@@ -99,7 +100,8 @@ fn first_above(file: &[u8], node: Node, b: u8) -> usize
 // The byte b looked for at the node at addr, which is judged first.
 fn enter(file: &[u8], version: u64, root: usize, addr: usize, b: u8) -> Entered
     requires { ⌜ root < 4294967296 ⌝ }
-    ensures { λ r. ⌜ (r ≡ enterOf (fstIs (now (file .entry)) version root) addr b) × (placeIn r ≤ maxLevels) ⌝ }
+    ensures { λ r. ⌜ (r ≡ enterOf (fstWith (now (file .entry)) version root) addr b)
+        × (placeIn r ≤ maxLevels) ⌝ }
 {
     let Judged::Sound(m) = node::node_at(file, version, root, addr) else {
         return Entered::Unsound;
@@ -125,7 +127,10 @@ fn put_level(
     outs: &mut [u64; LEVELS],
 )
     requires { ⌜ (k < maxLevels) × Arrays (now addrs) (now inps) (now trans) (now outs) ⌝ }
-    ensures { λ _. ⌜ LevelPut k (R.levelIs addr inp place out) (stackOf k (now (addrs .entry)) (now (inps .entry)) (now (trans .entry)) (now (outs .entry))) (now (addrs .exit)) (now (inps .exit)) (now (trans .exit)) (now (outs .exit)) ⌝ }
+    ensures { λ _. ⌜ LevelPut k (R.levelWith addr inp place out)
+        (stackIs k (now (addrs .entry)) (now (inps .entry)) (now (trans .entry))
+        (now (outs .entry))) (now (addrs .exit)) (now (inps .exit)) (now (trans .exit))
+        (now (outs .exit)) ⌝ }
 {
     addrs[k] = addr;
     inps[k] = inp;
@@ -146,8 +151,12 @@ fn last_levels(
     trans: &mut [u16; LEVELS],
     outs: &mut [u64; LEVELS],
 ) -> usize
-    requires { ⌜ (k < maxLevels) × Arrays (now addrs) (now inps) (now trans) (now outs) × (0 < k → 0 < getD (now trans) (k - 1) 0) ⌝ }
-    ensures { λ r. ⌜ LevelsEnd r (R.lastLevels inclusive (R.levelIs addr inp 0 out) (stackOf k (now (addrs .entry)) (now (inps .entry)) (now (trans .entry)) (now (outs .entry)))) (now (addrs .exit)) (now (inps .exit)) (now (trans .exit)) (now (outs .exit)) ⌝ }
+    requires { ⌜ (k < maxLevels) × Arrays (now addrs) (now inps) (now trans) (now outs)
+        × (0 < k → 0 < getD (now trans) (k - 1) 0) ⌝ }
+    ensures { λ r. ⌜ LevelsEnd r (R.lastLevels inclusive (R.levelWith addr inp 0 out)
+        (stackIs k (now (addrs .entry)) (now (inps .entry)) (now (trans .entry))
+        (now (outs .entry)))) (now (addrs .exit)) (now (inps .exit)) (now (trans .exit))
+        (now (outs .exit)) ⌝ }
 {
     if inclusive {
         if 0 < k {
@@ -173,8 +182,11 @@ fn seek(
     trans: &mut [u16; LEVELS],
     outs: &mut [u64; LEVELS],
 ) -> Sought
-    requires { ⌜ (root < 4294967296) × (length (now lower) ≤ maxPath) × Arrays (now addrs) (now inps) (now trans) (now outs) ⌝ }
-    ensures { λ r. ⌜ soughtIs r (now (addrs .exit)) (now (inps .exit)) (now (trans .exit)) (now (outs .exit)) ≡ R.seek (fstIs (now (file .entry)) version root) inclusive root 0 0 [] (now (lower .entry)) ⌝ }
+    requires { ⌜ (root < 4294967296) × (length (now lower) ≤ maxPath) × Arrays (now addrs)
+        (now inps) (now trans) (now outs) ⌝ }
+    ensures { λ r. ⌜ soughtIs r (now (addrs .exit)) (now (inps .exit)) (now (trans .exit))
+        (now (outs .exit)) ≡ R.seek (fstWith (now (file .entry)) version root) inclusive root 0 0 []
+        (now (lower .entry)) ⌝ }
 {
     let mut k = 0;
     let mut addr = root as u32;
@@ -222,7 +234,7 @@ fn len_of(kind: Bound, bytes: &[u8]) -> usize
 
 // Whether a key equal to the lower bound is handed out.
 fn is_inclusive(kind: Bound) -> bool
-    ensures { λ r. ⌜ ((bs : List ℕ) → r ≡ R.isInclusive (boundOf kind bs)) ⌝ }
+    ensures { λ r. ⌜ ((bs : List ℕ) → r ≡ R.isInclusive (boundIs kind bs)) ⌝ }
 {
     match kind {
         Bound::Included => true,
@@ -233,7 +245,8 @@ fn is_inclusive(kind: Bound) -> bool
 
 // Whether the empty key meets a lower bound of n bytes.
 fn meets_empty(kind: Bound, n: usize) -> bool
-    ensures { λ r. ⌜ ((bs : List ℕ) → BoundTaken kind bs n → r ≡ R.meetsTest (boundOf kind bs) []) ⌝ }
+    ensures { λ r. ⌜ ((bs : List ℕ) → BoundTaken kind bs n → r ≡ R.meetsTest (boundIs kind bs)
+        []) ⌝ }
 {
     match kind {
         Bound::Included => n == 0,
@@ -244,7 +257,8 @@ fn meets_empty(kind: Bound, n: usize) -> bool
 
 // The value of the empty key, where it is held and meets the lower bound.
 fn empty_output(file: &[u8], version: u64, root: usize, meets: bool) -> EmptyOutput
-    ensures { λ r. ⌜ emptyOf r ≡ pendingIf meets (nodeIn (fstIs (now (file .entry)) version root) root) ⌝ }
+    ensures { λ r. ⌜ emptyIs r ≡ pendingIf meets
+        (nodeIn (fstWith (now (file .entry)) version root) root) ⌝ }
 {
     if meets {
         let Judged::Sound(m) = node::node_at(file, version, root, root) else {
@@ -300,7 +314,10 @@ fn reading_from(
     empty_output: EmptyOutput,
 ) -> Started
     requires { ⌜ (root < 4294967296) × (length (now lower) ≤ maxPath) ⌝ }
-    ensures { λ r. ⌜ startedIs r ≡ readingAt (length (now (file .entry))) (boundOf kind (take «bound_len» bound)) «bound_len» (emptyOf «empty_output») (R.seek (fstIs (now (file .entry)) version root) inclusive root 0 0 [] (now (lower .entry))) ⌝ }
+    ensures { λ r. ⌜ startedIs r ≡ readingAt (length (now (file .entry)))
+        (boundIs kind (take «bound_len» bound)) «bound_len» (emptyIs «empty_output»)
+        (R.seek (fstWith (now (file .entry)) version root) inclusive root 0 0 []
+        (now (lower .entry))) ⌝ }
 {
     let mut addrs = [0u32; LEVELS];
     let mut inps = [0u8; LEVELS];
@@ -352,7 +369,8 @@ fn start_from(
     upper: &[u8],
 ) -> Started
     requires { ⌜ root < 4294967296 ⌝ }
-    ensures { λ r. ⌜ startedIs r ≡ startFrom (fstIs (now (file .entry)) version root) (boundOf «lower_kind» (now (lower .entry))) (boundOf «upper_kind» (now (upper .entry))) ⌝ }
+    ensures { λ r. ⌜ startedIs r ≡ startFrom (fstWith (now (file .entry)) version root)
+        (boundIs «lower_kind» (now (lower .entry))) (boundIs «upper_kind» (now (upper .entry))) ⌝ }
 {
     let n = len_of(lower_kind, lower);
     let bound_len = len_of(upper_kind, upper);
@@ -389,7 +407,8 @@ pub fn start(
     upper_kind: Bound,
     upper: &[u8],
 ) -> Started
-    ensures { λ r. ⌜ startedIs r ≡ R.start (now (file .entry)) (boundOf «lower_kind» (now (lower .entry))) (boundOf «upper_kind» (now (upper .entry))) ⌝ }
+    ensures { λ r. ⌜ startedIs r ≡ R.start (now (file .entry))
+        (boundIs «lower_kind» (now (lower .entry))) (boundIs «upper_kind» (now (upper .entry))) ⌝ }
 {
     let opened = fst::open(file);
     match opened {

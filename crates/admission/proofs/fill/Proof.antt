@@ -9,7 +9,7 @@ use Rattle.format.specs.Node.{Node, sound}
 use Rattle.format.specs.Paths.{Fst, nodeIn}
 use Rattle.node.specs.Read.{meaning}
 use Rattle.admission.specs.Passes.{Surveyable}
-use Rattle.format.specs.Paths.{fstIs}
+use Rattle.format.specs.Paths.{fstWith}
 use Rattle.admission.proofs.Judging.{judged-sound, judged-unsound}
 use Rattle.admission.proofs.Surveying.{surveyed-as}
 use Rattle.admission.proofs.Filling.{Filling, filling-none, filling-skip, not-unsound, surveyable, filling-lost, filling-store, filling-as, closed-all, filled-heavy, filled-good}
@@ -20,7 +20,7 @@ use Rattle.admission.proofs.fill.Tie as tie
 
 abbrev Inv-loop : tie.InvT-loop
 Inv-loop file version root depths₀ sums₀ deep₀ heavy₀ a₀ depths sums deep heavy a =
-    (a ≤ length file) × Filling (fstIs file version root) depths₀ sums₀ depths sums deep heavy a
+    (a ≤ length file) × Filling (fstWith file version root) depths₀ sums₀ depths sums deep heavy a
 
 abbrev μ-loop : tie.MeasureT-loop
 μ-loop file version root depths₀ sums₀ deep₀ heavy₀ a₀ depths sums deep heavy a = length file - a
@@ -29,7 +29,7 @@ abbrev start : tie.At-loop Inv-loop μ-loop → tie.Start Inv-loop μ-loop
 start q = q .before .before .before .before
 
 abbrev file : tie.At-loop Inv-loop μ-loop → Fst
-file q = fstIs (now (start q .args .file)) (start q .args .version) (start q .args .root)
+file q = fstWith (now (start q .args .file)) (start q .args .version) (start q .args .root)
 
 abbrev filling : (q : tie.At-loop Inv-loop μ-loop)
     → Filling (file q) (now (start q .args .depths)) (now (start q .args .sums)) (q .loop .depths) (q .loop .sums) (q .loop .deep) (q .loop .heavy) (q .loop .a)

@@ -7,7 +7,7 @@ use Prim.Native.Nat.{ℕ}
 use denote.Ref.{now}
 use Rattle.format.specs.Paths.{Fst}
 use Rattle.admission.specs.Passes.{Walked}
-use Rattle.format.specs.Paths.{fstIs}
+use Rattle.format.specs.Paths.{fstWith}
 use Rattle.admission.proofs.Stores.{kept-none}
 use Rattle.admission.proofs.Verdicts.{root-zero-judges, broken-nodes, Marks, marks-of, marks-fillable, filled-judges}
 use borrow.Author.Needs.{needs}
@@ -21,7 +21,7 @@ abbrev start : tie.After-walk → tie.Start
 start w = w .before .before .before .before .before .before
 
 abbrev file : tie.After-walk → Fst
-file w = fstIs (now (start w .args .file)) (start w .args .version) (start w .args .root)
+file w = fstWith (now (start w .args .file)) (start w .args .version) (start w .args .root)
 
 abbrev depths : tie.After-walk → List ℕ
 depths w = w .walk .last .1 .1 .1 .0

@@ -9,7 +9,7 @@ use Rattle.format.specs.Node.{sound}
 use Rattle.format.specs.Paths.{Fst, nodeIn}
 use Rattle.node.specs.Read.{meaning}
 use Rattle.admission.specs.Passes.{Kept}
-use Rattle.format.specs.Paths.{fstIs}
+use Rattle.format.specs.Paths.{fstWith}
 use Rattle.admission.proofs.Stores.{kept-none, kept-set}
 use Rattle.admission.proofs.Judging.{judged-sound, judged-unsound}
 use Rattle.admission.proofs.Walking.{Walking, walking-none, walking-broken, walked-inside, walked-below, walked-first-low, walking-last, walking-next}
@@ -20,7 +20,7 @@ use Rattle.admission.proofs.walk.Tie as tie
 
 abbrev Inv-loop : tie.InvT-loop
 Inv-loop file version root depths₀ a₀ depths a =
-    Kept (length file) depths₀ depths × ((l : List ℕ) × Walking (fstIs file version root) depths₀ depths a l)
+    Kept (length file) depths₀ depths × ((l : List ℕ) × Walking (fstWith file version root) depths₀ depths a l)
 
 abbrev μ-loop : tie.MeasureT-loop
 μ-loop file version root depths₀ a₀ depths a = a
@@ -34,7 +34,7 @@ abbrev start : tie.After-known-told Inv-loop μ-loop → tie.Start Inv-loop μ-l
 start c = at-node c .before .before .before
 
 abbrev file : tie.After-known-told Inv-loop μ-loop → Fst
-file c = fstIs (now (start c .args .file)) (start c .args .version) (start c .args .root)
+file c = fstWith (now (start c .args .file)) (start c .args .version) (start c .args .root)
 
 walked : (c : tie.After-known-told Inv-loop μ-loop) → Walking (file c) (now (start c .args .depths)) (at-node c .loop .depths) (at-node c .loop .a) (at-node c .loop .inv .1 .0)
 walked c = at-node c .loop .inv .1 .1

@@ -2,7 +2,7 @@
 -- Assumes nothing.
 use mathlib.Core.Path.{_≡_, refl, sym, ap, _∙_}
 use lib.ListN.{length}
-use Rattle.stream_start.specs.Views.{viewOf}
+use Rattle.stream_start.specs.Views.{viewIs}
 use Rattle.list.specs.Stands.{Stands}
 use Rattle.list.proofs.WayLaws.{leftIn, After, way-on, key-fits, last-fits}
 use denote.Ref.{now}
@@ -16,10 +16,10 @@ use Rattle.list.proofs.put.Reads as put-reads
 use Rattle.listing.proofs.next_line.Reads as next-line-reads
 
 abbrev Inv-loop : tie.InvT-loop
-Inv-loop file line₀ reading₀ keys₀ line reading keys = Stands file (viewOf reading) × (length line ≡ 532)
+Inv-loop file line₀ reading₀ keys₀ line reading keys = Stands file (viewIs reading) × (length line ≡ 532)
 
 abbrev μ-loop : tie.MeasureT-loop
-μ-loop file line₀ reading₀ keys₀ line reading keys = leftIn file (viewOf reading)
+μ-loop file line₀ reading₀ keys₀ line reading keys = leftIn file (viewIs reading)
 
 loop-holds : tie.Need-loop-holds Inv-loop μ-loop
 loop-holds c = (c .before .pre, search needs)

@@ -5,7 +5,7 @@ use mathlib.Core.List.{[]}
 use Rattle.node.specs.ReadLaws.{answer-sound, answer-unsound}
 use Rattle.format.specs.laws.LookupLaws.{get-from-unsound, get-from-end-value, get-from-end-sum, get-from-end-none}
 use Rattle.node.specs.Read.{meaning}
-use Rattle.format.specs.Paths.{fstIs}
+use Rattle.format.specs.Paths.{fstWith}
 use borrow.Author.Needs.{needs}
 use native.Mathlib.Omega.{arith}
 use denote.Ref.{now}
@@ -24,7 +24,7 @@ enum-told c = search needs
 returns : tie.Need-returns
 returns c = let call = c .before .before in
     let a = call .before .before .args in
-    sym (get-from-unsound (fstIs (now (a .file)) (a .version) (a .root)) [] (a .last) (a .sum) (answer-unsound (call .node-at .ensures) (c .enum-told .given .1)))
+    sym (get-from-unsound (fstWith (now (a .file)) (a .version) (a .root)) [] (a .last) (a .sum) (answer-unsound (call .node-at .ensures) (c .enum-told .given .1)))
 
 sub-if2 : tie.Need-sub-if2
 sub-if2 c = search needs
@@ -34,7 +34,7 @@ returns-2 c = let call = c .before .before .before .before .before in
     let start = call .before .before in
     let a = start .args in
     let s = now (a .file) in
-    let f = fstIs s (a .version) (a .root) in
+    let f = fstWith s (a .version) (a .root) in
     let m = c .before .before .before .m .given .0 .0 in
     let e = answer-sound (call .node-at .ensures) m (c .before .before .before .m .given .1) in
     sym (get-from-end-sum f (a .last) (a .sum) (meaning s m) e (omega (arith, start .fits .sum)) (c .before .if1 .taken) (omega arith))
@@ -47,7 +47,7 @@ returns-3 c = let call = c .before .before .before .before .before in
     let start = call .before .before in
     let a = start .args in
     let s = now (a .file) in
-    let f = fstIs s (a .version) (a .root) in
+    let f = fstWith s (a .version) (a .root) in
     let m = c .before .before .before .m .given .0 .0 in
     let e = answer-sound (call .node-at .ensures) m (c .before .before .before .m .given .1) in
     sym (get-from-end-value f (a .last) (a .sum) (meaning s m) e (omega (arith, start .fits .sum)) (c .before .if1 .taken) (omega arith))
@@ -57,7 +57,7 @@ returns-4 c = let call = c .before .before .before .before in
     let start = call .before .before in
     let a = start .args in
     let s = now (a .file) in
-    let f = fstIs s (a .version) (a .root) in
+    let f = fstWith s (a .version) (a .root) in
     let m = c .before .before .m .given .0 .0 in
     let e = answer-sound (call .node-at .ensures) m (c .before .before .m .given .1) in
     sym (get-from-end-none f (a .last) (a .sum) (meaning s m) e (omega (arith, start .fits .sum)) (c .if1 .left))

@@ -15,7 +15,7 @@ use Rattle.lookup.proofs.LookupWalks.{searching-unsound, searching-foun
 use Rattle.node.specs.ReadLaws.{answer-sound, answer-unsound, place-is, place-none, length-node-transitions}
 use Rattle.node.specs.declared.Node.{Node}
 use Rattle.node.specs.Read.{meaning, transitionsIn, Readable}
-use Rattle.format.specs.Paths.{fstIs}
+use Rattle.format.specs.Paths.{fstWith}
 use Rattle.lookup.proofs.Searching.{SearchTo, search-none, search-step, ends-both}
 use borrow.Author.Needs.{needs}
 use native.Mathlib.Omega.{arith}
@@ -24,7 +24,7 @@ use Rattle.lookup.proofs.find_key.Statement.{statement}
 use Rattle.lookup.proofs.find_key.Tie as tie
 
 abbrev Inv-loop : tie.InvT-loop
-Inv-loop file version root value path₀ addr₀ left₀ n₀ path addr left n = SearchTo (fstIs file version root) value path addr left n
+Inv-loop file version root value path₀ addr₀ left₀ n₀ path addr left n = SearchTo (fstWith file version root) value path addr left n
 
 abbrev μ-loop : tie.MeasureT-loop
 μ-loop file version root value path₀ addr₀ left₀ n₀ path addr left n = 255 - n
@@ -44,7 +44,7 @@ abbrev file : At → List ℕ
 file q = now (start q .args .file)
 
 abbrev f : At → Fst
-f q = fstIs (file q) (start q .args .version) (start q .args .root)
+f q = fstWith (file q) (start q .args .version) (start q .args .root)
 
 abbrev m : At → Node
 m q = q .before .m .given .0 .0
@@ -77,7 +77,7 @@ low : (w : Fits-at) → i w < m (q-of w) .ntrans
 low w = omega (arith, fits w .within, length-node-transitions (file (q-of w)) (m (q-of w)) (readable (q-of w)))
 
 loop-holds : tie.Need-loop-holds Inv-loop μ-loop
-loop-holds c = let start = c .before in let a = start .args in search-none (fstIs (now (a .file)) (a .version) (a .root)) (a .value) (now (a .path)) (start .pre)
+loop-holds c = let start = c .before in let a = start .args in search-none (fstWith (now (a .file)) (a .version) (a .root)) (a .value) (now (a .path)) (start .pre)
 
 node-at-requires : tie.Need-node-at-requires Inv-loop μ-loop
 node-at-requires c κs = search needs

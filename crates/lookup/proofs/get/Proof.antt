@@ -2,7 +2,7 @@
 -- Assumes nothing.
 use mathlib.Core.Path.{_≡_, refl, sym, ap, _∙_}
 use Rattle.format.specs.laws.LookupLaws.{get-opened, get-refused}
-use Rattle.fst.specs.Open.{metaIs, openingOf}
+use Rattle.fst.specs.Open.{metaIs, openingIs}
 use borrow.Author.Needs.{needs}
 use native.Mathlib.Omega.{arith}
 use denote.Ref.{now}
@@ -24,13 +24,13 @@ get-from-requires c κs = search needs
 returns : tie.Need-returns
 returns c = let call = c .before .before .before in
     let a = call .before .before .before .args in
-    sym (get-refused (now (a .file)) (now (a .key)) _ (sym (call .«open» .ensures) ∙ ap openingOf (c .before .opened .given .1)))
+    sym (get-refused (now (a .file)) (now (a .key)) _ (sym (call .«open» .ensures) ∙ ap openingIs (c .before .opened .given .1)))
 
 returns-2 : tie.Need-returns-2
 returns-2 c = let told = c .before .before in
     let call = told .before .before in
     let a = call .before .before .before .args in
-    c .get-from .ensures ∙ sym (get-opened (now (a .file)) (now (a .key)) (metaIs (told .opened2 .given .0 .0)) (sym (call .«open» .ensures) ∙ ap openingOf (told .opened2 .given .1)))
+    c .get-from .ensures ∙ sym (get-opened (now (a .file)) (now (a .key)) (metaIs (told .opened2 .given .0 .0)) (sym (call .«open» .ensures) ∙ ap openingIs (told .opened2 .given .1)))
 
 pub get-spec : {M : Type 1} → statement M
 get-spec =

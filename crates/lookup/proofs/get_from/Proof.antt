@@ -14,7 +14,7 @@ use Rattle.format.specs.Lookup.{getFrom}
 use Rattle.node.specs.ReadLaws.{answer-sound, answer-unsound, place-is, place-none, place-lt, length-node-transitions}
 use Rattle.node.specs.declared.Node.{Node}
 use Rattle.node.specs.Read.{meaning, transitionsIn, Readable}
-use Rattle.format.specs.Paths.{fstIs}
+use Rattle.format.specs.Paths.{fstWith}
 use lib.ListN.{drop, drop-of-length-le}
 use borrow.Author.Needs.{needs}
 use native.Mathlib.Omega.{arith}
@@ -23,7 +23,7 @@ use Rattle.lookup.proofs.get_from.Statement.{statement}
 use Rattle.lookup.proofs.get_from.Tie as tie
 
 abbrev Inv-loop : tie.InvT-loop
-Inv-loop file version root key addr₀ sum₀ i₀ addr sum i = (sum ≤ maxSum) × Looking (fstIs file version root) key i addr sum
+Inv-loop file version root key addr₀ sum₀ i₀ addr sum i = (sum ≤ maxSum) × Looking (fstWith file version root) key i addr sum
 
 abbrev μ-loop : tie.MeasureT-loop
 μ-loop file version root key addr₀ sum₀ i₀ addr sum i = length key - i
@@ -43,7 +43,7 @@ abbrev file : At → List ℕ
 file q = now (start q .args .file)
 
 abbrev f : At → Fst
-f q = fstIs (file q) (start q .args .version) (start q .args .root)
+f q = fstWith (file q) (start q .args .version) (start q .args .root)
 
 abbrev m : At → Node
 m q = q .before .m .given .0 .0
@@ -85,7 +85,7 @@ next : (w : Found-at) → Looking (f (q-of w)) (key w) (i w + 1) (transitionAt (
 next w = looking-step (at-loop (q-of w) .loop .inv .1) (meaning (file (q-of w)) (m (q-of w))) (node-is (q-of w)) (fits (q-of w)) (q-of w .before .before .before .before .loop-test .taken) (p w) (place w)
 
 loop-holds : tie.Need-loop-holds Inv-loop μ-loop
-loop-holds c = let a = c .before .before .args in (omega arith, looking-none (fstIs (now (a .file)) (a .version) (a .root)) (now (a .key)))
+loop-holds c = let a = c .before .before .args in (omega arith, looking-none (fstWith (now (a .file)) (a .version) (a .root)) (now (a .key)))
 
 node-at-requires : tie.Need-node-at-requires Inv-loop μ-loop
 node-at-requires c κs = search needs
@@ -154,7 +154,7 @@ at-end-requires c κs = search needs
 returns-4 : tie.Need-returns-4 Inv-loop μ-loop
 returns-4 c = let at = c .before .before in
     let k = now (at .before .before .before .args .key) in
-    c .at-end .ensures ∙ sym (at .loop .inv .1 .same ∙ ap (λ (l : List ℕ). getFrom (fstIs (now (at .before .before .before .args .file)) (at .before .before .before .args .version) (at .before .before .before .args .root)) l (at .loop .addr) (at .loop .sum)) (drop-of-length-le k {i = at .loop .i} (c .before .loop-test .left)))
+    c .at-end .ensures ∙ sym (at .loop .inv .1 .same ∙ ap (λ (l : List ℕ). getFrom (fstWith (now (at .before .before .before .args .file)) (at .before .before .before .args .version) (at .before .before .before .args .root)) l (at .loop .addr) (at .loop .sum)) (drop-of-length-le k {i = at .loop .i} (c .before .loop-test .left)))
 
 pub get-from-spec : {M : Type 1} → statement M
 get-from-spec =

@@ -7,7 +7,7 @@ use lib.ListN.{length}
 use Rattle.format.specs.Paths.{fstOf}
 use Rattle.format.specs.Lookup.{KeyAnswer, getKey, getKeyFrom}
 use Rattle.format.specs.laws.LookupLaws.{get-key-opened, get-key-refused, get-key-space}
-use Rattle.fst.specs.Open.{metaIs, openingOf}
+use Rattle.fst.specs.Open.{metaIs, openingIs}
 use Rattle.format.specs.Opening as O
 use Rattle.lookup.specs.Answers.{keyIs}
 use Rattle.lookup.proofs.KeyAnswers.{written-none, written-refused, written-key, key-fits}
@@ -19,7 +19,7 @@ use Rattle.lookup.proofs.get_key.Tie as tie
 
 -- what the file says, where it opens
 opens : (q : tie.After-opened2) → O.opening (now (q .before .before .before .before .before .args .file)) ≡ O.opened (metaIs (q .opened2 .given .0 .0))
-opens q = sym (q .before .before .«open» .ensures) ∙ ap openingOf (q .opened2 .given .1)
+opens q = sym (q .before .before .«open» .ensures) ∙ ap openingIs (q .opened2 .given .1)
 
 -- ---- what is known after the search
 
@@ -75,7 +75,7 @@ enum-known-found-2 c = search needs
 returns-2 : tie.Need-returns-2
 returns-2 c = let call = c .before .before .before in
     let a = call .before .before .before .args in
-    written-refused _ (now (a .key)) _ (get-key-refused (now (a .file)) (a .value) (length (now (a .key))) _ (sym (call .«open» .ensures) ∙ ap openingOf (c .before .opened .given .1)))
+    written-refused _ (now (a .key)) _ (get-key-refused (now (a .file)) (a .value) (length (now (a .key))) _ (sym (call .«open» .ensures) ∙ ap openingIs (c .before .opened .given .1)))
 
 same-length : tie.Need-same-length
 same-length c = search needs

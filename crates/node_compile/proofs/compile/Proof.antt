@@ -9,9 +9,9 @@ use borrow.Author.Needs.{needs}
 use denote.Ref.{now}
 use lib.ListN.{length, getD}
 use Rattle.buffers.specs.PutLaws.{put-nil}
-use Rattle.format.specs.Packed.{BuilderNode, RecordOk, hasOne, leadsNext, deltaOf, packedNext, packedOne}
+use Rattle.format.specs.Packed.{BuilderNode, Ranges, RecordOk, hasOne, leadsNext, deltaOf, packedNext, packedOne}
 use Rattle.format.specs.laws.PackedLaws.{packed-nothing, packed-next-is, packed-one-is, packed-any-is, one-means}
-use Rattle.node_compile.specs.Compile.{builderOf}
+use Rattle.node_compile.specs.Compile.{builderWith}
 use Rattle.node_compile.specs.Parts.{anyBytes}
 use Rattle.node_compile.specs.CompileLaws.{fitted-written, compiles-record, compiles-fitted}
 use Rattle.node_compile.proofs.Record.{targets-le}
@@ -25,10 +25,18 @@ abbrev s : tie.After-record-ok → tie.Start
 s c = c .before .before .before .before .before
 
 abbrev node : tie.Start → BuilderNode
-node t = builderOf (t .args .is-final) (t .args .final-output) (now (t .args .inputs)) (now (t .args .outputs)) (now (t .args .targets))
+node t = builderWith (t .args .is-final) (t .args .final-output) (now (t .args .inputs)) (now (t .args .outputs)) (now (t .args .targets))
 
 record-is : (c : tie.Then1) → RecordOk (s (c .before) .args .first) (node (s (c .before)))
 record-is c = c .before .record-ok .ensures .yes (c .if1 .taken)
+
+-- bytes and numbers of 64 bits, as the slices' types say
+ranges : (c : tie.After-record-ok) → Ranges (node (s c))
+ranges c = record {
+  input-lt = λ i l. omega (arith, c .before .before .before .before .shared-slice-known .given i);
+  output-lt = λ i l. omega (arith, c .before .before .before .shared-slice-known2 .given i);
+  final-lt = search needs;
+}
 
 -- the place with one transition, and the places before it
 abbrev judged : tie.Then3 → tie.Then1
@@ -77,7 +85,7 @@ returns-2 c =
     let judged = c .before .before in
     let t = s (judged .before) in
     let out = now (t .args .out) in
-    compiles-fitted (t .args .first) (node t) out [] out _ (record-is judged)
+    compiles-fitted (t .args .first) (node t) out [] out _ (ranges (judged .before)) (record-is judged)
     (packed-nothing (t .args .first) (node t) (sym (c .before .packs-to-nothing .ensures) ∙ c .if2 .taken))
     (fitted-written [] out out 0 refl (omega arith) (sym (put-nil out 0)))
 
@@ -110,7 +118,7 @@ returns-3 c =
     let o = one (test .before) in
     let t = t₃ o in
     compiles-fitted (t .args .first) (node t) (now (t .args .out)) (packedNext (getD (now (t .args .inputs)) 0 0)) (call .compile-next .last .1 .0)
-    (call .compile-next .result) (record-is (judged o))
+    (call .compile-next .result) (ranges (judged o .before)) (record-is (judged o))
     (packed-next-is (t .args .first) (node t) (has-one-is o) (leads-next-is (test .before) ∙ test .if4 .taken)) (call .compile-next .ensures)
 
 shared-slice-read-compile-one : tie.Need-shared-slice-read-compile-one
@@ -140,7 +148,7 @@ returns-4 c =
     let t = t₃ o in
     compiles-fitted (t .args .first) (node t) (now (t .args .out))
     (packedOne (getD (now (t .args .inputs)) 0 0) (getD (now (t .args .outputs)) 0 0) (deltaOf (t .args .first) (getD (now (t .args .targets)) 0 0)))
-    (call .compile-one .last .1 .1 .1 .1 .0) (call .compile-one .result) (record-is (judged o))
+    (call .compile-one .last .1 .1 .1 .1 .0) (call .compile-one .result) (ranges (judged o .before)) (record-is (judged o))
     (packed-one-is (t .args .first) (node t) (has-one-is o) (leads-next-is (test .before) ∙ test .if4 .left)) (call .compile-one .ensures)
 
 compile-any-requires : tie.Need-compile-any-requires
@@ -157,7 +165,7 @@ returns-5 c =
     let nothing = test .before .before in
     let t = s (nothing .before .before .before) in
     compiles-fitted (t .args .first) (node t) (now (t .args .out)) (anyBytes (t .args .first) (node t)) (call .compile-any .last .1 .1 .1 .1 .1 .1 .0)
-    (call .compile-any .result) (record-is (nothing .before .before))
+    (call .compile-any .result) (ranges (nothing .before .before .before)) (record-is (nothing .before .before))
     (packed-any-is (t .args .first) (node t) (sym (nothing .before .packs-to-nothing .ensures) ∙ nothing .if2 .left)
     (sym (test .before .has-one .ensures) ∙ test .if3 .left)) (call .compile-any .ensures)
 

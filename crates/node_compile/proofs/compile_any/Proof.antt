@@ -10,7 +10,7 @@ use lib.ListN.{length}
 use Rattle.format.specs.Bytes.{largest}
 use Rattle.format.specs.Packed.{BuilderNode, deltaOf, outputSize}
 use Rattle.format.specs.laws.PackedLaws.{output-size-le, delta-size-le}
-use Rattle.node_compile.specs.Compile.{builderOf}
+use Rattle.node_compile.specs.Compile.{builderWith}
 use Rattle.node_compile.specs.Parts.{anyIn, anyBytes}
 use Rattle.node_compile.specs.CompileLaws.{fitted-space, fitted-written, fitted-same}
 use Rattle.node_compile.proofs.Largest.{largest-cons}
@@ -25,7 +25,7 @@ abbrev s : tie.After-delta-size → tie.Start
 s c = c .before .before .before .before .before .before .before .before
 
 abbrev node : tie.Start → BuilderNode
-node t = builderOf (t .args .is-final) (t .args .final-output) (now (t .args .inputs)) (now (t .args .outputs)) (now (t .args .targets))
+node t = builderWith (t .args .is-final) (t .args .final-output) (now (t .args .inputs)) (now (t .args .outputs)) (now (t .args .targets))
 
 abbrev deltas : tie.Start → List ℕ
 deltas t = map (deltaOf (t .args .first)) (now (t .args .targets))

@@ -11,7 +11,7 @@ use lib.ListN.{length, set}
 use Rattle.format.specs.Bytes.{bytesOf}
 use Rattle.format.specs.Node.{endLen}
 use Rattle.format.specs.Packed.{BuilderNode, deltaOf, storedNumbers, storedBytes, indexBytes, sizesOf, headOf}
-use Rattle.node_compile.specs.Compile.{builderOf}
+use Rattle.node_compile.specs.Compile.{builderWith}
 use Rattle.node_compile.specs.Parts.{anyIn}
 use Rattle.node_compile.proofs.Heads.{put-one-byte}
 use Rattle.buffers.specs.WritingLaws.{Writing, writing-none, writing-room, part-room, part-written, last-written}
@@ -22,7 +22,7 @@ use Rattle.node_compile.proofs.put_any.Tie as tie
 -- ---- the parts, and what is to be written from each on
 
 abbrev node : tie.Start → BuilderNode
-node s = builderOf (s .args .is-final) (s .args .final-output) (now (s .args .inputs)) (now (s .args .outputs)) (now (s .args .targets))
+node s = builderWith (s .args .is-final) (s .args .final-output) (now (s .args .inputs)) (now (s .args .outputs)) (now (s .args .targets))
 
 abbrev deltas : tie.Start → List ℕ
 deltas s = map (deltaOf (s .args .first)) (now (s .args .targets))

@@ -38,7 +38,7 @@ use denote.Triple.Walked.{says, Stays, stay-none, walkOf, goes-none, Walks, ends
 use denote.Exit.{yes}
 use denote.Triple.Clauses.{ensured, lasts}
 use Rattle.format.specs.Node.{nodeAt}
-use Rattle.node.specs.Read.{placeOf}
+use Rattle.node.specs.Read.{placeIs}
 use Rattle.node.specs.declared.Found.{Found}
 use Rattle.node.proofs.Found as S
 use Rattle.node.proofs.Found.Laws as S′
@@ -69,7 +69,7 @@ module _ {M : Type 1} (𝓤 : URA M) (H : Heap 𝓤) (A : Atoms 𝓤) (W : Given
 
   -- what the contract says of the result
   abbrev Says : Found → Type 0
-  Says r = placeOf r ≡ placeIn (nodeAt (now (d .«data»)) (d .version) (d .root) (d .addr)) b
+  Says r = placeIs r ≡ placeIn (nodeAt (now (d .«data»)) (d .version) (d .root) (d .addr)) b
 
   -- what is passed, and the machine values of it
   abbrev args : Args viewed.signature (κ, tt)

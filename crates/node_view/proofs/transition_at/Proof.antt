@@ -39,7 +39,7 @@ use denote.Triple.Walked.{says, Stays, stay-none, stay-none-slice, walkOf, goes-
 use denote.Exit.{yes}
 use denote.Triple.Clauses.{ensured, lasts}
 use Rattle.format.specs.Node.{nodeAt}
-use Rattle.node_view.specs.View.{viewOf, transitionIn}
+use Rattle.node_view.specs.View.{viewWith, transitionIn}
 use Rattle.node_view.specs.declared.Node.{Node}
 use Rattle.node_view.specs.declared.TransitionAnswer.{TransitionAnswer}
 use Rattle.node_view.proofs.Node as T
@@ -81,7 +81,7 @@ module _ {M : Type 1} (𝓤 : URA M) (H : Heap 𝓤) (A : Atoms 𝓤) (mem : Mem
 module _ {M : Type 1} (𝓤 : URA M) (H : Heap 𝓤) (A : Atoms 𝓤) (W : Given 𝓤 H A) (mem : Memory → SProp 𝓤) (run : Routine → Fun 𝓤) (κ : Lft) (q : Share)
     (s : RefT (List ℕ)) (version root addr i : ℕ) where
   abbrev made : Node
-  made = viewOf s version root addr
+  made = viewWith s version root addr
 
   -- the view's type as a local of a body has it
   abbrev αᵉ : NamedLft

@@ -5,13 +5,13 @@ use Prim.Native.Nat.{_-_}
 use lib.ListN.{length}
 use borrow.Author.Needs.{needs}
 use denote.Ref.{now}
-use Rattle.stream_start.specs.Views.{viewOf}
+use Rattle.stream_start.specs.Views.{viewIs}
 use Rattle.oracle_stream.proofs.Telling.{Reached, reached-first, reached-next, reached-stop, reached-end}
 use Rattle.oracle_stream.proofs.keys_from.Statement.{statement}
 use Rattle.oracle_stream.proofs.keys_from.Tie as tie
 
 abbrev Inv-loop : tie.InvT-loop
-Inv-loop file most key₀ here₀ n₀ key here n = (length key ≡ length key₀) × Reached most file (viewOf here₀) key₀ (viewOf here) key n
+Inv-loop file most key₀ here₀ n₀ key here n = (length key ≡ length key₀) × Reached most file (viewIs here₀) key₀ (viewIs here) key n
 
 abbrev μ-loop : tie.MeasureT-loop
 μ-loop file most key₀ here₀ n₀ key here n = most - n

@@ -8,11 +8,11 @@ use lib.ListN.{getD, take, length-set}
 use denote.Ref.{now}
 use Rattle.format.specs.Limits.{maxSum}
 use Rattle.format.specs.Node.{sound}
-use Rattle.format.specs.Paths.{fstIs, nodeIn}
+use Rattle.format.specs.Paths.{fstWith, nodeIn}
 use Rattle.node.specs.declared.Node.{Node}
 use Rattle.node.specs.Read.{meaning, Readable}
 use Rattle.node.specs.ReadLaws.{answer-sound, answer-unsound}
-use Rattle.stream_start.specs.Views.{boundOf}
+use Rattle.stream_start.specs.Views.{boundIs}
 use Rattle.stream_next.specs.Steps.{downFrom}
 use Rattle.stream_next.proofs.GoingLaws.{Going, going-none, going-deep, place-low, place-fits, target-fits, going-sum, going-bad, going-passed, going-final, going-on}
 use borrow.Author.Needs.{needs}
@@ -22,8 +22,8 @@ use Rattle.stream_next.proofs.descend.Tie as tie
 
 abbrev Inv-loop : tie.InvT-loop
 Inv-loop file version root top total addrs₀ inps₀ trans₀ outs₀ bound bound-len kind k₀ m₀ t₀ addrs inps trans outs k m t =
-    Going file version root (boundOf kind (take bound-len bound))
-    (downFrom file version root (boundOf kind (take bound-len bound)) addrs₀ inps₀ trans₀ outs₀ top m₀ total) addrs inps trans outs k m t
+    Going file version root (boundIs kind (take bound-len bound))
+    (downFrom file version root (boundIs kind (take bound-len bound)) addrs₀ inps₀ trans₀ outs₀ top m₀ total) addrs inps trans outs k m t
 
 abbrev μ-loop : tie.MeasureT-loop
 μ-loop file version root top total addrs₀ inps₀ trans₀ outs₀ bound bound-len kind k₀ m₀ t₀ addrs inps trans outs k m t =
@@ -85,7 +85,7 @@ w-at j = w-of (u-of (q-of j))
 abbrev n : Judged → Node
 n j = j .before .n .given .0 .0
 
-node-is : (j : Judged) → nodeIn (fstIs (file (w-at j)) (start (w-at j) .args .version) (start (w-at j) .args .root))
+node-is : (j : Judged) → nodeIn (fstWith (file (w-at j)) (start (w-at j) .args .version) (start (w-at j) .args .root))
     (q-of j .transition-addr .result) ≡ sound (meaning (file (w-at j)) (n j))
 node-is j = answer-sound (j .before .before .before .node-at .ensures) (n j) (j .before .n .given .1)
 
@@ -101,7 +101,7 @@ target-small j = target-fits (at-loop (w-at j) .loop .inv) (place-is (w-at j)) (
 loop-holds : tie.Need-loop-holds Inv-loop μ-loop
 loop-holds c = let start = c .before in
     let a = start .args in
-    going-none (now (a .file)) (a .version) (a .root) (boundOf (a .kind) (take (a .bound-len) (now (a .bound)))) (now (a .addrs))
+    going-none (now (a .file)) (a .version) (a .root) (boundIs (a .kind) (take (a .bound-len) (now (a .bound)))) (now (a .addrs))
     (now (a .inps)) (now (a .trans)) (now (a .outs)) (a .top) (a .node) (a .total)
     (start .pre .1 .0) (start .pre .0 .0) (start .pre .1 .2)
 

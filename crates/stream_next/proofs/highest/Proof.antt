@@ -6,7 +6,7 @@ use Prim.Native.Nat.{ℕ, _-_, _<_}
 use lib.ListN.{getD}
 use denote.Ref.{now}
 use Rattle.format.specs.Node.{sound}
-use Rattle.format.specs.Paths.{fstIs, nodeIn}
+use Rattle.format.specs.Paths.{fstWith, nodeIn}
 use Rattle.node.specs.declared.Node.{Node}
 use Rattle.node.specs.Read.{meaning, Readable}
 use Rattle.node.specs.ReadLaws.{answer-sound, answer-unsound}
@@ -39,11 +39,11 @@ m q = q .before .m .given .0 .0
 positive : (q : At) → 0 < at-loop q .loop .k
 positive q = q .before .before .before .before .before .before .loop-test .taken
 
-node-is : (q : At) → nodeIn (fstIs (file q) (at-loop q .before .before .args .version) (at-loop q .before .before .args .root))
+node-is : (q : At) → nodeIn (fstWith (file q) (at-loop q .before .before .args .version) (at-loop q .before .before .args .root))
     (getD (now (at-loop q .before .before .args .addrs)) (at-loop q .loop .k - 1) 0) ≡ sound (meaning (file q) (m q))
 node-is q = let call = q .before .before .before in
     let a = at-loop q .before .before .args in
-    ap (nodeIn (fstIs (now (a .file)) (a .version) (a .root))) (sym (call .before .wide-addr .ensures)) ∙ answer-sound
+    ap (nodeIn (fstWith (now (a .file)) (a .version) (a .root))) (sym (call .before .wide-addr .ensures)) ∙ answer-sound
     (call .node-at .ensures) (m q) (q .before .m .given .1)
 
 readable : (q : At) → Readable (file q) (m q)

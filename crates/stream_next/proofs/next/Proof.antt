@@ -8,8 +8,8 @@ use lib.ListN.{length}
 use Rattle.format.specs.Opening as O
 use Rattle.format.specs.Paths.{fstOf}
 use Rattle.fst.specs.declared.Meta.{Meta}
-use Rattle.fst.specs.Open.{metaIs, openingOf}
-use Rattle.stream_start.specs.Views.{emptyOf}
+use Rattle.fst.specs.Open.{metaIs, openingIs}
+use Rattle.stream_start.specs.Views.{emptyIs}
 use Rattle.stream_next.specs.Steps.{stateRight}
 use borrow.Author.Needs.{needs}
 use Rattle.stream_next.proofs.next.Statement.{statement}
@@ -24,7 +24,7 @@ abbrev meta : tie.After-opened2 → Meta
 meta q = q .opened2 .given .0 .0
 
 opens : (q : tie.After-opened2) → O.opening (now (start q .args .file)) ≡ O.opened (metaIs (meta q))
-opens q = sym (q .before .before .«open» .ensures) ∙ ap openingOf (q .opened2 .given .1)
+opens q = sym (q .before .before .«open» .ensures) ∙ ap openingIs (q .opened2 .given .1)
 
 abbrev q-of : tie.After-state-right → tie.After-opened2
 q-of w = w .before .before
@@ -75,7 +75,7 @@ walk-requires c κs = let v = c .before .before .before .before in
 returns-3 : tie.Need-returns-3
 returns-3 c = let call = c .before .before .before in
     let a = call .before .before .before .args in
-    next-refused (now (a .file)) (a .reading) (now (a .key)) (c .before .opened .given .0 .0) (sym (call .«open» .ensures) ∙ ap openingOf (c .before .opened .given .1))
+    next-refused (now (a .file)) (a .reading) (now (a .key)) (c .before .opened .given .0 .0) (sym (call .«open» .ensures) ∙ ap openingIs (c .before .opened .given .1))
 
 returns-4 : tie.Need-returns-4
 returns-4 c = let told = c .before .before in
@@ -83,7 +83,7 @@ returns-4 c = let told = c .before .before in
     let q = q-of (v .before) in
     let a = start q .args in
     next-walk (now (a .file)) (a .reading) (now (a .key)) (metaIs (meta q)) (opens q) (right v) (told .before .before .if2 .left)
-    (ap emptyOf (told .empty .given .1)) (now (a .key)) (c .pending .result)
+    (ap emptyIs (told .empty .given .1)) (now (a .key)) (c .pending .result)
     (c .pending .ensures (fstOf (now (a .file)) (metaIs (meta q))) (now (a .key)))
 
 same-length : tie.Need-same-length
@@ -96,7 +96,7 @@ returns-5 c = let call = c .before .before in
     let q = q-of (v .before) in
     let a = start q .args in
     next-walk (now (a .file)) (a .reading) (now (a .key)) (metaIs (meta q)) (opens q) (right v) (told .before .before .if2 .left)
-    (ap emptyOf (told .enum-told .given .1)) _ (call .walk .result) (call .walk .ensures)
+    (ap emptyIs (told .enum-told .given .1)) _ (call .walk .result) (call .walk .ensures)
 
 pub next-spec : {M : Type 1} → statement M
 next-spec =

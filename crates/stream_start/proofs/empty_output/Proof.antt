@@ -1,7 +1,7 @@
 -- `stream_start::empty_output` meets its contract: the root is judged where the empty key meets the bound.
 -- Assumes nothing.
 use mathlib.Core.Path.{_≡_, refl, sym, ap, _∙_}
-use Rattle.format.specs.Paths.{fstIs, nodeIn}
+use Rattle.format.specs.Paths.{fstWith, nodeIn}
 use Rattle.node.specs.Read.{meaning}
 use Rattle.node.specs.ReadLaws.{answer-sound, answer-unsound}
 use Rattle.stream_start.proofs.StartLaws.{pending-not, pending-unsound, pending-final, pending-no-key}
@@ -24,7 +24,7 @@ enum-told c = search needs
 returns : tie.Need-returns
 returns c = let call = c .before .before in
     let a = call .before .before .before .args in
-    pending-unsound (nodeIn (fstIs (now (a .file)) (a .version) (a .root)) (a .root)) (a .meets) (answer-unsound (call .node-at .ensures) (c .enum-told .given .1))
+    pending-unsound (nodeIn (fstWith (now (a .file)) (a .version) (a .root)) (a .root)) (a .meets) (answer-unsound (call .node-at .ensures) (c .enum-told .given .1))
 
 -- the empty key is held
 returns-2 : tie.Need-returns-2
@@ -32,7 +32,7 @@ returns-2 c = let given = c .before .before in
     let call = given .before .before in
     let a = call .before .before .before .args in
     let m = given .m .given .0 .0 in
-    pending-final (nodeIn (fstIs (now (a .file)) (a .version) (a .root)) (a .root)) (a .meets) (meaning (now (a .file)) m) (answer-sound (call .node-at .ensures) m (given .m .given .1)) (call .before .if1 .taken) (c .if2 .taken)
+    pending-final (nodeIn (fstWith (now (a .file)) (a .version) (a .root)) (a .root)) (a .meets) (meaning (now (a .file)) m) (answer-sound (call .node-at .ensures) m (given .m .given .1)) (call .before .if1 .taken) (c .if2 .taken)
 
 -- it is not held
 returns-3 : tie.Need-returns-3
@@ -40,12 +40,12 @@ returns-3 c = let given = c .before .before in
     let call = given .before .before in
     let a = call .before .before .before .args in
     let m = given .m .given .0 .0 in
-    pending-no-key (nodeIn (fstIs (now (a .file)) (a .version) (a .root)) (a .root)) (a .meets) (meaning (now (a .file)) m) (answer-sound (call .node-at .ensures) m (given .m .given .1)) (call .before .if1 .taken) (c .if2 .left)
+    pending-no-key (nodeIn (fstWith (now (a .file)) (a .version) (a .root)) (a .root)) (a .meets) (meaning (now (a .file)) m) (answer-sound (call .node-at .ensures) m (given .m .given .1)) (call .before .if1 .taken) (c .if2 .left)
 
 -- it does not meet the bound
 returns-4 : tie.Need-returns-4
 returns-4 c = let a = c .before .before .args in
-    pending-not (nodeIn (fstIs (now (a .file)) (a .version) (a .root)) (a .root)) (a .meets) (c .if1 .left)
+    pending-not (nodeIn (fstWith (now (a .file)) (a .version) (a .root)) (a .root)) (a .meets) (c .if1 .left)
 
 pub empty-output-spec : {M : Type 1} → statement M
 empty-output-spec =

@@ -7,7 +7,7 @@ use Prim.Native.Nat.{ℕ, _<_, _≤_}
 use lib.ListN.{length, getD}
 use Rattle.format.specs.Node.{sound, at, absent, findInput, transitionAt}
 use Rattle.format.specs.laws.NodeFacts.{node-count}
-use Rattle.format.specs.Paths.{Fst, fstIs, nodeIn}
+use Rattle.format.specs.Paths.{Fst, fstWith, nodeIn}
 use Rattle.node.specs.declared.Node.{Node}
 use Rattle.node.specs.Read.{meaning, transitionsIn, Readable}
 use Rattle.node.specs.ReadLaws.{answer-sound, answer-unsound, place-is, place-none, place-lt, length-node-transitions}
@@ -32,7 +32,7 @@ abbrev file : At → List ℕ
 file q = now (start q .args .file)
 
 abbrev f : At → Fst
-f q = fstIs (file q) (start q .args .version) (start q .args .root)
+f q = fstWith (file q) (start q .args .version) (start q .args .root)
 
 abbrev addr : At → ℕ
 addr q = start q .args .addr
@@ -89,7 +89,7 @@ enum-told c = search needs
 returns : tie.Need-returns
 returns c = let call = c .before .before in
     let a = call .before .before .args in
-    (sym (enter-unsound (fstIs (now (a .file)) (a .version) (a .root)) (a .addr) (a .b) (answer-unsound (call .node-at .ensures) (c .enum-told .given .1))), omega arith)
+    (sym (enter-unsound (fstWith (now (a .file)) (a .version) (a .root)) (a .addr) (a .b) (answer-unsound (call .node-at .ensures) (c .enum-told .given .1))), omega arith)
 
 find-input-requires : tie.Need-find-input-requires
 find-input-requires c κs = readable c

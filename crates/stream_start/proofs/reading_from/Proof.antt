@@ -2,7 +2,7 @@
 -- Assumes nothing.
 use mathlib.Core.Path.{_≡_, refl, sym, ap, _∙_}
 use lib.ListN.{length, take}
-use Rattle.stream_start.specs.Views.{boundOf, emptyOf}
+use Rattle.stream_start.specs.Views.{boundIs, emptyIs}
 use Rattle.stream_start.proofs.StartLaws.{reading-halted, reading-levels}
 use denote.Ref.{now}
 use borrow.Author.Needs.{needs}
@@ -28,14 +28,14 @@ returns : tie.Need-returns
 returns c = let given = c .before .before in
     let w = given .before .before in
     let a = w .before .before .before .before .before .before .before .args in
-    rw (c .refused .ensures) (reading-halted (length (now (a .file))) (boundOf (a .kind) (take (a .bound-len) (a .bound))) (a .bound-len) (emptyOf (a .empty-output)) _ (rw (given .sought .given .1) at (w .seek .ensures)))
+    rw (c .refused .ensures) (reading-halted (length (now (a .file))) (boundIs (a .kind) (take (a .bound-len) (a .bound))) (a .bound-len) (emptyIs (a .empty-output)) _ (rw (given .sought .given .1) at (w .seek .ensures)))
 
 -- the walk gives levels
 returns-2 : tie.Need-returns-2
 returns-2 c = let given = c .before in
     let w = given .before .before in
     let a = w .before .before .before .before .before .before .before .args in
-    reading-levels (length (now (a .file))) (boundOf (a .kind) (take (a .bound-len) (a .bound))) (a .bound-len) (emptyOf (a .empty-output)) _ (rw (given .sought2 .given .1) at (w .seek .ensures))
+    reading-levels (length (now (a .file))) (boundIs (a .kind) (take (a .bound-len) (a .bound))) (a .bound-len) (emptyIs (a .empty-output)) _ (rw (given .sought2 .given .1) at (w .seek .ensures))
 
 pub reading-from-spec : {M : Type 1} → statement M
 reading-from-spec =

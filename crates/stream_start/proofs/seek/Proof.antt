@@ -5,13 +5,13 @@ use mathlib.Core.Path.{_≡_, refl, sym, ap, _∙_}
 use mathlib.Core.List.{List, _∷_}
 use Prim.Native.Nat.{ℕ, _+_, _-_, _<_, _≤_}
 use lib.ListN.{length, getD, drop}
-use Rattle.format.specs.Paths.{Fst, fstIs, nodeIn}
+use Rattle.format.specs.Paths.{Fst, fstWith, nodeIn}
 use Rattle.node.specs.Read.{meaning}
 use Rattle.node.specs.ReadLaws.{answer-sound, answer-unsound}
-use Rattle.reading.specs.Reading.{levelIs, halted}
+use Rattle.reading.specs.Reading.{levelWith, halted}
 use Rattle.stream_start.specs.declared.Entered.the-variants.{Hit}
 use Rattle.stream_start.specs.Seeks.{enterOf}
-use Rattle.stream_start.specs.Views.{stackOf}
+use Rattle.stream_start.specs.Views.{stackIs}
 use Rattle.stream_start.proofs.Seeking.{Seeking, seeking-none, seeking-unsound, seeking-done, seeking-bad, seeking-miss, seeking-on, seeking-step}
 use Rattle.stream_start.proofs.SeekCases.{seek-past}
 use denote.Ref.{now}
@@ -22,7 +22,7 @@ use Rattle.stream_start.proofs.seek.Tie as tie
 
 abbrev Inv-loop : tie.InvT-loop
 Inv-loop file version root lower inclusive addrs₀ inps₀ trans₀ outs₀ k₀ addr₀ inp₀ sum₀ addrs inps trans outs k addr inp sum =
-    (addr < 4294967296) × Seeking (fstIs file version root) inclusive lower addrs inps trans outs k addr inp sum
+    (addr < 4294967296) × Seeking (fstWith file version root) inclusive lower addrs inps trans outs k addr inp sum
 
 abbrev μ-loop : tie.MeasureT-loop
 μ-loop file version root lower inclusive addrs₀ inps₀ trans₀ outs₀ k₀ addr₀ inp₀ sum₀ addrs inps trans outs k addr inp sum =
@@ -46,7 +46,7 @@ abbrev q-of : Hit-at → Turn
 q-of w = w .before .before .before
 
 abbrev f : Turn → Fst
-f q = let a = start q .args in fstIs (now (a .file)) (a .version) (a .root)
+f q = let a = start q .args in fstWith (now (a .file)) (a .version) (a .root)
 
 abbrev lower : Turn → List ℕ
 lower q = now (start q .args .lower)
@@ -63,7 +63,7 @@ cast-addr c = search needs
 loop-holds : tie.Need-loop-holds Inv-loop μ-loop
 loop-holds c = let start = c .before .before in
     let a = start .args in
-    (omega arith, seeking-none (fstIs (now (a .file)) (a .version) (a .root)) (a .inclusive) (now (a .lower)) (now (a .addrs)) (now (a .inps)) (now (a .trans)) (now (a .outs)) (start .pre .2))
+    (omega arith, seeking-none (fstWith (now (a .file)) (a .version) (a .root)) (a .inclusive) (now (a .lower)) (now (a .addrs)) (now (a .inps)) (now (a .trans)) (now (a .outs)) (start .pre .2))
 
 shared-slice-read-b : tie.Need-shared-slice-read-b Inv-loop μ-loop
 shared-slice-read-b c = search needs
@@ -117,7 +117,7 @@ returns-3 c = let w = c .before .before in
     let q = q-of w in
     let l = at-loop q .loop in
     let sum = l .sum + w .before .entered2 .given .0 .1 .1 .0 in
-    let levels = levelIs (l .addr) (l .inp) (w .before .entered2 .given .0 .0 + 1) (l .sum) ∷ stackOf (l .k) (l .addrs) (l .inps) (l .trans) (l .outs) in
+    let levels = levelWith (l .addr) (l .inp) (w .before .entered2 .given .0 .0 + 1) (l .sum) ∷ stackIs (l .k) (l .addrs) (l .inps) (l .trans) (l .outs) in
     ap halted (c .past-sum .ensures)
     ∙ sym (seek-past (f q) (start q .args .inclusive) (w .before .entered2 .given .0 .1 .0) (getD (lower q) (l .k) 0) sum levels (drop (l .k + 1) (lower q)) (omega (arith, c .before .if1 .taken, l .inv .1 .fits)))
     ∙ sym (seeking-on (l .inv .1) (q .before .before .loop-test .taken) (w .before .entered2 .given .0 .0) (w .before .entered2 .given .0 .1 .0) (w .before .entered2 .given .0 .1 .1 .0) (hit w))

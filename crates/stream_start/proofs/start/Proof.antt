@@ -3,8 +3,8 @@
 use mathlib.Core.Path.{_≡_, refl, sym, ap, _∙_}
 use Rattle.format.specs.Opening as O
 use Rattle.format.specs.laws.OpeningLaws.{opened-facts, root-inside}
-use Rattle.fst.specs.Open.{metaIs, openingOf}
-use Rattle.stream_start.specs.Views.{boundOf}
+use Rattle.fst.specs.Open.{metaIs, openingIs}
+use Rattle.stream_start.specs.Views.{boundIs}
 use Rattle.stream_start.proofs.StartLaws.{start-opened, start-refused}
 use denote.Ref.{now}
 use borrow.Author.Needs.{needs}
@@ -14,7 +14,7 @@ use Rattle.stream_start.proofs.start.Tie as tie
 
 -- what the file says, where it opens
 opens : (q : tie.After-opened2) → O.opening (now (q .before .before .before .before .before .before .args .file)) ≡ O.opened (metaIs (q .opened2 .given .0 .0))
-opens q = sym (q .before .before .«open» .ensures) ∙ ap openingOf (q .opened2 .given .1)
+opens q = sym (q .before .before .«open» .ensures) ∙ ap openingIs (q .opened2 .given .1)
 
 open-requires : tie.Need-open-requires
 open-requires c κs = search needs
@@ -39,13 +39,13 @@ returns : tie.Need-returns
 returns c = let q = c .before .before in
     let call = q .before .before in
     let a = call .before .before .before .before .args in
-    rw (c .refused .ensures) (sym (start-refused (now (a .file)) (boundOf (a .lower-kind) (now (a .lower))) (boundOf (a .upper-kind) (now (a .upper))) _ (sym (call .«open» .ensures) ∙ ap openingOf (q .opened .given .1))))
+    rw (c .refused .ensures) (sym (start-refused (now (a .file)) (boundIs (a .lower-kind) (now (a .lower))) (boundIs (a .upper-kind) (now (a .upper))) _ (sym (call .«open» .ensures) ∙ ap openingIs (q .opened .given .1))))
 
 -- it opens
 returns-2 : tie.Need-returns-2
 returns-2 c = let q = c .before .before in
     let a = q .before .before .before .before .before .before .args in
-    c .start-from .ensures ∙ sym (start-opened (now (a .file)) (boundOf (a .lower-kind) (now (a .lower))) (boundOf (a .upper-kind) (now (a .upper))) (metaIs (q .opened2 .given .0 .0)) (opens q))
+    c .start-from .ensures ∙ sym (start-opened (now (a .file)) (boundIs (a .lower-kind) (now (a .lower))) (boundIs (a .upper-kind) (now (a .upper))) (metaIs (q .opened2 .given .0 .0)) (opens q))
 
 pub start-spec : {M : Type 1} → statement M
 start-spec =

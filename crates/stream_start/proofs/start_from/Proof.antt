@@ -4,10 +4,10 @@
 use mathlib.Core.Path.{_≡_, refl, sym, ap, _∙_}
 use lib.ListN.{length, take}
 use lib.Seq.{length-take-le}
-use Rattle.format.specs.Paths.{Fst, fstIs, nodeIn}
+use Rattle.format.specs.Paths.{Fst, fstWith, nodeIn}
 use Rattle.format.specs.Strings as S
 use Rattle.stream_start.specs.Seeks.{BoundTaken, pendingIf}
-use Rattle.stream_start.specs.Views.{boundOf}
+use Rattle.stream_start.specs.Views.{boundIs}
 use Rattle.stream_start.proofs.StartLaws.{same-walk, bound-is, from-lower, from-upper, from-reading}
 use denote.Ref.{now}
 use borrow.Author.Needs.{needs}
@@ -24,13 +24,13 @@ abbrev start : At → tie.Start
 start q = q .before .before .before .before .before
 
 abbrev f : At → Fst
-f q = let a = start q .args in fstIs (now (a .file)) (a .version) (a .root)
+f q = let a = start q .args in fstWith (now (a .file)) (a .version) (a .root)
 
 abbrev lo : At → S.Bound
-lo q = boundOf (start q .args .lower-kind) (now (start q .args .lower))
+lo q = boundIs (start q .args .lower-kind) (now (start q .args .lower))
 
 abbrev hi : At → S.Bound
-hi q = boundOf (start q .args .upper-kind) (now (start q .args .upper))
+hi q = boundIs (start q .args .upper-kind) (now (start q .args .upper))
 
 lower-taken : (q : At) → BoundTaken (start q .args .lower-kind) (now (start q .args .lower)) (q .before .len-of .result)
 lower-taken q = q .before .len-of .ensures
