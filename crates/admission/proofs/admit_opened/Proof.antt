@@ -53,6 +53,7 @@ clear16-requires c κs = search needs
 clear64-requires : tie.Need-clear64-requires
 clear64-requires c κs = search needs
 
+-- both tables are zeros over the file
 judge-requires : tie.Need-judge-requires
 judge-requires c κs =
     let q = c .before .before .before .before in
