@@ -63,27 +63,35 @@ end-len-of-requires c κs = search needs
 index-len-of-requires : tie.Need-index-len-of-requires
 index-len-of-requires c κs = search needs
 
+-- the outputs
 mul-size : tie.Need-mul-size
 mul-size c = omega (arith, size-le c)
 
+-- the final output and the outputs
 add-size : tie.Need-add-size
 add-size c = omega (arith, size-le c)
 
+-- the deltas
 mul-size-2 : tie.Need-mul-size-2
 mul-size-2 c = omega (arith, size-le c)
 
+-- with the deltas
 add-size-2 : tie.Need-add-size-2
 add-size-2 c = omega (arith, size-le c)
 
+-- with the inputs
 add-size-3 : tie.Need-add-size-3
 add-size-3 c = omega (arith, size-le c)
 
+-- with the index
 add-size-4 : tie.Need-add-size-4
 add-size-4 c = omega (arith, size-le c)
 
+-- with the sizes byte
 add-size-5 : tie.Need-add-size-5
 add-size-5 c = omega (arith, size-le c)
 
+-- with the state
 add-size-6 : tie.Need-add-size-6
 add-size-6 c = omega (arith, size-le c)
 
