@@ -28,6 +28,7 @@ same-length c = search needs
 same-length-2 : tie.Need-same-length-2
 same-length-2 c = search needs
 
+-- the answer of a file that opens
 returns-2 : tie.Need-returns-2
 returns-2 c = c .before .before .before .before .admit-opened .ensures
 
