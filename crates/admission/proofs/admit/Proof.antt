@@ -1,6 +1,6 @@
 -- `admission::admit` meets its contract: opening's refusals, and then the answer for a file that opens.
 -- Assumes nothing.
-use Rattle.admission.proofs.Answers.{opening-refused, opening-opens}
+use Rattle.admission.proofs.Admitting.{opening-refused, opening-opens}
 use borrow.Author.Needs.{needs}
 use Rattle.admission.proofs.admit.Statement.{statement}
 use Rattle.admission.proofs.admit.Tie as tie

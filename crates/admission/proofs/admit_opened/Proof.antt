@@ -4,7 +4,7 @@ use mathlib.Core.Logic.{inl, inr}
 use Prim.Native.Nat.{_≤_}
 use denote.Ref.{now}
 use lib.ListN.{length}
-use Rattle.admission.proofs.Answers.{space-refused, wiped-cleared, AllJudged, good-admits, lost-refused, deep-refused, heavy-refused}
+use Rattle.admission.proofs.Admitting.{space-refused, wiped-cleared, AllJudged, good-admits, lost-refused, deep-refused, heavy-refused}
 use borrow.Author.Needs.{needs}
 use Rattle.admission.proofs.admit_opened.Statement.{statement}
 use Rattle.admission.proofs.admit_opened.Tie as tie

@@ -12,7 +12,7 @@ use Rattle.admission.specs.declared.Verdict.the-variants.{Good, Lost, De
 use Rattle.admission.specs.Passes.{Surveyable}
 use Rattle.format.specs.Paths.{fstWith}
 use Rattle.admission.proofs.Stores.{kept-lt}
-use Rattle.admission.proofs.Judging.{judged-sound, judged-unsound}
+use Rattle.admission.proofs.JudgedNodes.{judged-sound, judged-unsound}
 use Rattle.admission.proofs.Surveying.{surveyed-as}
 use Rattle.admission.proofs.Filling.{Filling, filling-none, filling-skip, not-unsound, surveyable, filling-lost, filling-store, filling-as, filling-ends, closed-all, filled-heavy, filled-good}
 use borrow.Author.Needs.{needs}

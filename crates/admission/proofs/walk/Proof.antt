@@ -11,7 +11,7 @@ use Rattle.node.specs.Read.{meaning}
 use Rattle.admission.specs.Passes.{Kept}
 use Rattle.format.specs.Paths.{fstWith}
 use Rattle.admission.proofs.Stores.{kept-none, kept-set, kept-lt}
-use Rattle.admission.proofs.Judging.{judged-sound, judged-unsound}
+use Rattle.admission.proofs.JudgedNodes.{judged-sound, judged-unsound}
 use Rattle.admission.proofs.Walking.{Walking, walking-none, walking-broken, walked-inside, walked-below, walked-first-low, walking-last, walking-next}
 use borrow.Author.Needs.{needs}
 use native.Mathlib.Omega.{arith}

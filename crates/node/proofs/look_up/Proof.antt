@@ -2,7 +2,7 @@
 -- Assumes nothing.
 use mathlib.Core.Path.{_≡_, refl, sym, ap, _∙_}
 use Rattle.node.specs.ReadLaws.{looks-up-at, looks-up-missing}
-use Rattle.node.proofs.Reading.{entry-is}
+use Rattle.node.proofs.InputSearch.{entry-is}
 use borrow.Author.Needs.{needs}
 use native.Mathlib.Omega.{arith}
 use denote.Ref.{now}

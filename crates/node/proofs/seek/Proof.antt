@@ -2,7 +2,7 @@
 -- Assumes nothing.
 use Prim.Native.Nat.{_-_}
 use denote.Ref.{now}
-use Rattle.node.proofs.Reading.{Passed, passed-none, passed-step, passed-all, found-at}
+use Rattle.node.proofs.InputSearch.{Passed, passed-none, passed-step, passed-all, found-at}
 use borrow.Author.Needs.{needs}
 use Rattle.node.proofs.seek.Statement.{statement}
 use Rattle.node.proofs.seek.Tie as tie
