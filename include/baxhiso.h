@@ -13,7 +13,7 @@
  * below (crates/firmware/specs/Exports.antt, with the definitions of docs/FORMAT.md). Only tested, by tests/c: that these
  * declarations fit the library, and NULL with length 0. The stack is not part of the proof; no function calls itself.
  *
- * Admit a file when it is loaded, with two lent tables of an entry for each byte; then every answer is exact:
+ * Admit a file when it is loaded, with two lent tables of an entry for each byte; then each answer by key is exact:
  *
  *     static uint16_t depths[CARD_MAX];
  *     static uint64_t sums[CARD_MAX];
@@ -24,7 +24,7 @@
  *     switch (fst_get(file, file_len, key, key_len, &value)) {
  *     case FST_OK:   show(value);   break;
  *     case FST_NONE: show_absent(); break;
- *     default:       reject_card(); break;   (the file was changed)
+ *     default:       reject_card(); break;
  *     }
  *
  * Licence: see NOTICE.
