@@ -35,7 +35,7 @@ proved() { # CRATE
         rm -f "$top/target/stamp/$1"
     fi
     [ -f "$top/target/stamp/$1" ] || announce
-    (cd "$top" && exec rt check "$1") 2>&1 | while IFS= read -r line; do
+    (cd "$top" && exec rt check "$1") 2>&1 </dev/null | while IFS= read -r line; do
         printf '%s\n' "$line" >>"$log"
         [[ $line =~ $quiet ]] || announce
     done
@@ -59,7 +59,7 @@ library() {
     proved firmware
     if ! made libfirmware; then
         announce
-        (cd "$top" && exec rt staticlib firmware) >>"$log" 2>&1 || failed "the library for C is not built"
+        (cd "$top" && exec rt staticlib firmware) >>"$log" 2>&1 </dev/null || failed "the library for C is not built"
         make_known libfirmware target/stamp/firmware target/staticlib/libfirmware.a
     fi
 }
@@ -70,8 +70,7 @@ one_at_a_time() { # COMMAND...
     log=$top/target/$name.log
     { mkdir -p "$top/target" && : >"$log"; } 2>/dev/null || fail "target/$name.log cannot be written"
     if command -v flock >/dev/null; then
-        exec 9>"$top/target/lock"
-        flock 9
+        { exec 9>"$top/target/lock"; } 2>/dev/null && flock 9 || fail "target/lock cannot be written"
     fi
     "$@"
     exec 9>&-
