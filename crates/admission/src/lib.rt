@@ -22,6 +22,9 @@ use format::SUM;
 use fst::Opened;
 use node::Node;
 
+// The largest entry of an admitted file: 1 plus a path of 255.
+const DEEPEST: u16 = LEVELS as u16;
+
 // What admission answers: the file is admitted, or the number of a refusal.
 pub enum Admission {
     Admitted,
@@ -175,7 +178,7 @@ fn clamped(d: u16) -> u16
 fn or_deep(deep: bool, d: u16) -> bool
     ensures { λ r. ⌜ r ≡ cond (ltb maxLevels d) true deep ⌝ }
 {
-    if LEVELS < d {
+    if DEEPEST < d {
         return true;
     }
     deep
