@@ -257,12 +257,12 @@ fn rooms(list: &mut List) {
 // Each rule of RECORD, broken and at its limit.
 fn records(list: &mut List) {
     let not_final = Record { final_output: 9, ..two(None) };
-    let right = b"\x05\0\xf0\xff\xff\0\0\0ba\x31\x02";
+    let far = b"\x05\0\xf0\xff\xff\0\0\0ba\x31\x02";
     pack(list, "record-right", &two(None), 20, ROOM, Ok(b"\x05\0\x04\0ba\x11\x02"));
     pack(list, "record-final", &two(Some(9)), 20, ROOM, Ok(b"\x09\x05\0\x04\0ba\x11\x42"));
     pack(list, "record-final-output-not-final", &not_final, 20, ROOM, Err(RECORD));
     pack(list, "record-first-17", &two(None), 17, ROOM, Ok(b"\x05\0\x01\0ba\x11\x02"));
-    pack(list, "record-first-16777216", &two(None), 16_777_216, ROOM, Ok(right));
+    pack(list, "record-first-16777216", &two(None), 16_777_216, ROOM, Ok(far));
     pack(list, "record-first-16777217", &two(None), 16_777_217, ROOM, Err(RECORD));
     pack(list, "record-before-space", &two(None), 16_777_217, 0, Err(RECORD));
     pack(list, "record-first-16", &one(b'a', 0, 0), 16, ROOM, Ok(b"\0\x10\x85"));
