@@ -40,7 +40,9 @@ mod ours_reading;
 mod prng;
 mod replay;
 mod replay_file;
+mod replay_list;
 mod replay_reading;
+mod replay_rows;
 mod wrong;
 mod wrong_file;
 mod wrong_reading;
@@ -157,7 +159,7 @@ fn record(lists: &[String]) -> bool {
             println!("oracle: {}: {}", path, error);
             return false;
         }
-        println!("{}: {} bytes, {} records", path, bytes.len(), bytes::read_u32_le(&bytes));
+        println!("{}: {} bytes", path, bytes.len());
         for (kind, n) in kinds {
             println!("    {:>8}  {}", n, kind);
         }

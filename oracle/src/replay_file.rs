@@ -2,19 +2,17 @@
 // lookups. Values and keys on admitted files are the Rust's answers, everything else is the model's. crates/replay_fst/README.md
 // has its layout.
 
-use std::collections::BTreeMap;
-
-use crate::answers::{HELD, KEY_REFUSED, NOT_HELD, NO_KEY, SPACE};
+use crate::answers::{HELD, KEY_REFUSED, NOT_HELD, NO_CHECKSUM, NO_KEY, SPACE};
 use crate::generate_file::{damage, file_of, nodes_of, path, small, variant};
 use crate::given_file::{self, Opened};
 use crate::hand_made;
 use crate::model_file::{self, Admitted, Answer, MAX_PATH};
 use crate::prng::Prng;
+use crate::replay_list::{List, FILE};
 
-// The kinds of record.
-const FILE: u8 = 1;
+// The kinds of record beside the file.
 const OPENING: u8 = 2;
-const NODE: u8 = 3;
+const ADMISSION: u8 = 3;
 const KEY: u8 = 4;
 const VALUE: u8 = 5;
 
@@ -22,67 +20,54 @@ const VALUE: u8 = 5;
 pub const MOST: usize = 600;
 const FILES: usize = 170;
 
-// A list of records, and how many of each kind there are.
-#[derive(Default)]
-pub struct List {
-    pub bytes: Vec<u8>,
-    records: u32,
-    counts: BTreeMap<&'static str, usize>,
-}
+// The names of what admission answers, for counts; refusals in the order of their numbers.
+const ADMISSIONS: [&str; 9] = [
+    "files admitted",
+    "files refused: 1 SHORT",
+    "files refused: 2 VERSION",
+    "files refused: 3 ROOT",
+    "files refused: 4 LARGE",
+    "files refused: 5 NODE",
+    "files refused: 6 DEEP",
+    "files refused: 7 SUM",
+    "files refused: 8 SPACE",
+];
 
 impl List {
-    pub fn put(&mut self, kind: u8, a: u64, b: u64, c: u64, part: &[u8]) {
-        let two = |n: u64| {
-            assert!(n < 65_536);
-            (n as u16).to_le_bytes()
-        };
-        self.bytes.push(kind);
-        self.bytes.extend(&two(a));
-        self.bytes.extend(&b.to_le_bytes());
-        self.bytes.extend(&two(c));
-        self.bytes.extend(&two(part.len() as u64));
-        self.bytes.extend(part);
-        self.records += 1;
-    }
-
-    pub fn count(&mut self, what: &'static str) {
-        *self.counts.entry(what).or_insert(0) += 1;
-    }
-
-    pub fn finish(self) -> (Vec<u8>, Vec<(&'static str, usize)>) {
-        let mut bytes = self.records.to_le_bytes().to_vec();
-        bytes.extend(self.bytes);
-        (bytes, self.counts.into_iter().collect())
-    }
-
-    // The file with what admission answers in tables of so many entries, and what opening answers.
+    // The file, with what opening answers, and admission in tables of so many entries.
     fn file(&mut self, file: &[u8], lent: usize) -> Option<Admitted> {
         assert!(file.len() <= MOST);
-        let judged = match model_file::open(file) {
+        self.put(FILE, 0, 0, 0, file);
+        self.count("files");
+        let opened = model_file::open(file);
+        match &opened {
+            Ok(meta) => {
+                let checksum = meta.checksum.map_or(NO_CHECKSUM, u64::from);
+                let said = [meta.version, meta.ty, meta.len, meta.root as u64, checksum];
+                let said: Vec<u8> = said.iter().flat_map(|n| n.to_le_bytes().to_vec()).collect();
+                self.put(OPENING, 0, 0, 0, &said);
+            }
+            Err(why) => self.put(OPENING, *why, 0, 0, &[]),
+        }
+        let judged = match opened {
             Ok(_) if lent < file.len() => Err(SPACE),
             _ => model_file::admitted(file),
         };
-        let nodes = judged.as_ref().map_or(0, |found| found.chain.len());
-        self.put(FILE, judged.as_ref().err().copied().unwrap_or(0), lent as u64, nodes as u64, file);
-        self.count("files");
-        self.count(if judged.is_ok() { "files admitted" } else { "files refused" });
-        match model_file::open(file) {
-            Ok(meta) => {
-                let mut said = meta.version.to_le_bytes().to_vec();
-                said.extend(&meta.ty.to_le_bytes());
-                said.extend(&meta.len.to_le_bytes());
-                said.extend(&(meta.root as u64).to_le_bytes());
-                said.extend(&meta.checksum.unwrap_or(0).to_le_bytes());
-                self.put(OPENING, 0, 0, meta.checksum.is_some() as u64, &said);
-            }
-            Err(why) => self.put(OPENING, why, 0, 0, &[]),
-        }
-        let found = judged.ok()?;
-        for (addr, _, reach) in &found.chain {
-            self.put(NODE, *addr as u64, reach.largest as u64, 1 + reach.longest as u64, &[]);
+        let number = judged.as_ref().err().copied().unwrap_or(0);
+        // opening's refusals, which go up to 4, and SPACE leave the tables as they were
+        let written = if (1..=4).contains(&number) || number == SPACE { 0 } else { file.len() };
+        let mut nodes: Vec<_> = judged.iter().flat_map(|found| &found.chain).collect();
+        nodes.sort_by_key(|(addr, _, _)| *addr);
+        let mut rows = Vec::new();
+        for (addr, _, reach) in nodes {
+            rows.extend(&(*addr as u16).to_le_bytes());
+            rows.extend(&(1 + reach.longest as u16).to_le_bytes());
+            rows.extend(&(reach.largest as u64).to_le_bytes());
             self.count("nodes");
         }
-        Some(found)
+        self.put(ADMISSION, number, lent as u64, written as u64, &rows);
+        self.count(ADMISSIONS[number as usize]);
+        judged.ok()
     }
 
     fn key(&mut self, file: &[u8], rust: Option<&Opened>, key: &[u8]) {

@@ -13,10 +13,10 @@ use crate::hand_made;
 use crate::model_file::{self, MAX_PATH};
 use crate::model_reading::{self, Told};
 use crate::prng::Prng;
-use crate::replay_file::{self, List};
+use crate::replay_file;
+use crate::replay_list::{List, FILE};
 
-// The kinds of record.
-const FILE: u8 = 1;
+// The kinds of record beside the file.
 const START: u8 = 2;
 const NEXT: u8 = 3;
 const MADE: u8 = 4;

@@ -1,1 +1,3 @@
-pub mod Within
+pub mod Records
+pub mod RecordLaws
+pub mod Tallies

@@ -1,194 +1,248 @@
-// Replays the recorded answers of the Rust, with no Rust at hand. The list on standard input has node records, each with
-// the bytes that the Rust packs it to (README.md). Each record is packed, and the bytes held to the recorded ones; then
-// they are read back at their place, and the node held to the record. A difference changes a count that is written.
+// Replays packing and reading nodes, with no Rust at hand. The list on standard input has nodes,
+// each with its name, what it packs to and stored nodes that are to be read as it (README.md). Each
+// is asked again. A difference changes a count that is written, and the name of its node is written
+// too.
 ghost use mathlib.Core.Path.{_≡_};
-ghost use mathlib.Core.Bool.{true};
 ghost use Prim.Native.Nat.{_+_, _*_, _≤_, _<_};
-ghost use lib.ListN.{length, take, drop};
-ghost use Rattle.format.specs.Bytes.{le};
+ghost use lib.ListN.{length};
 ghost use Rattle.node.specs.Read.{Readable};
-ghost use Rattle.replay_node.specs.Within.{Within, Parses};
+ghost use Rattle.replay_list.specs.Records.{Within};
 use libc::STDIN_FILENO;
 use libc::STDOUT_FILENO;
 use node::Found;
 use node::Judged;
 use node::Node;
 use node_compile::Compiled;
+use replay_list::Entry;
+use replay_list::FILE;
+use replay_list::KEPT;
+use replay_list::Parsed;
+use replay_list::Place;
+use replay_list::at_most;
+use replay_list::number;
 
 // The list's length, and one byte more by which a longer list is seen.
-const LIST: usize = 155_767;
-// The file that a node is read back in: room for the largest node at F 65,553, where deltas first take 3 bytes.
-const FILE: usize = 69_632;
+const LIST: usize = 337_737;
+// The file that a node is read in: room for the largest node at F 65,553, where deltas first take 3
+// bytes.
+const SPACE: usize = 69_632;
 
-// The places of the counts.
-const RECORDS: usize = 0;
+// The kinds of record beside the node.
+const PACK: u64 = 2;
 
-const PACKED: usize = 1;
+const READ: u64 = 3;
 
-const READ: usize = 2;
+// A node of the list: its name, then at the places below the number of transitions, 1 if final, the
+// final output and F, then the inputs, the outputs and the targets.
+const COUNT: usize = 32;
 
-const TOO_FAR: usize = 3;
+const FINAL: usize = 34;
 
-const MALFORMED: usize = 4;
+const FINAL_OUTPUT: usize = 35;
 
-const NO_BYTES: usize = 5;
+const FIRST: usize = 43;
 
-const NEXT: usize = 6;
+const LISTS: usize = 47;
 
-const ONE: usize = 7;
+// ---- packing
 
-const ANY: usize = 8;
-
-const INDEXED: usize = 9;
-
-const FULL: usize = 10;
-
-// A record of the list: its numbers, and where its parts stand in the list.
-struct Entry {
-    is_final: bool,
-    final_output: u64,
-    first: usize,
-    ntrans: usize,
-    inputs: usize,
-    outputs: usize,
-    targets: usize,
-    // the node's bytes, and how many there are
-    bytes: usize,
-    len: usize,
-}
-
-enum Parsed {
-    Good(Entry),
-    // the list ends within the record, or a number is none that it may have
-    Malformed,
-}
-
-// ---- the list
-
-// The number of size bytes at place at of the list.
-fn number(list: &[u8], at: usize, size: usize) -> u64
-    requires { ⌜ (at + size ≤ length (now list)) × (size ≤ 8) ⌝ }
-    ensures { λ r. ⌜ r ≡ le (take size (drop at (now (list .entry)))) ⌝ }
+// The outputs of a node of the list, and zeros behind them.
+fn outputs_of(node: &[u8], n: usize) -> [u64; 258]
+    requires { ⌜ (n ≤ 257) × (47 + 13 * n ≤ length (now node)) ⌝ }
+    ensures { λ r. ⌜ 258 ≡ length r ⌝ }
 {
-    le_bytes::unpack_uint(&list[at..], size)
-}
-
-// The record at place at.
-fn parse(list: &[u8], at: usize) -> Parsed
-    ensures { λ r. ⌜ Parses (now (list .entry)) r ⌝ }
-{
-    if list.len() <= at {
-        return Parsed::Malformed;
-    }
-    let left = list.len() - at;
-    if left < 24 {
-        return Parsed::Malformed;
-    }
-    let flag = number(list, at, 4);
-    if 1 < flag {
-        return Parsed::Malformed;
-    }
-    let ntrans = number(list, at + 16, 4) as usize;
-    if 256 < ntrans {
-        return Parsed::Malformed;
-    }
-    // inputs, outputs of 8 bytes, targets of 4
-    let lists = 13 * ntrans;
-    if left < 24 + lists {
-        return Parsed::Malformed;
-    }
-    let len = number(list, at + 20 + lists, 4) as usize;
-    if left - 24 - lists < len {
-        return Parsed::Malformed;
-    }
-    let final_output = number(list, at + 4, 8);
-    let first = number(list, at + 12, 4) as usize;
-    Parsed::Good(Entry {
-        is_final: flag == 1,
-        final_output,
-        first,
-        ntrans,
-        inputs: at + 20,
-        outputs: at + 20 + ntrans,
-        targets: at + 20 + 9 * ntrans,
-        bytes: at + 24 + lists,
-        len,
-    })
-}
-
-// The outputs of a record, from place at on.
-fn outputs_of(list: &[u8], at: usize, n: usize) -> [u64; 256]
-    requires { ⌜ (n ≤ 256) × (at + 8 * n ≤ length (now list)) ⌝ }
-    ensures { λ r. ⌜ 256 ≡ length r ⌝ }
-{
-    let mut outputs = [0u64; 256];
+    let mut outputs = [0u64; 258];
     let mut i = 0;
     while i < n {
-        outputs[i] = number(list, at + 8 * i, 8);
+        outputs[i] = number(node, LISTS + n + 8 * i, 8);
         i += 1;
     }
     outputs
 }
 
-// The targets of a record, from place at on.
-fn targets_of(list: &[u8], at: usize, n: usize) -> [usize; 256]
-    requires { ⌜ (n ≤ 256) × (at + 4 * n ≤ length (now list)) ⌝ }
-    ensures { λ r. ⌜ 256 ≡ length r ⌝ }
+// The targets of a node of the list, and zeros behind them.
+fn targets_of(node: &[u8], n: usize) -> [usize; 258]
+    requires { ⌜ (n ≤ 257) × (47 + 13 * n ≤ length (now node)) ⌝ }
+    ensures { λ r. ⌜ 258 ≡ length r ⌝ }
 {
-    let mut targets = [0usize; 256];
+    let mut targets = [0usize; 258];
     let mut i = 0;
     while i < n {
-        targets[i] = number(list, at + 4 * i, 4) as usize;
+        targets[i] = number(node, LISTS + 9 * n + 4 * i, 4) as usize;
         i += 1;
     }
     targets
 }
 
-// ---- packing
+fn answer_number(compiled: Compiled) -> u64 {
+    match compiled {
+        Compiled::Len(n) => n as u64,
+        Compiled::Refused(why) => 10_000 + (why as u64),
+    }
+}
 
-// Whether a buffer holds the n bytes from place at of the list at its front, and zeros behind them.
-fn same_bytes(list: &[u8], at: usize, n: usize, out: &[u8; 4096]) -> bool
-    requires { ⌜ at + n ≤ length (now list) ⌝ }
+// Packs the node into out, with so many outputs and targets lent: the answer as a number.
+fn packed(node: &[u8], n: usize, lent_outputs: usize, lent_targets: usize, out: &mut [u8]) -> u64
+    requires { ⌜ (n ≤ 257) × (47 + 13 * n ≤ length (now node)) ⌝ }
+    requires { ⌜ («lent_outputs» ≤ 258) × («lent_targets» ≤ 258) ⌝ }
+{
+    let end = LISTS + n;
+    let is_final = number(node, FINAL, 1) == 1;
+    let final_output = number(node, FINAL_OUTPUT, 8);
+    let first = number(node, FIRST, 4) as usize;
+    let outputs = outputs_of(node, n);
+    let targets = targets_of(node, n);
+    answer_number(node_compile::compile(
+        is_final,
+        final_output,
+        &node[LISTS..end],
+        &outputs[..lent_outputs],
+        &targets[..lent_targets],
+        first,
+        out,
+    ))
+}
+
+// Whether the node packs to the recorded bytes or is refused, in the recorded room, with the rest
+// of the buffer as it was.
+fn packs_alike(list: &[u8], node: &[u8], n: usize, entry: Entry) -> bool
+    requires { ⌜ (n ≤ 257) × (47 + 13 * n ≤ length (now node)) × Within (now list) entry ⌝ }
+{
+    if entry.len < 4 {
+        return false;
+    }
+    let part = entry.part;
+    let outputs = at_most(number(list, part, 2), 258);
+    let targets = at_most(number(list, part + 2, 2), 258);
+    let room = at_most(entry.b, 4096);
+    let mut buffer = [KEPT; 4096];
+    if packed(node, n, outputs, targets, &mut buffer[..room]) != entry.a {
+        return false;
+    }
+    replay_list::same_bytes(list, part + 4, entry.len - 4, &buffer)
+}
+
+// ---- reading
+
+// Whether transition i is that of the list's node, and its input is found there.
+fn transition_alike(node: &[u8], n: usize, file: &[u8], read: Node, i: usize) -> bool
+    requires { ⌜ (47 + 13 * n ≤ length (now node)) × (i < n) ⌝ }
+    requires { ⌜ Readable (now file) read × (i < read .ntrans) ⌝ }
+{
+    let t = node::transition(file, read, i);
+    if t.inp != node[LISTS + i] {
+        return false;
+    }
+    if t.out != number(node, LISTS + n + 8 * i, 8) {
+        return false;
+    }
+    if t.addr as u64 != number(node, LISTS + 9 * n + 4 * i, 4) {
+        return false;
+    }
+    match node::find_input(file, read, t.inp) {
+        Found::At(k) => k == i,
+        Found::Absent => false,
+    }
+}
+
+// Whether the transitions are those of the list's node.
+fn transitions_alike(node: &[u8], n: usize, file: &[u8], read: Node) -> bool
+    requires { ⌜ (47 + 13 * n ≤ length (now node)) × Readable (now file) read
+        × (read .ntrans ≡ n) ⌝ }
 {
     let mut i = 0;
-    while i < 4096 {
-        let want = if i < n { list[at + i] } else { 0 };
-        if out[i] != want {
+    while i < n {
+        if transition_alike(node, n, file, read, i) {} else {
             return false;
         }
         i += 1;
     }
-    n <= 4096
+    true
 }
 
-// Whether the record packs to the recorded bytes, with the rest of the buffer as it was.
-fn packs_alike(list: &[u8], entry: Entry) -> bool
-    requires { ⌜ Within (now list) entry ⌝ }
+// 1 for a byte that is found among the inputs, else 0.
+fn found(file: &[u8], read: Node, b: u8) -> usize
+    requires { ⌜ Readable (now file) read ⌝ }
+    ensures { λ r. ⌜ r ≤ 1 ⌝ }
 {
-    let n = entry.ntrans;
-    let from = entry.inputs;
-    let to = from + n;
-    let outputs = outputs_of(list, entry.outputs, n);
-    let targets = targets_of(list, entry.targets, n);
-    let mut out = io::buffer();
-    let Compiled::Len(len) = node_compile::compile(
-        entry.is_final,
-        entry.final_output,
-        &list[from..to],
-        &outputs[..n],
-        &targets[..n],
-        entry.first,
-        &mut out,
-    ) else {
-        return false;
-    };
-    if len != entry.len {
+    match node::find_input(file, read, b) {
+        Found::At(_) => 1,
+        Found::Absent => 0,
+    }
+}
+
+// How many bytes are found among the inputs.
+fn all_found(file: &[u8], read: Node) -> usize
+    requires { ⌜ Readable (now file) read ⌝ }
+{
+    let mut n = 0;
+    let mut b: usize = 0;
+    while b < 256 {
+        n += found(file, read, b as u8);
+        b += 1;
+    }
+    n
+}
+
+// Whether F, final and the final output are those of the list's node.
+fn numbers_alike(node: &[u8], read: Node) -> bool
+    requires { ⌜ 47 ≤ length (now node) ⌝ }
+{
+    if read.first as u64 != number(node, FIRST, 4) {
         return false;
     }
-    same_bytes(list, entry.bytes, len, &out)
+    if read.is_final != (number(node, FINAL, 1) == 1) {
+        return false;
+    }
+    read.final_output == number(node, FINAL_OUTPUT, 8)
 }
 
-// ---- reading back
+// Whether what stands at addr is sound and the list's node, or not sound where that is recorded.
+fn node_alike(
+    node: &[u8],
+    n: usize,
+    file: &[u8],
+    version: u64,
+    root: usize,
+    addr: usize,
+    sound: u64,
+) -> bool
+    requires { ⌜ 47 + 13 * n ≤ length (now node) ⌝ }
+{
+    let Judged::Sound(read) = node::node_at(file, version, root, addr) else {
+        return sound == 0;
+    };
+    if read.ntrans != n {
+        return false;
+    }
+    if all_found(file, read) != n {
+        return false;
+    }
+    if numbers_alike(node, read) {} else {
+        return false;
+    }
+    if transitions_alike(node, n, file, read) {
+        return sound == 1;
+    }
+    false
+}
+
+// The same in both recorded versions.
+fn versions_alike(
+    node: &[u8],
+    n: usize,
+    file: &[u8],
+    entry: Entry,
+    root: usize,
+    addr: usize,
+) -> bool
+    requires { ⌜ 47 + 13 * n ≤ length (now node) ⌝ }
+{
+    if node_alike(node, n, file, entry.a, root, addr, entry.b) {
+        return node_alike(node, n, file, entry.c, root, addr, entry.b);
+    }
+    false
+}
 
 // Writes n bytes from place at of the list into file from place to on.
 fn lay(list: &[u8], at: usize, n: usize, file: &mut [u8], to: usize)
@@ -202,260 +256,84 @@ fn lay(list: &[u8], at: usize, n: usize, file: &mut [u8], to: usize)
     }
 }
 
-// The place of the byte b among the record's inputs, or 256.
-fn recorded_place(list: &[u8], at: usize, n: usize, b: u8) -> usize
-    requires { ⌜ at + n ≤ length (now list) ⌝ }
+// Whether recorded bytes, laid into a file of zeros that ends with them, are read as recorded in
+// both versions.
+fn reads_alike(list: &[u8], node: &[u8], n: usize, entry: Entry) -> bool
+    requires { ⌜ (47 + 13 * n ≤ length (now node)) × Within (now list) entry ⌝ }
 {
-    let mut i = 0;
-    while i < n {
-        if list[at + i] == b {
-            return i;
-        }
-        i += 1;
-    }
-    256
-}
-
-// The place of the byte b among the node's inputs, or 256.
-fn found_place(file: &[u8], node: Node, b: u8) -> usize
-    requires { ⌜ Readable (now file) node ⌝ }
-{
-    let Found::At(i) = node::find_input(file, node, b) else {
-        return 256;
-    };
-    i
-}
-
-// Whether each byte has the place among the node's inputs that it has among the record's.
-fn places_alike(list: &[u8], entry: Entry, file: &[u8], node: Node) -> bool
-    requires { ⌜ Within (now list) entry × Readable (now file) node ⌝ }
-{
-    let mut b: u8 = 0;
-    while b < 255 {
-        if found_place(file, node, b) != recorded_place(list, entry.inputs, entry.ntrans, b) {
-            return false;
-        }
-        b += 1;
-    }
-    found_place(file, node, 255) == recorded_place(list, entry.inputs, entry.ntrans, 255)
-}
-
-// Whether transition i of the node is that of the record.
-fn transition_alike(list: &[u8], entry: Entry, file: &[u8], node: Node, i: usize) -> bool
-    requires { ⌜ Within (now list) entry × Readable (now file) node × (i < node .ntrans) × (i < entry .ntrans) ⌝ }
-{
-    let t = node::transition(file, node, i);
-    let at = entry.inputs + i;
-    if t.inp != list[at] {
+    if entry.len < 24 {
         return false;
     }
-    if t.out != number(list, entry.outputs + 8 * i, 8) {
+    let part = entry.part;
+    let laid = at_most(number(list, part, 8), SPACE);
+    let len = entry.len - 24;
+    if SPACE - laid < len {
         return false;
     }
-    t.addr as u64 == number(list, entry.targets + 4 * i, 4)
+    let root = number(list, part + 8, 8) as usize;
+    let addr = number(list, part + 16, 8) as usize;
+    let end = laid + len;
+    let mut file = [0u8; SPACE];
+    lay(list, part + 24, len, &mut file, laid);
+    versions_alike(node, n, &file[..end], entry, root, addr)
 }
 
-// Whether the node's transitions are those of the record.
-fn transitions_alike(list: &[u8], entry: Entry, file: &[u8], node: Node) -> bool
-    requires { ⌜ Within (now list) entry × Readable (now file) node × (node .ntrans ≡ entry .ntrans) ⌝ }
-{
-    let n = node.ntrans;
-    let mut i = 0;
-    while i < n {
-        if transition_alike(list, entry, file, node, i) {} else {
-            return false;
-        }
-        i += 1;
-    }
-    true
-}
+// ---- the list
 
-// Whether the node's own numbers are those of the record.
-fn numbers_alike(entry: Entry, node: Node, addr: usize) -> bool
-    ensures { λ r. ⌜ (r ≡ true → node .ntrans ≡ entry .ntrans) ⌝ }
-{
-    // address 0 has no bytes
-    let first = if addr == 0 { 0 } else { entry.first };
-    if node.first != first {
-        return false;
-    }
-    if node.is_final != entry.is_final {
-        return false;
-    }
-    if node.final_output != entry.final_output {
-        return false;
-    }
-    node.ntrans == entry.ntrans
-}
-
-// Whether the node at addr of a file of this version, with its root there, is the record.
-fn node_alike(list: &[u8], entry: Entry, file: &[u8], version: u64, addr: usize) -> bool
+// Whether a record is answered as recorded. The node that it is about has all its parts.
+fn alike(list: &[u8], node: &[u8], entry: Entry) -> bool
     requires { ⌜ Within (now list) entry ⌝ }
 {
-    let Judged::Sound(node) = node::node_at(file, version, addr, addr) else {
-        return false;
-    };
-    if numbers_alike(entry, node, addr) {} else {
+    if node.len() < LISTS {
         return false;
     }
-    if transitions_alike(list, entry, file, node) {} else {
+    let n = number(node, COUNT, 2) as usize;
+    if 257 < n {
         return false;
     }
-    places_alike(list, entry, file, node)
+    if node.len() < LISTS + 13 * n {
+        return false;
+    }
+    if entry.kind == PACK {
+        return packs_alike(list, node, n, entry);
+    }
+    if entry.kind == READ {
+        return reads_alike(list, node, n, entry);
+    }
+    entry.kind == FILE
 }
 
-// The address of a packed node: its last byte, or 0 where it has none.
-fn addr_of(first: usize, len: usize) -> usize
-    requires { ⌜ first + len ≤ 69632 ⌝ }
-{
-    if len == 0 {
-        return 0;
-    }
-    first + len - 1
-}
-
-// Whether a file whose last node is at addr has the record there: in version 1 where there is no index, and in versions
-// 2 and 3.
-fn versions_alike(list: &[u8], entry: Entry, file: &[u8], addr: usize) -> bool
+// The same, with the node's name written where it is not.
+fn asked(list: &[u8], node: &[u8], entry: Entry) -> bool
     requires { ⌜ Within (now list) entry ⌝ }
 {
-    if entry.ntrans <= 32 {
-        if node_alike(list, entry, file, 1, addr) {} else {
-            return false;
-        }
+    if alike(list, node, entry) {
+        return true;
     }
-    if node_alike(list, entry, file, 2, addr) {} else {
-        return false;
+    if COUNT <= node.len() {
+        io::write_all(STDOUT_FILENO, b"differs: ");
+        io::write_all(STDOUT_FILENO, &node[..COUNT]);
+        io::write_all(STDOUT_FILENO, b"\n");
     }
-    node_alike(list, entry, file, 3, addr)
-}
-
-// Whether the recorded bytes, laid from F on into a file of zeros that ends with them, read back as the record.
-fn reads_alike(list: &[u8], entry: Entry) -> bool
-    requires { ⌜ Within (now list) entry × (entry .first + entry .len ≤ 69632) ⌝ }
-{
-    let first = entry.first;
-    let len = entry.len;
-    let end = first + len;
-    let mut file = [0u8; FILE];
-    lay(list, entry.bytes, len, &mut file, first);
-    versions_alike(list, entry, &file[..end], addr_of(first, len))
-}
-
-// ---- the counts
-
-// One more at place k.
-fn count(counts: &mut [u64; 16], k: usize)
-    requires { ⌜ k < 16 ⌝ }
-{
-    let n = counts[k];
-    if n < u64::MAX {
-        counts[k] = n + 1;
-    }
-}
-
-// Counts the form of a node, by its recorded state byte.
-fn count_form(list: &[u8], entry: Entry, counts: &mut [u64; 16])
-    requires { ⌜ Within (now list) entry ⌝ }
-{
-    if entry.len == 0 {
-        count(counts, NO_BYTES);
-        return;
-    }
-    let last = entry.bytes + entry.len - 1;
-    let state = list[last];
-    if 192 <= state {
-        count(counts, NEXT);
-        return;
-    }
-    if 128 <= state {
-        count(counts, ONE);
-        return;
-    }
-    count(counts, ANY);
-    if 32 < entry.ntrans {
-        count(counts, INDEXED);
-    }
-    if entry.ntrans == 256 {
-        count(counts, FULL);
-    }
-}
-
-// Counts what becomes of one record.
-fn replay_one(list: &[u8], entry: Entry, counts: &mut [u64; 16])
-    requires { ⌜ Within (now list) entry ⌝ }
-{
-    count(counts, RECORDS);
-    count_form(list, entry, counts);
-    if packs_alike(list, entry) {
-        count(counts, PACKED);
-    }
-    if FILE < entry.len {
-        count(counts, TOO_FAR);
-        return;
-    }
-    if FILE - entry.len < entry.first {
-        count(counts, TOO_FAR);
-        return;
-    }
-    if reads_alike(list, entry) {
-        count(counts, READ);
-    }
+    false
 }
 
 // Every record of the list, which ends with the last of them.
 fn replay(list: &[u8], counts: &mut [u64; 16]) {
-    if list.len() < 4 {
-        count(counts, MALFORMED);
-        return;
-    }
-    let records = number(list, 0, 4);
-    let mut at = 4;
-    let mut i = 0;
-    while i < records {
-        let Parsed::Good(entry) = parse(list, at) else {
-            count(counts, MALFORMED);
+    let mut place = Place { from: 0, to: 0 };
+    let mut at = 0;
+    while at < list.len() {
+        let Parsed::Good(entry) = replay_list::parse(list, at) else {
+            replay_list::tally(counts, 0, false);
             return;
         };
-        replay_one(list, entry, counts);
-        at = end_of(list, entry);
-        i += 1;
+        place = replay_list::place_of(list, entry, place);
+        let from = place.from;
+        let to = place.to;
+        let same = asked(list, &list[from..to], entry);
+        replay_list::tally(counts, entry.kind, same);
+        at = replay_list::end_of(list, entry);
     }
-    if at != list.len() {
-        count(counts, MALFORMED);
-    }
-}
-
-// Where a record ends.
-fn end_of(list: &[u8], entry: Entry) -> usize
-    requires { ⌜ Within (now list) entry ⌝ }
-{
-    entry.bytes + entry.len
-}
-
-// ---- what is written
-
-// A count, and the words that follow it.
-fn say(n: u64, words: &[u8]) {
-    io::print_decimal(STDOUT_FILENO, n);
-    io::write_all(STDOUT_FILENO, words);
-}
-
-fn report(counts: &[u64; 16]) {
-    say(counts[RECORDS], b" records, ");
-    say(counts[PACKED], b" packed alike, ");
-    say(counts[READ], b" read back alike, ");
-    say(counts[TOO_FAR], b" too far to read back, ");
-    say(counts[MALFORMED], b" malformed\n");
-}
-
-fn report_forms(counts: &[u64; 16]) {
-    say(counts[NO_BYTES], b" of no bytes\n");
-    say(counts[NEXT], b" of the form 11, to the node before\n");
-    say(counts[ONE], b" of the form 10, one transition\n");
-    say(counts[ANY], b" of the forms 00 and 01, any transitions\n");
-    say(counts[INDEXED], b" of these with an index\n");
-    say(counts[FULL], b" of these with 256 transitions\n");
 }
 
 fn main() {
@@ -463,6 +341,8 @@ fn main() {
     let len = io::read_full(STDIN_FILENO, &mut list);
     let mut counts = [0u64; 16];
     replay(&list[..len], &mut counts);
-    report(&counts);
-    report_forms(&counts);
+    replay_list::line(&counts, 1, b"nodes");
+    replay_list::line(&counts, 2, b"packed");
+    replay_list::line(&counts, 3, b"read");
+    replay_list::line(&counts, 0, b"malformed");
 }

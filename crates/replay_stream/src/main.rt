@@ -1,15 +1,18 @@
-// Replays recorded readings, with no Rust at hand. The list on standard input has files, each with starts and the calls of next after
-// them (README.md). Each is asked again, and the answer, the total and the key buffer are held to what is recorded. A difference changes
-// a count that is written.
+// Replays recorded readings, with no Rust at hand. The list on standard input has files, each with
+// starts and the calls of next after them (README.md). Each is asked again, and the answer, the
+// total and the key buffer are held to what is recorded. A difference changes a count that is
+// written.
 ghost use Prim.Native.Nat.{_+_, _*_, _≤_, _<_};
 ghost use lib.ListN.{length};
-ghost use Rattle.replay_list.specs.Within.{Within};
+ghost use Rattle.replay_list.specs.Records.{Within};
 use libc::STDIN_FILENO;
-use libc::STDOUT_FILENO;
 use replay_list::Entry;
 use replay_list::FILE;
+use replay_list::KEPT;
 use replay_list::Parsed;
 use replay_list::Place;
+use replay_list::at_most;
+use replay_list::number;
 use stream_next::Answer;
 use stream_start::Begins;
 use stream_start::Bound;
@@ -17,76 +20,14 @@ use stream_start::EmptyOutput;
 use stream_start::Reading;
 
 // The list's length, and one byte more by which a longer list is seen.
-const LIST: usize = 191_643;
-// The longest key buffer of the list, and more.
-const SPACE: usize = 300;
-// What a byte holds before it is lent.
-const KEPT8: u8 = 170;
+const LIST: usize = 191_639;
 
-// The kinds of record.
+// The kinds of record beside the file.
 const START: u64 = 2;
 
 const NEXT: u64 = 3;
 
 const MADE: u64 = 4;
-
-// The places of the counts. Starts refused with the number r are counted at STARTS_REFUSED + r, calls at NEXTS_REFUSED + r.
-const MALFORMED: usize = 0;
-
-const FILES: usize = 1;
-
-const STARTS: usize = 2;
-
-const STARTS_ALIKE: usize = 3;
-
-const NEXTS: usize = 4;
-
-const NEXTS_ALIKE: usize = 5;
-
-const KEYS: usize = 6;
-
-const ENDS: usize = 7;
-
-const MADES: usize = 8;
-
-const STARTS_REFUSED: usize = 9;
-
-const NEXTS_REFUSED: usize = 21;
-
-// ---- the list
-
-// The number of two bytes, the lower first.
-fn number16(low: u8, high: u8) -> u16 {
-    low as u16 + 256 * (high as u16)
-}
-
-// ---- the counts
-
-// One more at place k.
-fn count(counts: &mut [u64; 40], k: usize)
-    requires { ⌜ k < 40 ⌝ }
-{
-    let n = counts[k];
-    if n < u64::MAX {
-        counts[k] = n + 1;
-    }
-}
-
-// One more at place k where this is so.
-fn count_if(counts: &mut [u64; 40], k: usize, so: bool)
-    requires { ⌜ k < 40 ⌝ }
-{
-    if so {
-        count(counts, k);
-    }
-}
-
-// The smaller of two numbers.
-fn at_most(n: usize, most: usize) -> usize
-    ensures { λ r. ⌜ (r ≤ n) × (r ≤ most) ⌝ }
-{
-    if n < most { n } else { most }
-}
 
 // ---- starts
 
@@ -101,11 +42,10 @@ fn kind_of(n: u64) -> Bound {
     Bound::Unbounded
 }
 
-// Counts a start by its recorded answer.
-fn count_start(counts: &mut [u64; 40], answer: u64) {
-    count(counts, STARTS);
-    if answer < 12 {
-        count(counts, STARTS_REFUSED + answer as usize);
+fn begins_number(answer: Begins) -> u64 {
+    match answer {
+        Begins::Began => 0,
+        Begins::Refused(why) => why as u64,
     }
 }
 
@@ -115,57 +55,30 @@ fn replay_start(
     file: &[u8],
     entry: Entry,
     reading: Reading,
-    counts: &mut [u64; 40],
+    counts: &mut [u64; 16],
 ) -> Reading
     requires { ⌜ Within (now list) entry ⌝ }
 {
-    count_start(counts, entry.a);
     let from = entry.part;
-    let to = entry.part + entry.len;
-    let lower_len = entry.b as usize;
-    if entry.len < lower_len {
-        count(counts, MALFORMED);
-        return reading;
-    }
-    let between = from + lower_len;
-    let lower_kind = kind_of(entry.c / 3);
-    let upper_kind = kind_of(entry.c % 3);
+    let between = from + at_most(entry.b, entry.len);
+    let to = replay_list::end_of(list, entry);
     let started = stream_start::start(
         file,
-        lower_kind,
+        kind_of(entry.c / 3),
         &list[from..between],
-        upper_kind,
+        kind_of(entry.c % 3),
         &list[between..to],
     );
-    let answer = started.answer;
-    match answer {
-        Begins::Refused(why) => {
-            count_if(counts, STARTS_ALIKE, why as u64 == entry.a);
-            reading
-        }
-        Begins::Began => {
-            count_if(counts, STARTS_ALIKE, entry.a == 0);
-            started.reading
-        }
+    let begins = started.answer;
+    let answer = begins_number(begins);
+    replay_list::tally(counts, START, answer == entry.a);
+    if answer == 0 {
+        return started.reading;
     }
+    reading
 }
 
 // ---- calls of next
-
-// Whether a buffer holds the n bytes from place at of the list at its front, and behind them what it held.
-fn key_alike(list: &[u8], at: usize, n: usize, key: &[u8; SPACE]) -> bool
-    requires { ⌜ at + n ≤ length (now list) ⌝ }
-{
-    let mut i = 0;
-    while i < SPACE {
-        let want = if i < n { list[at + i] } else { KEPT8 };
-        if key[i] != want {
-            return false;
-        }
-        i += 1;
-    }
-    n <= SPACE
-}
 
 // Whether an answer has the recorded number and value.
 fn answer_alike(answer: Answer, number: u64, value: u64) -> bool {
@@ -181,50 +94,20 @@ fn answer_alike(answer: Answer, number: u64, value: u64) -> bool {
     }
 }
 
-// Counts a call by its recorded answer.
-fn count_next(counts: &mut [u64; 40], answer: u64) {
-    count(counts, NEXTS);
-    if answer < 1000 {
-        count(counts, KEYS);
-    }
-    if answer == 1000 {
-        count(counts, ENDS);
-    }
-    if 2000 < answer {
-        if answer < 2012 {
-            count(counts, NEXTS_REFUSED + (answer - 2000) as usize);
-        }
-    }
-}
-
-// Whether an answer, the reading's total and levels after it, and a buffer of which so much was lent are what is recorded.
-fn next_alike(
-    list: &[u8],
-    entry: Entry,
-    answer: Answer,
-    total: u64,
-    levels: usize,
-    space: usize,
-    key: &[u8; SPACE],
-) -> bool
+// Whether the reading's total and levels after a call, and the buffer, are what is recorded.
+fn left_alike(list: &[u8], entry: Entry, total: u64, levels: usize, key: &[u8; 4096]) -> bool
     requires { ⌜ Within (now list) entry ⌝ }
 {
     if entry.len < 10 {
         return false;
     }
-    if space as u64 != entry.c {
+    if number(list, entry.part, 8) != total {
         return false;
     }
-    if answer_alike(answer, entry.a, entry.b) {} else {
+    if number(list, entry.part + 8, 2) != levels as u64 {
         return false;
     }
-    if replay_list::number(list, entry.part, 8) != total {
-        return false;
-    }
-    if replay_list::number(list, entry.part + 8, 2) != levels as u64 {
-        return false;
-    }
-    key_alike(list, entry.part + 10, entry.len - 10, key)
+    replay_list::same_bytes(list, entry.part + 10, entry.len - 10, key)
 }
 
 // Calls next again. The answer is the reading that it leaves.
@@ -233,18 +116,18 @@ fn replay_next(
     file: &[u8],
     entry: Entry,
     reading: Reading,
-    counts: &mut [u64; 40],
+    counts: &mut [u64; 16],
 ) -> Reading
     requires { ⌜ Within (now list) entry ⌝ }
 {
-    count_next(counts, entry.a);
-    let space = at_most(entry.c as usize, SPACE);
-    let mut key = [KEPT8; SPACE];
+    let space = at_most(entry.c, 4096);
+    let mut key = [KEPT; 4096];
     let step = stream_next::next(file, reading, &mut key[..space]);
     let answer = step.answer;
     let after = step.reading;
-    let alike = next_alike(list, entry, answer, after.total, after.levels, space, &key);
-    count_if(counts, NEXTS_ALIKE, alike);
+    let told = answer_alike(answer, entry.a, entry.b);
+    let left = left_alike(list, entry, after.total, after.levels, &key);
+    replay_list::tally(counts, NEXT, told & left);
     after
 }
 
@@ -267,6 +150,11 @@ fn nothing() -> Reading {
         trans: [0; 256],
         outs: [0; 256],
     }
+}
+
+// The number of two bytes, the lower first.
+fn number16(low: u8, high: u8) -> u16 {
+    low as u16 + 256 * (high as u16)
 }
 
 // The bytes of a bound, from place at of the list.
@@ -298,7 +186,7 @@ fn fill_levels(
         addrs[i] = le_bytes::read_u32_le(&list[from..]);
         inps[i] = list[from + 4];
         trans[i] = number16(list[from + 5], list[from + 6]);
-        outs[i] = replay_list::number(list, from + 7, 8);
+        outs[i] = number(list, from + 7, 8);
         i += 1;
     }
 }
@@ -311,49 +199,46 @@ fn pending_of(there: u64, value: u64) -> EmptyOutput {
     EmptyOutput::Pending(value)
 }
 
-// A recorded reading.
-fn replay_made(list: &[u8], entry: Entry, counts: &mut [u64; 40]) -> Reading
+// How long the part of a recorded reading is.
+fn made_len(entry: Entry) -> usize {
+    18 + at_most(entry.c, 255) + 15 * at_most(entry.a, 256)
+}
+
+// A recorded reading, or one of nothing where the part is not as long as it says.
+fn made(list: &[u8], entry: Entry) -> Reading
     requires { ⌜ Within (now list) entry ⌝ }
 {
-    count(counts, MADES);
-    let levels = entry.a as usize;
-    let bound_len = entry.c as usize;
-    let stored_levels = at_most(levels, 256);
-    let stored_bytes = at_most(bound_len, 255);
-    if entry.len != 18 + stored_bytes + 15 * stored_levels {
-        count(counts, MALFORMED);
+    let levels = at_most(entry.a, 256);
+    let bytes = at_most(entry.c, 255);
+    if entry.len != 18 + bytes + 15 * levels {
         return nothing();
     }
     let at = entry.part;
-    let len = replay_list::number(list, at, 8) as usize;
-    let pending = replay_list::number(list, at + 8, 1);
-    let value = replay_list::number(list, at + 9, 8);
-    let kind_number = replay_list::number(list, at + 17, 1);
+    let empty_output = pending_of(number(list, at + 8, 1), number(list, at + 9, 8));
+    let kind = kind_of(number(list, at + 17, 1));
     let mut bound = [0u8; 255];
-    fill_bound(list, at + 18, stored_bytes, &mut bound);
+    fill_bound(list, at + 18, bytes, &mut bound);
     let mut addrs = [0u32; 256];
     let mut inps = [0u8; 256];
     let mut trans = [0u16; 256];
     let mut outs = [0u64; 256];
     fill_levels(
         list,
-        at + 18 + stored_bytes,
-        stored_levels,
+        at + 18 + bytes,
+        levels,
         &mut addrs,
         &mut inps,
         &mut trans,
         &mut outs,
     );
-    let kind = kind_of(kind_number);
-    let empty_output = pending_of(pending, value);
     Reading {
-        len,
+        len: number(list, at, 8) as usize,
         kind,
-        bound_len,
+        bound_len: entry.c as usize,
         bound,
         empty_output,
         total: entry.b,
-        levels,
+        levels: entry.a as usize,
         addrs,
         inps,
         trans,
@@ -361,7 +246,7 @@ fn replay_made(list: &[u8], entry: Entry, counts: &mut [u64; 40]) -> Reading
     }
 }
 
-// ---- the list again
+// ---- the list
 
 // Replays one record that is about this file, with the reading that the records before it left.
 fn replay_one(
@@ -369,14 +254,10 @@ fn replay_one(
     file: &[u8],
     entry: Entry,
     reading: Reading,
-    counts: &mut [u64; 40],
+    counts: &mut [u64; 16],
 ) -> Reading
     requires { ⌜ Within (now list) entry ⌝ }
 {
-    if entry.kind == FILE {
-        count(counts, FILES);
-        return reading;
-    }
     if entry.kind == START {
         return replay_start(list, file, entry, reading, counts);
     }
@@ -384,26 +265,21 @@ fn replay_one(
         return replay_next(list, file, entry, reading, counts);
     }
     if entry.kind == MADE {
-        return replay_made(list, entry, counts);
+        replay_list::tally(counts, MADE, entry.len == made_len(entry));
+        return made(list, entry);
     }
-    count(counts, MALFORMED);
+    replay_list::tally(counts, entry.kind, entry.kind == FILE);
     reading
 }
 
 // Every record of the list, which ends with the last of them.
-fn replay(list: &[u8], counts: &mut [u64; 40]) {
-    if list.len() < 4 {
-        count(counts, MALFORMED);
-        return;
-    }
-    let records = replay_list::number(list, 0, 4);
+fn replay(list: &[u8], counts: &mut [u64; 16]) {
     let mut reading = nothing();
     let mut place = Place { from: 0, to: 0 };
-    let mut at = 4;
-    let mut i = 0;
-    while i < records {
+    let mut at = 0;
+    while at < list.len() {
         let Parsed::Good(entry) = replay_list::parse(list, at) else {
-            count(counts, MALFORMED);
+            replay_list::tally(counts, 0, false);
             return;
         };
         place = replay_list::place_of(list, entry, place);
@@ -411,54 +287,17 @@ fn replay(list: &[u8], counts: &mut [u64; 40]) {
         let to = place.to;
         reading = replay_one(list, &list[from..to], entry, reading, counts);
         at = replay_list::end_of(list, entry);
-        i += 1;
     }
-    if at != list.len() {
-        count(counts, MALFORMED);
-    }
-}
-
-// ---- what is written
-
-// A count, and the words that follow it.
-fn say(n: u64, words: &[u8]) {
-    io::print_decimal(STDOUT_FILENO, n);
-    io::write_all(STDOUT_FILENO, words);
-}
-
-fn report(counts: &[u64; 40]) {
-    say(counts[FILES], b" files, ");
-    say(counts[MALFORMED], b" malformed\n");
-    say(counts[STARTS], b" starts, ");
-    say(counts[STARTS_ALIKE], b" alike\n");
-    say(counts[STARTS_REFUSED], b" of them a reading\n");
-    say(counts[STARTS_REFUSED + 1], b" refused: 1 SHORT\n");
-    say(counts[STARTS_REFUSED + 2], b" refused: 2 VERSION\n");
-    say(counts[STARTS_REFUSED + 3], b" refused: 3 ROOT\n");
-    say(counts[STARTS_REFUSED + 5], b" refused: 5 NODE\n");
-    say(counts[STARTS_REFUSED + 7], b" refused: 7 SUM\n");
-    say(counts[STARTS_REFUSED + 9], b" refused: 9 BOUND\n");
-}
-
-fn report_nexts(counts: &[u64; 40]) {
-    say(counts[MADES], b" readings that no start gave\n");
-    say(counts[NEXTS], b" calls of next, ");
-    say(counts[NEXTS_ALIKE], b" alike\n");
-    say(counts[KEYS], b" of them a key, ");
-    say(counts[ENDS], b" the end\n");
-    say(counts[NEXTS_REFUSED + 3], b" refused: 3 ROOT\n");
-    say(counts[NEXTS_REFUSED + 5], b" refused: 5 NODE\n");
-    say(counts[NEXTS_REFUSED + 6], b" refused: 6 DEEP\n");
-    say(counts[NEXTS_REFUSED + 7], b" refused: 7 SUM\n");
-    say(counts[NEXTS_REFUSED + 8], b" refused: 8 SPACE\n");
-    say(counts[NEXTS_REFUSED + 11], b" refused: 11 STATE\n");
 }
 
 fn main() {
     let mut list = [0u8; LIST];
     let len = io::read_full(STDIN_FILENO, &mut list);
-    let mut counts = [0u64; 40];
+    let mut counts = [0u64; 16];
     replay(&list[..len], &mut counts);
-    report(&counts);
-    report_nexts(&counts);
+    replay_list::line(&counts, 1, b"files");
+    replay_list::line(&counts, 2, b"starts");
+    replay_list::line(&counts, 3, b"calls of next");
+    replay_list::line(&counts, 4, b"readings that no start gave");
+    replay_list::line(&counts, 0, b"malformed");
 }

@@ -2,13 +2,13 @@
 -- Assumes nothing.
 use mathlib.Core.Path.{sym}
 use lib.Seq.{length-take-le}
-use native.Mathlib.Omega.{arith}
 use borrow.Author.Needs.{needs}
+use native.Mathlib.Omega.{arith}
 use Rattle.replay_fst.proofs.finds_alike.Statement.{statement}
 use Rattle.replay_fst.proofs.finds_alike.Tie as tie
 
-returns : tie.Need-returns
-returns c = search needs
+at-most-requires : tie.Need-at-most-requires
+at-most-requires c κs = search needs
 
 array-borrow-prefix-key : tie.Need-array-borrow-prefix-key
 array-borrow-prefix-key c = search needs
@@ -22,24 +22,24 @@ get-key-requires c κs = search needs
 key-number-requires : tie.Need-key-number-requires
 key-number-requires c κs = search needs
 
+returns : tie.Need-returns
+returns c = search needs
+
+same-bytes-requires : tie.Need-same-bytes-requires
+same-bytes-requires c κs = search needs
+
 returns-2 : tie.Need-returns-2
 returns-2 c = search needs
-
-key-alike-requires : tie.Need-key-alike-requires
-key-alike-requires c κs = search needs
-
-returns-3 : tie.Need-returns-3
-returns-3 c = search needs
 
 pub finds-alike-spec : {M : Type 1} → statement M
 finds-alike-spec =
     tie.close
     (tie.spec
-    returns
+    at-most-requires
     array-borrow-prefix-key
     slice-aggregate-get-key
     get-key-requires
     key-number-requires
-    returns-2
-    key-alike-requires
-    returns-3)
+    returns
+    same-bytes-requires
+    returns-2)

@@ -1,32 +1,39 @@
--- `replay_fst::replay` is safe and ends: the file asked lies in the list, and both tables keep their lengths. The measure is the records left.
+-- `replay_fst::replay` is safe and ends: the file asked of lies in the list. The measure is what is left of the list.
 -- Assumes nothing.
-use mathlib.Core.Path.{_≡_}
-use Prim.Native.Nat.{_-_}
+use mathlib.Core.Path.{sym, _∙_}
+use mathlib.Core.List.{List}
+use Prim.Native.Nat.{ℕ, _-_}
 use lib.ListN.{length}
 use denote.Ref.{now}
-use Rattle.replay_list.specs.Within.{Within, Inside}
+use Rattle.replay_list.specs.Records.{Inside}
+use Rattle.replay_list.specs.RecordLaws.{Found, parsed-found, place-inside}
+use native.Mathlib.Omega.{arith}
 use borrow.Author.Needs.{needs}
 use Rattle.replay_fst.proofs.replay.Statement.{statement}
 use Rattle.replay_fst.proofs.replay.Tie as tie
 
 abbrev Inv-loop : tie.InvT-loop
-Inv-loop list counts₀ records depths₀ sums₀ place₀ at₀ i₀ counts depths sums place at i = Inside list place × (1024 ≡ length depths) × (1024 ≡ length sums)
+Inv-loop list counts₀ place₀ at₀ counts place at = Inside list place
 
 abbrev μ-loop : tie.MeasureT-loop
-μ-loop list counts₀ records depths₀ sums₀ place₀ at₀ i₀ counts depths sums place at i = records - i
+μ-loop list counts₀ place₀ at₀ counts place at = length list - at
 
--- the record that was parsed lies in the list
-within : (q : tie.After-entry Inv-loop μ-loop) → Within (now (q .before .before .before .before .before .before .before .before .args .list)) (q .entry .given .0 .0)
-within q = q .before .before .parse .ensures .within (q .entry .given .0 .0) (q .entry .given .1)
+-- the list, and the place where the record was parsed
+abbrev listed : tie.After-entry Inv-loop μ-loop → List ℕ
+listed q = now (q .before .before .before .before .before .before .args .list)
 
-count-requires : tie.Need-count-requires Inv-loop μ-loop
-count-requires c κs = search needs
+abbrev placed : tie.After-entry Inv-loop μ-loop → ℕ
+placed q = q .before .before .before .before .loop .at
 
-returns : tie.Need-returns Inv-loop μ-loop
-returns c = search needs
+-- the record lies in the list, past that place
+found : (q : tie.After-entry Inv-loop μ-loop) → Found (listed q) (placed q) (q .entry .given .0 .0)
+found q = parsed-found (sym (q .before .before .parse .ensures) ∙ q .entry .given .1)
 
-number-requires : tie.Need-number-requires Inv-loop μ-loop
-number-requires c κs = search needs
+-- and so does what it is about
+inside : (q : tie.After-place-of Inv-loop μ-loop) → Inside (listed (q .before .before)) (q .place-of .result)
+inside q =
+    let parsed = q .before .before in
+    rw (q .place-of .ensures) (place-inside (found parsed .within) (parsed .before .before .before .before .loop .inv))
 
 loop-holds : tie.Need-loop-holds Inv-loop μ-loop
 loop-holds c = search needs
@@ -40,55 +47,41 @@ enum-known-entry c = search needs
 enum-told : tie.Need-enum-told Inv-loop μ-loop
 enum-told c = search needs
 
-count-requires-2 : tie.Need-count-requires-2 Inv-loop μ-loop
-count-requires-2 c κs = search needs
+tally-requires : tie.Need-tally-requires Inv-loop μ-loop
+tally-requires c κs = search needs
+
+returns : tie.Need-returns Inv-loop μ-loop
+returns c = search needs
+
+place-of-requires : tie.Need-place-of-requires Inv-loop μ-loop
+place-of-requires c κs = found (c .before) .within
+
+sub-alike : tie.Need-sub-alike Inv-loop μ-loop
+sub-alike c = let i = inside c in search needs
+
+part-alike-start : tie.Need-part-alike-start Inv-loop μ-loop
+part-alike-start c = let i = inside c in search needs
+
+part-alike-end : tie.Need-part-alike-end Inv-loop μ-loop
+part-alike-end c = let i = inside c in search needs
+
+alike-requires : tie.Need-alike-requires Inv-loop μ-loop
+alike-requires c κs = found (c .before .before .before) .within
+
+tally-requires-2 : tie.Need-tally-requires-2 Inv-loop μ-loop
+tally-requires-2 c κs = search needs
+
+end-of-requires : tie.Need-end-of-requires Inv-loop μ-loop
+end-of-requires c κs = found (c .before .before .before .before .before .before) .within
+
+loop-less : tie.Need-loop-less Inv-loop μ-loop
+loop-less c = let f = found (c .before .before .before .before .before .before .before) in omega arith
+
+loop-again : tie.Need-loop-again Inv-loop μ-loop
+loop-again c = inside (c .before .before .before .before .before)
 
 returns-2 : tie.Need-returns-2 Inv-loop μ-loop
 returns-2 c = search needs
-
-place-of-requires : tie.Need-place-of-requires Inv-loop μ-loop
-place-of-requires c κs =
-    let parsed = c .before in
-    (within parsed, parsed .before .before .before .before .loop .inv .0)
-
-sub-replay-one : tie.Need-sub-replay-one Inv-loop μ-loop
-sub-replay-one c = search needs
-
-part-replay-one-start : tie.Need-part-replay-one-start Inv-loop μ-loop
-part-replay-one-start c = search needs
-
-part-replay-one-end : tie.Need-part-replay-one-end Inv-loop μ-loop
-part-replay-one-end c = search needs
-
-slice-aggregate-replay-one : tie.Need-slice-aggregate-replay-one Inv-loop μ-loop
-slice-aggregate-replay-one c = search needs
-
-slice-aggregate-replay-one-2 : tie.Need-slice-aggregate-replay-one-2 Inv-loop μ-loop
-slice-aggregate-replay-one-2 c = search needs
-
-replay-one-requires : tie.Need-replay-one-requires Inv-loop μ-loop
-replay-one-requires c κs = within (c .before .before .before .before .before .before)
-
-end-of-requires : tie.Need-end-of-requires Inv-loop μ-loop
-end-of-requires c κs = within (c .before .before .before .before .before .before .before .before .before)
-
-add-i : tie.Need-add-i Inv-loop μ-loop
-add-i c = search needs
-
-loop-less : tie.Need-loop-less Inv-loop μ-loop
-loop-less c = search needs
-
-loop-again : tie.Need-loop-again Inv-loop μ-loop
-loop-again c = search needs
-
-count-requires-3 : tie.Need-count-requires-3 Inv-loop μ-loop
-count-requires-3 c κs = search needs
-
-returns-3 : tie.Need-returns-3 Inv-loop μ-loop
-returns-3 c = search needs
-
-returns-4 : tie.Need-returns-4 Inv-loop μ-loop
-returns-4 c = search needs
 
 pub replay-spec : {M : Type 1} → statement M
 replay-spec =
@@ -96,26 +89,19 @@ replay-spec =
     (tie.spec
     Inv-loop
     μ-loop
-    count-requires
-    returns
-    number-requires
     loop-holds
     parse-requires
     enum-known-entry
     enum-told
-    count-requires-2
-    returns-2
+    tally-requires
+    returns
     place-of-requires
-    sub-replay-one
-    part-replay-one-start
-    part-replay-one-end
-    slice-aggregate-replay-one
-    slice-aggregate-replay-one-2
-    replay-one-requires
+    sub-alike
+    part-alike-start
+    part-alike-end
+    alike-requires
+    tally-requires-2
     end-of-requires
-    add-i
     loop-less
     loop-again
-    count-requires-3
-    returns-3
-    returns-4)
+    returns-2)

@@ -1,19 +1,19 @@
 -- `replay_list::parse` meets its contract: each part is tested to lie in the list before it is read.
 -- Assumes nothing.
-use Rattle.replay_list.proofs.Parsing.{malformed-parses, good-parses}
+use Rattle.replay_list.proofs.Parsing.{malformed-at, good-at}
 use borrow.Author.Needs.{needs}
 use native.Mathlib.Omega.{arith}
 use Rattle.replay_list.proofs.parse.Statement.{statement}
 use Rattle.replay_list.proofs.parse.Tie as tie
 
 returns : tie.Need-returns
-returns c = malformed-parses _
+returns c = malformed-at _ _ (omega arith)
 
 sub-left : tie.Need-sub-left
 sub-left c = search needs
 
 returns-2 : tie.Need-returns-2
-returns-2 c = malformed-parses _
+returns-2 c = malformed-at _ _ (omega arith)
 
 add-number : tie.Need-add-number
 add-number c = search needs
@@ -22,7 +22,7 @@ number-requires : tie.Need-number-requires
 number-requires c κs = search needs
 
 returns-3 : tie.Need-returns-3
-returns-3 c = malformed-parses _
+returns-3 c = malformed-at _ _ (omega arith)
 
 number-requires-2 : tie.Need-number-requires-2
 number-requires-2 c κs = search needs
@@ -49,7 +49,13 @@ add-t9 : tie.Need-add-t9
 add-t9 c = search needs
 
 returns-4 : tie.Need-returns-4
-returns-4 c = good-parses _ _ (record { part-end = omega arith })
+returns-4 c =
+    let to-b = c .before in
+    let to-a = to-b .before in
+    let to-kind = to-a .before in
+    let to-len = to-kind .before .before in
+    good-at _ _ (omega arith) (to-kind .number2 .ensures) (to-a .number3 .ensures) (to-b .number4 .ensures)
+    (c .number5 .ensures) (to-len .number .ensures)
 
 pub parse-spec : {M : Type 1} → statement M
 parse-spec =

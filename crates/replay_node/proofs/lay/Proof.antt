@@ -1,4 +1,5 @@
--- `replay_node::lay` meets its contract. The invariant: the file keeps its length. The measure is what is left to write.
+-- `replay_node::lay` meets its contract. The invariant: the file keeps its length. The measure is what is left to
+-- write.
 -- Assumes nothing.
 use mathlib.Core.Path.{_≡_}
 use Prim.Native.Nat.{_≤_, _-_}

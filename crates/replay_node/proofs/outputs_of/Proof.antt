@@ -1,4 +1,5 @@
--- `replay_node::outputs_of` meets its contract. The invariant: the array keeps its length. The measure is what is left to read.
+-- `replay_node::outputs_of` meets its contract. The invariant: the array keeps its length. The measure is what is left
+-- to read.
 -- Assumes nothing.
 use mathlib.Core.Path.{_≡_}
 use Prim.Native.Nat.{_≤_, _-_}
@@ -8,19 +9,22 @@ use Rattle.replay_node.proofs.outputs_of.Statement.{statement}
 use Rattle.replay_node.proofs.outputs_of.Tie as tie
 
 abbrev Inv-loop : tie.InvT-loop
-Inv-loop list at n outputs₀ i₀ outputs i = (256 ≡ length outputs) × (i ≤ n)
+Inv-loop node n outputs₀ i₀ outputs i = (258 ≡ length outputs) × (i ≤ n)
 
 abbrev μ-loop : tie.MeasureT-loop
-μ-loop list at n outputs₀ i₀ outputs i = n - i
+μ-loop node n outputs₀ i₀ outputs i = n - i
 
 loop-holds : tie.Need-loop-holds Inv-loop μ-loop
 loop-holds c = search needs
 
+add-number : tie.Need-add-number Inv-loop μ-loop
+add-number c = search needs
+
 mul-number : tie.Need-mul-number Inv-loop μ-loop
 mul-number c = search needs
 
-add-number : tie.Need-add-number Inv-loop μ-loop
-add-number c = search needs
+add-number-2 : tie.Need-add-number-2 Inv-loop μ-loop
+add-number-2 c = search needs
 
 number-requires : tie.Need-number-requires Inv-loop μ-loop
 number-requires c κs = search needs
@@ -50,8 +54,9 @@ outputs-of-spec =
     Inv-loop
     μ-loop
     loop-holds
-    mul-number
     add-number
+    mul-number
+    add-number-2
     number-requires
     mul-outputs
     array-write-outputs

@@ -1,4 +1,4 @@
--- `replay_node::packs_alike` meets its contract: the lists that it lends are as long as the record has transitions.
+-- `replay_node::packs_alike` is safe: the part of the buffer that is lent lies in it.
 -- Assumes nothing.
 use mathlib.Core.Path.{sym}
 use lib.Seq.{length-take-le}
@@ -7,56 +7,41 @@ use native.Mathlib.Omega.{arith}
 use Rattle.replay_node.proofs.packs_alike.Statement.{statement}
 use Rattle.replay_node.proofs.packs_alike.Tie as tie
 
-add-to : tie.Need-add-to
-add-to c = search needs
-
-outputs-of-requires : tie.Need-outputs-of-requires
-outputs-of-requires c κs = search needs
-
-targets-of-requires : tie.Need-targets-of-requires
-targets-of-requires c κs = search needs
-
-buffer-requires : tie.Need-buffer-requires
-buffer-requires c κs = search needs
-
-sub-compile : tie.Need-sub-compile
-sub-compile c = search needs
-
-part-compile-start : tie.Need-part-compile-start
-part-compile-start c = search needs
-
-part-compile-end : tie.Need-part-compile-end
-part-compile-end c = search needs
-
-array-share-prefix-outputs : tie.Need-array-share-prefix-outputs
-array-share-prefix-outputs c = search needs
-
-slice-aggregate-compile : tie.Need-slice-aggregate-compile
-slice-aggregate-compile c = sym (length-take-le _ _ (omega arith))
-
-array-share-prefix-targets : tie.Need-array-share-prefix-targets
-array-share-prefix-targets c = search needs
-
-slice-aggregate-compile-2 : tie.Need-slice-aggregate-compile-2
-slice-aggregate-compile-2 c = sym (length-take-le _ _ (omega arith))
-
-slice-aggregate-compile-3 : tie.Need-slice-aggregate-compile-3
-slice-aggregate-compile-3 c = search needs
-
-compile-requires : tie.Need-compile-requires
-compile-requires c κs = search needs
-
-enum-known-len : tie.Need-enum-known-len
-enum-known-len c = search needs
-
-enum-told : tie.Need-enum-told
-enum-told c = search needs
-
 returns : tie.Need-returns
 returns c = search needs
 
+number-requires : tie.Need-number-requires
+number-requires c κs = search needs
+
+at-most-requires : tie.Need-at-most-requires
+at-most-requires c κs = search needs
+
+add-number : tie.Need-add-number
+add-number c = search needs
+
+number-requires-2 : tie.Need-number-requires-2
+number-requires-2 c κs = search needs
+
+at-most-requires-2 : tie.Need-at-most-requires-2
+at-most-requires-2 c κs = search needs
+
+at-most-requires-3 : tie.Need-at-most-requires-3
+at-most-requires-3 c κs = search needs
+
+array-borrow-prefix-buffer : tie.Need-array-borrow-prefix-buffer
+array-borrow-prefix-buffer c = search needs
+
+slice-aggregate-packed : tie.Need-slice-aggregate-packed
+slice-aggregate-packed c = sym (length-take-le _ _ (omega arith))
+
+packed-requires : tie.Need-packed-requires
+packed-requires c κs = search needs
+
 returns-2 : tie.Need-returns-2
 returns-2 c = search needs
+
+add-same-bytes : tie.Need-add-same-bytes
+add-same-bytes c = search needs
 
 same-bytes-requires : tie.Need-same-bytes-requires
 same-bytes-requires c κs = search needs
@@ -68,22 +53,17 @@ pub packs-alike-spec : {M : Type 1} → statement M
 packs-alike-spec =
     tie.close
     (tie.spec
-    add-to
-    outputs-of-requires
-    targets-of-requires
-    buffer-requires
-    sub-compile
-    part-compile-start
-    part-compile-end
-    array-share-prefix-outputs
-    slice-aggregate-compile
-    array-share-prefix-targets
-    slice-aggregate-compile-2
-    slice-aggregate-compile-3
-    compile-requires
-    enum-known-len
-    enum-told
     returns
+    number-requires
+    at-most-requires
+    add-number
+    number-requires-2
+    at-most-requires-2
+    at-most-requires-3
+    array-borrow-prefix-buffer
+    slice-aggregate-packed
+    packed-requires
     returns-2
+    add-same-bytes
     same-bytes-requires
     returns-3)

@@ -1,24 +1,39 @@
--- `replay_node::replay` is safe and ends: the measure is the records that are left.
+-- `replay_node::replay` is safe and ends: the node asked of lies in the list. The measure is what is left of the list.
 -- Assumes nothing.
-use Prim.Native.Nat.{_-_}
+use mathlib.Core.Path.{sym, _∙_}
+use mathlib.Core.List.{List}
+use Prim.Native.Nat.{ℕ, _-_}
+use lib.ListN.{length}
+use denote.Ref.{now}
+use Rattle.replay_list.specs.Records.{Inside}
+use Rattle.replay_list.specs.RecordLaws.{Found, parsed-found, place-inside}
+use native.Mathlib.Omega.{arith}
 use borrow.Author.Needs.{needs}
 use Rattle.replay_node.proofs.replay.Statement.{statement}
 use Rattle.replay_node.proofs.replay.Tie as tie
 
 abbrev Inv-loop : tie.InvT-loop
-Inv-loop list counts₀ records at₀ i₀ counts at i = Unit
+Inv-loop list counts₀ place₀ at₀ counts place at = Inside list place
 
 abbrev μ-loop : tie.MeasureT-loop
-μ-loop list counts₀ records at₀ i₀ counts at i = records - i
+μ-loop list counts₀ place₀ at₀ counts place at = length list - at
 
-count-requires : tie.Need-count-requires Inv-loop μ-loop
-count-requires c κs = search needs
+-- the list, and the place where the record was parsed
+abbrev listed : tie.After-entry Inv-loop μ-loop → List ℕ
+listed q = now (q .before .before .before .before .before .before .args .list)
 
-returns : tie.Need-returns Inv-loop μ-loop
-returns c = search needs
+abbrev placed : tie.After-entry Inv-loop μ-loop → ℕ
+placed q = q .before .before .before .before .loop .at
 
-number-requires : tie.Need-number-requires Inv-loop μ-loop
-number-requires c κs = search needs
+-- the record lies in the list, past that place
+found : (q : tie.After-entry Inv-loop μ-loop) → Found (listed q) (placed q) (q .entry .given .0 .0)
+found q = parsed-found (sym (q .before .before .parse .ensures) ∙ q .entry .given .1)
+
+-- and so does what it is about
+inside : (q : tie.After-place-of Inv-loop μ-loop) → Inside (listed (q .before .before)) (q .place-of .result)
+inside q =
+    let parsed = q .before .before in
+    rw (q .place-of .ensures) (place-inside (found parsed .within) (parsed .before .before .before .before .loop .inv))
 
 loop-holds : tie.Need-loop-holds Inv-loop μ-loop
 loop-holds c = search needs
@@ -32,39 +47,41 @@ enum-known-entry c = search needs
 enum-told : tie.Need-enum-told Inv-loop μ-loop
 enum-told c = search needs
 
-count-requires-2 : tie.Need-count-requires-2 Inv-loop μ-loop
-count-requires-2 c κs = search needs
+tally-requires : tie.Need-tally-requires Inv-loop μ-loop
+tally-requires c κs = search needs
+
+returns : tie.Need-returns Inv-loop μ-loop
+returns c = search needs
+
+place-of-requires : tie.Need-place-of-requires Inv-loop μ-loop
+place-of-requires c κs = found (c .before) .within
+
+sub-asked : tie.Need-sub-asked Inv-loop μ-loop
+sub-asked c = let i = inside c in search needs
+
+part-asked-start : tie.Need-part-asked-start Inv-loop μ-loop
+part-asked-start c = let i = inside c in search needs
+
+part-asked-end : tie.Need-part-asked-end Inv-loop μ-loop
+part-asked-end c = let i = inside c in search needs
+
+asked-requires : tie.Need-asked-requires Inv-loop μ-loop
+asked-requires c κs = found (c .before .before .before) .within
+
+tally-requires-2 : tie.Need-tally-requires-2 Inv-loop μ-loop
+tally-requires-2 c κs = search needs
+
+end-of-requires : tie.Need-end-of-requires Inv-loop μ-loop
+end-of-requires c κs = found (c .before .before .before .before .before .before) .within
+
+loop-less : tie.Need-loop-less Inv-loop μ-loop
+loop-less c = let f = found (c .before .before .before .before .before .before .before) in omega arith
+
+loop-again : tie.Need-loop-again Inv-loop μ-loop
+loop-again c = inside (c .before .before .before .before .before)
 
 returns-2 : tie.Need-returns-2 Inv-loop μ-loop
 returns-2 c = search needs
-
-replay-one-requires : tie.Need-replay-one-requires Inv-loop μ-loop
-replay-one-requires c κs =
-    let parsed = c .before .before in
-    parsed .before .before .parse .ensures .within (parsed .entry .given .0 .0) (parsed .entry .given .1)
-
-end-of-requires : tie.Need-end-of-requires Inv-loop μ-loop
-end-of-requires c κs =
-    let parsed = c .before .before .before in
-    parsed .before .before .parse .ensures .within (parsed .entry .given .0 .0) (parsed .entry .given .1)
-
-add-i : tie.Need-add-i Inv-loop μ-loop
-add-i c = search needs
-
-loop-less : tie.Need-loop-less Inv-loop μ-loop
-loop-less c = search needs
-
-loop-again : tie.Need-loop-again Inv-loop μ-loop
-loop-again c = search needs
-
-count-requires-3 : tie.Need-count-requires-3 Inv-loop μ-loop
-count-requires-3 c κs = search needs
-
-returns-3 : tie.Need-returns-3 Inv-loop μ-loop
-returns-3 c = search needs
-
-returns-4 : tie.Need-returns-4 Inv-loop μ-loop
-returns-4 c = search needs
 
 pub replay-spec : {M : Type 1} → statement M
 replay-spec =
@@ -72,20 +89,19 @@ replay-spec =
     (tie.spec
     Inv-loop
     μ-loop
-    count-requires
-    returns
-    number-requires
     loop-holds
     parse-requires
     enum-known-entry
     enum-told
-    count-requires-2
-    returns-2
-    replay-one-requires
+    tally-requires
+    returns
+    place-of-requires
+    sub-asked
+    part-asked-start
+    part-asked-end
+    asked-requires
+    tally-requires-2
     end-of-requires
-    add-i
     loop-less
     loop-again
-    count-requires-3
-    returns-3
-    returns-4)
+    returns-2)

@@ -1,4 +1,5 @@
--- `replay_node::targets_of` meets its contract. The invariant: the array keeps its length. The measure is what is left to read.
+-- `replay_node::targets_of` meets its contract. The invariant: the array keeps its length. The measure is what is left
+-- to read.
 -- Assumes nothing.
 use mathlib.Core.Path.{_≡_}
 use Prim.Native.Nat.{_≤_, _-_}
@@ -8,10 +9,10 @@ use Rattle.replay_node.proofs.targets_of.Statement.{statement}
 use Rattle.replay_node.proofs.targets_of.Tie as tie
 
 abbrev Inv-loop : tie.InvT-loop
-Inv-loop list at n targets₀ i₀ targets i = (256 ≡ length targets) × (i ≤ n)
+Inv-loop node n targets₀ i₀ targets i = (258 ≡ length targets) × (i ≤ n)
 
 abbrev μ-loop : tie.MeasureT-loop
-μ-loop list at n targets₀ i₀ targets i = n - i
+μ-loop node n targets₀ i₀ targets i = n - i
 
 loop-holds : tie.Need-loop-holds Inv-loop μ-loop
 loop-holds c = search needs
@@ -21,6 +22,12 @@ mul-number c = search needs
 
 add-number : tie.Need-add-number Inv-loop μ-loop
 add-number c = search needs
+
+mul-number-2 : tie.Need-mul-number-2 Inv-loop μ-loop
+mul-number-2 c = search needs
+
+add-number-2 : tie.Need-add-number-2 Inv-loop μ-loop
+add-number-2 c = search needs
 
 number-requires : tie.Need-number-requires Inv-loop μ-loop
 number-requires c κs = search needs
@@ -52,6 +59,8 @@ targets-of-spec =
     loop-holds
     mul-number
     add-number
+    mul-number-2
+    add-number-2
     number-requires
     mul-targets
     array-write-targets

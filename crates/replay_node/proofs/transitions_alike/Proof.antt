@@ -1,4 +1,4 @@
--- `replay_node::transitions_alike` meets its contract. The measure is what is left of the transitions.
+-- `replay_node::transitions_alike` is safe and ends. The measure is what is left of the transitions.
 -- Assumes nothing.
 use Prim.Native.Nat.{_≤_, _-_}
 use borrow.Author.Needs.{needs}
@@ -6,10 +6,10 @@ use Rattle.replay_node.proofs.transitions_alike.Statement.{statement}
 use Rattle.replay_node.proofs.transitions_alike.Tie as tie
 
 abbrev Inv-loop : tie.InvT-loop
-Inv-loop list entry file node n i₀ i = i ≤ n
+Inv-loop node n file read i₀ i = i ≤ n
 
 abbrev μ-loop : tie.MeasureT-loop
-μ-loop list entry file node n i₀ i = n - i
+μ-loop node n file read i₀ i = n - i
 
 loop-holds : tie.Need-loop-holds Inv-loop μ-loop
 loop-holds c = search needs

@@ -1,4 +1,5 @@
--- `replay_stream::fill_bound` is safe and ends: the bytes lie in the list, and their number in the array. The measure is what is left of them.
+-- `replay_stream::fill_bound` is safe and ends: the bytes lie in the list, and their number in the array. The measure
+-- is what is left of them.
 -- Assumes nothing.
 use Prim.Native.Nat.{_≤_, _-_}
 use borrow.Author.Needs.{needs}

@@ -1,4 +1,5 @@
--- `replay_stream::fill_levels` is safe and ends: the levels lie in the list, and their number in the arrays. The measure is what is left of them.
+-- `replay_stream::fill_levels` is safe and ends: the levels lie in the list, and their number in the arrays. The
+-- measure is what is left of them.
 -- Assumes nothing.
 use Prim.Native.Nat.{_≤_, _-_}
 use borrow.Author.Needs.{needs}

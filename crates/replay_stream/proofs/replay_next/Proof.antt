@@ -2,13 +2,10 @@
 -- Assumes nothing.
 use mathlib.Core.Path.{sym}
 use lib.Seq.{length-take-le}
-use native.Mathlib.Omega.{arith}
 use borrow.Author.Needs.{needs}
+use native.Mathlib.Omega.{arith}
 use Rattle.replay_stream.proofs.replay_next.Statement.{statement}
 use Rattle.replay_stream.proofs.replay_next.Tie as tie
-
-count-next-requires : tie.Need-count-next-requires
-count-next-requires c κs = search needs
 
 at-most-requires : tie.Need-at-most-requires
 at-most-requires c κs = search needs
@@ -22,11 +19,14 @@ slice-aggregate-next c = sym (length-take-le _ _ (omega arith))
 next-requires : tie.Need-next-requires
 next-requires c κs = search needs
 
-next-alike-requires : tie.Need-next-alike-requires
-next-alike-requires c κs = search needs
+answer-alike-requires : tie.Need-answer-alike-requires
+answer-alike-requires c κs = search needs
 
-count-if-requires : tie.Need-count-if-requires
-count-if-requires c κs = search needs
+left-alike-requires : tie.Need-left-alike-requires
+left-alike-requires c κs = search needs
+
+tally-requires : tie.Need-tally-requires
+tally-requires c κs = search needs
 
 returns : tie.Need-returns
 returns c = search needs
@@ -35,11 +35,11 @@ pub replay-next-spec : {M : Type 1} → statement M
 replay-next-spec =
     tie.close
     (tie.spec
-    count-next-requires
     at-most-requires
     array-borrow-prefix-key
     slice-aggregate-next
     next-requires
-    next-alike-requires
-    count-if-requires
+    answer-alike-requires
+    left-alike-requires
+    tally-requires
     returns)
