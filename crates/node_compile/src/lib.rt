@@ -207,9 +207,11 @@ fn put_numbers(out: &mut [u8], at: usize, numbers: &[u64], size: usize) -> usize
 // Writes the delta of each target in size bytes, last first, from place at on; returns the place past
 // them.
 fn put_deltas(out: &mut [u8], at: usize, targets: &[usize], first: usize, size: usize) -> usize
-    requires { ⌜ (at + length (storedNumbers size (map (deltaOf first) (now targets))) ≤ length (now out))
+    requires { ⌜ (at + length (storedNumbers size (map (deltaOf first) (now targets))) ≤ length
+        (now out))
         × TargetsOk first (now targets) ⌝ }
-    ensures { λ r. ⌜ PutAt (now (out .entry)) at (storedNumbers size (map (deltaOf first) (now (targets .entry))))
+    ensures { λ r. ⌜ PutAt (now (out .entry)) at
+        (storedNumbers size (map (deltaOf first) (now (targets .entry))))
         (now (out .exit)) r ⌝ }
 {
     let mut p = at;
@@ -269,7 +271,8 @@ fn put_all(out: &mut [u8], at: usize, bytes: &[u8]) -> usize
 // Writes the index of a node with more than 32 transitions from place at on; returns the place past
 // it.
 fn put_index(out: &mut [u8], at: usize, inputs: &[u8]) -> usize
-    requires { ⌜ (at + length (indexBytes (now inputs)) ≤ length (now out)) × (length (now inputs) ≤ maxTrans)
+    requires { ⌜ (at + length (indexBytes (now inputs)) ≤ length (now out))
+        × (length (now inputs) ≤ maxTrans)
         × Ascending (now inputs) ⌝ }
     ensures { λ r. ⌜ PutAt (now (out .entry)) at (indexBytes (now (inputs .entry)))
         (now (out .exit)) r ⌝ }
@@ -352,7 +355,8 @@ fn compile_next(input: u8, out: &mut [u8]) -> Compiled
 // Writes a node of the form 10 with an output of osize bytes and a delta of tsize bytes; returns its
 // length.
 fn put_one(out: &mut [u8], input: u8, output: u64, osize: usize, delta: u64, tsize: usize) -> usize
-    requires { ⌜ (length (packedOne input output delta) ≤ length (now out)) × (osize ≡ outputSize output)
+    requires { ⌜ (length (packedOne input output delta) ≤ length (now out))
+        × (osize ≡ outputSize output)
         × (tsize ≡ packSize delta) ⌝ }
     ensures { λ r. ⌜ PutAt (now (out .entry)) 0 (packedOne input output delta) (now (out .exit))
         r ⌝ }
@@ -423,7 +427,8 @@ fn put_any(
     osize: usize,
     tsize: usize,
 ) -> usize
-    requires { ⌜ AnyFits first (builderWith «is_final» «final_output» (now inputs) (now outputs) (now targets))
+    requires { ⌜ AnyFits first (builderWith «is_final» «final_output» (now inputs) (now outputs)
+        (now targets))
         osize tsize (length (now out)) ⌝ }
     ensures { λ r. ⌜ PutAt (now (out .entry)) 0
         (anyIn first (builderWith «is_final» «final_output» (now (inputs .entry)) (now (outputs .entry)) (now (targets .entry)))
