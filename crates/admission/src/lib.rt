@@ -209,8 +209,10 @@ fn or_over(heavy: bool, t: Total) -> bool
 // Marks the chain from the root down; false where it breaks.
 fn walk(file: &[u8], version: u64, root: usize, depths: &mut [u16]) -> bool
     requires { ⌜ (length (now file) ≤ length (now depths)) × (¬ (root ≡ 0)) ⌝ }
-    ensures kept { λ r. ⌜ Kept (length (now (file .entry))) (now (depths .entry)) (now (depths .exit)) ⌝ }
-    ensures walked { λ r. ⌜ Walked (fstWith (now (file .entry)) version root) (now (depths .entry)) (now (depths .exit)) r ⌝ }
+    ensures kept { λ r. ⌜ Kept (length (now (file .entry))) (now (depths .entry))
+        (now (depths .exit)) ⌝ }
+    ensures walked { λ r. ⌜ Walked (fstWith (now (file .entry)) version root)
+        (now (depths .entry)) (now (depths .exit)) r ⌝ }
 {
     let mut a = root;
     loop {
