@@ -15,6 +15,7 @@ Inv-loop bytes n out₀ i₀ out i = Copied bytes n out₀ out i
 abbrev μ-loop : tie.MeasureT-loop
 μ-loop bytes n out₀ i₀ out i = n - i
 
+-- nothing is copied yet
 loop-holds : tie.Need-loop-holds Inv-loop μ-loop
 loop-holds c = let a = c .args in copied-none (now (a .bytes)) (a .n) (now (a .out))
 
@@ -30,13 +31,16 @@ add-i c = search needs
 loop-less : tie.Need-loop-less Inv-loop μ-loop
 loop-less c = search needs
 
+-- one byte more is copied
 loop-again : tie.Need-loop-again Inv-loop μ-loop
 loop-again c = let body = c .before in let start = body .before .before in
     copied-step (body .loop-test .taken) (omega (arith, start .pre .0)) (omega (arith, start .pre .1)) (body .before .loop .inv)
 
+-- writing keeps the length of out
 same-length : tie.Need-same-length Inv-loop μ-loop
 same-length c = c .before .loop .inv .len
 
+-- all n bytes are copied
 returns : tie.Need-returns Inv-loop μ-loop
 returns c = copied-all (c .loop-test .left) (c .before .loop .inv)
 

@@ -11,6 +11,7 @@ sub-common-inputs-inv-at c = search needs
 common-inputs-inv-at-requires : tie.Need-common-inputs-inv-at-requires
 common-inputs-inv-at-requires c κs = search needs
 
+-- the byte at place idx - 1
 returns : tie.Need-returns
 unfolding commonInput
 returns c = c .common-inputs-inv-at .ensures

@@ -10,6 +10,7 @@ use Rattle.firmware.proofs.code.Tie as tie
 cast-result : tie.Need-cast-result
 cast-result c = search needs
 
+-- a number of 8 bits fits in 32 bits with a sign
 returns : tie.Need-returns
 returns c = toZ-ofZ {w = w32} {z = pos (c .args .why)} (cast-result c)
 

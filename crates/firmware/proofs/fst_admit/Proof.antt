@@ -23,6 +23,7 @@ same-length c = search needs
 same-length-2 : tie.Need-same-length-2
 same-length-2 c = search needs
 
+-- the file is admitted
 returns : tie.Need-returns
 returns c = let call = c .before .before .before .before .before .before in
     admit-admitted _ _ _ _ _ (call .admit .ensures) (c .enum-told .given .1)
@@ -33,6 +34,7 @@ same-length-3 c = search needs
 same-length-4 : tie.Need-same-length-4
 same-length-4 c = search needs
 
+-- the file is refused
 returns-2 : tie.Need-returns-2
 returns-2 c = let call = c .before .before .before .before .before .before .before .before in
     admit-refused _ _ _ _ _ (call .admit .ensures) _ _ (c .before .before .answer .given .1) (code-is (c .code .result) (c .code .ok) (c .code .ensures))

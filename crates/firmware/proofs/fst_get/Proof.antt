@@ -21,14 +21,17 @@ enum-known-answer-2 c = search needs
 code-requires : tie.Need-code-requires
 code-requires c κs = search needs
 
+-- the key has a value
 returns : tie.Need-returns
 returns c = let call = c .before .before .before in
     get-value (call .get .ensures) (now (call .before .before .before .args .value)) _ (c .before .answer .given .1)
 
+-- the key is not held
 returns-2 : tie.Need-returns-2
 returns-2 c = let call = c .before .before in
     get-none (call .get .ensures) (now (call .before .before .before .args .value)) (c .enum-told .given .1)
 
+-- the lookup is refused
 returns-3 : tie.Need-returns-3
 returns-3 c = let call = c .before .before .before .before in
     get-refused (call .get .ensures) (now (call .before .before .before .args .value)) _ _ (c .before .before .answer2 .given .1) (code-is (c .code .result) (c .code .ok) (c .code .ensures))

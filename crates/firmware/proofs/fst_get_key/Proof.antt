@@ -24,6 +24,7 @@ code-requires c κs = search needs
 same-length : tie.Need-same-length
 same-length c = search needs
 
+-- a key is found
 returns : tie.Need-returns
 returns c = let call = c .before .before .before .before .before in
     key-found _ (call .get-key .ensures) (now (call .before .before .before .before .args .len)) _ (c .before .answer .given .1)
@@ -31,6 +32,7 @@ returns c = let call = c .before .before .before .before .before in
 same-length-2 : tie.Need-same-length-2
 same-length-2 c = search needs
 
+-- no key is found
 returns-2 : tie.Need-returns-2
 returns-2 c = let call = c .before .before .before .before in
     key-none _ (call .get-key .ensures) (now (call .before .before .before .before .args .len)) (c .enum-told .given .1)
@@ -38,6 +40,7 @@ returns-2 c = let call = c .before .before .before .before in
 same-length-3 : tie.Need-same-length-3
 same-length-3 c = search needs
 
+-- the search is refused
 returns-3 : tie.Need-returns-3
 returns-3 c = let call = c .before .before .before .before .before .before in
     key-refused _ (call .get-key .ensures) (now (call .before .before .before .before .args .len)) _ _ (c .before .before .answer2 .given .1) (code-is (c .code .result) (c .code .ok) (c .code .ensures))

@@ -21,10 +21,12 @@ enum-known-opened-2 c = search needs
 checksum-number-requires : tie.Need-checksum-number-requires
 checksum-number-requires c κs = search needs
 
+-- the file does not open
 returns : tie.Need-returns
 returns c = let call = c .before .before .before .before in
     open-refused (call .«open» .ensures) (now (call .before .before .args .meta)) _ _ (c .before .before .opened .given .1) (code-is (c .code .result) (c .code .ok) (c .code .ensures))
 
+-- the file opens
 returns-2 : tie.Need-returns-2
 returns-2 c = let call = c .before .before .before .before .before in
     open-opened (call .«open» .ensures) (now (call .before .before .args .meta)) _ _ (c .before .before .before .opened2 .given .1) (c .before .checksum-number .ensures)

@@ -27,6 +27,7 @@ part-read-u32-le-end c = search needs
 read-u32-le-requires : tie.Need-read-u32-le-requires
 read-u32-le-requires c κs = search needs
 
+-- version 3: the last 4 bytes
 returns : tie.Need-returns
 returns c = let call = c in
     let arg = call .before in
@@ -35,6 +36,7 @@ returns c = let call = c in
     let s = now (start .args .file) in
     rw (eq-eqb (start .args .version) 3 (test .if1 .taken)) (ap some (call .read-u32-le .ensures ∙ rw (part-rest s (length s - 4))))
 
+-- another version has no checksum
 returns-2 : tie.Need-returns-2
 returns-2 c = let start = c .before .before in rw (ne-eqb (start .args .version) 3 (c .if1 .left))
 

@@ -14,21 +14,25 @@ use denote.Ref.{now}
 use Rattle.fst.proofs.open.Statement.{statement}
 use Rattle.fst.proofs.open.Tie as tie
 
+-- under 36 bytes: SHORT
 returns : tie.Need-returns
 returns c = sym (opening-short (now (c .before .before .args .file)) (c .if1 .taken))
 
+-- over 16,777,216 bytes: LARGE
 returns-2 : tie.Need-returns-2
 returns-2 c = sym (opening-large (now (c .before .before .before .args .file)) (c .before .if1 .left) (c .if2 .taken))
 
 read-u64-le-requires : tie.Need-read-u64-le-requires
 read-u64-le-requires c κs = search needs
 
+-- version 0: VERSION
 returns-3 : tie.Need-returns-3
 returns-3 c = let two = c .before .before in
     let s = now (two .before .before .before .args .file) in
     let v = version-is s (c .before .read-u64-le .result) (c .before .read-u64-le .ensures) in
     sym (opening-version s (two .before .if1 .left) (two .if2 .left) (rw (← v) (version-low (c .before .read-u64-le .result) (c .if3 .taken))))
 
+-- a version above 3: VERSION
 returns-4 : tie.Need-returns-4
 returns-4 c = let two = c .before .before .before in
     let s = now (two .before .before .before .args .file) in
@@ -59,6 +63,7 @@ read-u64-le-requires-2 c κs = search needs
 root-right-requires : tie.Need-root-right-requires
 root-right-requires c κs = search needs
 
+-- the root breaks the rule on roots: ROOT
 returns-5 : tie.Need-returns-5
 returns-5 c = let two = c .before .before .before .before .before .before .before .before in
     let s = now (two .before .before .before .args .file) in
@@ -98,6 +103,7 @@ read-u64-le-requires-4 c κs = search needs
 checksum-of-requires : tie.Need-checksum-of-requires
 checksum-of-requires c κs = search needs
 
+-- the file opens
 returns-6 : tie.Need-returns-6
 returns-6 c = let two = c .before .before .before .before .before .before .before .before .before .before .before .before .before in
     let s = now (two .before .before .before .args .file) in

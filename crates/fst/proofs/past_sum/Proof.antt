@@ -16,9 +16,11 @@ enum-told c = search needs
 enum-told-2 : tie.Need-enum-told-2
 enum-told-2 c = search needs
 
+-- the node is not sound: NODE
 returns : tie.Need-returns
 returns c = sym (ap pastSum (answer-unsound (c .before .before .node-at .ensures) (c .enum-told .given .1)))
 
+-- the node is sound: SUM
 returns-2 : tie.Need-returns-2
 returns-2 c = sym (ap pastSum (answer-sound (c .before .before .node-at .ensures) (c .enum-told2 .given .0 .0) (c .enum-told2 .given .1)))
 

@@ -17,31 +17,37 @@ sub-start c = search needs
 sub-start-2 : tie.Need-sub-start-2
 sub-start-2 c = search needs
 
+-- fewer than n numbers stand before it, and all n lie in the file
 mul-start : tie.Need-mul-start
 mul-start c =
     let a = c .before .args in
     record { fits = offset-lt (a .at) _ (a .n) (a .size) (length (now (a .file))) (omega arith) (c .before .pre .0) (omega arith) }
 
+-- the number starts inside the file
 add-start : tie.Need-add-start
 add-start c =
     let a = c .before .args in
     record { fits = place-lt (a .at) _ (a .n) (a .size) (length (now (a .file))) (omega arith) (c .before .pre .0) (omega arith) }
 
+-- the number starts no later than the file ends
 sub-unpack-uint : tie.Need-sub-unpack-uint
 sub-unpack-uint c = let a = c .before .args in place-le (a .at) _ (a .n) (a .size) (length (now (a .file))) (omega arith) (c .before .pre .0)
 
+-- the number starts no later than the file ends
 part-unpack-uint-start : tie.Need-part-unpack-uint-start
 part-unpack-uint-start c = let a = c .before .args in place-le (a .at) _ (a .n) (a .size) (length (now (a .file))) (omega arith) (c .before .pre .0)
 
 part-unpack-uint-end : tie.Need-part-unpack-uint-end
 part-unpack-uint-end c = search needs
 
+-- the number has 8 bytes at most, and they lie in the file
 unpack-uint-requires : tie.Need-unpack-uint-requires
 unpack-uint-requires c κs =
     let start = c .before .before in
     let a = start .args in
     (start .pre .1, place-room (now (a .file)) (a .at) _ (a .n) (a .size) (omega arith) (start .pre .0))
 
+-- number i is read from where it stands
 returns : tie.Need-returns
 returns c =
     let start = c .before .before .before in

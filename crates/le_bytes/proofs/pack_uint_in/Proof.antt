@@ -30,12 +30,14 @@ sub-left c = search needs
 loop-less : tie.Need-loop-less Inv-loop μ-loop
 loop-less c = search needs
 
+-- the lowest byte of m is written, and the higher ones are left
 loop-again : tie.Need-loop-again Inv-loop μ-loop
 loop-again c = writing-step (c .loop-test .taken) (c .before .loop .inv)
 
 same-length : tie.Need-same-length Inv-loop μ-loop
 same-length c = search needs
 
+-- no byte is left to write
 returns : tie.Need-returns Inv-loop μ-loop
 returns c = writing-all (c .before .before .pre) (c .loop-test .left) (c .before .loop .inv)
 

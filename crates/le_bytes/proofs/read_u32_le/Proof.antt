@@ -10,6 +10,7 @@ use Rattle.le_bytes.proofs.read_u32_le.Tie as tie
 unpack-uint-requires : tie.Need-unpack-uint-requires
 unpack-uint-requires c κs = search needs
 
+-- a number of 4 bytes is below 2 ^ 32
 cast-result : tie.Need-cast-result
 cast-result c =
     let start = c .before .before in

@@ -21,6 +21,7 @@ Inv-loop file line₀ reading₀ keys₀ line reading keys = Stands file (viewIs
 abbrev μ-loop : tie.MeasureT-loop
 μ-loop file line₀ reading₀ keys₀ line reading keys = leftIn file (viewIs reading)
 
+-- the reading is the one given, and the buffer is new
 loop-holds : tie.Need-loop-holds Inv-loop μ-loop
 loop-holds c = (c .before .pre, search needs)
 
@@ -36,6 +37,7 @@ enum-known-got c = search needs
 slice-aggregate-put : tie.Need-slice-aggregate-put Inv-loop μ-loop
 slice-aggregate-put c = search needs
 
+-- the line of a key lies in the buffer
 put-requires : tie.Need-put-requires Inv-loop μ-loop
 put-requires c κs =
     let call = c .before .before .before .before .before in
@@ -51,6 +53,7 @@ enum-known-got-2 c = search needs
 slice-aggregate-put-2 : tie.Need-slice-aggregate-put-2 Inv-loop μ-loop
 slice-aggregate-put-2 c = search needs
 
+-- the last line lies in the buffer
 put-requires-2 : tie.Need-put-requires-2 Inv-loop μ-loop
 put-requires-2 c κs =
     let call = c .before .before .before .before .before in
@@ -66,11 +69,13 @@ enum-told c = search needs
 returns-3 : tie.Need-returns-3 Inv-loop μ-loop
 returns-3 c = search needs
 
+-- a key that is handed out leaves fewer visits to come
 loop-less : tie.Need-loop-less Inv-loop μ-loop
 loop-less c =
     let call = c .before .before .before .before .before .before .before .before in
     (way-on _ _ _ _ (call .next-line .result) _ (call .before .before .loop .inv .0) (omega (arith, call .before .before .loop .inv .1)) (call .next-line .ensures) (c .before .before .before .before .before .got .given .1)) .less
 
+-- after a key the reading is still on its way
 loop-again : tie.Need-loop-again Inv-loop μ-loop
 loop-again c =
     let call = c .before .before .before .before .before .before .before .before in

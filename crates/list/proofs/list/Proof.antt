@@ -28,6 +28,7 @@ refuse-requires c κs = search needs
 enum-told : tie.Need-enum-told
 enum-told c = search needs
 
+-- the reading that began is on its way
 lines-requires : tie.Need-lines-requires
 lines-requires c κs = way-begins _ (c .before .before .before .before .begin .ensures) (c .enum-told .given .1)
 

@@ -9,6 +9,7 @@ use Rattle.list.proofs.put.Reads as reads
 use Rattle.list.proofs.put.Lts as lts
 use Rattle.io.proofs.write_all.Reads as write-all-reads
 
+-- the line has n bytes, so its first n are n
 slice-aggregate-write-all : tie.Need-slice-aggregate-write-all
 slice-aggregate-write-all c = sym (length-take-le _ _ (c .before .before .pre))
 

@@ -17,6 +17,7 @@ use Rattle.stream_start.proofs.start.Reads as start-reads
 refused-requires : tie.Need-refused-requires
 refused-requires c κs = search needs
 
+-- the file is over 4,096 bytes: LARGE
 returns : tie.Need-returns
 returns c = too-large (c .before .if1 .taken) (ap (λ (r : Started). r .answer) (c .refused .ensures)) refl refl
 
@@ -47,6 +48,7 @@ same-length c = search needs
 same-length-2 : tie.Need-same-length-2
 same-length-2 c = search needs
 
+-- the file is not admitted
 returns-2 : tie.Need-returns-2
 returns-2 c =
     not-admitted (c .before .before .before .before .before .before .before .before .before .before .before .if1 .left) _ (ap (λ (r : Started). r .answer) (c .refused2 .ensures)) (outcome-refused _ (c .before .before .before .before .before .before .before .before .admit .ensures) (c .before .before .admitted .given .1))
@@ -57,6 +59,7 @@ same-length-3 c = search needs
 same-length-4 : tie.Need-same-length-4
 same-length-4 c = search needs
 
+-- the file is admitted: its unbounded reading begins
 returns-3 : tie.Need-returns-3
 returns-3 c =
     begins-admitted _ (c .before .before .before .before .before .before .before .before .before .before .before .before .if1 .left) (outcome-admitted (c .before .before .before .before .before .before .before .before .before .admit .ensures) (c .before .before .before .enum-told .given .1)) (c .start .ensures)

@@ -82,6 +82,7 @@ slice-aggregate-put-text c = search needs
 put-text-requires : tie.Need-put-text-requires
 put-text-requires c κs = search needs
 
+-- the line has room for the number of keys
 put-number-requires : tie.Need-put-number-requires
 put-number-requires c κs =
     let w = c .before .before .before in
@@ -91,11 +92,13 @@ put-number-requires c κs =
 slice-aggregate-put-text-2 : tie.Need-slice-aggregate-put-text-2
 slice-aggregate-put-text-2 c = search needs
 
+-- the line has room for the space
 put-text-requires-2 : tie.Need-put-text-requires-2
 put-text-requires-2 c κs =
     let w = c .before .before .before .before in
     part-room (32 ∷ []) (fromFollowed (s₂ w)) (at-space w)
 
+-- the line has room for the number of transitions followed
 put-number-requires-2 : tie.Need-put-number-requires-2
 put-number-requires-2 c κs =
     let w = c .before .before .before in
@@ -104,12 +107,14 @@ put-number-requires-2 c κs =
 slice-aggregate-put-text-3 : tie.Need-slice-aggregate-put-text-3
 slice-aggregate-put-text-3 c = search needs
 
+-- the line has room for the newline
 put-text-requires-3 : tie.Need-put-text-requires-3
 put-text-requires-3 c κs = part-room (10 ∷ []) [] (at-newline (c .before .before .before .before))
 
 same-length : tie.Need-same-length
 same-length c = search needs
 
+-- all five parts are written
 returns : tie.Need-returns
 returns c =
     let call = c .before .before in

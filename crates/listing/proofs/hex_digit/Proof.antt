@@ -12,10 +12,12 @@ add-result c = search needs
 add-result-2 : tie.Need-add-result-2
 add-result-2 c = search needs
 
+-- a digit from 0 to 9
 returns : tie.Need-returns
 unfolding hexDigit
 returns c = rw (lt-ltb (c .before .args .d) 10 (c .if1 .taken))
 
+-- a digit from a to f
 returns-2 : tie.Need-returns-2
 unfolding hexDigit
 returns-2 c = rw (le-ltb (c .before .args .d) 10 (c .if1 .left))

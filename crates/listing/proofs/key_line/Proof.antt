@@ -74,12 +74,14 @@ put-key-requires c κs = search needs
 slice-aggregate-put-text : tie.Need-slice-aggregate-put-text
 slice-aggregate-put-text c = search needs
 
+-- the line has room for the space
 put-text-requires : tie.Need-put-text-requires
 put-text-requires c κs =
     let w = c .before .before .before .before in
     let s = s₁ w in
     part-room (32 ∷ []) (fromValue s) (at-space w)
 
+-- the line has room for the value
 put-number-requires : tie.Need-put-number-requires
 put-number-requires c κs =
     let w = c .before .before .before in
@@ -89,6 +91,7 @@ put-number-requires c κs =
 slice-aggregate-put-text-2 : tie.Need-slice-aggregate-put-text-2
 slice-aggregate-put-text-2 c = search needs
 
+-- the line has room for the newline
 put-text-requires-2 : tie.Need-put-text-requires-2
 put-text-requires-2 c κs =
     let w = c .before .before .before .before in
@@ -97,6 +100,7 @@ put-text-requires-2 c κs =
 same-length : tie.Need-same-length
 same-length c = search needs
 
+-- all four parts are written
 returns : tie.Need-returns
 returns c =
     let call = c .before .before in

@@ -14,6 +14,7 @@ use Rattle.listing.proofs.refused_line.Reads as refused-line-reads
 use Rattle.stream_next.proofs.counted.Reads as counted-reads
 use Rattle.stream_next.proofs.next.Reads as next-reads
 
+-- the buffer is too short for the longest line
 returns : tie.Need-returns
 returns c = lined-short _ _ (now (c .before .before .before .args .line)) _ (c .if1 .taken) refl refl
 
@@ -29,6 +30,7 @@ enum-known-answer c = search needs
 slice-aggregate-key-line : tie.Need-slice-aggregate-key-line
 slice-aggregate-key-line c = search needs
 
+-- the key has at most 255 bytes, and the buffer holds the longest line
 key-line-requires : tie.Need-key-line-requires
 key-line-requires c κs =
     let q = c .before .before .before .before .before .before .before in
@@ -54,6 +56,7 @@ refused-line-requires c κs = search needs
 same-length : tie.Need-same-length
 same-length c = search needs
 
+-- a key is left: its line
 returns-2 : tie.Need-returns-2
 returns-2 c =
     let q = c .before .before .before .before .before .before .before .before .before .before .before in
@@ -63,6 +66,7 @@ returns-2 c =
 same-length-2 : tie.Need-same-length-2
 same-length-2 c = search needs
 
+-- no key is left: the last line
 returns-3 : tie.Need-returns-3
 returns-3 c =
     let q = c .before .before .before .before .before .before .before .before in
@@ -72,6 +76,7 @@ returns-3 c =
 same-length-3 : tie.Need-same-length-3
 same-length-3 c = search needs
 
+-- the reading is refused: its line
 returns-4 : tie.Need-returns-4
 returns-4 c =
     let q = c .before .before .before .before .before .before .before .before .before in

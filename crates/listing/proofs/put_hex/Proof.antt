@@ -19,6 +19,7 @@ abbrev μ-loop : tie.MeasureT-loop
 room : (c : tie.In-loop Inv-loop μ-loop) → c .before .loop .p + 2 ≤ length (c .before .loop .line)
 room c = hex-room (c .before .before .before .before .pre .1) (c .loop-test .taken) (c .before .loop .inv)
 
+-- no byte is written yet
 loop-holds : tie.Need-loop-holds Inv-loop μ-loop
 loop-holds c = let a = c .before .before .args in hex-none (now (a .line)) (a .at) (now (a .key)) (a .n)
 
@@ -36,18 +37,22 @@ slice-write-line c =
 shared-slice-read-hex-digit-2 : tie.Need-shared-slice-read-hex-digit-2 Inv-loop μ-loop
 shared-slice-read-hex-digit-2 c = search needs
 
+-- each half of a byte is below 16
 hex-digit-requires-2 : tie.Need-hex-digit-requires-2 Inv-loop μ-loop
 hex-digit-requires-2 c κs = omega (arith, c .shared-slice-known3 .given (c .before .before .before .before .loop .i))
 
+-- both digits of the byte lie in the line
 add-line : tie.Need-add-line Inv-loop μ-loop
 add-line c =
     let body = c .before .before .before .before in
     omega (arith, room body, body .before .loop .inv .len)
 
+-- the second digit lies in the line, whose length the first has kept
 slice-write-line-2 : tie.Need-slice-write-line-2 Inv-loop μ-loop
 slice-write-line-2 c =
     simp length-set (omega (arith, room (c .before .before .before .before)))
 
+-- both digits of the byte lie in the line
 add-p : tie.Need-add-p Inv-loop μ-loop
 add-p c =
     let body = c .before .before .before .before in
@@ -59,6 +64,7 @@ add-i c = search needs
 loop-less : tie.Need-loop-less Inv-loop μ-loop
 loop-less c = search needs
 
+-- one byte more is written, as two digits
 loop-again : tie.Need-loop-again Inv-loop μ-loop
 loop-again c =
     let body = c .before .before .before .before in
@@ -68,9 +74,11 @@ loop-again c =
     hex-step (high .result) (low .result) (pre .0) (pre .1) (body .loop-test .taken) (high .ensures) (low .ensures)
     (body .before .loop .inv)
 
+-- writing keeps the line's length
 same-length : tie.Need-same-length Inv-loop μ-loop
 same-length c = c .before .loop .inv .len
 
+-- all n bytes are written
 returns : tie.Need-returns Inv-loop μ-loop
 returns c = hex-all (c .before .before .before .before .pre .0) (c .loop-test .left) (c .before .loop .inv)
 

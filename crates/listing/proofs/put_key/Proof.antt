@@ -15,6 +15,7 @@ put-text-requires c κs = search needs
 same-length : tie.Need-same-length
 same-length c = search needs
 
+-- the empty key is a dash
 returns : tie.Need-returns
 returns c =
     let call = c .before .before in
@@ -28,6 +29,7 @@ put-hex-requires c κs = search needs
 same-length-2 : tie.Need-same-length-2
 same-length-2 c = search needs
 
+-- any other key is its digits
 returns-2 : tie.Need-returns-2
 returns-2 c =
     let call = c .before .before in

@@ -17,6 +17,7 @@ abbrev μ-loop : tie.MeasureT-loop
 digit-count-requires : tie.Need-digit-count-requires Inv-loop μ-loop
 digit-count-requires c κs = search needs
 
+-- no digit is written yet
 loop-holds : tie.Need-loop-holds Inv-loop μ-loop
 loop-holds c =
     let call = c .digit-count in
@@ -42,15 +43,18 @@ slice-write-line c = omega (arith, c .before .loop .inv .room)
 loop-less : tie.Need-loop-less Inv-loop μ-loop
 loop-less c = search needs
 
+-- one digit more is written, from the last on back
 loop-again : tie.Need-loop-again Inv-loop μ-loop
 loop-again c = filling-step (c .loop-test .taken) (c .before .loop .inv)
 
 add-result : tie.Need-add-result Inv-loop μ-loop
 add-result c = search needs
 
+-- writing keeps the line's length
 same-length : tie.Need-same-length Inv-loop μ-loop
 same-length c = c .before .loop .inv .len
 
+-- no digit is left
 returns : tie.Need-returns Inv-loop μ-loop
 returns c =
     let call = c .before .before .digit-count in

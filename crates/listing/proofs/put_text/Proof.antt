@@ -15,6 +15,7 @@ Inv-loop line₀ at text i₀ line i = CopiedTo line₀ at text line i
 abbrev μ-loop : tie.MeasureT-loop
 μ-loop line₀ at text i₀ line i = length text - i
 
+-- nothing is copied yet
 loop-holds : tie.Need-loop-holds Inv-loop μ-loop
 loop-holds c = copied-none (now (c .args .line)) (c .args .at) (now (c .args .text))
 
@@ -33,15 +34,18 @@ add-i c = search needs
 loop-less : tie.Need-loop-less Inv-loop μ-loop
 loop-less c = search needs
 
+-- one byte more is copied
 loop-again : tie.Need-loop-again Inv-loop μ-loop
 loop-again c = let body = c .before in copied-step (body .before .before .pre) (body .loop-test .taken) (body .before .loop .inv)
 
 add-result : tie.Need-add-result Inv-loop μ-loop
 add-result c = search needs
 
+-- writing keeps the line's length
 same-length : tie.Need-same-length Inv-loop μ-loop
 same-length c = c .before .loop .inv .len
 
+-- the whole text is copied
 returns : tie.Need-returns Inv-loop μ-loop
 returns c = copied-all (c .loop-test .left) (c .before .loop .inv)
 

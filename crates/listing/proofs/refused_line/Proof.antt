@@ -57,6 +57,7 @@ slice-aggregate-put-text c = search needs
 put-text-requires : tie.Need-put-text-requires
 put-text-requires c κs = search needs
 
+-- the line has room for the refusal's number
 put-number-requires : tie.Need-put-number-requires
 put-number-requires c κs =
     let w = c .before .before .before in
@@ -66,6 +67,7 @@ put-number-requires c κs =
 slice-aggregate-put-text-2 : tie.Need-slice-aggregate-put-text-2
 slice-aggregate-put-text-2 c = search needs
 
+-- the line has room for the newline
 put-text-requires-2 : tie.Need-put-text-requires-2
 put-text-requires-2 c κs =
     part-room (10 ∷ []) [] (at-newline (c .before .before .before .before))
@@ -73,6 +75,7 @@ put-text-requires-2 c κs =
 same-length : tie.Need-same-length
 same-length c = search needs
 
+-- all three parts are written
 returns : tie.Need-returns
 returns c =
     let call = c .before .before in

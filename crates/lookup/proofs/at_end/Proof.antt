@@ -21,6 +21,7 @@ enum-known-m c = search needs
 enum-told : tie.Need-enum-told
 enum-told c = search needs
 
+-- the node is not sound
 returns : tie.Need-returns
 returns c = let call = c .before .before in
     let a = call .before .before .args in
@@ -29,6 +30,7 @@ returns c = let call = c .before .before in
 sub-if2 : tie.Need-sub-if2
 sub-if2 c = search needs
 
+-- the node is final, and the sum with its final output does not fit
 returns-2 : tie.Need-returns-2
 returns-2 c = let call = c .before .before .before .before .before in
     let start = call .before .before in
@@ -42,6 +44,7 @@ returns-2 c = let call = c .before .before .before .before .before in
 add-t10 : tie.Need-add-t10
 add-t10 c = search needs
 
+-- the node is final, and the sum with its final output fits
 returns-3 : tie.Need-returns-3
 returns-3 c = let call = c .before .before .before .before .before in
     let start = call .before .before in
@@ -52,6 +55,7 @@ returns-3 c = let call = c .before .before .before .before .before in
     let e = answer-sound (call .node-at .ensures) m (c .before .before .before .m .given .1) in
     sym (get-from-end-value f (a .last) (a .sum) (meaning s m) e (omega (arith, start .fits .sum)) (c .before .if1 .taken) (omega arith))
 
+-- the node is not final
 returns-4 : tie.Need-returns-4
 returns-4 c = let call = c .before .before .before .before in
     let start = call .before .before in

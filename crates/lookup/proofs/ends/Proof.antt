@@ -8,9 +8,11 @@ use denote.Ref.{now}
 use Rattle.lookup.proofs.ends.Statement.{statement}
 use Rattle.lookup.proofs.ends.Tie as tie
 
+-- nothing is left: whether the node is final decides
 returns : tie.Need-returns
 returns c = rw (eq-eqb (c .before .args .left) 0 (c .if1 .taken))
 
+-- something is left
 returns-2 : tie.Need-returns-2
 returns-2 c = rw (ne-eqb (c .before .args .left) 0 (c .if1 .left))
 

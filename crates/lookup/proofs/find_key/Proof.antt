@@ -76,6 +76,7 @@ fits w = at-fitting (transitionsIn (file (q-of w)) (m (q-of w))) (at-loop (q-of 
 low : (w : Fits-at) → i w < m (q-of w) .ntrans
 low w = omega (arith, fits w .within, length-node-transitions (file (q-of w)) (m (q-of w)) (readable (q-of w)))
 
+-- nothing is found yet, and the whole value is left
 loop-holds : tie.Need-loop-holds Inv-loop μ-loop
 loop-holds c = let start = c .before in let a = start .args in search-none (fstWith (now (a .file)) (a .version) (a .root)) (a .value) (now (a .path)) (start .pre)
 
@@ -88,6 +89,7 @@ enum-known-m c = search needs
 enum-told : tie.Need-enum-told Inv-loop μ-loop
 enum-told c = search needs
 
+-- the node is not sound
 returns : tie.Need-returns Inv-loop μ-loop
 returns c = let call = c .before .before in
     (sym (searching-unsound (call .before .loop .inv .rest) (answer-unsound (call .node-at .ensures) (c .enum-told .given .1))), record { len = call .before .loop .inv .len; fits = omega arith })
@@ -95,11 +97,13 @@ returns c = let call = c .before .before in
 ends-requires : tie.Need-ends-requires Inv-loop μ-loop
 ends-requires c κs = search needs
 
+-- nothing is left, and the node is final
 returns-2 : tie.Need-returns-2 Inv-loop μ-loop
 returns-2 c = let q = c .before .before in
     let e = ends-both (at-loop q .loop .left) (m q .«is_final») (sym (c .before .ends .ensures) ∙ c .if1 .taken) in
     (sym (searching-found (at-loop q .loop .inv .rest) (meaning (file q) (m q)) (node-is q) (e .0) (e .1)), record { len = at-loop q .loop .inv .len; fits = at-loop q .loop .inv .within })
 
+-- the judged node can be read
 last-fitting-requires : tie.Need-last-fitting-requires Inv-loop μ-loop
 last-fitting-requires c κs = readable (c .before .before)
 
@@ -109,28 +113,34 @@ enum-known-i c = search needs
 enum-told-2 : tie.Need-enum-told-2 Inv-loop μ-loop
 enum-told-2 c = search needs
 
+-- no transition fits what is left
 returns-3 : tie.Need-returns-3 Inv-loop μ-loop
 returns-3 c = let call = c .before .before in
     let q = call .before .before .before in
     (sym (searching-stuck (at-loop q .loop .inv .rest) (meaning (file q) (m q)) (node-is q) (goes-on (call .before)) (place-none _ (call .last-fitting .result) (call .last-fitting .ensures) (c .enum-told2 .given .1))), record { len = at-loop q .loop .inv .len; fits = omega arith })
 
+-- a transition fits, but the key has 255 bytes
 returns-4 : tie.Need-returns-4 Inv-loop μ-loop
 returns-4 c = let w = c .before in
     let q = q-of w in
     (sym (searching-deep (at-loop q .loop .inv .rest) (meaning (file q) (m q)) (node-is q) (goes-on (w .before .before .before .before)) (omega arith) (i w) (place w)), record { len = at-loop q .loop .inv .len; fits = omega arith })
 
+-- the judged node can be read, and it has the transition
 input-requires : tie.Need-input-requires Inv-loop μ-loop
 input-requires c κs = (readable (q-of (c .before)), low (c .before))
 
 element-write-path : tie.Need-element-write-path Inv-loop μ-loop
 element-write-path c = search needs
 
+-- the judged node can be read, and it has the transition
 output-requires : tie.Need-output-requires Inv-loop μ-loop
 output-requires c κs = (readable (q-of (c .before .before)), low (c .before .before))
 
+-- the output of the transition is not above what is left
 sub-left : tie.Need-sub-left Inv-loop μ-loop
 sub-left c = omega (arith, c .output .ensures, fits (c .before .before .before) .fit (i (c .before .before .before)) (omega arith))
 
+-- the judged node can be read, and it has the transition
 transition-addr-requires : tie.Need-transition-addr-requires Inv-loop μ-loop
 transition-addr-requires c κs = (readable (q-of (c .before .before .before)), low (c .before .before .before))
 
@@ -140,6 +150,7 @@ add-n c = search needs
 loop-less : tie.Need-loop-less Inv-loop μ-loop
 loop-less c = search needs
 
+-- one byte more is found, and its output is taken off what is left
 loop-again : tie.Need-loop-again Inv-loop μ-loop
 loop-again c = let w = c .before .before .before .before in
     let q = q-of w in

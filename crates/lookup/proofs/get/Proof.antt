@@ -21,11 +21,13 @@ enum-known-opened-2 c = search needs
 get-from-requires : tie.Need-get-from-requires
 get-from-requires c κs = search needs
 
+-- the file does not open
 returns : tie.Need-returns
 returns c = let call = c .before .before .before in
     let a = call .before .before .before .args in
     sym (get-refused (now (a .file)) (now (a .key)) _ (sym (call .«open» .ensures) ∙ ap openingIs (c .before .opened .given .1)))
 
+-- the file opens: the key is followed from its root
 returns-2 : tie.Need-returns-2
 returns-2 c = let told = c .before .before in
     let call = told .before .before in

@@ -84,6 +84,7 @@ place-low w = place-lt (file (q-of w)) (m (q-of w)) (readable (q-of w)) (getD (k
 next : (w : Found-at) → Looking (f (q-of w)) (key w) (i w + 1) (transitionAt (transitionsIn (file (q-of w)) (m (q-of w))) (p w) .addr) (sum w + transitionAt (transitionsIn (file (q-of w)) (m (q-of w))) (p w) .out)
 next w = looking-step (at-loop (q-of w) .loop .inv .1) (meaning (file (q-of w)) (m (q-of w))) (node-is (q-of w)) (fits (q-of w)) (q-of w .before .before .before .before .loop-test .taken) (p w) (place w)
 
+-- no byte is followed yet
 loop-holds : tie.Need-loop-holds Inv-loop μ-loop
 loop-holds c = let a = c .before .before .args in (omega arith, looking-none (fstWith (now (a .file)) (a .version) (a .root)) (now (a .key)))
 
@@ -96,6 +97,7 @@ enum-known-m c = search needs
 enum-told : tie.Need-enum-told Inv-loop μ-loop
 enum-told c = search needs
 
+-- the node is not sound
 returns : tie.Need-returns Inv-loop μ-loop
 returns c = let call = c .before .before in let at = call .before .before in
     sym (looking-unsound (at .loop .inv .1) (answer-unsound (call .node-at .ensures) (c .enum-told .given .1)))
@@ -103,6 +105,7 @@ returns c = let call = c .before .before in let at = call .before .before in
 shared-slice-read-b : tie.Need-shared-slice-read-b Inv-loop μ-loop
 shared-slice-read-b c = search needs
 
+-- the judged node can be read
 find-input-requires : tie.Need-find-input-requires Inv-loop μ-loop
 find-input-requires c κs = readable (c .before)
 
@@ -112,15 +115,18 @@ enum-known-p c = search needs
 enum-told-2 : tie.Need-enum-told-2 Inv-loop μ-loop
 enum-told-2 c = search needs
 
+-- the node has no such input
 returns-2 : tie.Need-returns-2 Inv-loop μ-loop
 returns-2 c = let call = c .before .before in
     let q = call .before .before in
     sym (looking-absent (at-loop q .loop .inv .1) (meaning (file q) (m q)) (node-is q) (fits q) (q .before .before .before .before .loop-test .taken)
     (place-none _ (call .find-input .result) (call .find-input .ensures) (c .enum-told2 .given .1)))
 
+-- the judged node can be read, and it has the transition
 output-requires : tie.Need-output-requires Inv-loop μ-loop
 output-requires c κs = (readable (q-of c), place-low c)
 
+-- the judged node can be read, and it has the transition
 transition-addr-requires : tie.Need-transition-addr-requires Inv-loop μ-loop
 transition-addr-requires c κs = (readable (q-of (c .before)), place-low (c .before))
 
@@ -130,6 +136,7 @@ sub-if1 c = omega (arith, fits (q-of (c .before .before)))
 past-sum-requires : tie.Need-past-sum-requires Inv-loop μ-loop
 past-sum-requires c κs = search needs
 
+-- the sum up to the target does not fit
 returns-3 : tie.Need-returns-3 Inv-loop μ-loop
 returns-3 c = let w = c .before .before .before .before in
     let out = transitionAt (transitionsIn (file (q-of w)) (m (q-of w))) (p w) .out in
@@ -144,6 +151,7 @@ add-i c = search needs
 loop-less : tie.Need-loop-less Inv-loop μ-loop
 loop-less c = search needs
 
+-- one byte more is followed
 loop-again : tie.Need-loop-again Inv-loop μ-loop
 loop-again c = let w = c .before .before .before in
     (omega (arith, fits (q-of w)), rw (c .before .before .output .ensures, c .before .transition-addr .ensures) (next w))
@@ -151,6 +159,7 @@ loop-again c = let w = c .before .before .before in
 at-end-requires : tie.Need-at-end-requires Inv-loop μ-loop
 at-end-requires c κs = search needs
 
+-- the key ends: its last node decides
 returns-4 : tie.Need-returns-4 Inv-loop μ-loop
 returns-4 c = let at = c .before .before in
     let k = now (at .before .before .before .args .key) in

@@ -47,6 +47,7 @@ enum-known-opened c = search needs
 enum-known-opened-2 : tie.Need-enum-known-opened-2
 enum-known-opened-2 c = search needs
 
+-- the buffer is under 255 bytes: SPACE
 returns : tie.Need-returns
 returns c = let told = c .before .before in
     let a = told .before .before .before .before .before .args in
@@ -61,6 +62,7 @@ enum-known-found c = search needs
 slice-aggregate-copy-front : tie.Need-slice-aggregate-copy-front
 slice-aggregate-copy-front c = search needs
 
+-- the key found is no longer than path, and the buffer has room for it
 copy-front-requires : tie.Need-copy-front-requires
 copy-front-requires c κs = let w = c .before .before .before .before .before in
     let fits = key-fits (w .find-key .result) (path w) _ (w .find-key .ensures .1) (c .before .before .before .found .given .1) in
@@ -72,6 +74,7 @@ enum-told c = search needs
 enum-known-found-2 : tie.Need-enum-known-found-2
 enum-known-found-2 c = search needs
 
+-- the file does not open
 returns-2 : tie.Need-returns-2
 returns-2 c = let call = c .before .before .before in
     let a = call .before .before .before .args in
@@ -80,13 +83,16 @@ returns-2 c = let call = c .before .before .before in
 same-length : tie.Need-same-length
 same-length c = search needs
 
+-- a key is found
 returns-3 : tie.Need-returns-3
 returns-3 c = let w = c .before .before .before .before .before .before .before .before in
     written-key _ (path w) (buf w) _ _ (answered w ∙ ap (λ r. keyIs r (path w)) (c .before .before .before .before .before .before .found .given .1)) (omega (arith, w .find-key .ensures .1 .len, key-fits (w .find-key .result) (path w) _ (w .find-key .ensures .1) (c .before .before .before .before .before .before .found .given .1))) (c .before .before .copy-front .ensures)
 
+-- no key is found
 returns-4 : tie.Need-returns-4
 returns-4 c = let w = c .before .before in written-none _ (buf w) (answered w ∙ ap (λ r. keyIs r (path w)) (c .enum-told .given .1))
 
+-- the search is refused
 returns-5 : tie.Need-returns-5
 returns-5 c = let w = c .before .before .before in written-refused _ (buf w) _ (answered w ∙ ap (λ r. keyIs r (path w)) (c .before .found2 .given .1))
 

@@ -19,12 +19,14 @@ Inv-loop file node left n i₀ i = (i ≤ node .ntrans) × Scanned (transitionsI
 abbrev μ-loop : tie.MeasureT-loop
 μ-loop file node left n i₀ i = node .ntrans - i
 
+-- no output is looked at yet
 loop-holds : tie.Need-loop-holds Inv-loop μ-loop
 loop-holds c = let start = c .before in (omega arith, scanned-none (transitionsIn (now (start .args .file)) (start .args .node)) (start .args .left))
 
 output-requires : tie.Need-output-requires Inv-loop μ-loop
 output-requires c κs = search needs
 
+-- the first output is above what is left
 returns : tie.Need-returns Inv-loop μ-loop
 returns c = let here = c .before .before .before .before in let start = here .before .before in let s = now (start .args .file) in let m = start .args .node in let len = length-node-transitions s m (start .pre) in
     sym (fitting-none (here .loop .inv .1) (inr (rw (← c .before .before .output .ensures) (c .before .if1 .taken))) (c .if2 .taken))
@@ -32,6 +34,7 @@ returns c = let here = c .before .before .before .before in let start = here .be
 sub-t9 : tie.Need-sub-t9 Inv-loop μ-loop
 sub-t9 c = search needs
 
+-- a later output is above what is left: the one before it is the last that fits
 returns-2 : tie.Need-returns-2 Inv-loop μ-loop
 returns-2 c = let here = c .before .before .before .before in let start = here .before .before in let s = now (start .args .file) in let m = start .args .node in let len = length-node-transitions s m (start .pre) in
     sym (fitting-last (here .loop .inv .1) (inr (rw (← c .before .before .output .ensures) (c .before .if1 .taken))) (omega arith))
@@ -42,6 +45,7 @@ add-i c = search needs
 loop-less : tie.Need-loop-less Inv-loop μ-loop
 loop-less c = search needs
 
+-- one output more fits
 loop-again : tie.Need-loop-again Inv-loop μ-loop
 loop-again c = let here = c .before .before .before in let start = here .before .before in let s = now (start .args .file) in let m = start .args .node in let len = length-node-transitions s m (start .pre) in
     (omega arith, scanned-step (omega arith) (rw (← c .before .output .ensures) (c .if1 .left)) (here .loop .inv .1))
@@ -49,10 +53,12 @@ loop-again c = let here = c .before .before .before in let start = here .before 
 sub-t12 : tie.Need-sub-t12 Inv-loop μ-loop
 sub-t12 c = search needs
 
+-- the node has no transition
 returns-3 : tie.Need-returns-3 Inv-loop μ-loop
 returns-3 c = let here = c .before .before in let start = here .before .before in let s = now (start .args .file) in let m = start .args .node in let len = length-node-transitions s m (start .pre) in
     sym (fitting-none (here .loop .inv .1) (inl (omega (arith, here .loop .inv .0))) (omega (arith, here .loop .inv .0)))
 
+-- every output fits
 returns-4 : tie.Need-returns-4 Inv-loop μ-loop
 returns-4 c =
     let here = c .before .before in

@@ -13,36 +13,45 @@ bounds s = any-bounds (s .args .is-final) (s .args .n) (s .args .osize) (s .args
 end-len-requires : tie.Need-end-len-requires
 end-len-requires c κs = search needs
 
+-- at most 256 outputs of at most 8 bytes
 mul-result : tie.Need-mul-result
 mul-result c = let b = bounds (c .before) in omega arith
 
+-- the final output has at most 8 bytes
 add-result : tie.Need-add-result
 add-result c = let b = bounds (c .before) in omega arith
 
+-- at most 256 deltas of at most 8 bytes
 mul-result-2 : tie.Need-mul-result-2
 mul-result-2 c = let b = bounds (c .before) in omega arith
 
+-- the sum stays small with the deltas
 add-result-2 : tie.Need-add-result-2
 add-result-2 c = let b = bounds (c .before) in omega arith
 
+-- the sum stays small with the inputs
 add-result-3 : tie.Need-add-result-3
 add-result-3 c = let b = bounds (c .before) in omega arith
 
 index-len-requires : tie.Need-index-len-requires
 index-len-requires c κs = search needs
 
+-- the sum stays small with the index
 add-result-4 : tie.Need-add-result-4
 add-result-4 c = let b = bounds (c .before .before) in omega arith
 
+-- the sum stays small with the sizes byte
 add-result-5 : tie.Need-add-result-5
 add-result-5 c = let b = bounds (c .before .before) in omega arith
 
 head-len-requires : tie.Need-head-len-requires
 head-len-requires c κs = search needs
 
+-- the sum stays small with the head
 add-result-6 : tie.Need-add-result-6
 add-result-6 c = let b = bounds (c .before .before .before) in omega arith
 
+-- each part has the length that the definition gives it
 returns : tie.Need-returns
 returns c =
     let a = c .before .before .before .args in

@@ -92,15 +92,19 @@ returns-2 c =
 has-one-requires : tie.Need-has-one-requires
 has-one-requires c κs = search needs
 
+-- one transition, so there is a target
 shared-slice-read-leads-next : tie.Need-shared-slice-read-leads-next
 shared-slice-read-leads-next c = not-empty (c .before) .2
 
+-- one transition, so there is an output
 shared-slice-read-leads-next-2 : tie.Need-shared-slice-read-leads-next-2
 shared-slice-read-leads-next-2 c = not-empty (c .before .before) .1
 
+-- F is at least 16, as RECORD asks
 leads-next-requires : tie.Need-leads-next-requires
 leads-next-requires c κs = record-is (judged (c .before .before)) .first-low
 
+-- one transition, so there is an input
 shared-slice-read-compile-next : tie.Need-shared-slice-read-compile-next
 shared-slice-read-compile-next c = not-empty (one (c .before .before)) .0
 
@@ -121,15 +125,19 @@ returns-3 c =
     (call .compile-next .result) (ranges (judged o .before)) (record-is (judged o))
     (packed-next-is (t .args .first) (node t) (has-one-is o) (leads-next-is (test .before) ∙ test .if4 .taken)) (call .compile-next .ensures)
 
+-- one transition, so there is an input
 shared-slice-read-compile-one : tie.Need-shared-slice-read-compile-one
 shared-slice-read-compile-one c = not-empty (one (c .before .before)) .0
 
+-- one transition, so there is an output
 shared-slice-read-compile-one-2 : tie.Need-shared-slice-read-compile-one-2
 shared-slice-read-compile-one-2 c = not-empty (one (c .before .before .before)) .1
 
+-- one transition, so there is a target
 shared-slice-read-compile-one-3 : tie.Need-shared-slice-read-compile-one-3
 shared-slice-read-compile-one-3 c = not-empty (one (c .before .before .before .before)) .2
 
+-- the target is not above F, as RECORD asks
 compile-one-requires : tie.Need-compile-one-requires
 compile-one-requires c κs =
     let o = one (c .before .before .before .before .before) in
@@ -151,6 +159,7 @@ returns-4 c =
     (call .compile-one .last .1 .1 .1 .1 .0) (call .compile-one .result) (ranges (judged o .before)) (record-is (judged o))
     (packed-one-is (t .args .first) (node t) (has-one-is o) (leads-next-is (test .before) ∙ test .if4 .left)) (call .compile-one .ensures)
 
+-- RECORD has nothing to refuse
 compile-any-requires : tie.Need-compile-any-requires
 compile-any-requires c κs = record-is (c .before .before .before .before .before)
 

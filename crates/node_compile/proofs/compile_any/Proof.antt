@@ -68,9 +68,11 @@ larger-requires c κs = search needs
 output-size-requires : tie.Need-output-size-requires
 output-size-requires c κs = search needs
 
+-- every target is 0 or from 16 to F - 1
 delta-size-requires : tie.Need-delta-size-requires
 delta-size-requires c κs = c .before .before .before .before .before .before .before .pre .targets-ok
 
+-- at most 256 transitions, and both sizes are at most 8
 any-len-requires : tie.Need-any-len-requires
 any-len-requires c κs = let b = sizes-le c in (s c .pre .few, b .0, b .1)
 
@@ -80,6 +82,7 @@ returns c =
     let sized = c .before in
     fitted-same (bytes-is (sized .before)) (fitted-space (bytes (sized .before)) (now (s (sized .before) .args .out)) (omega (arith, len-is sized)))
 
+-- the record is in order, both sizes are at most 8, and the buffer has room
 put-any-requires : tie.Need-put-any-requires
 put-any-requires c κs =
     let sized = c .before .before in

@@ -21,6 +21,7 @@ len-is c = omega (arith, c .input-len .ensures, length-packed-next (c .before .b
 input-len-requires : tie.Need-input-len-requires
 input-len-requires c κs = search needs
 
+-- the input takes one byte at most
 add-len : tie.Need-add-len
 add-len c = let inp = c .before .before .args .input in omega (arith, c .input-len .ensures, input-bytes-le inp)
 
@@ -30,6 +31,7 @@ returns c =
     let a = c .before .before .before .args in
     fitted-space (packedNext (a .input)) (now (a .out)) (omega (arith, len-is (c .before)))
 
+-- the buffer has room, and the form is 192
 put-state-requires : tie.Need-put-state-requires
 put-state-requires c κs =
     let inp = c .before .before .before .before .args .input in

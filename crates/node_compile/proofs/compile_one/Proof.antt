@@ -52,18 +52,22 @@ pack-size-requires c κs = search needs
 small-requires : tie.Need-small-requires
 small-requires c κs = search needs
 
+-- the output and the delta take at most 8 bytes each
 add-len : tie.Need-add-len
 add-len c = let b = sizes-le c in omega arith
 
+-- the sizes byte is one more
 add-len-2 : tie.Need-add-len-2
 add-len-2 c = let b = sizes-le c in omega arith
 
 input-len-requires : tie.Need-input-len-requires
 input-len-requires c κs = search needs
 
+-- the input takes one byte at most
 add-len-3 : tie.Need-add-len-3
 add-len-3 c = let b = sizes-le (c .before) in omega (arith, c .input-len .ensures, input-bytes-le (s (c .before) .args .input))
 
+-- the state byte is one more
 add-len-4 : tie.Need-add-len-4
 add-len-4 c = let b = sizes-le (c .before) in omega (arith, c .input-len .ensures, input-bytes-le (s (c .before) .args .input))
 
@@ -73,6 +77,7 @@ returns c =
     let sized = c .before in
     fitted-same (bytes-is sized) (fitted-space (bytes sized) (now (s (sized .before) .args .out)) (omega (arith, len-is sized)))
 
+-- the buffer has room, and the sizes are those of the output and the delta
 put-one-requires : tie.Need-put-one-requires
 put-one-requires c κs =
     let sized = c .before .before in

@@ -12,6 +12,7 @@ cast-result c = search needs
 returns : tie.Need-returns
 returns c = rw (eq-eqb (c .before .args .n) 256 (c .if1 .taken))
 
+-- any other count stands for itself
 returns-2 : tie.Need-returns-2
 returns-2 c = rw (ne-eqb (c .before .args .n) 256 (c .if1 .left))
 

@@ -27,6 +27,7 @@ pack-size-requires c κs = search needs
 small-requires : tie.Need-small-requires
 small-requires c κs = search needs
 
+-- a transition: the size of the largest delta
 returns-2 : tie.Need-returns-2
 returns-2 c =
     let size = c .before .pack-size in

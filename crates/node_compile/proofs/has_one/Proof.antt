@@ -3,9 +3,11 @@
 use Rattle.node_compile.proofs.has_one.Statement.{statement}
 use Rattle.node_compile.proofs.has_one.Tie as tie
 
+-- not final: the count decides
 returns : tie.Need-returns
 returns c = rw (c .if1 .taken)
 
+-- final
 returns-2 : tie.Need-returns-2
 returns-2 c = rw (c .if1 .left)
 

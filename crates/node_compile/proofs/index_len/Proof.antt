@@ -6,10 +6,12 @@ use Rattle.format.specs.Limits.{indexThreshold}
 use Rattle.node_compile.proofs.index_len.Statement.{statement}
 use Rattle.node_compile.proofs.index_len.Tie as tie
 
+-- more than 32 transitions
 returns : tie.Need-returns
 unfolding indexLen
 returns c = rw (lt-ltb indexThreshold (c .before .args .n) (c .if1 .taken))
 
+-- no index
 returns-2 : tie.Need-returns-2
 unfolding indexLen
 returns-2 c = rw (le-ltb indexThreshold (c .before .args .n) (c .if1 .left))

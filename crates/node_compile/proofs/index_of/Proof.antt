@@ -16,6 +16,7 @@ Inv-loop inputs index₀ i₀ index i = Marked inputs index i
 abbrev μ-loop : tie.MeasureT-loop
 μ-loop inputs index₀ i₀ index i = length inputs - i
 
+-- no input has its place yet
 loop-holds : tie.Need-loop-holds Inv-loop μ-loop
 loop-holds c = marked-none (now (c .before .args .inputs))
 
@@ -28,6 +29,7 @@ small-requires c κs = search needs
 cast-index : tie.Need-cast-index Inv-loop μ-loop
 cast-index c = search needs
 
+-- an input is a byte, so it is below 256
 array-write-index : tie.Need-array-write-index Inv-loop μ-loop
 array-write-index c =
     let body = c .before .before in
@@ -39,11 +41,13 @@ add-i c = search needs
 loop-less : tie.Need-loop-less Inv-loop μ-loop
 loop-less c = search needs
 
+-- one input more has its place
 loop-again : tie.Need-loop-again Inv-loop μ-loop
 loop-again c =
     let body = c .before .before in
     marked-step (c .small .result) (c .small .ensures) (body .loop-test .taken) (body .before .loop .inv)
 
+-- all inputs have their places
 returns : tie.Need-returns Inv-loop μ-loop
 returns c =
     let start = c .before .before .before in

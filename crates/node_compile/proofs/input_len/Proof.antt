@@ -10,11 +10,13 @@ use Rattle.node_compile.proofs.input_len.Tie as tie
 common-idx-requires : tie.Need-common-idx-requires
 common-idx-requires c κs = search needs
 
+-- an input past place 62
 returns : tie.Need-returns
 returns c =
     let idx = c .before .common-idx in
     sym (ap length (input-rare (c .before .before .args .input) (idx .result) (idx .ensures .is) (c .if1 .taken)))
 
+-- an input that the state byte keeps
 returns-2 : tie.Need-returns-2
 returns-2 c =
     let idx = c .before .common-idx in

@@ -27,6 +27,7 @@ bytes c = now (c .before .before .args .inputs)
 abbrev i : tie.In-loop Inv-loop μ-loop → ℕ
 i c = c .before .loop .i
 
+-- one input alone
 loop-holds : tie.Need-loop-holds Inv-loop μ-loop
 loop-holds c = (le-refl 1, ascending-one (now (c .args .inputs)))
 
@@ -48,9 +49,11 @@ returns c =
 add-i : tie.Need-add-i Inv-loop μ-loop
 add-i c = search needs
 
+-- one input more is passed
 loop-less : tie.Need-loop-less Inv-loop μ-loop
 loop-less c = let body = c .before .before .before in falls (length (bytes body)) (i body) (body .loop-test .taken)
 
+-- the input is above the one before it
 loop-again : tie.Need-loop-again Inv-loop μ-loop
 loop-again c =
     let body = c .before .before .before in

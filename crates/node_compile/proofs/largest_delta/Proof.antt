@@ -20,6 +20,7 @@ Inv-loop first targets most₀ i₀ most i = LargestFrom (map (deltaOf first) ta
 abbrev μ-loop : tie.MeasureT-loop
 μ-loop first targets most₀ i₀ most i = i
 
+-- no delta is seen yet
 loop-holds : tie.Need-loop-holds Inv-loop μ-loop
 loop-holds c =
     let first = c .before .args .first in
@@ -29,16 +30,19 @@ loop-holds c =
 sub-i : tie.Need-sub-i Inv-loop μ-loop
 sub-i c = search needs
 
+-- there are as many targets as deltas, so target i is in the list
 mul-delta-of : tie.Need-mul-delta-of Inv-loop μ-loop
 mul-delta-of c =
     let start = c .before .before .before in
     omega (arith, length-deltas (start .args .first) (now (start .args .targets)))
 
+-- there are as many targets as deltas, so target i is in the list
 shared-slice-read-delta-of : tie.Need-shared-slice-read-delta-of Inv-loop μ-loop
 shared-slice-read-delta-of c =
     let start = c .before .before .before .before in
     omega (arith, length-deltas (start .args .first) (now (start .args .targets)))
 
+-- the target is not above F
 delta-of-requires : tie.Need-delta-of-requires Inv-loop μ-loop
 delta-of-requires c κs =
     let start = c .before .before .before .before in
@@ -51,6 +55,7 @@ larger-requires c κs = search needs
 loop-less : tie.Need-loop-less Inv-loop μ-loop
 loop-less c = search needs
 
+-- one delta more is seen
 loop-again : tie.Need-loop-again Inv-loop μ-loop
 loop-again c =
     let delta = c .before .delta-of in
@@ -59,6 +64,7 @@ loop-again c =
     largest-step (c .larger .result) (delta .result) (body .loop-test .taken)
     (delta .ensures ∙ sym (getD-deltas (start .args .first) (now (start .args .targets)) _)) (c .larger .ensures) (body .before .loop .inv)
 
+-- all deltas are seen
 returns : tie.Need-returns Inv-loop μ-loop
 returns c = largest-all (c .loop-test .left) (c .before .loop .inv)
 

@@ -15,6 +15,7 @@ Inv-loop numbers most₀ i₀ most i = LargestFrom numbers most i
 abbrev μ-loop : tie.MeasureT-loop
 μ-loop numbers most₀ i₀ most i = i
 
+-- no number is seen yet
 loop-holds : tie.Need-loop-holds Inv-loop μ-loop
 loop-holds c = let numbers = now (c .before .args .numbers) in largest-none numbers (length numbers) refl
 
@@ -33,11 +34,13 @@ larger-requires c κs = search needs
 loop-less : tie.Need-loop-less Inv-loop μ-loop
 loop-less c = search needs
 
+-- one number more is seen
 loop-again : tie.Need-loop-again Inv-loop μ-loop
 loop-again c =
     let body = c .before .before in
     largest-step (c .larger .result) _ (body .loop-test .taken) refl (c .larger .ensures) (body .before .loop .inv)
 
+-- all numbers are seen
 returns : tie.Need-returns Inv-loop μ-loop
 returns c = largest-all (c .loop-test .left) (c .before .loop .inv)
 

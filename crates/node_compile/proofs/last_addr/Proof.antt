@@ -5,12 +5,14 @@ use borrow.Author.Tests.{eq-eqb, ne-eqb}
 use Rattle.node_compile.proofs.last_addr.Statement.{statement}
 use Rattle.node_compile.proofs.last_addr.Tie as tie
 
+-- F is 16: there is no node before
 returns : tie.Need-returns
 returns c = rw (eq-eqb (c .before .args .first) 16 (c .if1 .taken))
 
 sub-result : tie.Need-sub-result
 sub-result c = search needs
 
+-- the node before ends at F - 1
 returns-2 : tie.Need-returns-2
 returns-2 c = rw (ne-eqb (c .before .args .first) 16 (c .if1 .left))
 

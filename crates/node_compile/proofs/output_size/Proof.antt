@@ -16,6 +16,7 @@ pack-size-requires c κs = search needs
 small-requires : tie.Need-small-requires
 small-requires c κs = search needs
 
+-- an output is above 0: the size of the largest
 returns-2 : tie.Need-returns-2
 returns-2 c =
     c .small .ensures ∙ c .before .pack-size .ensures .is ∙ sym (output-size-pos (c .before .before .before .args .n) (c .before .before .if1 .left))

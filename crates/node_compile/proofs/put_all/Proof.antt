@@ -16,6 +16,7 @@ Inv-loop out₀ at bytes i₀ out i = AllTo out₀ at bytes out i
 abbrev μ-loop : tie.MeasureT-loop
 μ-loop out₀ at bytes i₀ out i = length bytes - i
 
+-- nothing is written yet
 loop-holds : tie.Need-loop-holds Inv-loop μ-loop
 loop-holds c = all-none (now (c .args .out)) (c .args .at) (now (c .args .bytes))
 
@@ -34,15 +35,18 @@ add-i c = search needs
 loop-less : tie.Need-loop-less Inv-loop μ-loop
 loop-less c = search needs
 
+-- one byte more is written
 loop-again : tie.Need-loop-again Inv-loop μ-loop
 loop-again c = let body = c .before in all-step (body .before .before .pre) (body .loop-test .taken) (body .before .loop .inv)
 
 add-result : tie.Need-add-result Inv-loop μ-loop
 add-result c = search needs
 
+-- writing keeps the buffer's length
 same-length : tie.Need-same-length Inv-loop μ-loop
 same-length c = c .before .loop .inv .len
 
+-- all bytes are written
 returns : tie.Need-returns Inv-loop μ-loop
 returns c = all-done (c .loop-test .left) (c .before .loop .inv)
 

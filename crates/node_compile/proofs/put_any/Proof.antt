@@ -144,33 +144,39 @@ at-head c =
 end-len-requires : tie.Need-end-len-requires
 end-len-requires c κs = search needs
 
+-- the buffer has room for the final output
 pack-uint-in-requires : tie.Need-pack-uint-in-requires
 pack-uint-in-requires c κs =
     let end = c .before .end-len in
     let s = s₀ (c .before) in
     number-room (s .args .final-output) (endLen (s .args .is-final) (s .args .osize)) (end .result) (fromOutputs s) (end .ensures) (at-end s)
 
+-- the buffer has room for the outputs
 put-numbers-requires : tie.Need-put-numbers-requires
 put-numbers-requires c κs =
     let written = c .before .before .before in
     part-room (partOutputs (s₁ written)) (fromDeltas (s₁ written)) (at-outputs written)
 
+-- the buffer has room for the deltas, and every target is 0 or from 16 to F - 1
 put-deltas-requires : tie.Need-put-deltas-requires
 put-deltas-requires c κs =
     let written = c .before .before .before in
     (part-room (partDeltas (s₂ written)) (fromInputs (s₂ written)) (at-deltas written), s₂ written .pre .ok .targets-ok)
 
+-- the buffer has room for the inputs
 put-bytes-requires : tie.Need-put-bytes-requires
 put-bytes-requires c κs =
     let written = c .before .before .before in
     part-room (partInputs (s₃ written)) (fromIndex (s₃ written)) (at-inputs written)
 
+-- the buffer has room for the index, and the inputs are few and ascend
 put-index-requires : tie.Need-put-index-requires
 put-index-requires c κs =
     let written = c .before .before .before in
     let ok = s₄ written .pre .ok in
     (part-room (partIndex (s₄ written)) (fromSizes (s₄ written)) (at-index written), ok .few, ok .ascending)
 
+-- both sizes are at most 8
 sizes-byte-requires : tie.Need-sizes-byte-requires
 sizes-byte-requires c κs =
     let s = s₅ (c .before .before) in
@@ -179,19 +185,23 @@ sizes-byte-requires c κs =
 slice-write-out : tie.Need-slice-write-out
 slice-write-out c = omega (arith, sizes-room (c .before .before .before))
 
+-- the head starts within the buffer
 add-put-head : tie.Need-add-put-head
 add-put-head c =
     let stage = at-head (c .before) in
     omega (arith, s₆ (c .before) .good .0, writing-room stage, stage .len)
 
+-- the buffer has room for the head, and the transitions are few
 put-head-requires : tie.Need-put-head-requires
 put-head-requires c κs = (writing-room (at-head (c .before)), s₆ (c .before) .pre .ok .few)
 
+-- no part changes the buffer's length
 same-length : tie.Need-same-length
 same-length c =
     let call = c .before .before in
     call .put-head .kept .0 ∙ at-head (call .before .before) .len
 
+-- the head is written last
 returns : tie.Need-returns
 returns c =
     let call = c .before .before in

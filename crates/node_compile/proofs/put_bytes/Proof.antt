@@ -13,6 +13,7 @@ Inv-loop out₀ at bytes p₀ i₀ out p i = BytesFrom out₀ at bytes out p i
 abbrev μ-loop : tie.MeasureT-loop
 μ-loop out₀ at bytes p₀ i₀ out p i = i
 
+-- nothing is written yet
 loop-holds : tie.Need-loop-holds Inv-loop μ-loop
 loop-holds c = bytes-none (now (c .args .out)) (c .args .at) (now (c .args .bytes))
 
@@ -22,6 +23,7 @@ sub-i c = search needs
 shared-slice-read-out : tie.Need-shared-slice-read-out Inv-loop μ-loop
 shared-slice-read-out c = search needs
 
+-- the buffer has room for the bytes that are left
 slice-write-out : tie.Need-slice-write-out Inv-loop μ-loop
 slice-write-out c = let body = c .before in bytes-room (body .before .before .pre) (body .loop-test .taken) (body .before .loop .inv)
 
@@ -31,12 +33,14 @@ add-p c = search needs
 loop-less : tie.Need-loop-less Inv-loop μ-loop
 loop-less c = search needs
 
+-- one byte more is written, from the last on back
 loop-again : tie.Need-loop-again Inv-loop μ-loop
 loop-again c = let body = c .before in bytes-step (body .before .before .pre) (body .loop-test .taken) (body .before .loop .inv)
 
 same-length : tie.Need-same-length Inv-loop μ-loop
 same-length c = search needs
 
+-- all bytes are written
 returns : tie.Need-returns Inv-loop μ-loop
 returns c = bytes-all (c .loop-test .left) (c .before .loop .inv)
 

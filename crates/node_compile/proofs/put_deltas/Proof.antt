@@ -20,6 +20,7 @@ Inv-loop out₀ at targets first size p₀ i₀ out p i = NumbersFrom out₀ at 
 abbrev μ-loop : tie.MeasureT-loop
 μ-loop out₀ at targets first size p₀ i₀ out p i = i
 
+-- nothing is written yet
 loop-holds : tie.Need-loop-holds Inv-loop μ-loop
 loop-holds c =
     let a = c .before .before .args in
@@ -29,23 +30,28 @@ loop-holds c =
 sub-i : tie.Need-sub-i Inv-loop μ-loop
 sub-i c = search needs
 
+-- there are as many targets as deltas, so target i is in the list
 mul-delta-of : tie.Need-mul-delta-of Inv-loop μ-loop
 mul-delta-of c = let a = c .before .before .before .before .before .args in omega (arith, length-deltas (a .first) (now (a .targets)))
 
+-- there are as many targets as deltas, so target i is in the list
 shared-slice-read-delta-of : tie.Need-shared-slice-read-delta-of Inv-loop μ-loop
 shared-slice-read-delta-of c = let a = c .before .before .before .before .before .before .args in omega (arith, length-deltas (a .first) (now (a .targets)))
 
+-- the target is not above F
 delta-of-requires : tie.Need-delta-of-requires Inv-loop μ-loop
 delta-of-requires c κs =
     let start = c .before .before .before .before .before .before in
     let targets = now (start .args .targets) in
     targets-le (start .args .first) targets (start .pre .1) _ (omega (arith, length-deltas (start .args .first) targets))
 
+-- the buffer has room for the deltas that are left
 pack-uint-in-requires : tie.Need-pack-uint-in-requires Inv-loop μ-loop
 pack-uint-in-requires c κs =
     let body = c .before .before .before in
     numbers-room (body .before .before .before .before .pre .0) (body .loop-test .taken) (body .before .loop .inv)
 
+-- the delta ends within the buffer
 add-p : tie.Need-add-p Inv-loop μ-loop
 add-p c =
     let body = c .before .before .before .before .before .before in
@@ -55,6 +61,7 @@ add-p c =
 loop-less : tie.Need-loop-less Inv-loop μ-loop
 loop-less c = search needs
 
+-- one delta more is written, from the last on back
 loop-again : tie.Need-loop-again Inv-loop μ-loop
 loop-again c =
     let call = c .before .before in
@@ -67,6 +74,7 @@ loop-again c =
 same-length : tie.Need-same-length Inv-loop μ-loop
 same-length c = search needs
 
+-- all deltas are written
 returns : tie.Need-returns Inv-loop μ-loop
 returns c = numbers-all (c .loop-test .left) (c .before .loop .inv)
 

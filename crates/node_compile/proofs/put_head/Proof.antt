@@ -24,9 +24,11 @@ flag-of-requires c κs = search needs
 cast-out : tie.Need-cast-out
 cast-out c = search needs
 
+-- the flag is at most 64, and the count is below 64
 add-out : tie.Need-add-out
 add-out c = omega (arith, ltb-true, final-flag-le (c .before .before .before .before .args .is-final))
 
+-- the buffer has room for the state byte
 slice-write-out : tie.Need-slice-write-out
 slice-write-out c =
     let start = c .before .before .before .before in
@@ -51,6 +53,7 @@ returns c =
 count-byte-requires : tie.Need-count-byte-requires
 count-byte-requires c κs = search needs
 
+-- the buffer has room for the count byte
 slice-write-out-2 : tie.Need-slice-write-out-2
 slice-write-out-2 c =
     let start = c .before .before .before .before in
@@ -60,6 +63,7 @@ slice-write-out-2 c =
 add-out-2 : tie.Need-add-out-2
 add-out-2 c = search needs
 
+-- the buffer has room for the state byte behind the count byte
 slice-write-out-3 : tie.Need-slice-write-out-3
 slice-write-out-3 c =
     let start = c .before .before .before .before in

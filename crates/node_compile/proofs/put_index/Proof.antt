@@ -15,6 +15,7 @@ index-of-requires c κs = search needs
 slice-aggregate-put-all : tie.Need-slice-aggregate-put-all
 slice-aggregate-put-all c = search needs
 
+-- the buffer has room for the index
 put-all-requires : tie.Need-put-all-requires
 put-all-requires c κs =
     let index = c .before .before .index-of in

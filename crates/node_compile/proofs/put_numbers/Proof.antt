@@ -16,6 +16,7 @@ Inv-loop out₀ at numbers size p₀ i₀ out p i = NumbersFrom out₀ at number
 abbrev μ-loop : tie.MeasureT-loop
 μ-loop out₀ at numbers size p₀ i₀ out p i = i
 
+-- nothing is written yet
 loop-holds : tie.Need-loop-holds Inv-loop μ-loop
 loop-holds c =
     let a = c .before .before .args in
@@ -30,11 +31,13 @@ mul-pack-uint-in c = search needs
 shared-slice-read-pack-uint-in : tie.Need-shared-slice-read-pack-uint-in Inv-loop μ-loop
 shared-slice-read-pack-uint-in c = search needs
 
+-- the buffer has room for the numbers that are left
 pack-uint-in-requires : tie.Need-pack-uint-in-requires Inv-loop μ-loop
 pack-uint-in-requires c κs =
     let body = c .before .before in
     numbers-room (body .before .before .before .before .pre) (body .loop-test .taken) (body .before .loop .inv)
 
+-- the number ends within the buffer
 add-p : tie.Need-add-p Inv-loop μ-loop
 add-p c =
     let body = c .before .before .before .before .before in
@@ -44,6 +47,7 @@ add-p c =
 loop-less : tie.Need-loop-less Inv-loop μ-loop
 loop-less c = search needs
 
+-- one number more is written, from the last on back
 loop-again : tie.Need-loop-again Inv-loop μ-loop
 loop-again c =
     let call = c .before .before in
@@ -54,6 +58,7 @@ loop-again c =
 same-length : tie.Need-same-length Inv-loop μ-loop
 same-length c = search needs
 
+-- all numbers are written
 returns : tie.Need-returns Inv-loop μ-loop
 returns c = numbers-all (c .loop-test .left) (c .before .loop .inv)
 

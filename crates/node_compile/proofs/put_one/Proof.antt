@@ -79,50 +79,60 @@ at-state c =
 
 -- ---- the needs
 
+-- the buffer has room for the output
 pack-uint-in-requires : tie.Need-pack-uint-in-requires
 pack-uint-in-requires c κs =
     let s = c .before .before in
     number-room (s .args .output) (outputSize (s .args .output)) (s .args .osize) _ (s .pre .1) (at-output s)
 
+-- the buffer has room for the delta
 pack-uint-in-requires-2 : tie.Need-pack-uint-in-requires-2
 pack-uint-in-requires-2 c κs =
     let written = c .before .before .before in
     let s = s₁ written in
     number-room (s .args .delta) (packSize (s .args .delta)) (s .args .tsize) _ (s .pre .2) (at-delta written)
 
+-- both sizes are at most 8
 sizes-byte-requires : tie.Need-sizes-byte-requires
 sizes-byte-requires c κs =
     let s = s₂ (c .before .before) in
     (omega (arith, s .pre, pack-size-high (s .args .delta)), omega (arith, s .pre, output-size-le (s .args .output)))
 
+-- the sizes byte stands within the buffer
 add-out : tie.Need-add-out
 add-out c =
     let stage = at-sizes (c .before .before .before) in
     omega (arith, s₃ c .good .0, writing-room stage, stage .len)
 
+-- the buffer has room for the sizes byte
 slice-write-out : tie.Need-slice-write-out
 slice-write-out c =
     let s = s₃ c in
     omega (arith, part-room (sizesByte s) (state s) (at-sizes (c .before .before .before)))
 
+-- the sizes byte stands within the buffer
 add-put-state : tie.Need-add-put-state
 add-put-state c =
     let stage = at-state (c .before) in
     omega (arith, s₃ (c .before) .good .0, writing-room stage, stage .len)
 
+-- the state starts within the buffer
 add-put-state-2 : tie.Need-add-put-state-2
 add-put-state-2 c =
     let stage = at-state (c .before) in
     omega (arith, s₃ (c .before) .good .0, writing-room stage, stage .len)
 
+-- the buffer has room for the state, and the form is 128
 put-state-requires : tie.Need-put-state-requires
 put-state-requires c κs = (writing-room (at-state (c .before)), omega arith)
 
+-- no part changes the buffer's length
 same-length : tie.Need-same-length
 same-length c =
     let call = c .before .before in
     call .put-state .kept .0 ∙ at-state (call .before .before) .len
 
+-- the state is written last
 returns : tie.Need-returns
 returns c =
     let call = c .before .before in

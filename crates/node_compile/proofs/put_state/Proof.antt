@@ -11,6 +11,7 @@ use Rattle.node_compile.proofs.put_state.Tie as tie
 common-idx-requires : tie.Need-common-idx-requires
 common-idx-requires c κs = search needs
 
+-- the buffer has room for the input
 slice-write-out : tie.Need-slice-write-out
 slice-write-out c =
     let idx = c .before .common-idx in
@@ -24,6 +25,7 @@ add-out c = search needs
 add-out-2 : tie.Need-add-out-2
 add-out-2 c = search needs
 
+-- the buffer has room for the state byte behind the input
 slice-write-out-2 : tie.Need-slice-write-out-2
 slice-write-out-2 c =
     let idx = c .before .common-idx in
@@ -49,6 +51,7 @@ returns c =
 add-out-3 : tie.Need-add-out-3
 add-out-3 c = search needs
 
+-- the buffer has room for the state byte
 slice-write-out-3 : tie.Need-slice-write-out-3
 slice-write-out-3 c =
     let idx = c .before .common-idx in

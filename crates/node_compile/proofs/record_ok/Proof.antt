@@ -15,6 +15,7 @@ returns c = decides-false (λ ok. not-le-of-lt (c .if1 .taken) (ok .few))
 returns-2 : tie.Need-returns-2
 returns-2 c = decides-false (λ ok. c .if2 .taken (ok .outputs-len))
 
+-- unequal lists, by the targets
 returns-3 : tie.Need-returns-3
 returns-3 c = decides-false (λ ok. c .if3 .taken (ok .targets-len))
 
@@ -22,6 +23,7 @@ returns-3 c = decides-false (λ ok. c .if3 .taken (ok .targets-len))
 returns-4 : tie.Need-returns-4
 returns-4 c = decides-false (λ ok. not-le-of-lt (c .if4 .taken) (ok .first-low))
 
+-- F above 16,777,216
 returns-5 : tie.Need-returns-5
 returns-5 c = decides-false (λ ok. not-le-of-lt (c .if5 .taken) (ok .first-high))
 

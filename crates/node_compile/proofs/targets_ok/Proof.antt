@@ -16,6 +16,7 @@ Inv-loop targets first i₀ i = (i ≤ length targets) × TargetsTo first target
 abbrev μ-loop : tie.MeasureT-loop
 μ-loop targets first i₀ i = length targets - i
 
+-- no target is passed yet
 loop-holds : tie.Need-loop-holds Inv-loop μ-loop
 loop-holds c = (search needs, targets-none (c .before .args .first) (now (c .before .args .targets)) 0)
 
@@ -43,6 +44,7 @@ add-i c = search needs
 loop-less : tie.Need-loop-less Inv-loop μ-loop
 loop-less c = search needs
 
+-- one target more is 0 or from 16 to F - 1
 loop-again : tie.Need-loop-again Inv-loop μ-loop
 loop-again c =
     let body = c .before .before .before in

@@ -19,10 +19,12 @@ returns : tie.Need-returns
 returns c = let call = c .before .before in
     place-in-unsound (call .node-at .ensures) (c .enum-told .given .1) _
 
+-- the judged node can be read
 find-input-requires : tie.Need-find-input-requires
 find-input-requires c κs = let call = c .before .before .before in
     call .node-at .ensures .readable _ (c .before .m .given .1)
 
+-- the node is sound: the place is what find_input finds
 returns-2 : tie.Need-returns-2
 returns-2 c = let told = c .before .before in
     let call = told .before .before in

@@ -19,11 +19,13 @@ returns : tie.Need-returns
 returns c = let call = c .before .before in
     transition-in-unsound (call .node-at .ensures) (c .enum-told .given .1) _
 
+-- the judged node can be read, and it has transition i
 transition-requires : tie.Need-transition-requires
 transition-requires c κs = let told = c .before .before in
     let call = told .before .before in
     (call .node-at .ensures .readable _ (told .m .given .1), c .if1 .taken)
 
+-- the node has transition i
 returns-2 : tie.Need-returns-2
 returns-2 c = let told = c .before .before .before in
     let call = told .before .before in

@@ -23,6 +23,7 @@ same-length c = search needs
 same-length-2 : tie.Need-same-length-2
 same-length-2 c = search needs
 
+-- the file is admitted
 returns : tie.Need-returns
 returns c =
     let called = c .before .before .before .before .before .before in
@@ -34,6 +35,7 @@ same-length-3 c = search needs
 same-length-4 : tie.Need-same-length-4
 same-length-4 c = search needs
 
+-- the file is refused
 returns-2 : tie.Need-returns-2
 returns-2 c =
     let bound = c .before in

@@ -27,6 +27,7 @@ cast-result c = search needs
 same-length : tie.Need-same-length
 same-length c = search needs
 
+-- the key has a value
 returns : tie.Need-returns
 returns c =
     let put = c .before .before in
@@ -35,12 +36,14 @@ returns c =
     let start = called .before .before .before .before in
     value-told (called .get .ensures) (bound .v .given .0 .0) (now (start .args .out)) _ (bound .v .given .1) (put .put-one .ensures)
 
+-- the key is not held
 returns-2 : tie.Need-returns-2
 returns-2 c =
     let called = c .before .before in
     let start = called .before .before .before .before in
     none-told (called .get .ensures) (now (start .args .out)) (c .enum-told .given .1)
 
+-- the lookup is refused
 returns-3 : tie.Need-returns-3
 returns-3 c =
     let bound = c .before in

@@ -27,6 +27,7 @@ add-result c = search needs
 same-length : tie.Need-same-length
 same-length c = search needs
 
+-- a key is found
 returns : tie.Need-returns
 returns c =
     let bound = c .before in
@@ -36,12 +37,14 @@ returns c =
 same-length-2 : tie.Need-same-length-2
 same-length-2 c = search needs
 
+-- no key is found
 returns-2 : tie.Need-returns-2
 returns-2 c = let called = c .before .before .before .before in key-told (called .get-key .ensures) None (c .enum-told .given .1)
 
 same-length-3 : tie.Need-same-length-3
 same-length-3 c = search needs
 
+-- the search is refused
 returns-3 : tie.Need-returns-3
 returns-3 c =
     let bound = c .before in

@@ -24,6 +24,7 @@ checksum-number-requires c κs = search needs
 put-five-requires : tie.Need-put-five-requires
 put-five-requires c κs = search needs
 
+-- the file does not open
 returns : tie.Need-returns
 returns c =
     let bound = c .before in
@@ -34,6 +35,7 @@ returns c =
 same-length : tie.Need-same-length
 same-length c = search needs
 
+-- the file opens
 returns-2 : tie.Need-returns-2
 returns-2 c =
     let put = c .before .before in

@@ -17,6 +17,7 @@ slice-write-out c = search needs
 same-length : tie.Need-same-length
 same-length c = search needs
 
+-- the number is written
 returns-2 : tie.Need-returns-2
 returns-2 c = let x = c .before .args in front-one (now (x .out)) (x .a) (c .if1 .left)
 

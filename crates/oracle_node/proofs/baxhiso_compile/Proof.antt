@@ -23,6 +23,7 @@ add-result c = search needs
 same-length : tie.Need-same-length
 same-length c = search needs
 
+-- the node is packed
 returns : tie.Need-returns
 returns c =
     let bound = c .before in
@@ -31,6 +32,7 @@ returns c =
 same-length-2 : tie.Need-same-length-2
 same-length-2 c = search needs
 
+-- the packer refuses
 returns-2 : tie.Need-returns-2
 returns-2 c =
     let bound = c .before in

@@ -22,6 +22,7 @@ returns c =
     let start = called .before .before in
     found-unsound (called .node-at .ensures) (start .args .b) (c .enum-told .given .1)
 
+-- the judged node can be read
 find-input-requires : tie.Need-find-input-requires
 find-input-requires c κs =
     let bound = c .before in
@@ -42,6 +43,7 @@ returns-2 c =
     let start = called .before .before in
     found-absent (called .node-at .ensures) (bound .n .given .0 .0) (start .args .b) (found .find-input .result) (bound .n .given .1) (c .enum-told2 .given .1) (found .find-input .ensures)
 
+-- the input is found
 returns-3 : tie.Need-returns-3
 returns-3 c =
     let placed = c .before in

@@ -31,6 +31,7 @@ put-four-requires c κs = search needs
 same-length : tie.Need-same-length
 same-length c = search needs
 
+-- a sound node
 returns-2 : tie.Need-returns-2
 returns-2 c =
     let put = c .before .before in

@@ -39,6 +39,7 @@ returns-3 c =
     let start = called .before .before .before in
     transition-no-room (called .node-at .ensures) (bound .n .given .0 .0) (start .args .i) (now (start .args .out)) (bound .n .given .1) (c .before .if1 .left) (c .if2 .taken)
 
+-- the judged node can be read, and it has transition i
 transition-requires : tie.Need-transition-requires
 transition-requires c κs =
     let bound = c .before .before .before .before in
@@ -54,6 +55,7 @@ put-three-requires c κs = search needs
 same-length : tie.Need-same-length
 same-length c = search needs
 
+-- transition i is written
 returns-4 : tie.Need-returns-4
 returns-4 c =
     let put = c .before .before in

@@ -17,9 +17,11 @@ returns-2 c =
     let start = c .before .before .before in
     unpacked-past (now (start .args .slice)) (start .args .nbytes) (c .before .if1 .left) (c .if2 .taken)
 
+-- at most 8 bytes, and the slice has them
 unpack-uint-requires : tie.Need-unpack-uint-requires
 unpack-uint-requires c κs = (c .before .if1 .left, c .if2 .left)
 
+-- the number is read
 returns-3 : tie.Need-returns-3
 returns-3 c =
     let start = c .before .before .before .before in

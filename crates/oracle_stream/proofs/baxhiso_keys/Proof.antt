@@ -24,6 +24,7 @@ enum-told-2 c = search needs
 keys-from-requires : tie.Need-keys-from-requires
 keys-from-requires c κs = search needs
 
+-- the start is refused: no key
 returns : tie.Need-returns
 returns c =
     let called = c .before .before in
@@ -34,6 +35,7 @@ returns c =
 same-length : tie.Need-same-length
 same-length c = search needs
 
+-- a reading begins: its keys are counted
 returns-2 : tie.Need-returns-2
 returns-2 c =
     let counted = c .before .before in

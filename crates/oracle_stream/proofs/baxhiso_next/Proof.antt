@@ -23,6 +23,7 @@ told-requires c κs = search needs
 same-length : tie.Need-same-length
 same-length c = search needs
 
+-- the arrays hold the reading after the call, and the number tells its answer
 returns : tie.Need-returns
 returns c =
     let put = c .before .before in

@@ -27,6 +27,7 @@ enum-told c = search needs
 put-requires : tie.Need-put-requires
 put-requires c κs = search needs
 
+-- the start is refused
 returns : tie.Need-returns
 returns c =
     let bound = c .before in
@@ -36,6 +37,7 @@ returns c =
     start-refused (called .start .result) (start-bounds (now (x .file)) (now (x .lower)) (now (x .upper)) (x .lower-kind) (x .upper-kind) (kinds .before .kind-of .ensures) (kinds .kind-of2 .ensures) (called .start .ensures)) _ _
     (bound .answer .given .1)
 
+-- a reading begins, and the arrays hold it
 returns-2 : tie.Need-returns-2
 returns-2 c =
     let told = c .before .before .before .before .before .before .before .before in

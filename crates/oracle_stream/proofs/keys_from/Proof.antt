@@ -16,6 +16,7 @@ Inv-loop file most key₀ here₀ n₀ key here n = (length key ≡ length key�
 abbrev μ-loop : tie.MeasureT-loop
 μ-loop file most key₀ here₀ n₀ key here n = most - n
 
+-- no call is made yet
 loop-holds : tie.Need-loop-holds Inv-loop μ-loop
 loop-holds c = (refl, reached-first _ _ _ _)
 
@@ -28,6 +29,7 @@ is-key-requires c κs = search needs
 same-length : tie.Need-same-length Inv-loop μ-loop
 same-length c = search needs
 
+-- a call hands out no key
 returns : tie.Need-returns Inv-loop μ-loop
 returns c =
     let asked = c .before in
@@ -42,6 +44,7 @@ add-n c = search needs
 loop-less : tie.Need-loop-less Inv-loop μ-loop
 loop-less c = search needs
 
+-- one key more is handed out
 loop-again : tie.Need-loop-again Inv-loop μ-loop
 loop-again c =
     let then = c .before in
@@ -54,6 +57,7 @@ loop-again c =
 same-length-2 : tie.Need-same-length-2 Inv-loop μ-loop
 same-length-2 c = search needs
 
+-- as many keys as were asked for
 returns-2 : tie.Need-returns-2 Inv-loop μ-loop
 returns-2 c = reached-end _ _ _ _ (c .loop-test .left) (c .before .loop .inv .1)
 

@@ -11,6 +11,7 @@ returns c = search needs
 returns-2 : tie.Need-returns-2
 returns-2 c = search needs
 
+-- any other number
 returns-3 : tie.Need-returns-3
 returns-3 c = kind-other _ (c .before .if1 .left) (c .if2 .left)
 

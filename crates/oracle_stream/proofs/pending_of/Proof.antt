@@ -8,6 +8,7 @@ use Rattle.oracle_stream.proofs.pending_of.Tie as tie
 returns : tie.Need-returns
 returns c = search needs
 
+-- the empty key is pending
 returns-2 : tie.Need-returns-2
 returns-2 c = pending-there _ _ (c .if1 .left)
 

@@ -7,6 +7,7 @@ use Rattle.oracle_stream.proofs.put.Tie as tie
 head-of-requires : tie.Need-head-of-requires
 head-of-requires c κs = search needs
 
+-- the six arrays hold the parts of the reading
 returns : tie.Need-returns
 returns c = cc
 

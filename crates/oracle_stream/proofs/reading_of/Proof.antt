@@ -31,6 +31,7 @@ array-read-t26 c = search needs
 array-read-t29 : tie.Need-array-read-t29
 array-read-t29 c = search needs
 
+-- each field is read from its place
 returns : tie.Need-returns
 returns c = cc
 

@@ -21,12 +21,15 @@ cast-result c = search needs
 add-result : tie.Need-add-result
 add-result c = search needs
 
+-- a key
 returns : tie.Need-returns
 returns c = let bound = c .before .before in key-told _ _ _ _ _ (bound .answer .given .1) refl
 
+-- the end
 returns-2 : tie.Need-returns-2
 returns-2 c = end-told _ _ (c .enum-told .given .1)
 
+-- a refusal
 returns-3 : tie.Need-returns-3
 returns-3 c = refused-told _ _ _ (c .before .answer2 .given .1)
 

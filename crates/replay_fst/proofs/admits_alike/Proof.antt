@@ -13,12 +13,14 @@ at-most-requires c κs = search needs
 array-borrow-prefix-depths : tie.Need-array-borrow-prefix-depths
 array-borrow-prefix-depths c = search needs
 
+-- no more of the depths is lent than there is
 slice-aggregate-admit : tie.Need-slice-aggregate-admit
 slice-aggregate-admit c = sym (length-take-le _ _ (omega arith))
 
 array-borrow-prefix-sums : tie.Need-array-borrow-prefix-sums
 array-borrow-prefix-sums c = search needs
 
+-- no more of the sums is lent than there is
 slice-aggregate-admit-2 : tie.Need-slice-aggregate-admit-2
 slice-aggregate-admit-2 c = sym (length-take-le _ _ (omega arith))
 

@@ -13,6 +13,7 @@ at-most-requires c κs = search needs
 array-borrow-prefix-key : tie.Need-array-borrow-prefix-key
 array-borrow-prefix-key c = search needs
 
+-- no more of the buffer is lent than there is
 slice-aggregate-get-key : tie.Need-slice-aggregate-get-key
 slice-aggregate-get-key c = sym (length-take-le _ _ (omega arith))
 

@@ -53,30 +53,38 @@ tally-requires c κs = search needs
 returns : tie.Need-returns Inv-loop μ-loop
 returns c = search needs
 
+-- the record lies in the list
 place-of-requires : tie.Need-place-of-requires Inv-loop μ-loop
 place-of-requires c κs = found (c .before) .within
 
+-- the file asked of ends no earlier than it starts
 sub-alike : tie.Need-sub-alike Inv-loop μ-loop
 sub-alike c = let i = inside c in search needs
 
+-- the file asked of ends no earlier than it starts
 part-alike-start : tie.Need-part-alike-start Inv-loop μ-loop
 part-alike-start c = let i = inside c in search needs
 
+-- the file asked of ends within the list
 part-alike-end : tie.Need-part-alike-end Inv-loop μ-loop
 part-alike-end c = let i = inside c in search needs
 
+-- the record lies in the list
 alike-requires : tie.Need-alike-requires Inv-loop μ-loop
 alike-requires c κs = found (c .before .before .before) .within
 
 tally-requires-2 : tie.Need-tally-requires-2 Inv-loop μ-loop
 tally-requires-2 c κs = search needs
 
+-- the record lies in the list
 end-of-requires : tie.Need-end-of-requires Inv-loop μ-loop
 end-of-requires c κs = found (c .before .before .before .before .before .before) .within
 
+-- the record ends past where it starts
 loop-less : tie.Need-loop-less Inv-loop μ-loop
 loop-less c = let f = found (c .before .before .before .before .before .before .before) in omega arith
 
+-- the file asked of lies in the list
 loop-again : tie.Need-loop-again Inv-loop μ-loop
 loop-again c = inside (c .before .before .before .before .before)
 

@@ -6,9 +6,11 @@ use borrow.Author.Needs.{needs}
 use Rattle.replay_list.proofs.at_most.Statement.{statement}
 use Rattle.replay_list.proofs.at_most.Tie as tie
 
+-- n is below most
 returns : tie.Need-returns
 returns c = (sym (simp (lt-ltb _ _ (c .if1 .taken))), search needs)
 
+-- n is not below most
 returns-2 : tie.Need-returns-2
 returns-2 c = (sym (simp (le-ltb _ _ (c .if1 .left))), search needs)
 

@@ -20,9 +20,11 @@ mul-counts c = search needs
 element-write-counts : tie.Need-element-write-counts
 element-write-counts c = search needs
 
+-- one more fits
 returns : tie.Need-returns
 returns c = more-below _ _ (c .if1 .taken)
 
+-- the largest count stays
 returns-2 : tie.Need-returns-2
 returns-2 c = more-most _ _ (c .if1 .left)
 

@@ -18,6 +18,7 @@ part-unpack-uint-end c = search needs
 unpack-uint-requires : tie.Need-unpack-uint-requires
 unpack-uint-requires c κs = search needs
 
+-- the number of the bytes from place at on
 returns : tie.Need-returns
 returns c = c .unpack-uint .ensures ∙ rw part-rest
 

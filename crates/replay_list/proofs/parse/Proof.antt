@@ -6,12 +6,14 @@ use native.Mathlib.Omega.{arith}
 use Rattle.replay_list.proofs.parse.Statement.{statement}
 use Rattle.replay_list.proofs.parse.Tie as tie
 
+-- the list ends before the record
 returns : tie.Need-returns
 returns c = malformed-at _ _ (omega arith)
 
 sub-left : tie.Need-sub-left
 sub-left c = search needs
 
+-- the list ends within the record's numbers
 returns-2 : tie.Need-returns-2
 returns-2 c = malformed-at _ _ (omega arith)
 
@@ -21,6 +23,7 @@ add-number c = search needs
 number-requires : tie.Need-number-requires
 number-requires c κs = search needs
 
+-- the list ends within the record's part
 returns-3 : tie.Need-returns-3
 returns-3 c = malformed-at _ _ (omega arith)
 
@@ -48,6 +51,7 @@ number-requires-5 c κs = search needs
 add-t9 : tie.Need-add-t9
 add-t9 c = search needs
 
+-- the whole record lies in the list
 returns-4 : tie.Need-returns-4
 returns-4 c =
     let to-b = c .before in

@@ -8,9 +8,11 @@ use Rattle.replay_list.proofs.place_of.Tie as tie
 add-t5 : tie.Need-add-t5
 add-t5 c = search needs
 
+-- the record is a file
 returns : tie.Need-returns
 returns c = place-file _ _ (c .before .if1 .taken)
 
+-- the record is about the file before it
 returns-2 : tie.Need-returns-2
 returns-2 c = place-before _ _ (c .if1 .left)
 

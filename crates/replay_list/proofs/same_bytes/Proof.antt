@@ -18,6 +18,7 @@ Inv-loop list at n buffer i₀ i = (n ≤ 4096) × ((k : ℕ) → k < i → getD
 abbrev μ-loop : tie.MeasureT-loop
 μ-loop list at n buffer i₀ i = 4096 - i
 
+-- more bytes than the buffer has
 returns : tie.Need-returns Inv-loop μ-loop
 returns c = decides-false (λ h. let f = h .fits in omega arith)
 
@@ -30,6 +31,7 @@ element-copy-out-if2 c = search needs
 wanted-requires : tie.Need-wanted-requires Inv-loop μ-loop
 wanted-requires c κs = search needs
 
+-- a byte is not the wanted one
 returns-2 : tie.Need-returns-2 Inv-loop μ-loop
 returns-2 c =
     let asked = c .before in
@@ -41,11 +43,13 @@ add-i c = search needs
 loop-less : tie.Need-loop-less Inv-loop μ-loop
 loop-less c = search needs
 
+-- one byte more is the wanted one
 loop-again : tie.Need-loop-again Inv-loop μ-loop
 loop-again c =
     let inv = c .before .before .before .before .loop .inv in
     (inv .0, below-more _ _ (inv .1) (c .if2 .left ∙ c .before .wanted .ensures))
 
+-- every byte is the wanted one
 returns-3 : tie.Need-returns-3 Inv-loop μ-loop
 returns-3 c =
     let inv = c .before .loop .inv in

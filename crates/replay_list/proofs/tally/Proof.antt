@@ -9,6 +9,7 @@ use Rattle.replay_list.proofs.tally.Tie as tie
 more-requires : tie.Need-more-requires
 more-requires c κs = search needs
 
+-- a kind past 7
 returns : tie.Need-returns
 returns c = c .more .ensures ∙ tallied-none _ _ _ (c .before .before .if1 .taken)
 
@@ -24,6 +25,7 @@ add-more c = search needs
 more-requires-3 : tie.Need-more-requires-3
 more-requires-3 c κs = search needs
 
+-- a kind up to 7, answered alike
 returns-2 : tie.Need-returns-2
 returns-2 c =
     let tested = c .before .before in
@@ -31,6 +33,7 @@ returns-2 c =
     c .more3 .ensures
     ∙ rw (counted .more2 .ensures) (tallied-alike _ _ _ (counted .before .before .if1 .left) (tested .if2 .taken))
 
+-- a kind up to 7, not answered alike
 returns-3 : tie.Need-returns-3
 returns-3 c = c .before .more2 .ensures ∙ tallied-other _ _ _ (c .before .before .before .if1 .left) (c .if2 .left)
 

@@ -11,9 +11,11 @@ add-result c = search needs
 shared-slice-read-result : tie.Need-shared-slice-read-result
 shared-slice-read-result c = search needs
 
+-- a byte of the list
 returns : tie.Need-returns
 returns c = wanted-part _ _ _ _ (c .before .if1 .taken)
 
+-- what the buffer held
 returns-2 : tie.Need-returns-2
 returns-2 c = wanted-kept _ _ _ _ (c .if1 .left)
 

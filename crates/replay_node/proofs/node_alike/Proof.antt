@@ -26,6 +26,7 @@ returns c = search needs
 returns-2 : tie.Need-returns-2
 returns-2 c = search needs
 
+-- the judged node can be read
 all-found-requires : tie.Need-all-found-requires
 all-found-requires c κs = readable (c .before .before .before)
 
@@ -38,6 +39,7 @@ numbers-alike-requires c κs = search needs
 returns-4 : tie.Need-returns-4
 returns-4 c = search needs
 
+-- the list's node has its parts, and the judged one can be read and has n transitions
 transitions-alike-requires : tie.Need-transitions-alike-requires
 transitions-alike-requires c κs =
     let counted = c .before .before .before .before in

@@ -37,12 +37,14 @@ part-compile-end c = search needs
 array-share-prefix-outputs : tie.Need-array-share-prefix-outputs
 array-share-prefix-outputs c = search needs
 
+-- no more outputs are lent than there are
 slice-aggregate-compile : tie.Need-slice-aggregate-compile
 slice-aggregate-compile c = sym (length-take-le _ _ (omega arith))
 
 array-share-prefix-targets : tie.Need-array-share-prefix-targets
 array-share-prefix-targets c = search needs
 
+-- no more targets are lent than there are
 slice-aggregate-compile-2 : tie.Need-slice-aggregate-compile-2
 slice-aggregate-compile-2 c = sym (length-take-le _ _ (omega arith))
 

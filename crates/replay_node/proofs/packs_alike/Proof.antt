@@ -31,6 +31,7 @@ at-most-requires-3 c κs = search needs
 array-borrow-prefix-buffer : tie.Need-array-borrow-prefix-buffer
 array-borrow-prefix-buffer c = search needs
 
+-- no more of the buffer is lent than there is
 slice-aggregate-packed : tie.Need-slice-aggregate-packed
 slice-aggregate-packed c = sym (length-take-le _ _ (omega arith))
 

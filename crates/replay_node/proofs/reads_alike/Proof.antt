@@ -49,6 +49,7 @@ lay-requires c κs = search needs
 array-share-prefix-file : tie.Need-array-share-prefix-file
 array-share-prefix-file c = search needs
 
+-- the node ends within the file
 slice-aggregate-versions-alike : tie.Need-slice-aggregate-versions-alike
 slice-aggregate-versions-alike c = sym (length-take-le _ _ (omega arith))
 

@@ -53,30 +53,38 @@ tally-requires c κs = search needs
 returns : tie.Need-returns Inv-loop μ-loop
 returns c = search needs
 
+-- the record lies in the list
 place-of-requires : tie.Need-place-of-requires Inv-loop μ-loop
 place-of-requires c κs = found (c .before) .within
 
+-- the node asked of ends no earlier than it starts
 sub-asked : tie.Need-sub-asked Inv-loop μ-loop
 sub-asked c = let i = inside c in search needs
 
+-- the node asked of ends no earlier than it starts
 part-asked-start : tie.Need-part-asked-start Inv-loop μ-loop
 part-asked-start c = let i = inside c in search needs
 
+-- the node asked of ends within the list
 part-asked-end : tie.Need-part-asked-end Inv-loop μ-loop
 part-asked-end c = let i = inside c in search needs
 
+-- the record lies in the list
 asked-requires : tie.Need-asked-requires Inv-loop μ-loop
 asked-requires c κs = found (c .before .before .before) .within
 
 tally-requires-2 : tie.Need-tally-requires-2 Inv-loop μ-loop
 tally-requires-2 c κs = search needs
 
+-- the record lies in the list
 end-of-requires : tie.Need-end-of-requires Inv-loop μ-loop
 end-of-requires c κs = found (c .before .before .before .before .before .before) .within
 
+-- the record ends past where it starts
 loop-less : tie.Need-loop-less Inv-loop μ-loop
 loop-less c = let f = found (c .before .before .before .before .before .before .before) in omega arith
 
+-- the node asked of lies in the list
 loop-again : tie.Need-loop-again Inv-loop μ-loop
 loop-again c = inside (c .before .before .before .before .before)
 

@@ -57,27 +57,35 @@ tally-requires c κs = search needs
 returns : tie.Need-returns Inv-loop μ-loop
 returns c = search needs
 
+-- the record lies in the list
 place-of-requires : tie.Need-place-of-requires Inv-loop μ-loop
 place-of-requires c κs = found (c .before) .within
 
+-- the file asked of ends no earlier than it starts
 sub-replay-one : tie.Need-sub-replay-one Inv-loop μ-loop
 sub-replay-one c = let i = inside c in search needs
 
+-- the file asked of ends no earlier than it starts
 part-replay-one-start : tie.Need-part-replay-one-start Inv-loop μ-loop
 part-replay-one-start c = let i = inside c in search needs
 
+-- the file asked of ends within the list
 part-replay-one-end : tie.Need-part-replay-one-end Inv-loop μ-loop
 part-replay-one-end c = let i = inside c in search needs
 
+-- the record lies in the list
 replay-one-requires : tie.Need-replay-one-requires Inv-loop μ-loop
 replay-one-requires c κs = found (c .before .before .before .before) .within
 
+-- the record lies in the list
 end-of-requires : tie.Need-end-of-requires Inv-loop μ-loop
 end-of-requires c κs = found (c .before .before .before .before .before) .within
 
+-- the record ends past where it starts
 loop-less : tie.Need-loop-less Inv-loop μ-loop
 loop-less c = let f = found (c .before .before .before .before .before .before) in omega arith
 
+-- the file asked of lies in the list
 loop-again : tie.Need-loop-again Inv-loop μ-loop
 loop-again c = inside (c .before .before .before .before)
 

@@ -13,6 +13,7 @@ at-most-requires c κs = search needs
 array-borrow-prefix-key : tie.Need-array-borrow-prefix-key
 array-borrow-prefix-key c = search needs
 
+-- no more of the buffer is lent than there is
 slice-aggregate-next : tie.Need-slice-aggregate-next
 slice-aggregate-next c = sym (length-take-le _ _ (omega arith))
 

@@ -9,12 +9,14 @@ use Rattle.stream_next.proofs.add.Tie as tie
 sub-if1 : tie.Need-sub-if1
 sub-if1 c = search needs
 
+-- the sum passes 2^64 - 1
 returns : tie.Need-returns
 returns c = let a = c .before .args in adds-past (a .sum) (a .out) (omega arith)
 
 add-t3 : tie.Need-add-t3
 add-t3 c = search needs
 
+-- the sum fits
 returns-2 : tie.Need-returns-2
 returns-2 c = let a = c .before .args in adds-within (a .sum) (a .out) (omega arith)
 

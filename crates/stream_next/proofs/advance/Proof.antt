@@ -40,6 +40,7 @@ k q = q .before .k .given .0 .0
 low : (q : Found-at) → k q < 256
 low q = descends-low (w-of q .descend .ensures) (q .before .k .given .1)
 
+-- the arrays are the reading's, and the level at top is ready
 descend-requires : tie.Need-descend-requires
 descend-requires c κs = let q = c .before .before .before .before .before .before .before .before .before .before .before .before in
     ((arrays q, search needs, q .pre .0 .0), (q .pre .0 .3, q .pre .0 .1, q .pre .1))
@@ -65,17 +66,21 @@ part-copy-front-start c = search needs
 part-copy-front-end : tie.Need-part-copy-front-end
 part-copy-front-end c = search needs
 
+-- the inputs hold a key of k bytes, and the buffer has room for it
 copy-front-requires : tie.Need-copy-front-requires
 copy-front-requires c κs = let q = c .before .before .before in
     (inputs-hold (w-of q .descend .ensures) (k q) (low q), omega (arith, low q, start (w-of q) .pre .0 .2))
 
+-- level k is below 256
 add-t31 : tie.Need-add-t31
 add-t31 c = omega (arith, low (c .before .before .before .before .before .before))
 
+-- the descent is refused
 returns : tie.Need-returns
 returns c = let w = c .before .before .before in
     after-halted (start w .args .reading) (want w) (now (start w .args .key)) (c .before .why .given .0 .0) (descends-is (w .descend .ensures) (c .before .why .given .1))
 
+-- the upper bound is passed
 returns-2 : tie.Need-returns-2
 returns-2 c = let w = c .before .before .before .before in
     after-passed (start w .args .reading) (want w) (now (start w .args .key)) (c .before .before .total .given .0 .0)
@@ -85,6 +90,7 @@ returns-2 c = let w = c .before .before .before .before in
 same-length : tie.Need-same-length
 same-length c = search needs
 
+-- a key is found
 returns-3 : tie.Need-returns-3
 returns-3 c = let q = c .before .before .before .before .before .before in
     let w = w-of q in

@@ -8,9 +8,11 @@ use Rattle.stream_next.proofs.counted.Tie as tie
 add-result : tie.Need-add-result
 add-result c = search needs
 
+-- one more fits
 returns : tie.Need-returns
 returns c = rw (lt-ltb _ _ (c .if1 .taken))
 
+-- the largest total stays
 returns-2 : tie.Need-returns-2
 returns-2 c = rw (le-ltb _ _ (c .if1 .left))
 

@@ -98,6 +98,7 @@ place-small j = place-fits (at-loop (w-at j) .loop .inv) (place-is (w-at j)) (λ
 target-small : (j : Judged) → q-of j .transition-addr .result < 4294967296
 target-small j = target-fits (at-loop (w-at j) .loop .inv) (place-is (w-at j)) (q-of j .transition-addr .ensures) (start (w-at j) .pre .1 .1)
 
+-- nothing is followed yet, and the node at top is judged
 loop-holds : tie.Need-loop-holds Inv-loop μ-loop
 loop-holds c = let start = c .before in
     let a = start .args in
@@ -114,6 +115,7 @@ element-copy-out-wide-place c = search needs
 wide-place-requires : tie.Need-wide-place-requires Inv-loop μ-loop
 wide-place-requires c κs = search needs
 
+-- the judged node can be read, and it has the level's next transition
 output-requires : tie.Need-output-requires Inv-loop μ-loop
 output-requires c κs = reads-next c
 
@@ -132,11 +134,13 @@ enum-known-sum c = search needs
 enum-told : tie.Need-enum-told Inv-loop μ-loop
 enum-told c = search needs
 
+-- the sum up to the target does not fit
 returns : tie.Need-returns Inv-loop μ-loop
 returns c = let u = c .before .before in
     let w = w-of u in
     going-sum (at-loop w .loop .inv) (place-is w) (room w) (u .before .before .output .ensures) (u .add .ensures .past (c .enum-told .given .1))
 
+-- the judged node can be read, and it has the level's next transition
 transition-addr-requires : tie.Need-transition-addr-requires Inv-loop μ-loop
 transition-addr-requires c κs = reads-next (w-of (c .before .before .before))
 
@@ -149,6 +153,7 @@ enum-known-n c = search needs
 enum-told-2 : tie.Need-enum-told-2 Inv-loop μ-loop
 enum-told-2 c = search needs
 
+-- the target is not sound
 returns-2 : tie.Need-returns-2 Inv-loop μ-loop
 returns-2 c = let call = c .before .before in
     let q = call .before in
@@ -156,6 +161,7 @@ returns-2 c = let call = c .before .before in
     going-bad (at-loop w .loop .inv) (place-is w) (room w) (u-of q .before .before .output .ensures) (added q .1)
     (q .transition-addr .ensures) (answer-unsound (call .node-at .ensures) (c .enum-told2 .given .1))
 
+-- the judged node can be read, and it has the level's next transition
 input-requires : tie.Need-input-requires Inv-loop μ-loop
 input-requires c κs = reads-next (w-of (u-of (q-of c)))
 
@@ -201,10 +207,12 @@ element-write-outs c = search needs
 counted-requires : tie.Need-counted-requires Inv-loop μ-loop
 counted-requires c κs = search needs
 
+-- the arrays keep their lengths, and level k is one of 256
 exceeded-requires : tie.Need-exceeded-requires Inv-loop μ-loop
 exceeded-requires c κs = let w = w-of (u-of (q-of (c .before .before .before))) in
     (simp length-set (at-loop w .loop .inv .arrays .inps-len), start w .pre .0 .1, omega (arith, room w), start w .pre .0 .2)
 
+-- the key of the new level passes the upper bound
 returns-3 : tie.Need-returns-3 Inv-loop μ-loop
 returns-3 c = let after = c .before .before .before in
     let j = after .before .before in
@@ -217,6 +225,7 @@ returns-3 c = let after = c .before .before .before in
 found-requires : tie.Need-found-requires Inv-loop μ-loop
 found-requires c κs = search needs
 
+-- the new level's node is final: a key ends here
 returns-4 : tie.Need-returns-4 Inv-loop μ-loop
 returns-4 c = let test = c .before in
     let after = test .before .before .before .before in
@@ -227,9 +236,11 @@ returns-4 c = let test = c .before in
     (q .transition-addr .ensures) (after .before .input .ensures) (n j) (node-is j) (after .counted .ensures)
     (added q .0) (sym (test .before .before .exceeded .ensures) ∙ test .before .if1 .left) (test .if2 .taken) (c .found .result) (c .found .ensures)
 
+-- a new level leaves less room
 loop-less : tie.Need-loop-less Inv-loop μ-loop
 loop-less c = omega (arith, room (w-at (c .before .before .before .before .before .before)))
 
+-- one transition more is followed, and its target is judged
 loop-again : tie.Need-loop-again Inv-loop μ-loop
 loop-again c = let after = c .before .before .before .before in
     let j = after .before .before in
@@ -239,6 +250,7 @@ loop-again c = let after = c .before .before .before .before in
     (q .transition-addr .ensures) (after .before .input .ensures) (n j) (node-is j) (after .counted .ensures)
     (added q .0) (sym (c .before .before .exceeded .ensures) ∙ c .before .if1 .left) (c .if2 .left) (readable j)
 
+-- no room for another level: DEEP
 returns-5 : tie.Need-returns-5 Inv-loop μ-loop
 returns-5 c = going-deep (c .before .loop .inv) (c .loop-test .left)
 

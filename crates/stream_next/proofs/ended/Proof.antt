@@ -8,6 +8,7 @@ use Rattle.stream_next.proofs.ended.Tie as tie
 placed-requires : tie.Need-placed-requires
 placed-requires c κs = search needs
 
+-- no level is left
 returns : tie.Need-returns
 returns c = let a = c .before .args in ended-is (a .reading) (c .placed .result) (a .total) (c .placed .ensures)
 

@@ -40,34 +40,41 @@ enum-told-8 c = search needs
 enum-told-9 : tie.Need-enum-told-9
 enum-told-9 c = search needs
 
+-- unbounded: no key passes
 returns : tie.Need-returns
 returns c = let a = c .before .before .args in over-free (take (a .k) (drop 1 (now (a .inps)))) (take (a .n) (now (a .bound))) (c .enum-told .given .1)
 
+-- included, and the key is below: it does not pass
 returns-2 : tie.Need-returns-2
 returns-2 c = let call = c .before .before in
     let a = call .before .before .before .args in
     over-by (take (a .k) (drop 1 (now (a .inps)))) (take (a .n) (now (a .bound))) (call .before .enum-told2 .given .1) (c .enum-told3 .given .1) (call .compare .ensures)
 
+-- included, and the key is the bound: it does not pass
 returns-3 : tie.Need-returns-3
 returns-3 c = let call = c .before .before in
     let a = call .before .before .before .args in
     over-by (take (a .k) (drop 1 (now (a .inps)))) (take (a .n) (now (a .bound))) (call .before .enum-told2 .given .1) (c .enum-told4 .given .1) (call .compare .ensures)
 
+-- included, and the key is above: it passes
 returns-4 : tie.Need-returns-4
 returns-4 c = let call = c .before .before in
     let a = call .before .before .before .args in
     over-by (take (a .k) (drop 1 (now (a .inps)))) (take (a .n) (now (a .bound))) (call .before .enum-told2 .given .1) (c .enum-told5 .given .1) (call .compare .ensures)
 
+-- excluded, and the key is below: it does not pass
 returns-5 : tie.Need-returns-5
 returns-5 c = let call = c .before .before in
     let a = call .before .before .before .args in
     over-by (take (a .k) (drop 1 (now (a .inps)))) (take (a .n) (now (a .bound))) (call .before .enum-told6 .given .1) (c .enum-told7 .given .1) (call .compare2 .ensures)
 
+-- excluded, and the key is the bound: it passes
 returns-6 : tie.Need-returns-6
 returns-6 c = let call = c .before .before in
     let a = call .before .before .before .args in
     over-by (take (a .k) (drop 1 (now (a .inps)))) (take (a .n) (now (a .bound))) (call .before .enum-told6 .given .1) (c .enum-told8 .given .1) (call .compare2 .ensures)
 
+-- excluded, and the key is above: it passes
 returns-7 : tie.Need-returns-7
 returns-7 c = let call = c .before .before in
     let a = call .before .before .before .args in

@@ -15,10 +15,12 @@ enum-known-value c = search needs
 enum-told : tie.Need-enum-told
 enum-told c = search needs
 
+-- the value passes 2^64 - 1
 returns : tie.Need-returns
 returns c = let call = c .before .before in let a = call .before .args in sym
     (found-past (a .k) (a .sum) (a .end) (a .total) (call .add .ensures .past (c .enum-told .given .1)))
 
+-- the value fits
 returns-2 : tie.Need-returns-2
 returns-2 c = let call = c .before .before .before in
     let a = call .before .args in

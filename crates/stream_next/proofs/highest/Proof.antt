@@ -49,6 +49,7 @@ node-is q = let call = q .before .before .before in
 readable : (q : At) → Readable (file q) (m q)
 readable q = q .before .before .before .node-at .ensures .readable (m q) (q .before .m .given .1)
 
+-- no level is popped yet
 loop-holds : tie.Need-loop-holds Inv-loop μ-loop
 loop-holds c = let start = c .before in let a = start .args in popping-none (now (a .file)) (a .version) (a .root) (now (a .addrs))
     (now (a .trans)) (a .levels) (start .pre)
@@ -74,6 +75,7 @@ enum-known-m c = search needs
 enum-told : tie.Need-enum-told Inv-loop μ-loop
 enum-told c = search needs
 
+-- the node of the highest level is not sound
 returns : tie.Need-returns Inv-loop μ-loop
 returns c = let call = c .before .before in let turn = call .before .before .before in
     popping-bad (turn .before .loop .inv) (turn .loop-test .taken)
@@ -88,6 +90,7 @@ element-copy-out-wide-place c = search needs
 wide-place-requires : tie.Need-wide-place-requires Inv-loop μ-loop
 wide-place-requires c κs = search needs
 
+-- the highest level has a transition left
 returns-2 : tie.Need-returns-2 Inv-loop μ-loop
 returns-2 c = let q = c .before .before .before .before in
     popping-at (at-loop q .loop .inv) (positive q) (m q) (node-is q) (readable q) (omega (arith, c .before .before .wide-place .ensures, c .if1 .taken))
@@ -95,10 +98,12 @@ returns-2 c = let q = c .before .before .before .before in
 loop-less : tie.Need-loop-less Inv-loop μ-loop
 loop-less c = search needs
 
+-- the highest level has no transition left: it is popped
 loop-again : tie.Need-loop-again Inv-loop μ-loop
 loop-again c = let q = c .before .before .before .before in
     popping-on (at-loop q .loop .inv) (positive q) (m q) (node-is q) (readable q) (omega (arith, c .before .before .wide-place .ensures, c .if1 .left))
 
+-- every level is popped
 returns-3 : tie.Need-returns-3 Inv-loop μ-loop
 returns-3 c = popping-end (c .before .loop .inv) (c .loop-test .left)
 

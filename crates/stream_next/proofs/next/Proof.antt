@@ -45,11 +45,13 @@ enum-known-opened-2 c = search needs
 state-right-requires : tie.Need-state-right-requires
 state-right-requires c κs = search needs
 
+-- the reading cannot go on with this file: STATE
 returns : tie.Need-returns
 returns c = let w = c .before in
     let a = start (q-of w) .args in
     next-state (now (a .file)) (a .reading) (now (a .key)) (metaIs (meta (q-of w))) (opens (q-of w)) (sym (w .state-right .ensures) ∙ c .if1 .left)
 
+-- the buffer is under 255 bytes: SPACE
 returns-2 : tie.Need-returns-2
 returns-2 c = let v = c .before in
     let w = v .before in
@@ -59,6 +61,7 @@ returns-2 c = let v = c .before in
 enum-known-empty : tie.Need-enum-known-empty
 enum-known-empty c = search needs
 
+-- the held bound has at most 255 bytes
 pending-requires : tie.Need-pending-requires
 pending-requires c κs = let v = c .before .before .before .before in state-facts (start (q-of (v .before)) .args .reading)
     (length (now (start (q-of (v .before)) .args .file))) (right v) .1
@@ -66,17 +69,20 @@ pending-requires c κs = let v = c .before .before .before .before in state-fact
 enum-told : tie.Need-enum-told
 enum-told c = search needs
 
+-- the state is right, the root fits, and the buffer has room for a key
 walk-requires : tie.Need-walk-requires
 walk-requires c κs = let v = c .before .before .before .before in
     let q = q-of (v .before) in
     let e = state-facts (start q .args .reading) (length (now (start q .args .file))) (right v) in
     (e .0, e .1, root-fits (now (start q .args .file)) (metaIs (meta q)) (opens q), c .before .before .before .if2 .left)
 
+-- the file does not open
 returns-3 : tie.Need-returns-3
 returns-3 c = let call = c .before .before .before in
     let a = call .before .before .before .args in
     next-refused (now (a .file)) (a .reading) (now (a .key)) (c .before .opened .given .0 .0) (sym (call .«open» .ensures) ∙ ap openingIs (c .before .opened .given .1))
 
+-- the empty key is pending
 returns-4 : tie.Need-returns-4
 returns-4 c = let told = c .before .before in
     let v = told .before .before .before in
@@ -89,6 +95,7 @@ returns-4 c = let told = c .before .before in
 same-length : tie.Need-same-length
 same-length c = search needs
 
+-- no empty key is pending: the walk answers
 returns-5 : tie.Need-returns-5
 returns-5 c = let call = c .before .before in
     let told = call .before .before in

@@ -12,6 +12,7 @@ exceeded-requires c κs = search needs
 ended-requires : tie.Need-ended-requires
 ended-requires c κs = search needs
 
+-- the empty key passes the upper bound
 returns : tie.Need-returns
 returns c = let test = c .before in
     let a = test .before .before .before .before .before .before .args in
@@ -20,6 +21,7 @@ returns c = let test = c .before in
 placed-requires : tie.Need-placed-requires
 placed-requires c κs = search needs
 
+-- the empty key is handed out
 returns-2 : tie.Need-returns-2
 returns-2 c = let test = c .before in
     let a = test .before .before .before .before .before .before .args in

@@ -21,6 +21,7 @@ enum-told-2 c = search needs
 enum-known-popped : tie.Need-enum-known-popped
 enum-known-popped c = search needs
 
+-- the level found is one of 256, and its node is judged
 advance-requires : tie.Need-advance-requires
 advance-requires c κs = let w = c .before .before .before .before in
     let start = w .before .before .before .before .before .before .before in
@@ -28,12 +29,14 @@ advance-requires c κs = let w = c .before .before .before .before in
     let e = w .highest .ensures in
     ((start .pre .1, start .pre .2, start .pre .3, e .low (p .given .0 .0) (p .given .0 .1 .0) (p .given .1)), e .ready (p .given .0 .0) (p .given .0 .1 .0) (p .given .1))
 
+-- no level has a transition left
 returns : tie.Need-returns
 returns c = let w = c .before .before .before in
     let a = w .before .before .before .before .before .before .before .args in
     walk-empty (now (a .file)) (a .version) (a .root) (a .reading) (now (a .key))
     (pops-is (w .highest .ensures) (c .before .enum-told .given .1) (a .reading .inps) (a .reading .outs)) (c .ended .result) (c .ended .ensures (now (a .key)))
 
+-- the node of a level is not sound
 returns-2 : tie.Need-returns-2
 returns-2 c = let w = c .before .before in
     let a = w .before .before .before .before .before .before .before .args in
@@ -43,6 +46,7 @@ returns-2 c = let w = c .before .before in
 same-length : tie.Need-same-length
 same-length c = search needs
 
+-- a level has a transition left: the way on from it
 returns-3 : tie.Need-returns-3
 returns-3 c = let call = c .before .before in
     let told = call .before .before .before in

@@ -91,6 +91,7 @@ returns c = let call = c .before .before in
     let a = call .before .before .args in
     (sym (enter-unsound (fstWith (now (a .file)) (a .version) (a .root)) (a .addr) (a .b) (answer-unsound (call .node-at .ensures) (c .enum-told .given .1))), omega arith)
 
+-- the judged node can be read
 find-input-requires : tie.Need-find-input-requires
 find-input-requires c κs = readable c
 
@@ -100,9 +101,11 @@ enum-known-p c = search needs
 enum-told-2 : tie.Need-enum-told-2
 enum-told-2 c = search needs
 
+-- the judged node can be read
 first-above-requires : tie.Need-first-above-requires
 first-above-requires c κs = readable (c .before .before .before)
 
+-- a node has at most 256 transitions, so the place fits in 16 bits
 cast-t13 : tie.Need-cast-t13
 cast-t13 c = let q = c .before .before .before .before in omega (arith, c .first-above .ensures .1, count q)
 
@@ -113,15 +116,18 @@ returns-2 c = let q = c .before .before .before .before in
     let none = place-none _ (call .find-input .result) (call .find-input .ensures) (c .before .enum-told2 .given .1) in
     (ap Miss (c .first-above .ensures .0) ∙ sym (enter-miss (f q) (addr q) (b q) (meaning (file q) (m q)) (node-is q) none), omega (arith, c .first-above .ensures .1, count q))
 
+-- the judged node can be read, and it has the transition
 transition-addr-requires : tie.Need-transition-addr-requires
 transition-addr-requires c κs = (readable (q-of c), place-low c)
 
+-- the judged node can be read, and it has the transition
 output-requires : tie.Need-output-requires
 output-requires c κs = (readable (q-of (c .before)), place-low (c .before))
 
 cast-t14 : tie.Need-cast-t14
 cast-t14 c = omega (arith, low (c .before .before))
 
+-- the target is below the root, so it fits in 32 bits
 cast-t15 : tie.Need-cast-t15
 cast-t15 c = omega (arith, target (c .before .before), c .before .transition-addr .ensures)
 

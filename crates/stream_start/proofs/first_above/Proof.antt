@@ -21,6 +21,7 @@ Inv-loop file node b n i₀ i = (i ≤ node .ntrans) × (firstAbove (transitions
 abbrev μ-loop : tie.MeasureT-loop
 μ-loop file node b n i₀ i = node .ntrans - i
 
+-- no input is passed yet
 loop-holds : tie.Need-loop-holds Inv-loop μ-loop
 loop-holds c = (omega arith, sym (rw zero-add))
 
@@ -42,6 +43,7 @@ add-i c = search needs
 loop-less : tie.Need-loop-less Inv-loop μ-loop
 loop-less c = search needs
 
+-- one input more is not above b
 loop-again : tie.Need-loop-again Inv-loop μ-loop
 loop-again c = let at = c .before .before .before in
     let a = at .before .before .args in

@@ -19,6 +19,7 @@ mul-trans c = search needs
 element-copy-out-trans : tie.Need-element-copy-out-trans
 element-copy-out-trans c = search needs
 
+-- the last level has followed a transition, so its next one is not the first
 sub-trans : tie.Need-sub-trans
 sub-trans c = omega (arith, c .before .before .before .pre .2 (c .before .if2 .taken))
 

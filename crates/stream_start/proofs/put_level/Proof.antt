@@ -29,6 +29,7 @@ mul-outs c = search needs
 element-write-outs : tie.Need-element-write-outs
 element-write-outs c = search needs
 
+-- the four entries make level k
 returns : tie.Need-returns
 returns c = let a = c .args in
     level-put (a .k) (now (a .addrs)) (now (a .inps)) (now (a .trans)) (now (a .outs)) (c .pre .0) (c .pre .1) (a .addr) (a .inp) (a .place) (a .out)

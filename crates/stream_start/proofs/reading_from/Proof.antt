@@ -10,6 +10,7 @@ use native.Mathlib.Omega.{arith}
 use Rattle.stream_start.proofs.reading_from.Statement.{statement}
 use Rattle.stream_start.proofs.reading_from.Tie as tie
 
+-- the root fits, the bound has at most 255 bytes, and each array has 256 entries
 seek-requires : tie.Need-seek-requires
 seek-requires c κs = let start = c .before .before .before .before .before .before in
     (start .pre .0, start .pre .1, record { addrs-len = refl; inps-len = refl; trans-len = refl; outs-len = refl })

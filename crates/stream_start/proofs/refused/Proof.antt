@@ -8,6 +8,7 @@ use Rattle.stream_start.proofs.refused.Tie as tie
 no-reading-requires : tie.Need-no-reading-requires
 no-reading-requires c κs = search needs
 
+-- the reading has no levels
 returns : tie.Need-returns
 returns c = rw (c .no-reading .ensures)
 

@@ -60,6 +60,7 @@ low w = rw (w .before .entered2 .given .1) at (q-of w .enter .ensures .1)
 cast-addr : tie.Need-cast-addr Inv-loop μ-loop
 cast-addr c = search needs
 
+-- no byte of the bound is followed yet
 loop-holds : tie.Need-loop-holds Inv-loop μ-loop
 loop-holds c = let start = c .before .before in
     let a = start .args in
@@ -85,6 +86,7 @@ returns c = let q = c .before .before in
 enum-known-entered : tie.Need-enum-known-entered Inv-loop μ-loop
 enum-known-entered c = search needs
 
+-- the bound has at most 255 bytes, so level k is one of 256
 put-level-requires : tie.Need-put-level-requires Inv-loop μ-loop
 put-level-requires c κs = let q = c .before .before .before .before .before .before .before in
     (omega (arith, q .before .before .loop-test .taken, start q .pre .1), at-loop q .loop .inv .1 .arrays)
@@ -125,10 +127,12 @@ returns-3 c = let w = c .before .before in
 add-put-level : tie.Need-add-put-level Inv-loop μ-loop
 add-put-level c = omega (arith, low (c .before))
 
+-- the bound has at most 255 bytes, so level k is one of 256
 put-level-requires-2 : tie.Need-put-level-requires-2 Inv-loop μ-loop
 put-level-requires-2 c κs = let q = q-of (c .before .before .before .before .before) in
     (omega (arith, q .before .before .loop-test .taken, start q .pre .1), at-loop q .loop .inv .1 .arrays)
 
+-- the sum up to the target fits, by the test before
 add-sum : tie.Need-add-sum Inv-loop μ-loop
 add-sum c = let w = c .before .before .before .before .before .before in omega (arith, c .before .before .before .before .before .if1 .left, at-loop (q-of w) .loop .inv .1 .fits)
 
@@ -138,6 +142,7 @@ add-k c = search needs
 loop-less : tie.Need-loop-less Inv-loop μ-loop
 loop-less c = search needs
 
+-- one byte more of the bound is followed
 loop-again : tie.Need-loop-again Inv-loop μ-loop
 loop-again c = let test = c .before .before .before .before .before in
     let w = test .before in
@@ -161,6 +166,7 @@ returns-4 : tie.Need-returns-4 Inv-loop μ-loop
 returns-4 c = let call = c .before .before in
     seeking-unsound (call .before .before .loop .inv .1) (answer-unsound (call .node-at .ensures) (c .enum-told3 .given .1))
 
+-- level k is one of 256, and the level before it has followed a transition
 last-levels-requires : tie.Need-last-levels-requires Inv-loop μ-loop
 last-levels-requires c κs = let at = c .before .before .before .before .before .before .before .before in
     (omega (arith, at .loop .inv .1 .within, at .before .before .before .pre .1), at .loop .inv .1 .arrays, at .loop .inv .1 .followed)

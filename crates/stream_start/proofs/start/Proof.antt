@@ -28,6 +28,7 @@ refused-requires c κs = search needs
 enum-known-opened-2 : tie.Need-enum-known-opened-2
 enum-known-opened-2 c = search needs
 
+-- the root lies in the file, so it fits in 32 bits
 start-from-requires : tie.Need-start-from-requires
 start-from-requires c κs = let q = c .before in
     let s = now (q .before .before .before .before .before .before .args .file) in

@@ -69,6 +69,7 @@ returns-2 c = let q = c .before .before .before in
 slice-aggregate-copy-front : tie.Need-slice-aggregate-copy-front
 slice-aggregate-copy-front c = search needs
 
+-- the upper bound has the bytes taken of it, 255 at most
 copy-front-requires : tie.Need-copy-front-requires
 copy-front-requires c κs = let q = c .before .before .before in (upper-taken q .inside, c .before .if2 .left)
 
@@ -81,9 +82,11 @@ empty-output-requires c κs = search needs
 is-inclusive-requires : tie.Need-is-inclusive-requires
 is-inclusive-requires c κs = search needs
 
+-- the lower bound has the n bytes taken of it
 slice-aggregate-reading-from : tie.Need-slice-aggregate-reading-from
 slice-aggregate-reading-from c = let q = tests c .before .before in sym (lower-len q)
 
+-- the root fits, and the lower bound has at most 255 bytes
 reading-from-requires : tie.Need-reading-from-requires
 reading-from-requires c κs = let q = tests c .before .before in (start q .pre, omega (arith, tests c .before .if1 .left, lower-len q))
 
