@@ -11,7 +11,7 @@ use Rattle.node_compile.proofs.record_ok.Tie as tie
 returns : tie.Need-returns
 returns c = decides-false (λ ok. not-le-of-lt (c .if1 .taken) (ok .few))
 
--- unequal lists
+-- unequal lists, by the outputs
 returns-2 : tie.Need-returns-2
 returns-2 c = decides-false (λ ok. c .if2 .taken (ok .outputs-len))
 
@@ -19,11 +19,11 @@ returns-2 c = decides-false (λ ok. c .if2 .taken (ok .outputs-len))
 returns-3 : tie.Need-returns-3
 returns-3 c = decides-false (λ ok. c .if3 .taken (ok .targets-len))
 
--- F outside 16 to 16,777,216
+-- F below the first place of a node
 returns-4 : tie.Need-returns-4
 returns-4 c = decides-false (λ ok. not-le-of-lt (c .if4 .taken) (ok .first-low))
 
--- F above 16,777,216
+-- F above the largest length of a file
 returns-5 : tie.Need-returns-5
 returns-5 c = decides-false (λ ok. not-le-of-lt (c .if5 .taken) (ok .first-high))
 
