@@ -57,7 +57,49 @@ impl<'a> Run<'a> {
             let n = self.prng.next() >> self.prng.below(64);
             self.number(n)?;
         }
+        self.weights()?;
         self.require(&SIZES, 1_000)
+    }
+
+    // Each byte with its weight: every byte alone at each place, and the rows that a wrong weight would show in, with bytes after the
+    // number that must not count.
+    fn weights(&mut self) -> Checked {
+        for place in 0..8 {
+            for byte in 0..=255u8 {
+                let mut stored = [0u8; 8];
+                stored[place] = byte;
+                for nbytes in place + 1..=8 {
+                    self.unpacked(&stored, nbytes)?;
+                }
+            }
+        }
+        for nbytes in 1..=8 {
+            for after in &[0u8, 255] {
+                let mut stored = [*after; 11];
+                let rows: [fn(usize, usize) -> u8; 5] =
+                    [|_, _| 0, |_, _| 255, |i, n| u8::from(i + 1 == n), |i, _| u8::from(i == 0), |i, _| i as u8 + 1];
+                for row in &rows {
+                    for (i, byte) in stored[..nbytes].iter_mut().enumerate() {
+                        *byte = row(i, nbytes);
+                    }
+                    self.unpacked(&stored, nbytes)?;
+                }
+            }
+        }
+        Ok(())
+    }
+
+    fn unpacked(&mut self, stored: &[u8], nbytes: usize) -> Checked {
+        let input = || format!("{} bytes of {:02x?}", nbytes, stored);
+        let read = given::unpack_uint(stored, nbytes);
+        same("unpack_uint", input, ("the Rust", read), ("model", model::number(&stored[..nbytes])))?;
+        if let Some(ours) = self.ours {
+            same("unpack_uint", input, ("the Rust", read), ("ours", ours.unpack_uint(stored, nbytes)))?;
+            // no bytes are 0; the Rust asserts that there is one
+            same("unpack_uint of no bytes", input, ("model", 0), ("ours", ours.unpack_uint(stored, 0)))?;
+        }
+        self.count("unpack_uint");
+        Ok(())
     }
 
     fn number(&mut self, n: u64) -> Checked {
@@ -77,15 +119,8 @@ impl<'a> Run<'a> {
                 stored.push(self.prng.byte());
             }
             let input = || format!("{} bytes of {:02x?}", nbytes, stored);
-            let read = given::unpack_uint(&stored, nbytes);
-            same("unpack_uint", input, ("packed", n), ("the Rust", read))?;
-            same("unpack_uint", input, ("the Rust", read), ("model", model::number(&stored[..nbytes])))?;
-            if let Some(ours) = self.ours {
-                same("unpack_uint", input, ("the Rust", read), ("ours", ours.unpack_uint(&stored, nbytes)))?;
-                // no bytes are 0; the Rust asserts that there is one
-                same("unpack_uint of no bytes", input, ("model", 0), ("ours", ours.unpack_uint(&stored, 0)))?;
-            }
-            self.count("unpack_uint");
+            same("unpack_uint", input, ("packed", n), ("the Rust", given::unpack_uint(&stored, nbytes)))?;
+            self.unpacked(&stored, nbytes)?;
         }
         Ok(())
     }
