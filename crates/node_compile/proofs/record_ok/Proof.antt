@@ -18,7 +18,7 @@ returns-2 c = decides-false (λ ok. c .if2 .taken (ok .outputs-len))
 returns-3 : tie.Need-returns-3
 returns-3 c = decides-false (λ ok. c .if3 .taken (ok .targets-len))
 
--- F outside 16 to 16,777,216
+-- F below the first node, or past the longest file
 returns-4 : tie.Need-returns-4
 returns-4 c = decides-false (λ ok. not-le-of-lt (c .if4 .taken) (ok .first-low))
 
