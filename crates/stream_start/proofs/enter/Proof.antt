@@ -103,8 +103,8 @@ enum-told-2 c = search needs
 first-above-requires : tie.Need-first-above-requires
 first-above-requires c κs = readable (c .before .before .before)
 
-cast-t13 : tie.Need-cast-t13
-cast-t13 c = let q = c .before .before .before .before in omega (arith, c .first-above .ensures .1, count q)
+cast-t15 : tie.Need-cast-t15
+cast-t15 c = let q = c .before .before .before .before in omega (arith, c .first-above .ensures .1, count q)
 
 -- the byte is absent
 returns-2 : tie.Need-returns-2
@@ -119,11 +119,11 @@ transition-addr-requires c κs = (readable (q-of c), place-low c)
 output-requires : tie.Need-output-requires
 output-requires c κs = (readable (q-of (c .before)), place-low (c .before))
 
-cast-t14 : tie.Need-cast-t14
-cast-t14 c = omega (arith, low (c .before .before))
+cast-place : tie.Need-cast-place
+cast-place c = omega (arith, low (c .before .before))
 
-cast-t15 : tie.Need-cast-t15
-cast-t15 c = omega (arith, target (c .before .before), c .before .transition-addr .ensures)
+cast-to : tie.Need-cast-to
+cast-to c = omega (arith, target (c .before .before), c .before .transition-addr .ensures)
 
 -- the byte is found
 returns-3 : tie.Need-returns-3
@@ -142,10 +142,10 @@ enter-spec =
     enum-known-p
     enum-told-2
     first-above-requires
-    cast-t13
+    cast-t15
     returns-2
     transition-addr-requires
     output-requires
-    cast-t14
-    cast-t15
+    cast-place
+    cast-to
     returns-3)
