@@ -99,13 +99,69 @@ static const char *name_of(int32_t refusal)
     case FST_SHORT:   return "SHORT: the file is under 36 bytes";
     case FST_VERSION: return "VERSION: the version is not 1, 2 or 3";
     case FST_ROOT:    return "ROOT: the root address does not fit the version and the length";
-    case FST_LARGE:   return "LARGE: the file is over 16777216 bytes";
+    case FST_LARGE:   return "LARGE: the file is over 4294967295 bytes";
     case FST_NODE:    return "NODE: a node is not sound, the chain of nodes is broken, or a target is no node";
     case FST_DEEP:    return "DEEP: a path has 256 bytes";
     case FST_SUM:     return "SUM: a sum passes 2^64 - 1";
     case FST_SPACE:   return "SPACE: a buffer is too short";
     default:          return "a refusal without a name";
     }
+}
+
+/* Whether a file says that it is longer than the longest; one that cannot be asked, as a pipe, does not say so. */
+static int says_too_long(FILE *in)
+{
+    long here = ftell(in);
+    if (here < 0 || fseek(in, 0, SEEK_END) != 0) {
+        return 0;
+    }
+    long end = ftell(in);
+    return fseek(in, here, SEEK_SET) == 0 && end >= 0 && (uint64_t)end > FST_MAX_LEN;
+}
+
+/* Reads a whole file into a buffer that is doubled as it fills. Where the file is over FST_MAX_LEN bytes the length is so too, and
+ * what is beyond is not read, nor the rest where the file says so. NULL where memory does not suffice. */
+static uint8_t *read_whole(FILE *in, size_t *len)
+{
+    const uint64_t most = FST_MAX_LEN + 1;
+    uint64_t space = 65536;
+    uint8_t *file = malloc(space);
+    *len = file == NULL ? 0 : fread(file, 1, space, in);
+    if (*len == space && says_too_long(in)) {
+        *len = most;
+        return file;
+    }
+    while (file != NULL && *len == space && space < most) {
+        space = space < most / 2 ? space * 2 : most;
+        uint8_t *larger = realloc(file, space);
+        if (larger == NULL) {
+            free(file);
+        } else {
+            *len += fread(larger + *len, 1, space - *len, in);
+        }
+        file = larger;
+    }
+    return file;
+}
+
+/* Admits a file that opens; its two work tables have an entry for each byte. 0 where memory does not suffice. */
+static int admit(const uint8_t *file, size_t file_len, int32_t *result)
+{
+    fst_meta meta;
+    /* a longer file has not been read to its end */
+    *result = file_len > FST_MAX_LEN ? FST_LARGE : fst_open(file, file_len, &meta);
+    if (*result != FST_OK) {
+        return 1;
+    }
+    uint16_t *depths = malloc(file_len * sizeof *depths);
+    uint64_t *sums = malloc(file_len * sizeof *sums);
+    int enough = depths != NULL && sums != NULL;
+    if (enough) {
+        *result = fst_admit(file, file_len, depths, file_len, sums, file_len);
+    }
+    free(depths);
+    free(sums);
+    return enough;
 }
 
 int main(int argc, char **argv)
@@ -122,31 +178,25 @@ int main(int argc, char **argv)
         return usage();
     }
 
-    /* One byte more than the longest file, so that a longer one is refused and not cut. */
-    uint8_t *file = malloc(FST_MAX_LEN + 1);
-    if (file == NULL) {
-        return trouble("no memory for the file");
-    }
     int standard = strcmp(argv[1], "-") == 0;
     FILE *in = standard ? stdin : fopen(argv[1], "rb");
     if (in == NULL) {
         return trouble(argv[1]);
     }
-    size_t file_len = fread(file, 1, FST_MAX_LEN + 1, in);
+    size_t file_len = 0;
+    uint8_t *file = read_whole(in, &file_len);
+    if (file == NULL) {
+        return trouble("no memory for the file");
+    }
     if (ferror(in)) {
         return trouble(standard ? "standard input" : argv[1]);
     }
     fclose(in);
 
-    /* One entry for each byte of the file in both; malloc may answer NULL for 0 bytes, which is no lack of memory. */
-    uint16_t *depths = malloc((file_len + 1) * sizeof *depths);
-    uint64_t *sums = malloc((file_len + 1) * sizeof *sums);
-    if (depths == NULL || sums == NULL) {
+    int32_t result;
+    if (!admit(file, file_len, &result)) {
         return trouble("no memory for the work tables");
     }
-    int32_t result = fst_admit(file, file_len, depths, file_len, sums, file_len);
-    free(depths);
-    free(sums);
 
     if (result == FST_OK && by_value) {
         uint8_t key[FST_KEY_SPACE];

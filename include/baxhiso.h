@@ -52,8 +52,8 @@ extern "C" {
 #define FST_SUM       7  /* a sum passes 2^64 - 1                                                                  */
 #define FST_SPACE     8  /* key buffer under FST_KEY_SPACE bytes, work table shorter than the file                 */
 
-#define FST_MAX_LEN   16777216 /* the longest file                                 */
-#define FST_KEY_SPACE 255      /* the shortest key buffer, and the longest key in it */
+#define FST_MAX_LEN   UINT64_C(4294967295) /* the longest file                                 */
+#define FST_KEY_SPACE 255                  /* the shortest key buffer, and the longest key in it */
 
 /* What stands for the checksum of a file that has none: larger than any stored checksum. */
 #define FST_NO_CHECKSUM UINT64_C(4294967296)

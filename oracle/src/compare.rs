@@ -10,6 +10,7 @@ use crate::given;
 use crate::prng::Prng;
 
 mod admission;
+mod long;
 mod lookup;
 mod made;
 mod numbers;
@@ -167,7 +168,10 @@ impl<'a> Run<'a> {
                 ("damaged nodes, other addresses and roots", Run::damaged),
                 ("opening", Run::opening),
                 ("admission", Run::admission),
-                ("admission of a file of 16,777,216 bytes", Run::admission_of_largest),
+                ("opening of files of 16 MiB to 8 GiB", Run::long_opening),
+                ("packing of F from 16 MiB on", Run::long_packing),
+                ("lookup in files of 4,294,967,295 bytes", Run::long_lookup),
+                ("admission of files of 16,777,217 and of 268,435,456 bytes", Run::admission_of_dense),
                 ("lookup in admitted files", Run::lookup),
                 ("lookup in damaged files", Run::lookup_damaged),
             ],
@@ -182,6 +186,21 @@ impl<'a> Run<'a> {
             &[
                 ("ranges of admitted files", Run::ranges),
                 ("damaged files, and readings that no start gave", Run::made_readings),
+                ("ranges of files of 4,294,967,295 bytes", Run::long_ranges),
+            ],
+        )
+    }
+
+    // Those of files and records past 16 MiB alone.
+    pub fn long(&mut self, print: bool) -> Checked {
+        self.sections(
+            print,
+            &[
+                ("opening of files of 16 MiB to 8 GiB", Run::long_opening),
+                ("packing of F from 16 MiB on", Run::long_packing),
+                ("lookup in files of 4,294,967,295 bytes", Run::long_lookup),
+                ("ranges of files of 4,294,967,295 bytes", Run::long_ranges),
+                ("admission of files of 16,777,217 and of 268,435,456 bytes", Run::admission_of_dense),
             ],
         )
     }

@@ -1,15 +1,18 @@
 // Records and stored nodes to compare on: random ones, and those at each boundary.
 
 use crate::answers::Record;
-use crate::model::{self, Form, FIRST_NODE, INDEX_ABOVE, MAX_LEN};
+use crate::model::{self, Form, FIRST_NODE, INDEX_ABOVE};
 use crate::prng::Prng;
 
 // The transition counts around each change of layout: none, one, the index, the count byte, 256.
 pub const COUNTS: [usize; 14] = [0, 1, 2, 3, 31, 32, 33, 62, 63, 64, 65, 254, 255, 256];
 
+// The largest F of the records that are made by the thousand: each F farther up would be a page of its own, so those of up
+// to 4 GiB come by the hundred (compare/long.rs).
+pub const FAR: usize = 16_777_216;
+
 // The first bytes around each change of a delta's size: a target of 16 is then 255, 256, .. bytes below.
-pub const FIRSTS: [usize; 14] =
-    [16, 17, 18, 19, 32, 271, 272, 273, 65_551, 65_552, 65_553, 1_000_000, MAX_LEN - 1, MAX_LEN];
+pub const FIRSTS: [usize; 14] = [16, 17, 18, 19, 32, 271, 272, 273, 65_551, 65_552, 65_553, 1_000_000, FAR - 1, FAR];
 
 // Inputs at the ends of the byte and of the common ones: H, G and W are the 62nd, 63rd and 64th, and only the first 63
 // are written into the state byte; t and e are the first two.
@@ -155,7 +158,7 @@ fn any_first(prng: &mut Prng) -> usize {
         1 | 2 => prng.between(16, 40),
         3 | 4 => prng.between(16, 600),
         5 => prng.between(16, 70_000),
-        _ => prng.between(16, MAX_LEN),
+        _ => prng.between(16, FAR),
     }
 }
 

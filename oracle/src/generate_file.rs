@@ -2,10 +2,11 @@
 
 use std::collections::{BTreeSet, HashMap};
 
-use crate::answers::Meaning;
-use crate::builder::{self, Builder};
+use crate::answers::{Meaning, Record};
+use crate::builder::{self, trailer_size, whole, Builder};
 use crate::generate::{self, Targets};
-use crate::model::{FIRST_NODE, MAX_LEN};
+use crate::given;
+use crate::model::FIRST_NODE;
 use crate::model_file::Admitted;
 use crate::prng::Prng;
 
@@ -371,8 +372,8 @@ pub fn distinct(n: usize, mut key: impl FnMut() -> Vec<u8>) -> Vec<Vec<u8>> {
     keys
 }
 
-// The one file of the largest length: words with ascending values, and final nodes that no path reaches.
-pub fn largest(prng: &mut Prng) -> Vec<u8> {
+// A file of this length, 16 MiB or somewhat more: words with ascending values, and final nodes that no path reaches.
+pub fn dense(prng: &mut Prng, len: usize) -> Vec<u8> {
     let words = distinct(1_600_000, || {
         let mut key = word(prng);
         // a tail that is seldom shared
@@ -382,12 +383,49 @@ pub fn largest(prng: &mut Prng) -> Vec<u8> {
     let mut builder = Builder::new(3, 0);
     let mut value = 0;
     for key in &words {
-        if builder.size() > MAX_LEN - 65_536 {
+        if builder.size() > len - 65_536 {
             break;
         }
         value += 1 + prng.next() % 1_000;
         builder.insert(key, value);
     }
-    assert!(builder.size() > MAX_LEN - 65_536, "there are keys enough");
-    builder.finish_at(MAX_LEN, 0)
+    assert!(builder.size() > len - 65_536, "there are keys enough");
+    builder.finish_at(len, 0)
+}
+
+// A file of this length, in which the nodes of `part` stand again and again: a delta is counted from its own node, so they
+// mean the same wherever they stand. Above each part a node leads to the roots of all so far; the last such node is the root.
+pub fn repeated(part: &[u8], len: usize) -> Vec<u8> {
+    let nodes = &part[FIRST_NODE..part.len() - trailer_size(3)];
+    let end = len - trailer_size(3);
+    let mut file = part[..FIRST_NODE].to_vec();
+    file.reserve_exact(len - file.len());
+    let mut record = Record::default();
+    loop {
+        file.extend(nodes);
+        record.inputs.push(record.inputs.len() as u8);
+        record.outputs.push(record.outputs.len() as u64 * 1_000_000_000);
+        record.targets.push(file.len() - 1);
+        let pack = |first| given::pack(&record, first).expect("the Rust packs a record that breaks no rule");
+        let size = pack(file.len()).len();
+        // room for the next nodes and the node that leads to them, which grows with each
+        if file.len() + size + nodes.len() + 1_024 <= end {
+            let node = pack(file.len());
+            file.extend(node);
+            continue;
+        }
+        let size = pack(end - size).len();
+        let mut room = end - size - file.len();
+        while room > 0 {
+            // 3 bytes, or 4 with a final output of 7
+            let node: &[u8] = if room % 3 == 0 { &[0, 0, 0x40] } else { &[7, 1, 0, 0x40] };
+            file.extend(node);
+            room -= node.len();
+        }
+        let root = pack(file.len());
+        assert_eq!(root.len(), size, "the root's deltas are as wide a little farther up");
+        file.extend(root);
+        let root = file.len() - 1;
+        return whole(file, 0, root, 0);
+    }
 }

@@ -43,6 +43,7 @@ mod replay_file;
 mod replay_list;
 mod replay_reading;
 mod replay_rows;
+mod sparse;
 mod wrong;
 mod wrong_file;
 mod wrong_reading;
@@ -92,6 +93,17 @@ fn compare(lists: &[String]) -> bool {
 // The comparisons of readings alone.
 fn compare_readings() -> bool {
     match Run::new(library(), 1).readings(true) {
+        Ok(()) => true,
+        Err(difference) => {
+            report(&difference);
+            false
+        }
+    }
+}
+
+// Files and records past 16 MiB alone.
+fn compare_long() -> bool {
+    match Run::new(library(), 1).long(true) {
         Ok(()) => true,
         Err(difference) => {
             report(&difference);
@@ -173,12 +185,13 @@ fn main() {
     let right = match args.get(1).map(String::as_str) {
         Some("compare") => compare(&args[2..]),
         Some("readings") => compare_readings(),
+        Some("long") => compare_long(),
         Some("self-test") => self_test(),
         Some("record") => record(&args[2..]),
         Some("listing") => listing::make(),
         Some("bench") => bench(),
         _ => {
-            println!("oracle: compare, readings, self-test, record, listing or bench");
+            println!("oracle: compare, readings, long, self-test, record, listing or bench");
             process::exit(2);
         }
     };

@@ -9,7 +9,7 @@ use crate::given;
 
 // The first byte that a node may take, and the largest F of a record.
 pub const FIRST_NODE: usize = 16;
-pub const MAX_LEN: usize = 16_777_216;
+pub const MAX_LEN: usize = 4_294_967_295;
 pub const MAX_TRANS: usize = 256;
 // With more transitions than this a node has an index, in versions 2 and 3.
 pub const INDEX_ABOVE: usize = 32;

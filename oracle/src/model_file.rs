@@ -123,6 +123,54 @@ pub fn admitted(file: &[u8]) -> Result<Admitted, u64> {
     Ok(Admitted { meta, chain })
 }
 
+// What admission writes into the tables of a file that it admits: at each node's address 1 plus the longest path, and the
+// largest sum.
+pub struct Entries {
+    // from the lowest node up
+    pub nodes: Vec<(u32, u16, u64)>,
+    // all that the nodes say, added up
+    pub said: u64,
+}
+
+// As `admitted`, and no node is kept: for files whose nodes would fill the memory.
+pub fn entries(file: &[u8]) -> Result<Entries, u64> {
+    let meta = open(file)?;
+    let mut nodes: Vec<(u32, u16, u64)> = Vec::new();
+    let mut addr = meta.root;
+    while addr != FIRST_NODE - 1 && meta.root != 0 {
+        let node = judge(file, &meta, addr).ok_or(NODE)?;
+        nodes.push((addr as u32, 0, 0));
+        addr = node.first - 1;
+    }
+    nodes.reverse();
+    let (mut said, mut deep, mut heavy) = (0u64, false, false);
+    for i in 0..nodes.len() {
+        let node = judge(file, &meta, nodes[i].0 as usize).expect("judged above");
+        said = said.wrapping_add(node.is_final as u64).wrapping_add(node.final_output);
+        let mut here = Reach { longest: 0, largest: u128::from(node.final_output) };
+        for t in &node.transitions {
+            said = said.wrapping_add(u64::from(t.inp)).wrapping_add(t.out).wrapping_add(t.addr as u64);
+            let there = match t.addr {
+                0 => (0, 1, 0),
+                target => nodes[nodes.binary_search_by_key(&(target as u32), |node| node.0).map_err(|_| NODE)?],
+            };
+            here.longest = here.longest.max(usize::from(there.1));
+            here.largest = here.largest.max(u128::from(t.out) + u128::from(there.2));
+        }
+        deep = deep || here.longest > MAX_PATH;
+        heavy = heavy || here.largest > MAX_SUM;
+        // what does not fit is refused below
+        nodes[i] = (nodes[i].0, 1 + here.longest.min(MAX_PATH) as u16, here.largest.min(MAX_SUM) as u64);
+    }
+    if deep {
+        return Err(DEEP);
+    }
+    if heavy {
+        return Err(SUM);
+    }
+    Ok(Entries { nodes, said })
+}
+
 // What admission leaves in the tables of a file of n bytes that opens, where they are long enough: 1 plus the longest path, and
 // the largest sum, at each address of the chain; 0 elsewhere, and everywhere after a refusal.
 pub fn fill(n: usize, judged: &Result<Admitted, u64>, depths: &mut [u16], sums: &mut [u64]) {

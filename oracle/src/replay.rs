@@ -105,7 +105,7 @@ impl List {
         part.extend(&(n as u16).to_le_bytes());
         part.push(record.is_final() as u8);
         part.extend(&record.final_output.to_le_bytes());
-        part.extend(&(first as u32).to_le_bytes());
+        part.extend(&(first as u64).to_le_bytes());
         part.extend(&record.inputs);
         // a list of another length is said by the packing; what it has more is 0
         for i in 0..n {

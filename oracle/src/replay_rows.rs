@@ -2,7 +2,7 @@
 // the answer that it wants. Writing a row holds the wanted answer to the model, and to the Rust where it answers.
 
 use crate::answers::{Meaning, Record, Transition, RECORD, SPACE};
-use crate::model;
+use crate::model::{self, MAX_LEN};
 use crate::replay::{Stored, ROOM};
 use crate::replay_list::List;
 
@@ -263,8 +263,10 @@ fn records(list: &mut List) {
     pack(list, "record-final-output-not-final", &not_final, 20, ROOM, Err(RECORD));
     pack(list, "record-first-17", &two(None), 17, ROOM, Ok(b"\x05\0\x01\0ba\x11\x02"));
     pack(list, "record-first-16777216", &two(None), 16_777_216, ROOM, Ok(far));
-    pack(list, "record-first-16777217", &two(None), 16_777_217, ROOM, Err(RECORD));
-    pack(list, "record-before-space", &two(None), 16_777_217, 0, Err(RECORD));
+    pack(list, "record-first-16777217", &two(None), 16_777_217, ROOM, Ok(b"\x05\0\xf1\xff\xff\0\0\0ba\x31\x02"));
+    pack(list, "record-first-4294967295", &two(None), MAX_LEN, ROOM, Ok(b"\x05\0\xef\xff\xff\xff\0\0\0\0ba\x41\x02"));
+    pack(list, "record-first-4294967296", &two(None), MAX_LEN + 1, ROOM, Err(RECORD));
+    pack(list, "record-before-space", &two(None), MAX_LEN + 1, 0, Err(RECORD));
     pack(list, "record-first-16", &one(b'a', 0, 0), 16, ROOM, Ok(b"\0\x10\x85"));
     pack(list, "record-first-15", &one(b'a', 0, 0), 15, ROOM, Err(RECORD));
     pack(list, "record-target-16", &one(b'a', 0, 16), 20, ROOM, Ok(b"\x04\x10\x85"));

@@ -13,8 +13,10 @@ use crate::wrong::Wrong;
 pub const SLIPS: &[&str] = &[
     // opening
     "35 bytes are enough",
-    "16,777,216 bytes are too large",
-    "16,777,217 bytes are not too large",
+    "4,294,967,295 bytes are too large",
+    "4,294,967,296 bytes are not too large",
+    "a length is cut to 32 bits",
+    "16,777,217 bytes are too large",
     "2 comes before 4",
     "3 comes before 2",
     "version 0 opens",
@@ -80,9 +82,9 @@ impl Wrong {
         if n < least {
             return Err(SHORT);
         }
-        let most = if self.slips("16,777,216 bytes are too large") {
+        let most = if self.slips("4,294,967,295 bytes are too large") {
             MAX_LEN - 1
-        } else if self.slips("16,777,217 bytes are not too large") {
+        } else if self.slips("4,294,967,296 bytes are not too large") {
             MAX_LEN + 1
         } else {
             MAX_LEN
@@ -94,7 +96,8 @@ impl Wrong {
         if self.slips("2 comes before 4") && !versions.contains(&version) {
             return Err(VERSION);
         }
-        if n > most {
+        let long = if self.slips("a length is cut to 32 bits") { n % (1 << 32) } else { n };
+        if long > most || self.slips("16,777,217 bytes are too large") && n > 16_777_216 {
             return Err(LARGE);
         }
         let tail = if version == 3 { 4 } else { 0 };

@@ -63,6 +63,8 @@ pub const SLIPS: &[&str] = &[
     "a used-up level is not judged",
     "a level is used up one place early",
     "a place is cut to a byte",
+    "an address is cut to 24 bits",
+    "an address of the start is cut to 24 bits",
     "6 comes one level late",
     "6 comes one level early",
     "6 comes after 7",
@@ -161,7 +163,9 @@ impl Wrong {
                 return Err(SUM);
             }
             let kept = if self.slips("the sums of the start are left out") { 0 } else { sum as u64 };
-            let mut level = Level { addr: addr as u32, inp: led, place: 0, sum: kept };
+            let cut = self.slips("an address of the start is cut to 24 bits") && i > 0;
+            let mut level =
+                Level { addr: if cut { addr % (1 << 24) } else { addr } as u32, inp: led, place: 0, sum: kept };
             let b = match bytes.get(i) {
                 Some(&b) => b,
                 None => {
@@ -347,7 +351,8 @@ impl Wrong {
                 levels[here].place += 1;
             }
             let kept = if self.slips("a level has the sum of the one below") { level.sum } else { sum as u64 };
-            levels.push(Level { addr: t.addr as u32, inp: t.inp, place: 0, sum: kept });
+            let addr = if self.slips("an address is cut to 24 bits") { t.addr % (1 << 24) } else { t.addr };
+            levels.push(Level { addr: addr as u32, inp: t.inp, place: 0, sum: kept });
             let skipped = if self.slips("the key has the first level's byte") { 0 } else { 1 };
             let mut found: Vec<u8> = levels.iter().skip(skipped).map(|level| level.inp).collect();
             found.truncate(MAX_PATH);

@@ -2,7 +2,7 @@
  *
  * Each row is a call. Every buffer is a block of its own of exactly the length that the call is given, so that valgrind sees
  * a step beyond it. What is not to be written is filled with MARK. Files are made from their nodes' bytes (docs/FORMAT.md).
- * A refusal that a function can give is reached by at least one row. */
+ * A refusal that a function can give is reached by at least one row, FST_LARGE by those of large.c. */
 #include <stdio.h>
 #include <stdlib.h>
 #include <string.h>
@@ -289,8 +289,6 @@ int main(void)
     file brief = zeros(35);
     file nothing = zeros(0);
     file unversioned = zeros(36);
-    file large = zeros((size_t)FST_MAX_LEN + 1);
-    file largest = zeros(FST_MAX_LEN);
     file rootless = make(3, 0, (const uint8_t *)"\0\0\0", 3, 0, 17, 0);
     file unsound = make(3, 0, unsound_nodes, sizeof unsound_nodes, 1, 16, 0);
     file below = make(3, 0, below_nodes, sizeof below_nodes, 1, 21, 0);
@@ -317,8 +315,6 @@ int main(void)
     open_refused("no bytes", nothing, FST_SHORT);
     open_refused("36 zeros", unversioned, FST_VERSION);
     open_refused("39 bytes, root 17", rootless, FST_ROOT);
-    open_refused("16,777,217 zeros", large, FST_LARGE);
-    open_refused("16,777,216 zeros", largest, FST_VERSION);
     open_row("C1 at 16: no node is read", unsound, FST_OK, (fst_meta){ 3, 0, 1, 16, 0 });
 
     get_row("D, a", d, "a", 1, FST_OK, 1);
@@ -337,7 +333,6 @@ int main(void)
     get_row("35 zeros, a", brief, "a", 1, FST_SHORT, 0);
     get_row("36 zeros, a", unversioned, "a", 1, FST_VERSION, 0);
     get_row("39 bytes, root 17, a", rootless, "a", 1, FST_ROOT, 0);
-    get_row("16,777,217 zeros, a", large, "a", 1, FST_LARGE, 0);
     get_row("C1 at 16, empty key", unsound, "", 0, FST_NODE, 0);
     get_row("C1 at 16, a", unsound, "a", 1, FST_NODE, 0);
     get_row("C1 below, empty key", below, "", 0, FST_NONE, 0);
@@ -360,7 +355,6 @@ int main(void)
     get_key_row("35 zeros before no space", brief, 3, 0, FST_SHORT, NULL, 0);
     get_key_row("36 zeros, 3", unversioned, 3, 255, FST_VERSION, NULL, 0);
     get_key_row("39 bytes, root 17, 3", rootless, 3, 255, FST_ROOT, NULL, 0);
-    get_key_row("16,777,217 zeros, 3", large, 3, 255, FST_LARGE, NULL, 0);
     get_key_row("C1 at 16, 0", unsound, 0, 255, FST_NODE, NULL, 0);
     get_key_row("C1 below, 2", below, 2, 255, FST_NODE, NULL, 0);
     get_key_row("256 times a, 0", deep, 0, 255, FST_DEEP, NULL, 0);
@@ -375,7 +369,6 @@ int main(void)
     admit_refused("admit 35 zeros", brief, 35, 35, FST_SHORT);
     admit_refused("admit 36 zeros", unversioned, 36, 36, FST_VERSION);
     admit_refused("admit 39 bytes, root 17", rootless, 39, 39, FST_ROOT);
-    admit_refused("admit 16,777,217 zeros", large, 10, 10, FST_LARGE);
     admit_refused("admit C1 at 16", unsound, 40, 37, FST_NODE);
     admit_refused("admit C1 below", below, 42, 43, FST_NODE);
     admit_refused("admit 256 times a", deep, 296, 294, FST_DEEP);
@@ -393,8 +386,6 @@ int main(void)
     free(brief.bytes);
     free(nothing.bytes);
     free(unversioned.bytes);
-    free(large.bytes);
-    free(largest.bytes);
     free(rootless.bytes);
     free(unsound.bytes);
     free(below.bytes);

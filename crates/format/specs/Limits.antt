@@ -10,9 +10,9 @@ firstNode = 16
 abbrev pub minLen : ℕ
 minLen = 36
 
--- the largest length of a file, and the largest F of a node record
+-- the largest length of a file, and the largest F of a node record: the largest number of 32 bits
 abbrev pub maxLen : ℕ
-maxLen = 16777216
+maxLen = 4294967295
 
 -- the most transitions of a node: one for each byte
 abbrev pub maxTrans : ℕ

@@ -37,7 +37,7 @@ pub const LEVELS: usize = 256;
 // The smallest length of a file: a header of 16 bytes, and a trailer of 20 in version 3.
 pub const MIN_LEN: usize = 36;
 // The largest F that a node record may ask for, which is the largest length of a file.
-pub const MAX_LEN: usize = 16_777_216;
+pub const MAX_LEN: usize = 4_294_967_295;
 // The most transitions that a node may have: one for each byte.
 pub const MAX_TRANS: usize = 256;
 // A node with more transitions than this has an index, in versions 2 and 3 (node.rs).

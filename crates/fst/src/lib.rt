@@ -6,6 +6,7 @@ ghost use lib.ListN.{length};
 ghost use mathlib.Core.Bool.{cond};
 ghost use mathlib.Core.Option.{some, none};
 ghost use lib.Dec.{eqb};
+ghost use Rattle.format.specs.Limits.{minLen};
 ghost use Rattle.format.specs.Opening.{trailerLen, numberAt, rootTest, opening};
 ghost use Rattle.format.specs.Node.{nodeAt};
 ghost use Rattle.format.specs.Lookup.{pastSum};
@@ -55,7 +56,7 @@ fn trailer_len(version: u64) -> usize
 
 // The rule on roots.
 fn root_right(version: u64, root: usize, len: usize) -> bool
-    requires { ⌜ (36 ≤ len) × (len ≤ 16777216) ⌝ }
+    requires { ⌜ minLen ≤ len ⌝ }
     ensures { λ r. ⌜ r ≡ rootTest version root len ⌝ }
 {
     if root == 0 {

@@ -205,6 +205,9 @@ fn within_reach(size: usize, first: usize) -> bool
     if size == 2 {
         return 65535 <= first - FIRST_NODE;
     }
+    if size == 3 {
+        return 16777215 <= first - FIRST_NODE;
+    }
     false
 }
 

@@ -22,7 +22,7 @@ use replay_list::at_most;
 use replay_list::number;
 
 // The list's length, and one byte more by which a longer list is seen.
-const LIST: usize = 337_737;
+const LIST: usize = 341_273;
 // The file that a node is read in: room for the largest node at F 65,553, where deltas first take 3
 // bytes.
 const SPACE: usize = 69_632;
@@ -42,13 +42,13 @@ const FINAL_OUTPUT: usize = 35;
 
 const FIRST: usize = 43;
 
-const LISTS: usize = 47;
+const LISTS: usize = 51;
 
 // ---- packing
 
 // The outputs of a node of the list, and zeros behind them.
 fn outputs_of(node: &[u8], n: usize) -> [u64; 258]
-    requires { ⌜ (n ≤ 257) × (47 + 13 * n ≤ length (now node)) ⌝ }
+    requires { ⌜ (n ≤ 257) × (51 + 13 * n ≤ length (now node)) ⌝ }
     ensures { λ r. ⌜ 258 ≡ length r ⌝ }
 {
     let mut outputs = [0u64; 258];
@@ -62,7 +62,7 @@ fn outputs_of(node: &[u8], n: usize) -> [u64; 258]
 
 // The targets of a node of the list, and zeros behind them.
 fn targets_of(node: &[u8], n: usize) -> [usize; 258]
-    requires { ⌜ (n ≤ 257) × (47 + 13 * n ≤ length (now node)) ⌝ }
+    requires { ⌜ (n ≤ 257) × (51 + 13 * n ≤ length (now node)) ⌝ }
     ensures { λ r. ⌜ 258 ≡ length r ⌝ }
 {
     let mut targets = [0usize; 258];
@@ -83,13 +83,13 @@ fn answer_number(compiled: Compiled) -> u64 {
 
 // Packs the node into out, with so many outputs and targets lent: the answer as a number.
 fn packed(node: &[u8], n: usize, lent_outputs: usize, lent_targets: usize, out: &mut [u8]) -> u64
-    requires { ⌜ (n ≤ 257) × (47 + 13 * n ≤ length (now node)) ⌝ }
+    requires { ⌜ (n ≤ 257) × (51 + 13 * n ≤ length (now node)) ⌝ }
     requires { ⌜ («lent_outputs» ≤ 258) × («lent_targets» ≤ 258) ⌝ }
 {
     let end = LISTS + n;
     let is_final = number(node, FINAL, 1) == 1;
     let final_output = number(node, FINAL_OUTPUT, 8);
-    let first = number(node, FIRST, 4) as usize;
+    let first = number(node, FIRST, 8) as usize;
     let outputs = outputs_of(node, n);
     let targets = targets_of(node, n);
     answer_number(node_compile::compile(
@@ -106,7 +106,7 @@ fn packed(node: &[u8], n: usize, lent_outputs: usize, lent_targets: usize, out: 
 // Whether the node packs to the recorded bytes or is refused, in the recorded room, with the rest
 // of the buffer as it was.
 fn packs_alike(list: &[u8], node: &[u8], n: usize, entry: Entry) -> bool
-    requires { ⌜ (n ≤ 257) × (47 + 13 * n ≤ length (now node)) × Within (now list) entry ⌝ }
+    requires { ⌜ (n ≤ 257) × (51 + 13 * n ≤ length (now node)) × Within (now list) entry ⌝ }
 {
     if entry.len < 4 {
         return false;
@@ -126,7 +126,7 @@ fn packs_alike(list: &[u8], node: &[u8], n: usize, entry: Entry) -> bool
 
 // Whether transition i is that of the list's node, and its input is found there.
 fn transition_alike(node: &[u8], n: usize, file: &[u8], read: Node, i: usize) -> bool
-    requires { ⌜ (47 + 13 * n ≤ length (now node)) × (i < n) ⌝ }
+    requires { ⌜ (51 + 13 * n ≤ length (now node)) × (i < n) ⌝ }
     requires { ⌜ Readable (now file) read × (i < read .ntrans) ⌝ }
 {
     let t = node::transition(file, read, i);
@@ -147,7 +147,7 @@ fn transition_alike(node: &[u8], n: usize, file: &[u8], read: Node, i: usize) ->
 
 // Whether the transitions are those of the list's node.
 fn transitions_alike(node: &[u8], n: usize, file: &[u8], read: Node) -> bool
-    requires { ⌜ (47 + 13 * n ≤ length (now node)) × Readable (now file) read
+    requires { ⌜ (51 + 13 * n ≤ length (now node)) × Readable (now file) read
         × (read .ntrans ≡ n) ⌝ }
 {
     let mut i = 0;
@@ -186,9 +186,9 @@ fn all_found(file: &[u8], read: Node) -> usize
 
 // Whether F, final and the final output are those of the list's node.
 fn numbers_alike(node: &[u8], read: Node) -> bool
-    requires { ⌜ 47 ≤ length (now node) ⌝ }
+    requires { ⌜ 51 ≤ length (now node) ⌝ }
 {
-    if read.first as u64 != number(node, FIRST, 4) {
+    if read.first as u64 != number(node, FIRST, 8) {
         return false;
     }
     if read.is_final != (number(node, FINAL, 1) == 1) {
@@ -207,7 +207,7 @@ fn node_alike(
     addr: usize,
     sound: u64,
 ) -> bool
-    requires { ⌜ 47 + 13 * n ≤ length (now node) ⌝ }
+    requires { ⌜ 51 + 13 * n ≤ length (now node) ⌝ }
 {
     let Judged::Sound(read) = node::node_at(file, version, root, addr) else {
         return sound == 0;
@@ -236,7 +236,7 @@ fn versions_alike(
     root: usize,
     addr: usize,
 ) -> bool
-    requires { ⌜ 47 + 13 * n ≤ length (now node) ⌝ }
+    requires { ⌜ 51 + 13 * n ≤ length (now node) ⌝ }
 {
     if node_alike(node, n, file, entry.a, root, addr, entry.b) {
         return node_alike(node, n, file, entry.c, root, addr, entry.b);
@@ -259,7 +259,7 @@ fn lay(list: &[u8], at: usize, n: usize, file: &mut [u8], to: usize)
 // Whether recorded bytes, laid into a file of zeros that ends with them, are read as recorded in
 // both versions.
 fn reads_alike(list: &[u8], node: &[u8], n: usize, entry: Entry) -> bool
-    requires { ⌜ (47 + 13 * n ≤ length (now node)) × Within (now list) entry ⌝ }
+    requires { ⌜ (51 + 13 * n ≤ length (now node)) × Within (now list) entry ⌝ }
 {
     if entry.len < 24 {
         return false;

@@ -19,7 +19,6 @@ use lib.Seq.{length-take-le, take-take}
 use Rattle.format.specs.Limits.{maxPath, maxLevels, NODE, SPACE, STATE}
 use Rattle.format.specs.Opening as Opening
 use Rattle.format.specs.Opening.{Meta, opened, opening}
-use Rattle.format.specs.laws.OpeningLaws.{opened-facts, root-inside}
 use Rattle.format.specs.Paths.{Fst, fstWith, fstOf}
 use Rattle.node.specs.declared.Node.{Node}
 use Rattle.node.specs.Read.{meaning}
@@ -153,10 +152,6 @@ state-facts r len e =
 
 state-is : (r : Reading) (len : ℕ) → stateRight (r .levels) (r .«bound_len») (r .len) len ≡ stateTest (viewIs r) len
 state-is r len = rw (stack-length (r .levels) (r .addrs) (r .inps) (r .trans) (r .outs))
-
--- an address of a file that opens fits 32 bits
-pub root-fits : (s : List ℕ) (m : Meta) → opening s ≡ opened m → m .root < 4294967296
-root-fits s m e = let h = opened-facts s m e in omega (arith, root-inside s m h, h .high)
 
 module _ (s : List ℕ) (r : Reading) (buf₀ : List ℕ) where
   refused-by : (n : ℕ) → R.next s (viewIs r) (length buf₀) ≡ refuse (viewIs r) n

@@ -111,7 +111,9 @@ fn enter(file: &[u8], version: u64, root: usize, addr: usize, b: u8) -> Entered
     };
     let target = node::transition_addr(file, m, p);
     let out = node::output(file, m, p);
-    Entered::Hit(p as u16, target as u32, out)
+    let place = p as u16;
+    let to = target as u32;
+    Entered::Hit(place, to, out)
 }
 
 // Writes level k.

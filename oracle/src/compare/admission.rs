@@ -12,6 +12,7 @@ use crate::hand_made::{d, deep_and_sum, final_sums, one_key, root_0, sums};
 use crate::model::{INDEX_ABOVE, MAX_LEN};
 use crate::model_file::{self, Admitted};
 use crate::prng::Prng;
+use crate::sparse::Zeros;
 
 // A file by hand with its verdict; where it is admitted, the address of each node with 1 plus its longest path and its
 // largest sum.
@@ -309,7 +310,7 @@ impl<'a> Run<'a> {
         }
         // opening's refusals come before SPACE
         let mut lent = Lent { depths: 0, sums: 0, keep };
-        let large = vec![0; MAX_LEN + 128];
+        let large = Zeros::new(MAX_LEN + 128);
         for i in 1..=120 {
             lent.depths = i;
             let judged = admitted(self.ours_file, &large[..MAX_LEN + i], lent)?;
@@ -345,23 +346,44 @@ impl<'a> Run<'a> {
         Ok(())
     }
 
-    // ---- the largest file
+    // ---- dense files
 
-    // A file of 16,777,216 bytes: admitted, and walked by the Rust. The times are of this run.
-    pub fn admission_of_largest(&mut self) -> Checked {
+    // A file of 16,777,217 bytes, and one in which its nodes stand 15 times: admitted, and walked by the Rust. The times are of
+    // this run. The tables of the second have 2.5 GiB; those of the longest file would have 40, so it is not among these.
+    pub fn admission_of_dense(&mut self) -> Checked {
         if self.one_in != 1 {
             return Ok(());
         }
-        let file = generate_file::largest(&mut Prng::new(8));
-        let lent = Lent { depths: MAX_LEN, sums: MAX_LEN, keep: 1 };
+        let file = generate_file::dense(&mut Prng::new(8), 16_777_217);
+        let lent = Lent { depths: file.len(), sums: file.len(), keep: 1 };
         let judged = admitted(self.ours_file, &file, lent)?;
-        same("the largest file", || describe_file(&file), ("wanted", 0), ("model", verdict(&judged)))?;
+        same("a dense file", || describe_file(&file), ("wanted", 0), ("model", verdict(&judged)))?;
         let found = judged.ok().expect("its verdict is 0");
         walked(&file, &found)?;
-        let nodes = found.chain.len();
+        // the model that keeps no node says the same
+        let kept: Vec<_> =
+            found.chain.iter().rev().map(|(a, _, r)| (*a as u32, 1 + r.longest as u16, r.largest as u64)).collect();
         drop(found);
+        let entries = model_file::entries(&file).map(|entries| entries.nodes);
+        same(
+            "the entries of the tables",
+            || describe_file(&file),
+            ("all nodes kept", Ok(kept)),
+            ("none kept", entries),
+        )?;
+        self.dense(&file)?;
+        self.count("files of 16,777,217 bytes admitted");
+        self.dense(&generate_file::repeated(&file, 268_435_456))?;
+        self.count("files of 268,435,456 bytes admitted");
+        Ok(())
+    }
 
-        let rust = given_file::open(&file).expect("opened above");
+    // Both tables entry by entry, and the times.
+    fn dense(&mut self, file: &[u8]) -> Checked {
+        let input = || describe_file(file);
+        let want = model_file::entries(file);
+        same("a dense file", input, ("wanted", None), ("model", want.as_ref().err()))?;
+        let want = want.ok().expect("it is admitted");
         let best = |mut run: Box<dyn FnMut() -> u64 + '_>| {
             (0..3)
                 .map(|_| {
@@ -372,16 +394,26 @@ impl<'a> Run<'a> {
                 .fold(f64::INFINITY, f64::min)
         };
         let per_byte = |seconds: f64| seconds * 1e9 / file.len() as f64;
+        let rust = given_file::open(file).expect("the Rust opens an admitted file");
+        same("all that the nodes say", input, ("the Rust", rust.walk_timed()), ("model", want.said))?;
         let walk = best(Box::new(|| rust.walk_timed()));
-        println!("largest file: {} bytes, {} nodes", file.len(), nodes);
+        println!("dense file: {} bytes, {} nodes", file.len(), want.nodes.len());
         println!("    the Rust walks its nodes:  {:.3} s, {:.2} ns a byte", walk, per_byte(walk));
         if let Some(ours) = self.ours_file {
-            let (mut depths, mut sums) = (vec![0; file.len()], vec![0; file.len()]);
-            let admit = best(Box::new(|| ours.admit(&file, &mut depths, &mut sums)));
+            let (mut depths, mut sums) = (Zeros::<u16>::new(file.len()), Zeros::<u64>::new(file.len()));
+            same("admission", input, ("model", 0), ("ours", ours.admit(file, &mut depths, &mut sums)))?;
+            let mut nodes = want.nodes.iter().peekable();
+            for i in 0..file.len() {
+                let here = nodes.next_if(|node| node.0 as usize == i);
+                let entry = here.map_or((0, 0), |node| (node.1, node.2));
+                let input = || format!("entry {}, {}", i, describe_file(file));
+                same("the tables", input, ("model", entry), ("ours", (depths[i], sums[i])))?;
+            }
+            same("the nodes in the tables", input, ("model", None), ("ours", nodes.next()))?;
+            let admit = best(Box::new(|| ours.admit(file, &mut depths, &mut sums)));
             println!("    ours admits it:            {:.3} s, {:.2} ns a byte", admit, per_byte(admit));
             println!("    ratio:                     {:.2}", admit / walk);
         }
-        self.count("files of 16,777,216 bytes admitted");
         Ok(())
     }
 }

@@ -12,6 +12,7 @@ use crate::hand_made::{d, final_sums, path_to, root_0, sums, two_outputs, unsoun
 use crate::model::{INDEX_ABOVE, MAX_LEN};
 use crate::model_file::{self, Admitted, Answer, MAX_PATH};
 use crate::prng::Prng;
+use crate::sparse::Zeros;
 
 // ---- one lookup
 
@@ -20,7 +21,7 @@ fn describe_key(file: &[u8], key: &[u8]) -> String {
 }
 
 // The key's value by the model and by ours, and by the Rust where it is given.
-fn got(
+pub fn got(
     ours: Option<&dyn FileAnswers>,
     rust: Option<&Opened>,
     file: &[u8],
@@ -59,7 +60,7 @@ fn got(
 }
 
 // A key for a value by the model and by ours, in a buffer of so many bytes, and by the Rust where it is given.
-fn got_key(
+pub fn got_key(
     ours: Option<&dyn FileAnswers>,
     rust: Option<&Opened>,
     file: &[u8],
@@ -516,7 +517,7 @@ impl<'a> Run<'a> {
                 done += 4;
             }
         }
-        let mut large = vec![0; MAX_LEN + 1];
+        let mut large = Zeros::new(MAX_LEN + 1);
         large[0] = 3;
         for i in 0..120 {
             self.damaged_lookup(&large, &vec![b'a'; i])?;

@@ -12,6 +12,7 @@ use crate::model::MAX_LEN;
 use crate::model_file::MAX_PATH;
 use crate::model_reading::{self, Told};
 use crate::prng::Prng;
+use crate::sparse::Zeros;
 
 // ---- rows by hand
 
@@ -400,7 +401,7 @@ impl<'a> Run<'a> {
     }
 
     fn made_on_large(&mut self) -> Checked {
-        let mut large = vec![0; MAX_LEN + 1];
+        let mut large = Zeros::new(MAX_LEN + 1);
         large[0] = 3;
         for i in 0..120 {
             self.made_start(&large, &[vec![b'a'; i]])?;

@@ -6,6 +6,7 @@ use crate::given_file;
 use crate::model::MAX_LEN;
 use crate::model_file::{self, MIN_LEN};
 use crate::prng::Prng;
+use crate::sparse::Zeros;
 
 // In the order of their numbers.
 pub const REFUSALS: [&str; 8] = [
@@ -59,19 +60,26 @@ const ROWS: &[Row] = &[
     Row { name: "root-1-of-36", version: 3, root: 1, len: 36, want: ROOT, rust: Rust::Panics },
     Row { name: "root-1-of-36-version-1", version: 1, root: 1, len: 36, want: ROOT, rust: Rust::Panics },
     Row { name: "root-largest", version: 3, root: u64::max_value(), len: 36, want: ROOT, rust: Rust::Panics },
-    Row { name: "largest", version: 3, root: 16_777_195, len: 16_777_216, want: 0, rust: Rust::Answers },
-    Row { name: "largest-version-1", version: 1, root: 16_777_199, len: 16_777_216, want: 0, rust: Rust::Answers },
-    Row { name: "one-too-large", version: 3, root: 16_777_196, len: 16_777_217, want: LARGE, rust: Rust::Answers },
-    Row { name: "too-large-before-version", version: 0, root: 0, len: 16_777_217, want: LARGE, rust: Rust::Refuses },
+    Row { name: "past-16-MiB", version: 3, root: 16_777_196, len: 16_777_217, want: 0, rust: Rust::Answers },
+    Row { name: "largest", version: 3, root: 4_294_967_274, len: MAX_LEN, want: 0, rust: Rust::Answers },
+    Row { name: "largest-version-1", version: 1, root: 4_294_967_278, len: MAX_LEN, want: 0, rust: Rust::Answers },
+    Row { name: "largest-version-0", version: 0, root: 0, len: MAX_LEN, want: VERSION, rust: Rust::Refuses },
+    Row { name: "one-too-large", version: 3, root: 4_294_967_275, len: MAX_LEN + 1, want: LARGE, rust: Rust::Answers },
+    Row { name: "too-large-before-version", version: 0, root: 0, len: MAX_LEN + 1, want: LARGE, rust: Rust::Refuses },
 ];
 
 // This length, version and root, with zeros elsewhere.
-fn of_row(row: &Row) -> Vec<u8> {
-    let mut file = vec![0; row.len];
-    file[..8].copy_from_slice(&row.version.to_le_bytes());
-    let root_at = row.len - if row.version == 3 { 12 } else { 8 };
-    file[root_at..root_at + 8].copy_from_slice(&row.root.to_le_bytes());
+fn of_row(row: &Row) -> Zeros<u8> {
+    let mut file = Zeros::new(row.len);
+    put_ends(&mut file, row.version, row.root);
     file
+}
+
+// The version and the root, where a file of this length has them.
+pub fn put_ends(file: &mut [u8], version: u64, root: u64) {
+    file[..8].copy_from_slice(&version.to_le_bytes());
+    let root_at = file.len() - if version == 3 { 12 } else { 8 };
+    file[root_at..root_at + 8].copy_from_slice(&root.to_le_bytes());
 }
 
 // Opening by the model and by ours, which gets five places and some more, or four, all as given; and by the Rust where the
@@ -167,26 +175,25 @@ impl<'a> Run<'a> {
             self.count_opening(&file)?;
         }
         // the two lengths at the upper end, with the right root and with others
-        let mut large = vec![0; MAX_LEN + 1];
+        let mut large = Zeros::new(MAX_LEN + 1);
         self.prng.fill(&mut large[..4_096]);
         for i in 0..(400 / self.one_in).max(20) {
-            let len = MAX_LEN + i % 2;
+            let file = &mut large[..MAX_LEN + i % 2];
+            let len = file.len();
             let version = self.prng.between(1, 3) as u64;
-            large[..8].copy_from_slice(&version.to_le_bytes());
-            let root_at = len - if version == 3 { 12 } else { 8 };
-            let root = root_at as u64 - 9 + self.prng.pick(&[0, 0, 0, 1]);
-            large[root_at..root_at + 8].copy_from_slice(&root.to_le_bytes());
-            self.count(if len == MAX_LEN { "lengths of 16,777,216" } else { "lengths of 16,777,217" });
-            self.count_opening(&large[..len])?;
-            large[root_at..root_at + 8].copy_from_slice(&[0; 8]);
+            let root = len as u64 - if version == 3 { 21 } else { 17 } + self.prng.pick(&[0, 0, 0, 1]);
+            put_ends(file, version, root);
+            self.count(if len == MAX_LEN { "lengths of 4,294,967,295" } else { "lengths of 4,294,967,296" });
+            self.count_opening(file)?;
+            large[MAX_LEN - 20..].iter_mut().for_each(|b| *b = 0);
         }
         self.require(&["opened: version 1", "opened: version 2", "opened: version 3", "opened: root 0"], 100)?;
-        self.require(&["lengths of 16,777,216", "lengths of 16,777,217"], 100)?;
+        self.require(&["lengths of 4,294,967,295", "lengths of 4,294,967,296"], 100)?;
         self.require(&["refused: 3 ROOT, and the Rust opens", "lengths 35, 36 and 37"], 1_000)?;
         self.require(&REFUSALS[..4], 100)
     }
 
-    fn count_opening(&mut self, file: &[u8]) -> Checked {
+    pub fn count_opening(&mut self, file: &[u8]) -> Checked {
         let (ours, keep) = (self.ours_file, self.prng.next());
         let rust = given_file::open(file).is_some();
         match smallest(file, |file| opened(ours, file, keep))? {

@@ -4,7 +4,7 @@ use super::{
     describe_at, describe_record, same, Checked, Difference, Run, DELTA_SIZES, OUTPUT_SIZES, RECORDS, REFUSED_RECORDS,
 };
 use crate::answers::{At, Meaning, Record, RECORD, REFUSED, SPACE};
-use crate::generate::{self, Targets, COUNTS, FIRSTS, TARGETS};
+use crate::generate::{self, Targets, COUNTS, FAR, FIRSTS, TARGETS};
 use crate::given;
 use crate::model::{self, Form, Rule, FIRST_NODE, INDEX_ABOVE, MAX_LEN};
 
@@ -13,7 +13,7 @@ const RULE_NAMES: [&str; 6] = [
     "over 256 transitions",
     "unequal lists",
     "inputs not strictly ascending",
-    "F outside 16 to 16,777,216",
+    "F outside 16 to 4,294,967,295",
     "target neither 0 nor 16 to F - 1",
     "not final with final output",
 ];
@@ -21,7 +21,7 @@ const RULE_NAMES: [&str; 6] = [
 impl<'a> Run<'a> {
     pub fn packing(&mut self) -> Checked {
         // one file for every F: zeros, but for the node that is being compared
-        let mut space = vec![0; MAX_LEN + 8192];
+        let mut space = vec![0; FAR + 8192];
         for &n in &COUNTS {
             for &is_final in &[false, true] {
                 for size in 0..=8 {
@@ -106,7 +106,7 @@ impl<'a> Run<'a> {
     }
 
     // A record that breaks no rule: packed by each, and read back at F.
-    fn packed(&mut self, record: &Record, first: usize, space: &mut [u8]) -> Checked {
+    pub fn packed(&mut self, record: &Record, first: usize, space: &mut [u8]) -> Checked {
         let input = || describe_record(record, first);
         same("a rule of RECORD", input, ("made to break", Vec::new()), ("breaks", model::broken_rules(record, first)))?;
         let bytes = match given::pack(record, first) {
@@ -241,7 +241,7 @@ impl<'a> Run<'a> {
         if first == FIRST_NODE {
             self.count("F is 16");
         }
-        if first == MAX_LEN {
+        if first == FAR {
             self.count("F is 16,777,216");
         }
         if record.targets.contains(&0) {
@@ -302,7 +302,7 @@ impl<'a> Run<'a> {
             0 => prng.between(17, 40),
             1 => prng.between(17, 1_000),
             2 => MAX_LEN,
-            _ => prng.between(17, MAX_LEN),
+            _ => prng.between(17, FAR),
         };
         let mut record = generate::small_record(prng, first, 0);
         let n = record.inputs.len();

@@ -159,15 +159,15 @@ impl<'s> Demanded<'s> {
 
 // ---- one range
 
-struct Asked<'q> {
-    lower: &'q Bound,
-    upper: &'q Bound,
-    calls: usize,
-    keep: u64,
+pub struct Asked<'q> {
+    pub lower: &'q Bound,
+    pub upper: &'q Bound,
+    pub calls: usize,
+    pub keep: u64,
 }
 
 #[derive(Default)]
-struct Seen {
+pub struct Seen {
     refused: Option<u64>,
     keys: usize,
     short_buffers: usize,
@@ -177,7 +177,7 @@ struct Seen {
 }
 
 // A range with so many calls, or up to the end and one call more, by each.
-fn ranged(
+pub fn ranged(
     ours: Option<&dyn ReadingAnswers>,
     rust: &Opened,
     strings: Option<&[Spelled]>,
@@ -692,7 +692,7 @@ impl<'a> Run<'a> {
         Ok(())
     }
 
-    fn count_range(&mut self, seen: &Seen, lower: &Bound, upper: &Bound, by_strings: bool) {
+    pub fn count_range(&mut self, seen: &Seen, lower: &Bound, upper: &Bound, by_strings: bool) {
         self.count("ranges");
         if seen.refused.is_some() {
             return self.count("ranges: refused, 9 BOUND");

@@ -1,10 +1,14 @@
 -- Laws of `Opening`: each answer by what leads to it, and what an opened file says.
+--     large-exactly                   LARGE and nothing else is what a file past the limit gets
+--     opened-facts                    what holds of a file that opens
+--     len-fits, root-fits, ..-fits    its length and its addresses fit 32 bits
 -- Assumes nothing.
 use mathlib.Core.Path.{_≡_, refl, sym, ap, _∙_}
 use mathlib.Core.Bool.{Bool, true, false, cond, _&&_}
 use mathlib.Core.Logic.{_⊎_, inl, inr}
-use mathlib.Core.List.{List}
+use mathlib.Core.List.{List, List·Memᴰ}
 use Prim.Native.Nat.{ℕ, _+_, _-_, _≤_, _<_}
+use native.Mathlib.Decide.{ℕ-discrete}
 use native.Mathlib.Omega.{arith}
 use borrow.Author.Tests.{lt-ltb, le-ltb, le-leb, lt-leb, eq-eqb, ne-eqb, ltb-true, ltb-false, leb-true, eqb-true, eqb-false}
 use lib.Dec.{ltb, leb, eqb}
@@ -13,6 +17,10 @@ use Rattle.buffers.specs.Decide.{Decides}
 use Rattle.buffers.specs.DecideLaws.{decides-and, decides-le, decides-eq, decides-iff}
 use Rattle.format.specs.Limits.{firstNode, minLen, maxLen, SHORT, VERSION, ROOT, LARGE}
 use Rattle.format.specs.Opening.{Meta, trailerLen, metaOf, versionTest, rootTest, opened, refused, opening}
+use Rattle.format.specs.declared.Transition.{Transition}
+use Rattle.format.specs.Node.{Node, sound}
+use Rattle.format.specs.Paths.{fstOf, nodeIn}
+use Rattle.format.specs.laws.NodeFacts.{node-below, node-target-lt}
 
 module _ (s : List ℕ) where
   pub opening-short : length s < minLen → opening s ≡ refused SHORT
@@ -36,6 +44,23 @@ module _ (s : List ℕ) where
       pub opening-opened : versionTest (metaOf s .version) ≡ true → rootTest (metaOf s .version) (metaOf s .root) (length s) ≡ true → opening s ≡ opened (metaOf s)
       unfolding opening
       opening-opened e r = rw (le-ltb (length s) minLen low, le-ltb maxLen (length s) high, e, r)
+
+-- the limit is exact: no other file is too large
+pub large-exactly : (s : List ℕ) → (opening s ≡ refused LARGE → maxLen < length s) × (maxLen < length s → opening s ≡ refused LARGE)
+unfolding opening
+large-exactly s = (
+  λ e. go (ltb (length s) minLen) (ltb maxLen (length s)) refl (versionTest (metaOf s .version)) (rootTest (metaOf s .version) (metaOf s .root) (length s)) e,
+  λ h. opening-large s (omega arith) h,
+)
+  where
+    go : (a b : Bool) → ltb maxLen (length s) ≡ b → (v r : Bool)
+        → cond a (refused SHORT) (cond b (refused LARGE) (cond v (cond r (opened (metaOf s)) (refused ROOT)) (refused VERSION))) ≡ refused LARGE
+        → maxLen < length s
+    go true b is-b v r e = absurd (let z : _≡_ {A = ℕ} SHORT LARGE = cc in omega arith)
+    go false true is-b v r e = ltb-true maxLen (length s) is-b
+    go false false is-b true true e = absurd (let z : _≡_ {A = ℕ} 0 1 = cc in omega arith)
+    go false false is-b true false e = absurd (let z : _≡_ {A = ℕ} ROOT LARGE = cc in omega arith)
+    go false false is-b false r e = absurd (let z : _≡_ {A = ℕ} VERSION LARGE = cc in omega arith)
 
 -- ---- versions and roots
 
@@ -113,3 +138,19 @@ root-inside s m h = go (h .root-rule)
     go : ((m .root ≡ 0) × (m .version ≡ 3) × (length s ≡ minLen)) ⊎ ((firstNode ≤ m .root) × (m .root + 1 + trailerLen (m .version) ≡ length s)) → m .root < length s
     go (inl z) = omega (arith, h .low, z .0)
     go (inr r) = omega (arith, r .1)
+
+-- ---- what 32 bits must hold: a place past a node may lie beyond the file, and is not among these
+
+module _ (s : List ℕ) (m : Meta) (opens : opening s ≡ opened m) where
+  pub len-fits : length s < 4294967296
+  len-fits = omega (arith, opened-facts s m opens .high)
+
+  pub root-fits : m .root < 4294967296
+  root-fits = omega (arith, root-inside s m (opened-facts s m opens), len-fits)
+
+  module _ (a : ℕ) (n : Node) (e : nodeIn (fstOf s m) a ≡ sound n) where
+    pub addr-fits : a < 4294967296
+    addr-fits = elim (ℕ-discrete a 0) [ yes z ↦ omega arith | no z ↦ omega (arith, node-below (fstOf s m) a n e z, root-fits) ]
+
+    pub target-fits : (t : Transition) → List·Memᴰ t (n .transitions) → t .addr < 4294967296
+    target-fits t mem = omega (arith, node-target-lt (fstOf s m) a n e t mem, addr-fits)

@@ -18,9 +18,9 @@ use Rattle.fst.proofs.open.Tie as tie
 returns : tie.Need-returns
 returns c = sym (opening-short (now (c .before .before .args .file)) (c .if1 .taken))
 
--- over 16,777,216 bytes: LARGE
+-- over the largest length: LARGE
 returns-2 : tie.Need-returns-2
-returns-2 c = sym (opening-large (now (c .before .before .before .args .file)) (c .before .if1 .left) (c .if2 .taken))
+returns-2 c = sym (opening-large (now (c .before .before .before .args .file)) (c .before .if1 .left) (omega (arith, c .if2 .taken)))
 
 read-u64-le-requires : tie.Need-read-u64-le-requires
 read-u64-le-requires c κs = search needs

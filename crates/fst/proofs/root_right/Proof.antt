@@ -31,7 +31,7 @@ sub-result-2 c = search needs
 
 -- the place before the trailer decides
 returns-4 : tie.Need-returns-4
-returns-4 c = let start = c .before .before .before in let a = start .args in root-at-trailer (a .version) (a .len) (a .root) (c .trailer-len .result) (c .trailer-len .ensures .0) (omega (arith, start .pre .0, c .trailer-len .ensures .1)) (c .before .before .if1 .left) (c .before .if3 .left)
+returns-4 c = let start = c .before .before .before in let a = start .args in root-at-trailer (a .version) (a .len) (a .root) (c .trailer-len .result) (c .trailer-len .ensures .0) (omega (arith, start .pre, c .trailer-len .ensures .1)) (c .before .before .if1 .left) (c .before .if3 .left)
 
 pub root-right-spec : {M : Type 1} → statement M
 root-right-spec =

@@ -1,4 +1,5 @@
--- `node::within_reach` meets its contract: a number of one byte is at most 255, of two at most 65535.
+-- `node::within_reach` meets its contract: a number of one byte is at most 255, of two at most 65535, of three at most
+-- 16777215.
 -- Assumes nothing.
 use borrow.Author.Tests.{lt-ltb, le-ltb, le-leb, lt-leb, eq-eqb, ne-eqb, leb-true}
 use mathlib.Core.Bool.{false≢true}
@@ -23,9 +24,16 @@ sub-result-2 c = search needs
 returns-2 : tie.Need-returns-2
 returns-2 c = λ e. let start = c .before .before in let h = leb-true 65535 (start .args .first - 16) e in rw (c .if2 .taken) (omega (arith, start .pre))
 
--- any other size: false claims nothing
+sub-result-3 : tie.Need-sub-result-3
+sub-result-3 c = search needs
+
+-- a size of three bytes
 returns-3 : tie.Need-returns-3
-returns-3 c = λ e. absurd (false≢true e)
+returns-3 c = λ e. let start = c .before .before .before in let h = leb-true 16777215 (start .args .first - 16) e in rw (c .if3 .taken) (omega (arith, start .pre))
+
+-- any other size: false claims nothing
+returns-4 : tie.Need-returns-4
+returns-4 c = λ e. absurd (false≢true e)
 
 pub within-reach-spec : {M : Type 1} → statement M
-within-reach-spec = tie.close (tie.spec sub-result returns sub-result-2 returns-2 returns-3)
+within-reach-spec = tie.close (tie.spec sub-result returns sub-result-2 returns-2 sub-result-3 returns-3 returns-4)

@@ -3,6 +3,7 @@
 use mathlib.Core.Bool.{true≢false}
 use native.Mathlib.Nat.{not-le-of-lt}
 use borrow.Author.Needs.{needs}
+use native.Mathlib.Omega.{arith}
 use Rattle.buffers.specs.DecideLaws.{decides-true, decides-false, decides-eq, decides-iff}
 use Rattle.node_compile.proofs.record_ok.Statement.{statement}
 use Rattle.node_compile.proofs.record_ok.Tie as tie
@@ -25,7 +26,7 @@ returns-4 c = decides-false (λ ok. not-le-of-lt (c .if4 .taken) (ok .first-low)
 
 -- F above the largest length of a file
 returns-5 : tie.Need-returns-5
-returns-5 c = decides-false (λ ok. not-le-of-lt (c .if5 .taken) (ok .first-high))
+returns-5 c = decides-false (λ ok. absurd (omega (arith, c .if5 .taken, ok .first-high)))
 
 inputs-ascend-requires : tie.Need-inputs-ascend-requires
 inputs-ascend-requires c κs = search needs

@@ -2,10 +2,11 @@
 -- Assumes nothing.
 use mathlib.Core.Path.{_≡_, sym, _∙_, ap}
 use denote.Ref.{now}
-use Rattle.stream_next.proofs.NextCases.{state-facts, root-fits, next-refused, next-state, next-space, next-walk}
+use Rattle.stream_next.proofs.NextCases.{state-facts, next-refused, next-state, next-space, next-walk}
 use mathlib.Core.Bool.{true}
 use lib.ListN.{length}
 use Rattle.format.specs.Opening as O
+use Rattle.format.specs.laws.OpeningLaws.{root-fits}
 use Rattle.format.specs.Paths.{fstOf}
 use Rattle.fst.specs.declared.Meta.{Meta}
 use Rattle.fst.specs.Open.{metaIs, openingIs}

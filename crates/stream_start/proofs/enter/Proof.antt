@@ -106,8 +106,8 @@ first-above-requires : tie.Need-first-above-requires
 first-above-requires c κs = readable (c .before .before .before)
 
 -- a node has at most 256 transitions, so the place fits in 16 bits
-cast-t13 : tie.Need-cast-t13
-cast-t13 c = let q = c .before .before .before .before in omega (arith, c .first-above .ensures .1, count q)
+cast-t15 : tie.Need-cast-t15
+cast-t15 c = let q = c .before .before .before .before in omega (arith, c .first-above .ensures .1, count q)
 
 -- the byte is absent
 returns-2 : tie.Need-returns-2
@@ -124,12 +124,12 @@ transition-addr-requires c κs = (readable (q-of c), place-low c)
 output-requires : tie.Need-output-requires
 output-requires c κs = (readable (q-of (c .before)), place-low (c .before))
 
-cast-t14 : tie.Need-cast-t14
-cast-t14 c = omega (arith, low (c .before .before))
+cast-place : tie.Need-cast-place
+cast-place c = omega (arith, low (c .before .before))
 
 -- the target is below the root, so it fits in 32 bits
-cast-t15 : tie.Need-cast-t15
-cast-t15 c = omega (arith, target (c .before .before), c .before .transition-addr .ensures)
+cast-to : tie.Need-cast-to
+cast-to c = omega (arith, target (c .before .before), c .before .transition-addr .ensures)
 
 -- the byte is found
 returns-3 : tie.Need-returns-3
@@ -148,10 +148,10 @@ enter-spec =
     enum-known-p
     enum-told-2
     first-above-requires
-    cast-t13
+    cast-t15
     returns-2
     transition-addr-requires
     output-requires
-    cast-t14
-    cast-t15
+    cast-place
+    cast-to
     returns-3)

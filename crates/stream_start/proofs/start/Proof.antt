@@ -2,7 +2,7 @@
 -- Assumes nothing.
 use mathlib.Core.Path.{_≡_, refl, sym, ap, _∙_}
 use Rattle.format.specs.Opening as O
-use Rattle.format.specs.laws.OpeningLaws.{opened-facts, root-inside}
+use Rattle.format.specs.laws.OpeningLaws.{root-fits}
 use Rattle.fst.specs.Open.{metaIs, openingIs}
 use Rattle.stream_start.specs.Views.{boundIs}
 use Rattle.stream_start.proofs.StartLaws.{start-opened, start-refused}
@@ -31,9 +31,7 @@ enum-known-opened-2 c = search needs
 -- the root lies in the file, so it fits in 32 bits
 start-from-requires : tie.Need-start-from-requires
 start-from-requires c κs = let q = c .before in
-    let s = now (q .before .before .before .before .before .before .args .file) in
-    let facts = opened-facts s (metaIs (q .opened2 .given .0 .0)) (opens q) in
-    omega (arith, root-inside s (metaIs (q .opened2 .given .0 .0)) facts, facts .high)
+    root-fits (now (q .before .before .before .before .before .before .args .file)) (metaIs (q .opened2 .given .0 .0)) (opens q)
 
 -- the file does not open
 returns : tie.Need-returns

@@ -1,0 +1,247 @@
+/* Calls every function of include/baxhiso.h on files around the largest length, and checks the result and what is written.
+ *
+ * A file is an anonymous mapping of zeros, so that it takes memory only where it is read or written: its header, its trailer
+ * and the nodes that are met. While it is lent it may only be read, and it ends at a page that may not be touched: a step
+ * beyond it, or a byte written to it, ends the program. Nothing is reserved for the tables, which would have 40 GiB. */
+#define _DEFAULT_SOURCE
+#include <stdio.h>
+#include <stdlib.h>
+#include <string.h>
+#include <sys/mman.h>
+
+#include "baxhiso.h"
+
+#define PAGE ((size_t)4096)
+#define MARK UINT64_C(0xA5A5A5A5A5A5A5A5)
+
+static const char *row;
+static int calls, differences;
+
+static void expect_number(uint64_t got, uint64_t want, const char *what)
+{
+    if (got != want) {
+        differences++;
+        printf("%s: %s is %llu, not %llu\n", row, what, (unsigned long long)got, (unsigned long long)want);
+    }
+}
+
+/* Zeros that can be read and written. */
+static void *map(size_t bytes)
+{
+    void *p = mmap(NULL, bytes, PROT_READ | PROT_WRITE, MAP_PRIVATE | MAP_ANONYMOUS | MAP_NORESERVE, -1, 0);
+    if (p == MAP_FAILED) {
+        perror("no room for the addresses");
+        exit(2);
+    }
+    return p;
+}
+
+/* ---- files */
+
+typedef struct file {
+    uint8_t *bytes;
+    size_t len;
+    uint8_t *mapped;
+    size_t mapped_len;
+} file;
+
+static file zeros(size_t len)
+{
+    file f;
+    size_t pages = (len + PAGE - 1) / PAGE * PAGE;
+    f.len = len;
+    f.mapped_len = pages + PAGE;
+    f.mapped = map(f.mapped_len);
+    f.bytes = f.mapped + (pages - len);
+    if (mprotect(f.mapped + pages, PAGE, PROT_NONE) != 0) {
+        perror("mprotect");
+        exit(2);
+    }
+    return f;
+}
+
+static void put(file f, size_t at, uint64_t number, int size)
+{
+    for (int i = 0; i < size; i++)
+        f.bytes[at + (size_t)i] = (uint8_t)(number >> (8 * i));
+}
+
+/* From here on the file may only be read. */
+static void lend(file f)
+{
+    if (mprotect(f.mapped, f.mapped_len - PAGE, PROT_READ) != 0) {
+        perror("mprotect");
+        exit(2);
+    }
+}
+
+static void drop(file f)
+{
+    munmap(f.mapped, f.mapped_len);
+}
+
+/* ---- one runner for each function */
+
+static void open_row(const char *name, file f, int32_t want, uint64_t version, uint64_t root)
+{
+    fst_meta meta = { MARK, MARK, MARK, MARK, MARK };
+    row = name;
+    calls++;
+    expect_number((uint64_t)fst_open(f.bytes, f.len, &meta), (uint64_t)want, "fst_open");
+    expect_number(meta.version, want == FST_OK ? version : MARK, "version");
+    expect_number(meta.type, want == FST_OK ? 0 : MARK, "type");
+    expect_number(meta.keys, want == FST_OK ? 0 : MARK, "keys");
+    expect_number(meta.root, want == FST_OK ? root : MARK, "root");
+    expect_number(meta.checksum, want != FST_OK ? MARK : version == 3 ? 0 : FST_NO_CHECKSUM, "checksum");
+}
+
+static void get_row(const char *name, file f, const char *key, int32_t want, uint64_t value)
+{
+    uint64_t got = MARK;
+    row = name;
+    calls++;
+    expect_number((uint64_t)fst_get(f.bytes, f.len, (const uint8_t *)key, strlen(key), &got), (uint64_t)want, "fst_get");
+    expect_number(got, want == FST_OK ? value : MARK, "value");
+}
+
+static void get_key_row(const char *name, file f, uint64_t value, int32_t want, const char *key)
+{
+    uint8_t buffer[FST_KEY_SPACE];
+    size_t len = (size_t)MARK, key_len = want == FST_OK ? strlen(key) : 0;
+    memset(buffer, (int)(MARK & 0xFF), sizeof buffer);
+    row = name;
+    calls++;
+    expect_number((uint64_t)fst_get_key(f.bytes, f.len, value, buffer, sizeof buffer, &len), (uint64_t)want, "fst_get_key");
+    expect_number(len, want == FST_OK ? key_len : MARK, "key_len");
+    for (size_t i = 0; i < sizeof buffer; i++)
+        expect_number(buffer[i], i < key_len ? (uint8_t)key[i] : MARK & 0xFF, "a byte of the key buffer");
+}
+
+/* Refused before any entry is written. Marked are entries at the tables' ends and at nodes of the sparse file. */
+static void admit_row(const char *name, file f, size_t depths_len, size_t sums_len, int32_t want)
+{
+    const size_t marked[] = { 0, 21, 2147483648u, 4294967270u, 4294967293u };
+    uint16_t *depths = map((depths_len + 1) * sizeof *depths);
+    uint64_t *sums = map((sums_len + 1) * sizeof *sums);
+    size_t i;
+    for (i = 0; i < sizeof marked / sizeof *marked; i++) {
+        if (marked[i] < depths_len)
+            depths[marked[i]] = (uint16_t)MARK;
+        if (marked[i] < sums_len)
+            sums[marked[i]] = MARK;
+    }
+    row = name;
+    calls++;
+    expect_number((uint64_t)fst_admit(f.bytes, f.len, depths, depths_len, sums, sums_len), (uint64_t)want, "fst_admit");
+    for (i = 0; i < sizeof marked / sizeof *marked; i++) {
+        if (marked[i] < depths_len)
+            expect_number(depths[marked[i]], (uint16_t)MARK, "an entry of depths");
+        if (marked[i] < sums_len)
+            expect_number(sums[marked[i]], MARK, "an entry of sums");
+    }
+    munmap(depths, (depths_len + 1) * sizeof *depths);
+    munmap(sums, (sums_len + 1) * sizeof *sums);
+}
+
+/* ---- the sparse file */
+
+/* A file of the largest length: from 16 up a node that is final with 7 and leads on with x/1 to 0, at 2^31 one that is final
+ * with 2 and leads to the first with m/3, and a root just below the trailer that leads to both and to 0, with a/0, b/20 and
+ * c/100. Its keys are a: 7, ax: 1, b: 22, bm: 30, bmx: 24, c: 100. It is not admitted, since zeros are no chain of nodes. */
+static file sparse(uint64_t version, uint64_t *root)
+{
+    static const uint8_t low[] = { 0x07, 0x01, 0x00, 0x78, 0x11, 0x41 };
+    static const uint8_t middle[] = { 0x02, 0x03, 0xEB, 0xFF, 0xFF, 0x7F, 0x6D, 0x41, 0x41 };
+    /* outputs of c, b and a; deltas of c, b and a, which are written below; inputs; sizes; three transitions */
+    static const uint8_t top[] = { 0x64, 0x14, 0x00, 0, 0, 0, 0, 0, 0, 0, 0, 0, 0, 0, 0, 0x63, 0x62, 0x61, 0x41, 0x03 };
+    file f = zeros(FST_MAX_LEN);
+    size_t end = f.len - (version == 3 ? 20 : 16), first = end - sizeof top;
+    memcpy(f.bytes + 16, low, sizeof low);
+    memcpy(f.bytes + 2147483648u, middle, sizeof middle);
+    memcpy(f.bytes + first, top, sizeof top);
+    put(f, first + 7, first - (2147483648u + sizeof middle - 1), 4);
+    put(f, first + 11, first - (16 + sizeof low - 1), 4);
+    *root = end - 1;
+    put(f, 0, version, 8);
+    put(f, end + 8, *root, 8);
+    lend(f);
+    return f;
+}
+
+static void sparse_rows(uint64_t version)
+{
+    uint64_t root;
+    file f = sparse(version, &root);
+    size_t n = f.len;
+    open_row("sparse", f, FST_OK, version, root);
+    expect_number(root, version == 3 ? 4294967274u : 4294967278u, "the root");
+    get_row("sparse, a", f, "a", FST_OK, 7);
+    get_row("sparse, ax", f, "ax", FST_OK, 1);
+    get_row("sparse, b", f, "b", FST_OK, 22);
+    get_row("sparse, bm", f, "bm", FST_OK, 30);
+    get_row("sparse, bmx", f, "bmx", FST_OK, 24);
+    get_row("sparse, c", f, "c", FST_OK, 100);
+    get_row("sparse, empty key", f, "", FST_NONE, 0);
+    get_row("sparse, ca", f, "ca", FST_NONE, 0);
+    get_row("sparse, d", f, "d", FST_NONE, 0);
+    /* by value, final outputs are not counted */
+    get_key_row("sparse, 0", f, 0, FST_OK, "a");
+    get_key_row("sparse, 1", f, 1, FST_OK, "ax");
+    get_key_row("sparse, 20", f, 20, FST_OK, "b");
+    get_key_row("sparse, 23", f, 23, FST_OK, "bm");
+    get_key_row("sparse, 24", f, 24, FST_OK, "bmx");
+    get_key_row("sparse, 100", f, 100, FST_OK, "c");
+    get_key_row("sparse, 22", f, 22, FST_NONE, NULL);
+    get_key_row("sparse, 101", f, 101, FST_NONE, NULL);
+    admit_row("sparse, depths one short", f, n - 1, n, FST_SPACE);
+    admit_row("sparse, sums one short", f, n, n - 1, FST_SPACE);
+    admit_row("sparse, both one short", f, n - 1, n - 1, FST_SPACE);
+    admit_row("sparse, no entries", f, 0, 0, FST_SPACE);
+    drop(f);
+}
+
+/* ---- zeros, in every function */
+
+static void zeros_row(const char *name, size_t len, int32_t want)
+{
+    file f = zeros(len);
+    lend(f);
+    open_row(name, f, want, 0, 0);
+    get_row(name, f, "a", want, 0);
+    get_key_row(name, f, 3, want, NULL);
+    admit_row(name, f, 10, 10, want);
+    drop(f);
+}
+
+/* A right root, in a file that is longer than the longest. */
+static void long_row(const char *name, size_t len)
+{
+    for (uint64_t version = 1; version <= 3; version++) {
+        file f = zeros(len);
+        size_t end = len - (version == 3 ? 20 : 16);
+        put(f, 0, version, 8);
+        put(f, end + 8, end - 1, 8);
+        lend(f);
+        open_row(name, f, FST_LARGE, 0, 0);
+        get_row(name, f, "", FST_LARGE, 0);
+        drop(f);
+    }
+}
+
+int main(void)
+{
+    zeros_row("16,777,216 zeros", 16777216, FST_VERSION);
+    zeros_row("16,777,217 zeros", 16777217, FST_VERSION);
+    zeros_row("4,294,967,295 zeros", 4294967295u, FST_VERSION);
+    zeros_row("4,294,967,296 zeros", 4294967296u, FST_LARGE);
+    zeros_row("4,294,967,332 zeros", 4294967332u, FST_LARGE);
+    zeros_row("8,589,934,592 zeros", 8589934592u, FST_LARGE);
+    expect_number(FST_MAX_LEN, 4294967295u, "FST_MAX_LEN");
+    long_row("4,294,967,296 bytes, right root", 4294967296u);
+    long_row("4,294,967,332 bytes, right root", 4294967332u);
+    long_row("8,589,934,592 bytes, right root", 8589934592u);
+    for (uint64_t version = 1; version <= 3; version++)
+        sparse_rows(version);
+    printf("%d calls on files around 4 GiB, %d differences\n", calls, differences);
+    return differences > 0;
+}
