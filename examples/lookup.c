@@ -7,10 +7,12 @@
  * FILE may be -, for standard input. The file is admitted before it is looked into. It prints `none` where nothing is held, and
  * `refused` with the number (docs/FORMAT.md, "Refusals") where the file is not admitted. `./lookup --help` says it all.
  */
+#define _POSIX_C_SOURCE 200112L
 #include <inttypes.h>
 #include <stdio.h>
 #include <stdlib.h>
 #include <string.h>
+#include <sys/stat.h>
 
 #include "baxhiso.h"
 
@@ -108,29 +110,23 @@ static const char *name_of(int32_t refusal)
     }
 }
 
-/* Whether a file says that it is longer than the longest; one that cannot be asked, as a pipe, does not say so. */
+/* Whether a file has more to be read than the longest file has; what is no file on a disk, as a pipe, does not say. */
 static int says_too_long(FILE *in)
 {
+    struct stat about;
     long here = ftell(in);
-    if (here < 0 || fseek(in, 0, SEEK_END) != 0) {
-        return 0;
-    }
-    long end = ftell(in);
-    return fseek(in, here, SEEK_SET) == 0 && end >= 0 && (uint64_t)end > FST_MAX_LEN;
+    return here >= 0 && fstat(fileno(in), &about) == 0 && S_ISREG(about.st_mode) && about.st_size > here &&
+           (uint64_t)about.st_size - (uint64_t)here > FST_MAX_LEN;
 }
 
-/* Reads a whole file into a buffer that is doubled as it fills. Where the file is over FST_MAX_LEN bytes the length is so too, and
- * what is beyond is not read, nor the rest where the file says so. NULL where memory does not suffice. */
+/* Reads what a file has, and at most one byte more than the longest file has, so that a longer one is refused and not cut. The
+ * buffer is doubled as it fills. NULL where memory does not suffice. */
 static uint8_t *read_whole(FILE *in, size_t *len)
 {
     const uint64_t most = FST_MAX_LEN + 1;
     uint64_t space = 65536;
     uint8_t *file = malloc(space);
     *len = file == NULL ? 0 : fread(file, 1, space, in);
-    if (*len == space && says_too_long(in)) {
-        *len = most;
-        return file;
-    }
     while (file != NULL && *len == space && space < most) {
         space = space < most / 2 ? space * 2 : most;
         uint8_t *larger = realloc(file, space);
@@ -148,8 +144,7 @@ static uint8_t *read_whole(FILE *in, size_t *len)
 static int admit(const uint8_t *file, size_t file_len, int32_t *result)
 {
     fst_meta meta;
-    /* a longer file has not been read to its end */
-    *result = file_len > FST_MAX_LEN ? FST_LARGE : fst_open(file, file_len, &meta);
+    *result = fst_open(file, file_len, &meta);
     if (*result != FST_OK) {
         return 1;
     }
@@ -183,20 +178,23 @@ int main(int argc, char **argv)
     if (in == NULL) {
         return trouble(argv[1]);
     }
+    /* A file that says so is refused unread: LARGE is judged by the length alone. */
+    int32_t result = FST_LARGE;
+    uint8_t *file = NULL;
     size_t file_len = 0;
-    uint8_t *file = read_whole(in, &file_len);
-    if (file == NULL) {
-        return trouble("no memory for the file");
-    }
-    if (ferror(in)) {
-        return trouble(standard ? "standard input" : argv[1]);
+    if (!says_too_long(in)) {
+        file = read_whole(in, &file_len);
+        if (file == NULL) {
+            return trouble("no memory for the file");
+        }
+        if (ferror(in)) {
+            return trouble(standard ? "standard input" : argv[1]);
+        }
+        if (!admit(file, file_len, &result)) {
+            return trouble("no memory for the work tables");
+        }
     }
     fclose(in);
-
-    int32_t result;
-    if (!admit(file, file_len, &result)) {
-        return trouble("no memory for the work tables");
-    }
 
     if (result == FST_OK && by_value) {
         uint8_t key[FST_KEY_SPACE];
