@@ -1,5 +1,5 @@
 -- Lemmas on plain lists and numbers, for the proofs of this crate.
-mod Reading
+mod Weights
 mod Writing
 mod Size
 mod Place

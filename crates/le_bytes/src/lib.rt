@@ -44,12 +44,17 @@ pub fn unpack_uint(slice: &[u8], nbytes: usize) -> u64
     requires { ⌜ (nbytes ≤ 8) × (nbytes ≤ length (now slice)) ⌝ }
     ensures { λ r. ⌜ r ≡ le (take nbytes (now (slice .entry))) ⌝ }
 {
-    let mut n: u64 = 0;
-    // the highest byte first: those from i on are read
-    let mut i = nbytes;
-    while 0 < i {
-        n = n * 256 + wide(slice[i - 1]);
-        i -= 1;
+    if nbytes == 0 {
+        return 0;
+    }
+    let mut n = wide(slice[0]);
+    // the weight of byte i - 1; multiplied before a byte that is still to come, since 256^8 has no 64 bits
+    let mut weight: u64 = 1;
+    let mut i = 1;
+    while i < nbytes {
+        weight *= 256;
+        n += wide(slice[i]) * weight;
+        i += 1;
     }
     n
 }

@@ -3,7 +3,7 @@
 use borrow.Author.Needs.{needs}
 use native.Mathlib.Omega.{arith}
 use denote.Ref.{now}
-use Rattle.le_bytes.proofs.Reading.{le-take-lt}
+use Rattle.le_bytes.proofs.Weights.{le-take-lt}
 use Rattle.le_bytes.proofs.read_u32_le.Statement.{statement}
 use Rattle.le_bytes.proofs.read_u32_le.Tie as tie
 

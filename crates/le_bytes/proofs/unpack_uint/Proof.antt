@@ -1,27 +1,26 @@
--- `le_bytes::unpack_uint` meets its contract. The loop's invariant: n is the number of the bytes from i to nbytes, read from the
--- highest down, so that no turn shifts. The measure is i.
+-- `le_bytes::unpack_uint` meets its contract. The loop's invariant: n is the number of the first i bytes, and weight is the weight of the
+-- last of them; the multiplication stands before a byte that is still to come, so that the weight never passes 256 ^ 7. The measure is
+-- nbytes less i.
 -- Assumes nothing.
-use native.Mathlib.Omega.{arith}
 use borrow.Author.Needs.{needs}
 use denote.Ref.{now}
-use Rattle.le_bytes.proofs.Reading.{ReadTo, read-none, read-few, read-fits, read-step, read-all}
+use Rattle.format.specs.Bytes as B
+use Prim.Native.Nat.{_-_}
+use Rattle.le_bytes.proofs.Weights.{ReadUp, read-one, next-weight, weight-fits, read-up, sum-fits, read-up-all}
+use native.Mathlib.Omega.{arith}
 use Rattle.le_bytes.proofs.unpack_uint.Statement.{statement}
 use Rattle.le_bytes.proofs.unpack_uint.Tie as tie
 
 abbrev Inv-loop : tie.InvT-loop
-Inv-loop slice nbytes n₀ i₀ n i = ReadTo slice nbytes i n
+Inv-loop slice nbytes n₀ weight₀ i₀ n weight i = ReadUp slice nbytes i n weight
 
 abbrev μ-loop : tie.MeasureT-loop
-μ-loop slice nbytes n₀ i₀ n i = i
+μ-loop slice nbytes n₀ weight₀ i₀ n weight i = nbytes - i
 
-loop-holds : tie.Need-loop-holds Inv-loop μ-loop
-loop-holds c = read-none (now (c .before .args .slice)) (c .before .args .nbytes) (c .before .pre .1)
-
-mul-n : tie.Need-mul-n Inv-loop μ-loop
-mul-n c = omega (arith, read-few (c .before .before .before .pre .0) (c .loop-test .taken) (c .before .loop .inv))
-
-sub-wide : tie.Need-sub-wide Inv-loop μ-loop
-sub-wide c = search needs
+-- no bytes
+returns : tie.Need-returns Inv-loop μ-loop
+unfolding B.le
+returns c = search needs
 
 shared-slice-read-wide : tie.Need-shared-slice-read-wide Inv-loop μ-loop
 shared-slice-read-wide c = search needs
@@ -29,31 +28,63 @@ shared-slice-read-wide c = search needs
 wide-requires : tie.Need-wide-requires Inv-loop μ-loop
 wide-requires c κs = search needs
 
--- whichever byte is read, it fits
+-- the lowest byte, with the weight 1
+loop-holds : tie.Need-loop-holds Inv-loop μ-loop
+loop-holds c =
+    rw (c .wide .ensures)
+    (read-one (now (c .before .before .before .before .args .slice)) (c .before .before .before .before .args .nbytes) (omega arith) (omega (arith, c .before .before .before .before .pre .1)))
+
+-- the weight of a byte that is still to come: 256 ^ 7 at most
+mul-weight : tie.Need-mul-weight Inv-loop μ-loop
+mul-weight c =
+    let r = c .before .loop .inv in
+    record { fits = omega (arith, next-weight r, weight-fits {i = c .before .loop .i} (omega (arith, c .loop-test .taken, c .before .before .before .before .before .before .pre .0))) }
+
+shared-slice-read-wide-2 : tie.Need-shared-slice-read-wide-2 Inv-loop μ-loop
+shared-slice-read-wide-2 c = search needs
+
+wide-requires-2 : tie.Need-wide-requires-2 Inv-loop μ-loop
+wide-requires-2 c κs = search needs
+
+-- the byte with its weight is a part of the sum
+mul-n : tie.Need-mul-n Inv-loop μ-loop
+mul-n c =
+    let body = c .before .before in
+    record {
+      fits = rw (c .wide2 .ensures)
+          (omega (
+            arith,
+            sum-fits (body .before .before .before .before .before .before .pre .0) (body .before .before .before .before .before .before .pre .1) (body .loop-test .taken)
+                (λ j. c .before .shared-slice-known3 .given j .fits) (body .before .loop .inv),
+          ));
+    }
+
+-- i + 1 bytes, at most 8, stand for a number of 64 bits
 add-n : tie.Need-add-n Inv-loop μ-loop
 add-n c =
     let body = c .before .before in
     record {
-      fits = rw (c .wide .ensures)
-          (read-fits _ (body .before .before .before .pre .0) (body .loop-test .taken) (λ j. c .before .shared-slice-known2 .given j .fits)
-          (body .before .loop .inv));
+      fits = rw (c .wide2 .ensures)
+          (sum-fits (body .before .before .before .before .before .before .pre .0) (body .before .before .before .before .before .before .pre .1) (body .loop-test .taken)
+          (λ j. c .before .shared-slice-known3 .given j .fits) (body .before .loop .inv));
     }
 
-sub-i : tie.Need-sub-i Inv-loop μ-loop
-sub-i c = search needs
+add-i : tie.Need-add-i Inv-loop μ-loop
+add-i c = search needs
 
 loop-less : tie.Need-loop-less Inv-loop μ-loop
 loop-less c = search needs
 
+-- one byte more
 loop-again : tie.Need-loop-again Inv-loop μ-loop
 loop-again c =
     let body = c .before .before in
-    rw (c .wide .ensures)
-    (read-step (body .before .before .before .pre .1) (body .loop-test .taken) (λ j. c .before .shared-slice-known2 .given j .fits)
-    (body .before .loop .inv))
+    rw (c .wide2 .ensures)
+    (read-up (body .before .before .before .before .before .before .pre .1) (body .loop-test .taken) (body .before .loop .inv))
 
-returns : tie.Need-returns Inv-loop μ-loop
-returns c = read-all (c .loop-test .left) (c .before .loop .inv)
+-- all bytes are read
+returns-2 : tie.Need-returns-2 Inv-loop μ-loop
+returns-2 c = read-up-all (c .loop-test .left) (c .before .loop .inv)
 
 pub unpack-uint-spec : {M : Type 1} → statement M
 unpack-uint-spec =
@@ -61,13 +92,16 @@ unpack-uint-spec =
     (tie.spec
     Inv-loop
     μ-loop
-    loop-holds
-    mul-n
-    sub-wide
+    returns
     shared-slice-read-wide
     wide-requires
+    loop-holds
+    mul-weight
+    shared-slice-read-wide-2
+    wide-requires-2
+    mul-n
     add-n
-    sub-i
+    add-i
     loop-less
     loop-again
-    returns)
+    returns-2)
