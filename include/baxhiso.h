@@ -13,10 +13,14 @@
  * below (crates/firmware/specs/Exports.antt, with the definitions of docs/FORMAT.md). Only tested, by tests/c: that these
  * declarations fit the library, and NULL with length 0. The stack is not part of the proof; no function calls itself.
  *
- *     fst_meta meta;
+ * Admit a file when it is loaded, with two lent tables of an entry for each byte; then each answer by key is exact:
+ *
+ *     static uint16_t depths[CARD_MAX];
+ *     static uint64_t sums[CARD_MAX];
  *     uint64_t value;
- *     if (fst_open(file, file_len, &meta) != FST_OK)
+ *     if (fst_admit(file, file_len, depths, CARD_MAX, sums, CARD_MAX) != FST_OK)
  *         return reject_card();
+ *     ...
  *     switch (fst_get(file, file_len, key, key_len, &value)) {
  *     case FST_OK:   show(value);   break;
  *     case FST_NONE: show_absent(); break;

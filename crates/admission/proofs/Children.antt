@@ -1,11 +1,13 @@
 -- What the tables say of a target, and that a node's numbers follow from those of its targets.
 -- Assumes nothing.
 use mathlib.Core.Path.{_≡_, sym, ap, _∙_}
+use mathlib.Core.Bool.{cond}
 use mathlib.Core.List.{List, List·Memᴰ}
 use Prim.Native.Nat.{ℕ, suc, _+_, _≤_, max}
 use native.Mathlib.Decide.{ℕ-discrete}
 use native.Mathlib.Omega.{arith}
 use borrow.Author.Tests.{eq-eqb, ne-eqb}
+use lib.Dec.{eqb}
 use lib.ListN.{getD}
 use Rattle.format.specs.declared.Transition.{Transition}
 use Rattle.format.specs.Limits.{maxPath}
@@ -17,38 +19,33 @@ use Rattle.admission.specs.Passes.{childDepth, childSum, deepest, heavie
 
 -- ---- one target
 
-pub child-depth-zero : (d : List ℕ) (t : ℕ) → t ≡ 0 → childDepth d t ≡ 1
-child-depth-zero d t z = rw (eq-eqb t 0 z)
+-- v stands for address 0, in the depths and in the sums
+pub child-zero : (v : ℕ) (d : List ℕ) (t : ℕ) → t ≡ 0 → cond (eqb t 0) v (getD d t 0) ≡ v
+child-zero v d t z = rw (eq-eqb t 0 z)
 
-pub child-depth-entry : (d : List ℕ) (t : ℕ) → ¬ (t ≡ 0) → childDepth d t ≡ getD d t 0
-child-depth-entry d t ne = rw (ne-eqb t 0 ne)
-
-child-sum-zero : (s : List ℕ) (t : ℕ) → t ≡ 0 → childSum s t ≡ 0
-child-sum-zero s t z = rw (eq-eqb t 0 z)
-
-child-sum-entry : (s : List ℕ) (t : ℕ) → ¬ (t ≡ 0) → childSum s t ≡ getD s t 0
-child-sum-entry s t ne = rw (ne-eqb t 0 ne)
+pub child-entry : (v : ℕ) (d : List ℕ) (t : ℕ) → ¬ (t ≡ 0) → cond (eqb t 0) v (getD d t 0) ≡ getD d t 0
+child-entry v d t ne = rw (ne-eqb t 0 ne)
 
 -- address 0 counts as marked
 pub child-marked : (d : List ℕ) (t : ℕ) → (¬ (t ≡ 0) → Marked d t) → ¬ (childDepth d t ≡ 0)
 child-marked d t m z =
     elim (ℕ-discrete t 0) [
-      | yes e ↦ omega (arith, child-depth-zero d t e)
-      | no e ↦ m e (sym (child-depth-entry d t e) ∙ z)
+      | yes e ↦ omega (arith, child-zero 1 d t e)
+      | no e ↦ m e (sym (child-entry 1 d t e) ∙ z)
     ]
 
 pub child-unmarked : (d : List ℕ) (t : ℕ) → childDepth d t ≡ 0 → (¬ (t ≡ 0)) × (getD d t 0 ≡ 0)
 child-unmarked d t z =
     elim (ℕ-discrete t 0) [
-      | yes e ↦ absurd (omega (arith, child-depth-zero d t e))
-      | no e ↦ (e, sym (child-depth-entry d t e) ∙ z)
+      | yes e ↦ absurd (omega (arith, child-zero 1 d t e))
+      | no e ↦ (e, sym (child-entry 1 d t e) ∙ z)
     ]
 
 pub child-depth-le : (d : List ℕ) (t : ℕ) → getD d t 0 ≤ maxPath + 2 → childDepth d t ≤ maxPath + 2
 child-depth-le d t h =
     elim (ℕ-discrete t 0) [
-      | yes e ↦ omega (arith, child-depth-zero d t e)
-      | no e ↦ omega (arith, child-depth-entry d t e)
+      | yes e ↦ omega (arith, child-zero 1 d t e)
+      | no e ↦ omega (arith, child-entry 1 d t e)
     ]
 
 -- ---- the node
@@ -64,8 +61,8 @@ module _ (f : Fst) (a : ℕ) (m : Node) (e : nodeIn f a ≡ sound m) where
       same : (t : Transition) → List·Memᴰ t (m .transitions) → childDepth d (t .addr) ≡ suc (longest f (t .addr))
       same t mem =
           elim (ℕ-discrete (t .addr) 0) [
-            | yes z ↦ omega (arith, child-depth-zero d (t .addr) z, ap (longest f) z, longest-zero f)
-            | no z ↦ omega (arith, child-depth-entry d (t .addr) z, right t mem z)
+            | yes z ↦ omega (arith, child-zero 1 d (t .addr) z, ap (longest f) z, longest-zero f)
+            | no z ↦ omega (arith, child-entry 1 d (t .addr) z, right t mem z)
           ]
 
   pub heaviest-is : (s : List ℕ) → ((t : Transition) → List·Memᴰ t (m .transitions) → ¬ (t .addr ≡ 0) → getD s (t .addr) 0 ≡ largestSum f (t .addr))
@@ -78,6 +75,6 @@ module _ (f : Fst) (a : ℕ) (m : Node) (e : nodeIn f a ≡ sound m) where
       same : (t : Transition) → List·Memᴰ t (m .transitions) → t .out + childSum s (t .addr) ≡ t .out + largestSum f (t .addr)
       same t mem =
           elim (ℕ-discrete (t .addr) 0) [
-            | yes z ↦ omega (arith, child-sum-zero s (t .addr) z, ap (largestSum f) z, largest-zero f)
-            | no z ↦ omega (arith, child-sum-entry s (t .addr) z, right t mem z)
+            | yes z ↦ omega (arith, child-zero 0 s (t .addr) z, ap (largestSum f) z, largest-zero f)
+            | no z ↦ omega (arith, child-entry 0 s (t .addr) z, right t mem z)
           ]

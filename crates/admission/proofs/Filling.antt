@@ -23,11 +23,12 @@ use Rattle.format.specs.laws.NodeFacts.{node-target-lt, node-final-lt}
 use Rattle.format.specs.Tables.{longest, largestSum}
 use Rattle.admission.specs.declared.Total.{Total}
 use Rattle.admission.specs.declared.Survey.the-variants.{Lost as NoEntry, Found}
-use Rattle.admission.specs.Passes.{Kept, Marked, heaviest, entryIs, orOver, Surveyable, LostTarget, MarkedTargets, Surveyed, SoundMarks, ClosedMarks, LostOne, DeepOne, HeavyOne, GoodAll, HeavyCase}
+use Rattle.admission.specs.declared.Verdict.{Verdict}
+use Rattle.admission.specs.Passes.{Kept, Marked, heaviest, entryIs, orOver, Surveyable, LostTarget, MarkedTargets, Surveyed, SoundMarks, ClosedMarks, LostOne, DeepOne, HeavyOne, GoodAll, HeavyCase, FillCase, Filled}
 use Rattle.admission.proofs.Stores.{kept-none, kept-set}
 use Rattle.admission.proofs.Totals.{total-cases}
 use Rattle.admission.proofs.HalfFilled.{Half, half-none, half-skip, half-store, half-map}
-use Rattle.admission.proofs.Children.{child-marked, child-unmarked, child-depth-entry, child-depth-le, deepest-is, heaviest-is}
+use Rattle.admission.proofs.Children.{child-marked, child-unmarked, child-entry, child-depth-le, deepest-is, heaviest-is}
 
 pub record DepthE (f : Fst) (d₀ : List ℕ) (deep : Bool) (j x : ℕ) : Type 0 where
   pub off : getD d₀ j 0 ≡ 0 → x ≡ 0
@@ -133,7 +134,7 @@ module _ {f : Fst} {d₀ s₀ d s : List ℕ} {deep heavy : Bool} {a : ℕ} (h :
     first-targets : MarkedTargets d (m .transitions) → MarkedTargets d₀ (m .transitions)
     first-targets k t mem =
         child-marked d₀ (t .addr)
-        (λ ne z. k t mem (child-depth-entry d (t .addr) ne ∙ h .depths .below (t .addr) (node-target-lt f a m q t mem) .off z))
+        (λ ne z. k t mem (child-entry 1 d (t .addr) ne ∙ h .depths .below (t .addr) (node-target-lt f a m q t mem) .off z))
 
     first-lost : LostTarget d (m .transitions) → LostTarget d₀ (m .transitions)
     first-lost k =
@@ -142,7 +143,7 @@ module _ {f : Fst} {d₀ s₀ d s : List ℕ} {deep heavy : Bool} {a : ℕ} (h :
           by = k .by;
           one = k .one;
           unmarked =
-              child-depth-entry d₀ (k .by .addr) (p .0)
+              child-entry 1 d₀ (k .by .addr) (p .0)
               ∙ (elim (ℕ-discrete (getD d₀ (k .by .addr) 0) 0) [
                 | yes e ↦ e
                 | no e ↦ absurd (h .depths .below (k .by .addr) (node-target-lt f a m q (k .by) (k .one)) .stays e (p .1))
@@ -160,7 +161,7 @@ module _ {f : Fst} {d₀ s₀ d s : List ℕ} {deep heavy : Bool} {a : ℕ} (h :
         targets = first-targets (r .marked x t refl)
 
         target-marked : (u : Transition) → List·Memᴰ u (m .transitions) → ¬ (u .addr ≡ 0) → Marked d₀ (u .addr)
-        target-marked u mem ne z = targets u mem (child-depth-entry d₀ (u .addr) ne ∙ z)
+        target-marked u mem ne z = targets u mem (child-entry 1 d₀ (u .addr) ne ∙ z)
 
         is-longest : deep ≡ false → x ≡ longest f a + 1
         is-longest no-deep =
@@ -242,6 +243,11 @@ module _ {f : Fst} {d₀ s₀ d s : List ℕ} {deep heavy : Bool} {a : ℕ} (h :
 pub filling-as : {f : Fst} {d₀ s₀ d d′ s s′ : List ℕ} {deep deep′ heavy heavy′ : Bool} {a : ℕ} → d′ ≡ d → s′ ≡ s → deep′ ≡ deep → heavy′ ≡ heavy
     → Filling f d₀ s₀ d s deep heavy a → Filling f d₀ s₀ d′ s′ deep′ heavy′ a
 filling-as p q r k h = rw (p, q, r, k) h
+
+-- a way out of the pass, with what was found
+pub filling-ends : {f : Fst} {d₀ s₀ d s : List ℕ} {deep heavy : Bool} {a : ℕ} → Filling f d₀ s₀ d s deep heavy a → (v : Verdict) → FillCase f d₀ d s v
+    → Filled f d₀ s₀ d s v
+filling-ends h v found = record { depths-kept = h .depths-kept; sums-kept = h .sums-kept; found = found }
 
 -- ---- every address is passed
 

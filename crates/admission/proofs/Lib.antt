@@ -2,10 +2,10 @@
 mod Stores
 mod Totals
 mod Surveying
-mod Judging
+mod JudgedNodes
 mod Walking
 mod HalfFilled
 mod Children
 mod Filling
 mod Verdicts
-mod Answers
+mod Admitting

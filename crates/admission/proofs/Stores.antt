@@ -5,7 +5,7 @@ use mathlib.Core.List.{List, _++_}
 use Prim.Native.Nat.{ℕ, _+_, _≤_, _<_}
 use native.Mathlib.Omega.{arith}
 use native.Mathlib.Decide.{ℕ-discrete}
-use borrow.Author.Fill.{fill-more}
+use borrow.Author.Fill.{fill-none, fill-more}
 use lib.ListN.{length, getD, set, drop, replicate, length-set, length-append, length-replicate, length-drop, List·getD-append, getD-replicate}
 use lib.Seq.{getD-set-same, getD-set-other, drop-set-lt, drop-at}
 use Rattle.admission.specs.Passes.{Kept}
@@ -21,13 +21,27 @@ at-set P d i v l here there j =
       | no q ↦ rw (getD-set-other d i j v 0 q) (there j q)
     ]
 
--- ---- cleared from the front
+-- ---- cleared from the front, whatever the width of an entry
 
-pub cleared-step : (t t₀ : List ℕ) (i : ℕ) → t ≡ replicate i 0 ++ drop i t₀ → i < length t₀ → set t i 0 ≡ replicate (i + 1) 0 ++ drop (i + 1) t₀
-cleared-step t t₀ i e h = ap (λ l. set l i 0) e ∙ fill-more i 0 t₀ h
+-- the first i of n entries are 0, and the others are as they were
+pub record Clearing (t₀ : List ℕ) (n : ℕ) (t : List ℕ) (i : ℕ) : Type 0 where
+  pub within : i ≤ n
+  pub long : length t ≡ length t₀
+  pub wiped : Wiped i t₀ t
 
-pub cleared-all : (t t₀ : List ℕ) (i n : ℕ) → t ≡ replicate i 0 ++ drop i t₀ → i ≡ n → t ≡ replicate n 0 ++ drop n t₀
-cleared-all t t₀ i n e p = e ∙ ap (λ k. replicate k 0 ++ drop k t₀) p
+pub clearing-none : (t : List ℕ) (n : ℕ) → Clearing t n t 0
+clearing-none t n = record { within = omega arith; long = refl; wiped = fill-none t 0 }
+
+pub clearing-step : {t₀ t : List ℕ} {n i : ℕ} → n ≤ length t₀ → i < n → Clearing t₀ n t i → Clearing t₀ n (set t i 0) (i + 1)
+clearing-step {t₀} {t} {n} {i} room l h =
+    record {
+      within = omega arith;
+      long = length-set t i 0 ∙ h .long;
+      wiped = ap (λ x. set x i 0) (h .wiped) ∙ fill-more i 0 t₀ (omega arith);
+    }
+
+pub clearing-all : {t₀ t : List ℕ} {n i : ℕ} → n ≤ i → Clearing t₀ n t i → Wiped n t₀ t
+clearing-all {t₀} {t} {n} {i} l h = let all : i ≡ n = omega (arith, h .within) in h .wiped ∙ ap (λ k. replicate k 0 ++ drop k t₀) all
 
 -- ---- kept beyond the first n entries
 
@@ -36,6 +50,10 @@ kept-none n d = record { long = refl; beyond = refl }
 
 pub kept-set : {n : ℕ} {d₀ d : List ℕ} (i v : ℕ) → i < n → Kept n d₀ d → Kept n d₀ (set d i v)
 kept-set {n} {d = d} i v h k = record { long = length-set d i v ∙ k .long; beyond = drop-set-lt n d i v h ∙ k .beyond }
+
+-- a table that has room for n entries still has it
+pub kept-lt : {n a : ℕ} {d₀ d : List ℕ} → Kept n d₀ d → n ≤ length d₀ → a < n → a < length d
+kept-lt k room l = omega (arith, k .long)
 
 pub kept-then : {n : ℕ} {a b c : List ℕ} → Kept n a b → Kept n b c → Kept n a c
 kept-then p q = record { long = q .long ∙ p .long; beyond = q .beyond ∙ p .beyond }

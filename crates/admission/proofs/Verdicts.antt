@@ -20,11 +20,15 @@ use Rattle.format.specs.laws.TableLaws.{longest-bound, largest-bound, longest-a
 use Rattle.admission.specs.declared.Verdict.{Verdict}
 use Rattle.admission.specs.declared.Verdict.the-variants.{Good, Lost, Deep, Heavy}
 use Rattle.admission.specs.Passes.{Kept, Marked, ChainMarked, SoundMarks, ClosedMarks, Fillable, LostOne, DeepOne, HeavyOne, GoodAll, FillCase, Filled}
-use Rattle.admission.specs.Outcome.{LongPath, LargeSum, Cleared, GoodNodes, JudgeCase, Judges}
+use Rattle.admission.specs.Outcome.{Holds, LongPath, LargeSum, Cleared, GoodNodes, JudgeCase, Judges}
 use Rattle.admission.proofs.Stores.{kept-none, kept-then}
-use Rattle.admission.proofs.Children.{child-depth-entry, child-unmarked}
+use Rattle.admission.proofs.Children.{child-entry, child-unmarked}
 
 -- ---- root 0 has no chain
+
+-- either table, with zeros over the file, holds what a chain of no address wants
+holds-none : {g : ℕ → ℕ} {n : ℕ} {d : List ℕ} → ((j : ℕ) → j < n → getD d j 0 ≡ 0) → Holds g [] n d d
+holds-none {n = n} {d = d} zeros = record { on = λ a mem. absurd (List·Memᴰ·not-nil mem); off = λ a l _. zeros a l; kept = kept-none n d }
 
 module _ {f : Fst} {d t : List ℕ} (z : f .root ≡ 0) (c : Cleared (f .bytes) d t) where
   pub root-zero-good : GoodNodes f d t d t
@@ -35,9 +39,8 @@ module _ {f : Fst} {d t : List ℕ} (z : f .root ≡ 0) (c : Cleared (f .bytes) 
         chained = record { chain = empty z; closed = λ a m u mem. absurd (List·Memᴰ·not-nil mem) };
         shallow = λ a k sum b mem. absurd (List·Memᴰ·not-nil mem);
         light = λ a k sum b m mem. absurd (List·Memᴰ·not-nil mem);
-        depths =
-            record { on = λ a mem. absurd (List·Memᴰ·not-nil mem); off = λ a l _. c .depths a l; kept = kept-none (length (f .bytes)) d };
-        sums = record { on = λ a mem. absurd (List·Memᴰ·not-nil mem); off = λ a l _. c .sums a l; kept = kept-none (length (f .bytes)) t };
+        depths = holds-none (c .depths);
+        sums = holds-none (c .sums);
       }
 
   pub root-zero-judges : Judges f d t d t Good
@@ -94,7 +97,7 @@ module _ {f : Fst} {d l : List ℕ} (m : Marks f d l) where
     closed-in : (a : ℕ) (n : Node) (t : Transition) → List·Memᴰ a l → nodeIn f a ≡ sound n → List·Memᴰ t (n .transitions) → ¬ (t .addr ≡ 0) → List·Memᴰ (t .addr) l
     closed-in a n t i e mem ne =
         in-chain (t .addr) (omega (arith, node-target-lt f a n e t mem, in-file a i))
-        (λ z. closed a n (in-file a i) (marked a i) e t mem (child-depth-entry d (t .addr) ne ∙ z))
+        (λ z. closed a n (in-file a i) (marked a i) e t mem (child-entry 1 d (t .addr) ne ∙ z))
 
     pub chain-nodes : Nodes f l
     chain-nodes = record { chain = rooted (m .not-zero) (m .chain); closed = closed-in }
@@ -137,6 +140,12 @@ module _ {f : Fst} {d l : List ℕ} (m : Marks f d l) where
   unfolding Light
   low-light low a k sum b n i p ends = omega (arith, largest-bound p ends, low a (in-file a i) (marked a i))
 
+  -- either table, once it is filled in at the marks
+  holds-marks : {g : ℕ → ℕ} {d₀ e : List ℕ} → Kept (length (f .bytes)) d₀ e
+      → ((j : ℕ) → j < length (f .bytes) → getD d j 0 ≡ 0 → getD e j 0 ≡ 0) → ((j : ℕ) → j < length (f .bytes) → Marked d j → getD e j 0 ≡ g j)
+      → Holds g l (length (f .bytes)) d₀ e
+  holds-marks k off on = record { on = λ a i. on a (in-file a i) (marked a i); off = λ a h i. off a h (m .off a h i); kept = k }
+
   pub good-nodes : {d₀ s₀ e s : List ℕ} → Kept (length (f .bytes)) d₀ e → Kept (length (f .bytes)) s₀ s → GoodAll f d e s → GoodNodes f d₀ s₀ e s
   good-nodes kd ks g =
       record {
@@ -144,18 +153,8 @@ module _ {f : Fst} {d l : List ℕ} (m : Marks f d l) where
         chained = chain-nodes (g .closed);
         shallow = low-shallow (λ j h. g .depths j h .low);
         light = low-light (λ j h. g .sums j h .low);
-        depths =
-            record {
-              on = λ a i. g .depths a (in-file a i) .on (marked a i);
-              off = λ a h i. g .depths a h .off (m .off a h i);
-              kept = kd;
-            };
-        sums =
-            record {
-              on = λ a i. g .sums a (in-file a i) .on (marked a i);
-              off = λ a h i. g .sums a h .off (m .off a h i);
-              kept = ks;
-            };
+        depths = holds-marks kd (λ j h. g .depths j h .off) (λ j h. g .depths j h .on);
+        sums = holds-marks ks (λ j h. g .sums j h .off) (λ j h. g .sums j h .on);
       }
 
   judge-case : {d₀ s₀ e s : List ℕ} → Kept (length (f .bytes)) d₀ e → Kept (length (f .bytes)) s₀ s → (v : Verdict) → FillCase f d e s v → JudgeCase f d₀ s₀ e s v

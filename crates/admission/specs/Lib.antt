@@ -1,3 +1,3 @@
 pub mod Passes
 pub mod Outcome
-pub mod Exact
+pub mod Exactly

@@ -10,14 +10,20 @@ ghost use lib.Dec.{ltb};
 ghost use lib.ListN.{length, drop, replicate};
 ghost use Rattle.node.specs.Read.{transitionsIn, Readable};
 ghost use Rattle.admission.specs.Passes.{Kept, childDepth, childSum, raisedBy, Surveyable, Surveyed, entryIs, orOver, Walked, Fillable, Filled};
+ghost use Rattle.format.specs.Limits.{maxLevels};
 ghost use Rattle.format.specs.Paths.{fstWith};
 ghost use Rattle.admission.specs.Outcome.{Cleared, Judges, Opens, Outcome};
 use format::DEEP;
+use format::FIRST_NODE;
+use format::LEVELS;
 use format::NODE;
 use format::SPACE;
 use format::SUM;
 use fst::Opened;
 use node::Node;
+
+// The largest entry of an admitted file: 1 plus a path of 255.
+const DEEPEST: u16 = LEVELS as u16;
 
 // What admission answers: the file is admitted, or the number of a refusal.
 pub enum Admission {
@@ -132,8 +138,10 @@ fn raised(t: Total, w: u64, s: u64) -> Total
 
 // The entries of a node's targets, in one pass over its transitions.
 fn survey_node(file: &[u8], node: Node, depths: &[u16], sums: &[u64]) -> Survey
-    requires { ⌜ Readable (now file) node × Surveyable (now depths) (now sums) (node .«final_output») (transitionsIn (now file) node) ⌝ }
-    ensures { λ r. ⌜ Surveyed (now (depths .entry)) (now (sums .entry)) (node .«final_output») (transitionsIn (now (file .entry)) node) r ⌝ }
+    requires { ⌜ Readable (now file) node × Surveyable (now depths) (now sums)
+        (node .«final_output») (transitionsIn (now file) node) ⌝ }
+    ensures { λ r. ⌜ Surveyed (now (depths .entry)) (now (sums .entry)) (node .«final_output»)
+        (transitionsIn (now (file .entry)) node) r ⌝ }
 {
     let n = node.ntrans;
     let mut best: u16 = 0;
@@ -168,9 +176,9 @@ fn clamped(d: u16) -> u16
 
 // Whether a path over 255 was found, now or before.
 fn or_deep(deep: bool, d: u16) -> bool
-    ensures { λ r. ⌜ r ≡ cond (ltb 256 d) true deep ⌝ }
+    ensures { λ r. ⌜ r ≡ cond (ltb maxLevels d) true deep ⌝ }
 {
-    if 256 < d {
+    if DEEPEST < d {
         return true;
     }
     deep
@@ -211,7 +219,7 @@ fn walk(file: &[u8], version: u64, root: usize, depths: &mut [u16]) -> bool
         };
         depths[a] = 1;
         let first = m.first;
-        if first == 16 {
+        if first == FIRST_NODE {
             return true;
         }
         a = first - 1;
@@ -221,7 +229,8 @@ fn walk(file: &[u8], version: u64, root: usize, depths: &mut [u16]) -> bool
 // Fills both tables at the marks, in ascending order of addresses. The sums' entries are zeros at entry.
 fn fill(file: &[u8], version: u64, root: usize, depths: &mut [u16], sums: &mut [u64]) -> Verdict
     requires { ⌜ Fillable (fstWith (now file) version root) (now depths) (now sums) ⌝ }
-    ensures { λ r. ⌜ Filled (fstWith (now (file .entry)) version root) (now (depths .entry)) (now (sums .entry)) (now (depths .exit)) (now (sums .exit)) r ⌝ }
+    ensures { λ r. ⌜ Filled (fstWith (now (file .entry)) version root) (now (depths .entry))
+        (now (sums .entry)) (now (depths .exit)) (now (sums .exit)) r ⌝ }
 {
     let mut deep = false;
     let mut heavy = false;
@@ -254,7 +263,8 @@ fn fill(file: &[u8], version: u64, root: usize, depths: &mut [u16], sums: &mut [
 // Judges all nodes, with both tables at zero over the file; root 0 has no chain.
 fn judge(file: &[u8], version: u64, root: usize, depths: &mut [u16], sums: &mut [u64]) -> Verdict
     requires { ⌜ Cleared (now file) (now depths) (now sums) ⌝ }
-    ensures { λ r. ⌜ Judges (fstWith (now (file .entry)) version root) (now (depths .entry)) (now (sums .entry)) (now (depths .exit)) (now (sums .exit)) r ⌝ }
+    ensures { λ r. ⌜ Judges (fstWith (now (file .entry)) version root) (now (depths .entry))
+        (now (sums .entry)) (now (depths .exit)) (now (sums .exit)) r ⌝ }
 {
     if root == 0 {
         return Verdict::Good;
@@ -268,7 +278,9 @@ fn judge(file: &[u8], version: u64, root: usize, depths: &mut [u16], sums: &mut 
 // A refusal of a file that opens: zeros over the file's length in both tables.
 fn refused(depths: &mut [u16], sums: &mut [u64], n: usize, why: u8) -> Admission
     requires { ⌜ (n ≤ length (now depths)) × (n ≤ length (now sums)) ⌝ }
-    ensures { λ r. ⌜ (r ≡ Admission.Refused why) × (now (depths .exit) ≡ replicate n 0 ++ drop n (now (depths .entry))) × (now (sums .exit) ≡ replicate n 0 ++ drop n (now (sums .entry))) ⌝ }
+    ensures { λ r. ⌜ (r ≡ Admission.Refused why)
+        × (now (depths .exit) ≡ replicate n 0 ++ drop n (now (depths .entry)))
+        × (now (sums .exit) ≡ replicate n 0 ++ drop n (now (sums .entry))) ⌝ }
 {
     clear16(depths, n);
     clear64(sums, n);
@@ -284,7 +296,8 @@ fn admit_opened(
     sums: &mut [u64],
 ) -> Admission
     requires { ⌜ Opens (now file) version root ⌝ }
-    ensures { λ r. ⌜ Outcome (now (file .entry)) (now (depths .entry)) (now (sums .entry)) (now (depths .exit)) (now (sums .exit)) r ⌝ }
+    ensures { λ r. ⌜ Outcome (now (file .entry)) (now (depths .entry)) (now (sums .entry))
+        (now (depths .exit)) (now (sums .exit)) r ⌝ }
 {
     let n = file.len();
     if depths.len() < n {
@@ -307,7 +320,8 @@ fn admit_opened(
 // Admits a file and fills the two tables, or refuses it: opening's refusals, then SPACE, then NODE, DEEP and SUM, each decided over the
 // whole file.
 pub fn admit(file: &[u8], depths: &mut [u16], sums: &mut [u64]) -> Admission
-    ensures { λ r. ⌜ Outcome (now (file .entry)) (now (depths .entry)) (now (sums .entry)) (now (depths .exit)) (now (sums .exit)) r ⌝ }
+    ensures { λ r. ⌜ Outcome (now (file .entry)) (now (depths .entry)) (now (sums .entry))
+        (now (depths .exit)) (now (sums .exit)) r ⌝ }
 {
     match fst::open(file) {
         Opened::Refused(why) => Admission::Refused(why),

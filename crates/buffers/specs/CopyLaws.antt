@@ -1,16 +1,15 @@
 -- Bytes copied one after the other to the front of a buffer: what a turn of such a loop knows.
 --     Copied bytes n out₀ out i     the first i of n bytes stand at the front of out, and the rest of it is as given
 --     copied-none, copied-step, copied-all      before the first turn, after a turn, after the last
---     copied-rest                   a turn that copies the bytes after the first of src
 -- Assumes nothing.
 use mathlib.Core.Path.{_≡_, refl, _∙_}
 use mathlib.Core.List.{List, _++_}
 use Prim.Native.Nat.{ℕ, _+_, _≤_, _<_}
-use native.Mathlib.Nat.{zero-add, add-comm}
+use native.Mathlib.Nat.{zero-add}
 use native.Mathlib.Numerals.{add-one}
 use native.Mathlib.Omega.{arith}
-use lib.ListN.{length, getD, take, drop, set, length-set, length-drop}
-use lib.Seq.{getD-drop, paste-suc}
+use lib.ListN.{length, getD, take, drop, set, length-set}
+use lib.Seq.{paste-suc}
 
 pub record Copied (bytes : List ℕ) (n : ℕ) (out₀ out : List ℕ) (i : ℕ) : Type 0 where
   pub within : i ≤ n
@@ -27,13 +26,6 @@ copied-step {bytes} {n} {out₀} {out} {i} l in-bytes in-out h = record {
   len = length-set out i (getD bytes i 0) ∙ h .len;
   is = rw (h .is, add-one) (simp zero-add at (paste-suc out₀ 0 bytes i 0 (omega arith) in-bytes));
 }
-
-pub copied-rest : (src : List ℕ) {n : ℕ} {out₀ out : List ℕ} {i : ℕ} → i < n → i + 1 < length src → i < length out₀ → Copied (drop 1 src) n out₀ out i
-    → Copied (drop 1 src) n out₀ (set out i (getD src (i + 1) 0)) (i + 1)
-copied-rest src {n} {out₀} {out} {i} l in-src in-out h =
-    let g : getD (drop 1 src) i 0 ≡ getD src (i + 1) 0 = getD-drop 1 src i 0 ∙ rw (add-comm 1 i) in
-    let in-rest : i < length (drop 1 src) = simp length-drop (omega arith) in
-    rw (← g) (copied-step l in-rest in-out h)
 
 pub copied-all : {bytes : List ℕ} {n : ℕ} {out₀ out : List ℕ} {i : ℕ} → n ≤ i → Copied bytes n out₀ out i → out ≡ take n bytes ++ drop n out₀
 copied-all {bytes} {n} {out₀} {out} {i} past h = let e : i ≡ n = omega (arith, h .within) in rw (← e) (h .is)

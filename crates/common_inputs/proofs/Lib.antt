@@ -1,2 +1,2 @@
 -- Lemmas on plain numbers, for the proofs of this crate.
-mod Idx
+mod IdxLaws

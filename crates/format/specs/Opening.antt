@@ -1,7 +1,7 @@
 -- An opened file (document 01, "An opened file"; docs/FORMAT.md, "A file").
 --     Meta                   what the header and the trailer of a file say, by the source's name
 --     trailerLen v           the bytes after the root's node in version v: key count, root address, in version 3 a checksum
---     RootRight, rootTest    the rule on roots, which later requests change
+--     rootTest v root len    the rule on roots
 --     Opening, opening s     what opening the bytes s answers: what they say, or the number of a refusal
 -- Assumes nothing.
 use mathlib.Core.Bool.{Bool, true, false, cond, _&&_}

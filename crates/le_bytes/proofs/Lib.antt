@@ -1,5 +1,5 @@
 -- Lemmas on plain lists and numbers, for the proofs of this crate.
 mod Weights
 mod Writing
-mod Size
+mod SizeLaws
 mod Place

@@ -10,7 +10,7 @@ use Rattle.buffers.specs.Put.{put, PutAt}
 use Rattle.buffers.specs.PutLaws.{put-nil}
 use Rattle.listing.specs.Lines.{decimalUpTo, decimal}
 use Rattle.listing.specs.LinesLaws.{Ways, few, many, ways, decimal-none, decimal-more, decimal-one, pow-10-suc}
-use Rattle.listing.proofs.Parts.{put-before}
+use Rattle.listing.proofs.LineParts.{put-before}
 
 -- ---- counted
 

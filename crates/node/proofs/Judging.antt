@@ -4,7 +4,6 @@ use mathlib.Core.Path.{_≡_, refl, sym, ap, _∙_}
 use mathlib.Core.Bool.{Bool, true, false, cond, _&&_}
 use mathlib.Core.List.{List, [], _∷_}
 use Prim.Native.Nat.{ℕ, zero, suc, _+_, _-_, _*_, _/_, _%_, _≤_, _<_}
-use native.Mathlib.Nat.{mul-le-mul-right, mul-le-mul-left, le-trans}
 use native.Mathlib.Omega.{arith}
 use lib.Dec.{ltb, leb, eqb}
 use lib.ListN.{length, getD, take, drop}
@@ -17,9 +16,6 @@ use Rattle.format.specs.laws.NodeLaws.{node-at-zero, node-at-sound, node-at-uns
 use Rattle.node.specs.declared.Node.{Node}
 use Rattle.node.specs.declared.Judged.the-variants.{Sound, Unsound}
 use Rattle.node.specs.Read.{meaning, judgedIs, isAny, Readable, Judges, emptyNode, transitionsIn}
-
-pub mul-small : (n d : ℕ) → n ≤ 256 → d ≤ 15 → n * d ≤ 3840
-mul-small n d hn hd = le-trans (mul-le-mul-right d hn) (mul-le-mul-left 256 hd)
 
 pub end-len-le : (final : Bool) (osize : ℕ) → endLen final osize ≤ osize
 end-len-le true osize = omega arith

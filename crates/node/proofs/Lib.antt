@@ -3,6 +3,6 @@ mod Ascent
 mod Index
 mod Judging
 mod Shapes
-mod Reading
+mod InputSearch
 mod Targets
 mod Accessors

@@ -5,7 +5,7 @@ use mathlib.Core.Bool.{Bool, true, false, cond}
 use mathlib.Core.Logic.{_⊎_, inl, inr}
 use mathlib.Core.List.{List, [], _∷_}
 use Prim.Native.Nat.{ℕ, zero, suc, _+_, _-_, _*_, _/_, _%_, _≤_, _<_}
-use native.Mathlib.Nat.{add-zero}
+use native.Mathlib.Nat.{add-zero, mul-le-mul-right, mul-le-mul-left, le-trans}
 use native.Mathlib.Omega.{arith}
 use lib.Dec.{leb}
 use lib.ListN.{length, getD, take, drop}
@@ -45,6 +45,15 @@ shape-any s v a st len n sizes el il is-st lt is-len is-n is-sizes is-el is-il =
     let count : ntransOf s a ≡ countOf s a = ntrans-any s a form in
     let stored : sizesByte s a ≡ getD s (a - headLen s a) 0 = sizes-any s a form in
     rw (form, fin, count, stored, is-el, is-il, is-n, is-sizes, is-len, is-st)
+
+mul-small : (n d : ℕ) → n ≤ 256 → d ≤ 15 → n * d ≤ 3840
+mul-small n d hn hd = le-trans (mul-le-mul-right d hn) (mul-le-mul-left 256 hd)
+
+-- 256 transitions at most, each with a delta and an output of 15 bytes at most
+pub any-size-le : {n sizes el il len : ℕ} → n ≤ 256 → sizes < 256 → el ≤ sizes % 16 → il ≤ 256 → len ≤ 2
+    → el + n * (sizes % 16) + n * (sizes / 16) + n + il + 1 + len ≤ 8210
+any-size-le {n} {sizes} few byte le-el le-il le-len =
+    omega (arith, mul-small n (sizes % 16) few (omega arith), mul-small n (sizes / 16) few (omega arith))
 
 -- ---- one transition
 

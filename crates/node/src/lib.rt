@@ -6,11 +6,14 @@ ghost use mathlib.Core.Bool.{true, false};
 ghost use Prim.Native.Nat.{_+_, _*_, _^_, _≤_, _<_};
 ghost use lib.ListN.{length, getD, take, drop};
 ghost use Rattle.buffers.specs.Decide.{Decides};
+ghost use Rattle.format.specs.Limits.{firstNode, maxTrans};
 ghost use Rattle.format.specs.Node.{bytesDown, numbersDown, countOf, inputOf, indexLen, endLen, Ascending, Indexed, TargetRight, TargetsRight, Useful, shapeOf, transitionAt, findInput};
 ghost use Rattle.node.specs.Read.{Head, Probed, below, shapeIs, AtForm, emptyNode, Judges, transitionsIn, nodeInputs, nodeDeltas, Readable, Finds, LooksUp, placeIs};
 ghost use Rattle.format.specs.declared.State.the-variants.{AnyTrans};
 ghost use mathlib.Core.List.{[], _∷_};
 use common_inputs::common_input;
+use format::FIRST_NODE;
+use format::MAX_TRANS;
 use format::State;
 use format::TRANS_INDEX_THRESHOLD;
 use format::Transition;
@@ -123,7 +126,8 @@ fn ascends(file: &[u8], at: usize, n: usize) -> bool
 // Whether the entry of each input is its place.
 fn probes(file: &[u8], at: usize, n: usize, index: usize) -> bool
     requires { ⌜ (at + n ≤ length (now file)) × (index + 256 ≤ length (now file)) ⌝ }
-    ensures { λ r. ⌜ Decides r (Probed (bytesDown (now (file .entry)) at n) (take 256 (drop index (now (file .entry))))) ⌝ }
+    ensures { λ r. ⌜ Decides r (Probed (bytesDown (now (file .entry)) at n)
+        (take 256 (drop index (now (file .entry))))) ⌝ }
 {
     let mut i = 0;
     while i < n {
@@ -155,7 +159,8 @@ fn count_below(file: &[u8], index: usize, n: usize) -> usize
 // Whether the index is right: each input's entry is its place, and no other entry is below n.
 fn index_right(file: &[u8], at: usize, n: usize, index: usize) -> bool
     requires { ⌜ (at + n ≤ length (now file)) × (index + 256 ≤ length (now file)) ⌝ }
-    ensures { λ r. ⌜ Decides r (Indexed (bytesDown (now (file .entry)) at n) (take 256 (drop index (now (file .entry))))) ⌝ }
+    ensures { λ r. ⌜ Decides r (Indexed (bytesDown (now (file .entry)) at n)
+        (take 256 (drop index (now (file .entry))))) ⌝ }
 {
     if probes(file, at, n, index) {} else {
         return false;
@@ -165,8 +170,10 @@ fn index_right(file: &[u8], at: usize, n: usize, index: usize) -> bool
 
 // Whether the index that follows n inputs is right, where there is one.
 fn entries_right(file: &[u8], at: usize, n: usize, index_len: usize) -> bool
-    requires { ⌜ (at + n + «index_len» ≤ length (now file)) × (¬ («index_len» ≡ 0) → «index_len» ≡ 256) ⌝ }
-    ensures { λ r. ⌜ Decides r (¬ («index_len» ≡ 0) → Indexed (bytesDown (now (file .entry)) at n) (take 256 (drop (at + n) (now (file .entry))))) ⌝ }
+    requires { ⌜ (at + n + «index_len» ≤ length (now file))
+        × (¬ («index_len» ≡ 0) → «index_len» ≡ 256) ⌝ }
+    ensures { λ r. ⌜ Decides r (¬ («index_len» ≡ 0) → Indexed (bytesDown (now (file .entry)) at n)
+        (take 256 (drop (at + n) (now (file .entry))))) ⌝ }
 {
     if index_len == 0 {
         return true;
@@ -176,11 +183,11 @@ fn entries_right(file: &[u8], at: usize, n: usize, index_len: usize) -> bool
 
 // Whether a delta leads from first to 0 or to a place from 16 to first - 1.
 fn target_right(first: usize, delta: u64) -> bool
-    requires { ⌜ 16 ≤ first ⌝ }
+    requires { ⌜ firstNode ≤ first ⌝ }
     ensures { λ r. ⌜ Decides r (TargetRight first delta) ⌝ }
 {
     let d = delta as usize;
-    if d <= first - 16 {
+    if d <= first - FIRST_NODE {
         return true;
     }
     // the delta that leads to 0
@@ -189,21 +196,21 @@ fn target_right(first: usize, delta: u64) -> bool
 
 // Whether no delta of size bytes can reach below 16 from first, so that none has to be looked at.
 fn within_reach(size: usize, first: usize) -> bool
-    requires { ⌜ 16 ≤ first ⌝ }
-    ensures { λ r. ⌜ (r ≡ true → 16 + 256 ^ size ≤ first + 1) ⌝ }
+    requires { ⌜ firstNode ≤ first ⌝ }
+    ensures { λ r. ⌜ (r ≡ true → firstNode + 256 ^ size ≤ first + 1) ⌝ }
 {
     if size == 1 {
-        return 255 <= first - 16;
+        return 255 <= first - FIRST_NODE;
     }
     if size == 2 {
-        return 65535 <= first - 16;
+        return 65535 <= first - FIRST_NODE;
     }
     false
 }
 
 // Whether each of n deltas of size bytes, stored last first from place at on, leads to a right target.
 fn targets_right(file: &[u8], at: usize, size: usize, n: usize, first: usize) -> bool
-    requires { ⌜ (at + n * size ≤ length (now file)) × (size ≤ 8) × (16 ≤ first) ⌝ }
+    requires { ⌜ (at + n * size ≤ length (now file)) × (size ≤ 8) × (firstNode ≤ first) ⌝ }
     ensures { λ r. ⌜ Decides r (TargetsRight first (numbersDown (now (file .entry)) at size n)) ⌝ }
 {
     if within_reach(size, first) {
@@ -248,7 +255,7 @@ fn index_len_of(version: u64, n: usize) -> usize
 // How many transitions, from the low six bits of the state or from the count byte.
 fn ntrans_of(file: &[u8], addr: usize) -> usize
     requires { ⌜ (1 ≤ addr) × (addr < length (now file)) ⌝ }
-    ensures { λ r. ⌜ (r ≡ countOf (now (file .entry)) addr) × (r ≤ 256) ⌝ }
+    ensures { λ r. ⌜ (r ≡ countOf (now (file .entry)) addr) × (r ≤ maxTrans) ⌝ }
 {
     let low = small(file[addr]) % 64;
     if low != 0 {
@@ -256,7 +263,7 @@ fn ntrans_of(file: &[u8], addr: usize) -> usize
     }
     let count = small(file[addr - 1]);
     // 1 stands for 256: one transition is never written here
-    if count == 1 { 256 } else { count }
+    if count == 1 { MAX_TRANS } else { count }
 }
 
 // The bytes of the final output.
@@ -269,7 +276,8 @@ fn end_len_of(is_final: bool, osize: usize) -> usize
 // The shape of a node with any number of transitions.
 fn shape_of(file: &[u8], version: u64, addr: usize) -> Shape
     requires { ⌜ (2 ≤ addr) × (addr < length (now file)) × (getD (now file) addr 0 < 128) ⌝ }
-    ensures { λ r. ⌜ (shapeIs r ≡ shapeOf (now (file .entry)) version addr) × (r .«end_len» ≡ endLen (r .«is_final») (r .osize)) ⌝ }
+    ensures { λ r. ⌜ (shapeIs r ≡ shapeOf (now (file .entry)) version addr)
+        × (r .«end_len» ≡ endLen (r .«is_final») (r .osize)) ⌝ }
 {
     let is_final = 64 <= small(file[addr]);
     let len = head_len(file, addr);
@@ -345,7 +353,8 @@ fn any_trans(file: &[u8], version: u64, root: usize, addr: usize) -> Judged
 
 // A node with one transition, with its output and its delta (node.rs, `StateOneTrans`).
 fn one_trans(file: &[u8], version: u64, root: usize, addr: usize) -> Judged
-    requires { ⌜ AtForm (now file) root addr × (128 ≤ getD (now file) addr 0) × (getD (now file) addr 0 < 192) ⌝ }
+    requires { ⌜ AtForm (now file) root addr × (128 ≤ getD (now file) addr 0)
+        × (getD (now file) addr 0 < 192) ⌝ }
     ensures { λ r. ⌜ Judges (now (file .entry)) version root addr r ⌝ }
 {
     let len = head_len(file, addr);
@@ -387,7 +396,7 @@ fn one_trans_next(file: &[u8], version: u64, root: usize, addr: usize) -> Judged
 {
     let len = head_len(file, addr);
     // the target, addr - len, is 16 at least
-    if addr - 16 < len {
+    if addr - FIRST_NODE < len {
         return Judged::Unsound;
     }
     let first = addr + 1 - len;
@@ -432,7 +441,7 @@ pub fn node_at(file: &[u8], version: u64, root: usize, addr: usize) -> Judged
         return Judged::Sound(empty_final());
     }
     // the state byte itself lies from 16 to the root, and in the file
-    if addr < 16 {
+    if addr < FIRST_NODE {
         return Judged::Unsound;
     }
     if root < addr {

@@ -5,7 +5,6 @@
 --     anyLen f n osize tsize           how many they are, of n transitions, final or not by f
 --     AnyFits F b osize tsize room     what writing them asks: b is as RECORD asks, and they have room
 --     Fitted bs out₀ out r             what writing a node's bytes bs answers and leaves, where only SPACE can refuse
---     PutAt out₀ at v out r            out is out₀ with v from place at on, and r is the place past v
 -- Assumes nothing.
 use mathlib.Core.Path.{_≡_}
 use mathlib.Core.Bool.{Bool, cond}

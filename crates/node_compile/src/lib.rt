@@ -9,6 +9,7 @@ ghost use Prim.Native.Nat.{_+_, _≤_, _<_};
 ghost use lib.Dec.{eqb, ltb};
 ghost use lib.ListN.{length};
 ghost use Rattle.buffers.specs.Decide.{Decides};
+ghost use Rattle.format.specs.Limits.{firstNode, maxTrans};
 ghost use Rattle.format.specs.Bytes.{packSize, largest};
 ghost use Rattle.format.specs.Node.{Ascending, endLen, indexLen};
 ghost use Rattle.format.specs.Packed.{TargetOk, TargetsOk, RecordOk, deltaOf, storedNumbers, storedBytes, indexOf, indexBytes};
@@ -239,7 +240,7 @@ fn put_bytes(out: &mut [u8], at: usize, bytes: &[u8]) -> usize
 
 // The place of each byte among the inputs, and 255 for a byte that is none of them.
 fn index_of(inputs: &[u8]) -> [u8; 256]
-    requires { ⌜ (length (now inputs) ≤ 256) × Ascending (now inputs) ⌝ }
+    requires { ⌜ (length (now inputs) ≤ maxTrans) × Ascending (now inputs) ⌝ }
     ensures { λ r. ⌜ r ≡ indexOf (now (inputs .entry)) ⌝ }
 {
     let mut index: [u8; 256] = [255; 256];
@@ -268,7 +269,7 @@ fn put_all(out: &mut [u8], at: usize, bytes: &[u8]) -> usize
 // Writes the index of a node with more than 32 transitions from place at on; returns the place past
 // it.
 fn put_index(out: &mut [u8], at: usize, inputs: &[u8]) -> usize
-    requires { ⌜ (at + length (indexBytes (now inputs)) ≤ length (now out)) × (length (now inputs) ≤ 256)
+    requires { ⌜ (at + length (indexBytes (now inputs)) ≤ length (now out)) × (length (now inputs) ≤ maxTrans)
         × Ascending (now inputs) ⌝ }
     ensures { λ r. ⌜ PutAt (now (out .entry)) at (indexBytes (now (inputs .entry)))
         (now (out .exit)) r ⌝ }
@@ -289,8 +290,8 @@ fn flag_of(is_final: bool) -> u8
 
 // The count byte: 1 stands for 256, since a count of 1 is always in the state byte.
 fn count_byte(n: usize) -> u8
-    requires { ⌜ n ≤ 256 ⌝ }
-    ensures { λ r. ⌜ r ≡ cond (eqb n 256) 1 n ⌝ }
+    requires { ⌜ n ≤ maxTrans ⌝ }
+    ensures { λ r. ⌜ r ≡ cond (eqb n maxTrans) 1 n ⌝ }
 {
     if n == MAX_TRANS { 1 } else { n as u8 }
 }
@@ -298,7 +299,7 @@ fn count_byte(n: usize) -> u8
 // Writes the state byte, and the count byte before it where it is not 1 to 63; returns the place
 // past them.
 fn put_head(out: &mut [u8], at: usize, is_final: bool, n: usize) -> usize
-    requires { ⌜ (at + length (headOf «is_final» n) ≤ length (now out)) × (n ≤ 256) ⌝ }
+    requires { ⌜ (at + length (headOf «is_final» n) ≤ length (now out)) × (n ≤ maxTrans) ⌝ }
     ensures { λ r. ⌜ PutAt (now (out .entry)) at (headOf «is_final» n) (now (out .exit)) r ⌝ }
 {
     let flag = flag_of(is_final);
@@ -403,7 +404,7 @@ fn head_len(n: usize) -> usize
 
 // The bytes of a node of the forms 00 and 01.
 fn any_len(is_final: bool, n: usize, osize: usize, tsize: usize) -> usize
-    requires { ⌜ (n ≤ 256) × (osize ≤ 8) × (tsize ≤ 8) ⌝ }
+    requires { ⌜ (n ≤ maxTrans) × (osize ≤ 8) × (tsize ≤ 8) ⌝ }
     ensures { λ r. ⌜ r ≡ anyLen «is_final» n osize tsize ⌝ }
 {
     end_len(is_final, osize) + n * osize + n * tsize + n + index_len(n) + 1 + head_len(n)
@@ -492,7 +493,7 @@ fn has_one(is_final: bool, n: usize) -> bool
 
 // The address that the packer was left with by the node before: F - 1, or 1 where there is none.
 fn last_addr(first: usize) -> usize
-    requires { ⌜ 16 ≤ first ⌝ }
+    requires { ⌜ firstNode ≤ first ⌝ }
     ensures { λ r. ⌜ r ≡ lastAddr first ⌝ }
 {
     if first == FIRST_NODE {
@@ -503,7 +504,7 @@ fn last_addr(first: usize) -> usize
 
 // To the node before, with output 0.
 fn leads_next(first: usize, target: usize, output: u64) -> bool
-    requires { ⌜ 16 ≤ first ⌝ }
+    requires { ⌜ firstNode ≤ first ⌝ }
     ensures { λ r. ⌜ r ≡ (eqb target (lastAddr first) && eqb output 0) ⌝ }
 {
     target == last_addr(first) && output == 0

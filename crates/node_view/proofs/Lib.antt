@@ -1,3 +1,3 @@
 -- Lemmas for the proofs of this crate.
-mod Answers
+mod ViewAnswers
 mod Viewing

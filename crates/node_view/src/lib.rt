@@ -67,21 +67,26 @@ pub fn new<'f>(data: &'f [u8], version: u64, root: usize, addr: usize) -> Node<'
 
 // What judging the node says.
 pub fn judged<'f>(v: Node<'f>) -> Judged
-    ensures { λ r. ⌜ Judges (now (v .entry .«data»)) (v .entry .version) (v .entry .root) (v .entry .addr) r ⌝ }
+    ensures { λ r. ⌜ Judges (now (v .entry .«data»)) (v .entry .version) (v .entry .root)
+        (v .entry .addr) r ⌝ }
 {
     node::node_at(v.data, v.version, v.root, v.addr)
 }
 
 // Transition i of the node, for any i.
 pub fn transition<'f>(v: Node<'f>, i: usize) -> TransitionAnswer
-    ensures { λ r. ⌜ r ≡ transitionIn (nodeAt (now (v .entry .«data»)) (v .entry .version) (v .entry .root) (v .entry .addr)) i ⌝ }
+    ensures { λ r. ⌜ r ≡ transitionIn
+        (nodeAt (now (v .entry .«data»)) (v .entry .version) (v .entry .root) (v .entry .addr))
+        i ⌝ }
 {
     transition_in(v.data, v.version, v.root, v.addr, i)
 }
 
 // The place of the input b in the node; absent too where the node is not sound.
 pub fn find_input<'f>(v: Node<'f>, b: u8) -> Found
-    ensures { λ r. ⌜ placeIs r ≡ placeIn (nodeAt (now (v .entry .«data»)) (v .entry .version) (v .entry .root) (v .entry .addr)) b ⌝ }
+    ensures { λ r. ⌜ placeIs r ≡ placeIn
+        (nodeAt (now (v .entry .«data»)) (v .entry .version) (v .entry .root) (v .entry .addr))
+        b ⌝ }
 {
     place_in(v.data, v.version, v.root, v.addr, b)
 }

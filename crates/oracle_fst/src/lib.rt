@@ -8,7 +8,7 @@ ghost use Rattle.format.specs.Opening.{opening};
 ghost use Rattle.format.specs.Lookup as L;
 ghost use Rattle.fst.specs.Open.{checksumIs};
 ghost use Rattle.admission.specs.Outcome.{Outcome};
-ghost use Rattle.oracle_fst.specs.Answers.{front, checksumNumber, OpenTold, admissionIs, GetTold, KeyTold};
+ghost use Rattle.oracle_fst.specs.FstTells.{front, checksumNumber, OpenTold, admissionIs, GetTold, KeyTold};
 use admission::Admission;
 use fst::Checksum;
 use fst::Opened;

@@ -9,7 +9,7 @@ ghost use Rattle.format.specs.CommonInputs.{commonInputs, commonInputsInv, comm
 ghost use Rattle.format.specs.Node.{nodeAt};
 ghost use Rattle.format.specs.Packed.{packing};
 ghost use Rattle.node_compile.specs.Compile.{builderWith};
-ghost use Rattle.oracle_node.specs.Answers.{unpacked, flagAs, isSet, PackingTold, front, NodeTold, TransitionTold, foundAs};
+ghost use Rattle.oracle_node.specs.NodeTells.{unpacked, flagAs, isSet, PackingTold, front, NodeTold, TransitionTold, foundAs};
 use node::Found;
 use node::Judged;
 use node_compile::Compiled;

@@ -1,4 +1,4 @@
--- What the exported functions answer: numbers, and what the lent buffers hold afterwards. The reading itself is in `reading` and `stream`.
+-- What the exported functions answer: numbers, and what the lent buffers hold afterwards. The reading itself is in `reading` and `stream_start`.
 --     kindIs n, kindNumber k        the kind of a bound that a number stands for, and back
 --     pendingIs n v                 the pending empty key that two numbers stand for; pendingFlag and pendingValue go back
 --     Held, heldIs h                six arrays, and the reading that they hold

@@ -59,7 +59,7 @@ pub enum Begins {
 }
 
 // What a start gives back. The reading stands beside the answer: the borrow checker covers no enum that holds an array. After a refusal
-// it carries no meaning, and the contracts leave it free; next answers on it as on any reading.
+// it carries no meaning, and the contract of start leaves it free; next answers on it as on any reading.
 pub struct Started {
     pub answer: Begins,
     pub reading: Reading,

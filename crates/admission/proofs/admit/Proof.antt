@@ -1,6 +1,6 @@
 -- `admission::admit` meets its contract: opening's refusals, and then the answer for a file that opens.
 -- Assumes nothing.
-use Rattle.admission.proofs.Answers.{opening-refused, opening-opens}
+use Rattle.admission.proofs.Admitting.{opening-refused, opening-opens}
 use borrow.Author.Needs.{needs}
 use Rattle.admission.proofs.admit.Statement.{statement}
 use Rattle.admission.proofs.admit.Tie as tie
@@ -28,6 +28,7 @@ same-length c = search needs
 same-length-2 : tie.Need-same-length-2
 same-length-2 c = search needs
 
+-- the answer of a file that opens
 returns-2 : tie.Need-returns-2
 returns-2 c = c .before .before .before .before .admit-opened .ensures
 

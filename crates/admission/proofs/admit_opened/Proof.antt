@@ -4,7 +4,7 @@ use mathlib.Core.Logic.{inl, inr}
 use Prim.Native.Nat.{_≤_}
 use denote.Ref.{now}
 use lib.ListN.{length}
-use Rattle.admission.proofs.Answers.{space-refused, wiped-cleared, AllJudged, good-admits, lost-refused, deep-refused, heavy-refused, refused-outcome}
+use Rattle.admission.proofs.Admitting.{space-refused, wiped-cleared, AllJudged, good-admits, lost-refused, deep-refused, heavy-refused}
 use borrow.Author.Needs.{needs}
 use Rattle.admission.proofs.admit_opened.Statement.{statement}
 use Rattle.admission.proofs.admit_opened.Tie as tie
@@ -53,6 +53,7 @@ clear16-requires c κs = search needs
 clear64-requires : tie.Need-clear64-requires
 clear64-requires c κs = search needs
 
+-- both tables are zeros over the file
 judge-requires : tie.Need-judge-requires
 judge-requires c κs =
     let q = c .before .before .before .before in
@@ -101,9 +102,7 @@ returns-4 : tie.Need-returns-4
 returns-4 c =
     let call = c .before .before .before .before in
     let told = call .before .before .before in
-    let j = judging (told .before .before .before .before .before .before) in
-    refused-outcome (call .refused .result) (call .refused .ensures .0)
-    (lost-refused j (call .refused .ensures .1) (call .refused .ensures .2) (told .enum-told2 .given .1))
+    lost-refused (judging (told .before .before .before .before .before .before)) (call .refused .ensures) (told .enum-told2 .given .1)
 
 same-length-5 : tie.Need-same-length-5
 same-length-5 c = search needs
@@ -116,9 +115,7 @@ returns-5 : tie.Need-returns-5
 returns-5 c =
     let call = c .before .before .before .before in
     let told = call .before .before .before in
-    let j = judging (told .before .before .before .before .before .before) in
-    refused-outcome (call .refused2 .result) (call .refused2 .ensures .0)
-    (deep-refused j (call .refused2 .ensures .1) (call .refused2 .ensures .2) (told .enum-told3 .given .1))
+    deep-refused (judging (told .before .before .before .before .before .before)) (call .refused2 .ensures) (told .enum-told3 .given .1)
 
 same-length-7 : tie.Need-same-length-7
 same-length-7 c = search needs
@@ -131,9 +128,7 @@ returns-6 : tie.Need-returns-6
 returns-6 c =
     let call = c .before .before .before .before in
     let told = call .before .before .before in
-    let j = judging (told .before .before .before .before .before .before) in
-    refused-outcome (call .refused3 .result) (call .refused3 .ensures .0)
-    (heavy-refused j (call .refused3 .ensures .1) (call .refused3 .ensures .2) (told .enum-told4 .given .1))
+    heavy-refused (judging (told .before .before .before .before .before .before)) (call .refused3 .ensures) (told .enum-told4 .given .1)
 
 pub admit-opened-spec : {M : Type 1} → statement M
 admit-opened-spec =

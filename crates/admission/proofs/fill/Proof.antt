@@ -8,11 +8,13 @@ use lib.ListN.{length, set}
 use Rattle.format.specs.Node.{Node, sound}
 use Rattle.format.specs.Paths.{Fst, nodeIn}
 use Rattle.node.specs.Read.{meaning}
+use Rattle.admission.specs.declared.Verdict.the-variants.{Good, Lost, Deep, Heavy}
 use Rattle.admission.specs.Passes.{Surveyable}
 use Rattle.format.specs.Paths.{fstWith}
-use Rattle.admission.proofs.Judging.{judged-sound, judged-unsound}
+use Rattle.admission.proofs.Stores.{kept-lt}
+use Rattle.admission.proofs.JudgedNodes.{judged-sound, judged-unsound}
 use Rattle.admission.proofs.Surveying.{surveyed-as}
-use Rattle.admission.proofs.Filling.{Filling, filling-none, filling-skip, not-unsound, surveyable, filling-lost, filling-store, filling-as, closed-all, filled-heavy, filled-good}
+use Rattle.admission.proofs.Filling.{Filling, filling-none, filling-skip, not-unsound, surveyable, filling-lost, filling-store, filling-as, filling-ends, closed-all, filled-heavy, filled-good}
 use borrow.Author.Needs.{needs}
 use native.Mathlib.Omega.{arith}
 use Rattle.admission.proofs.fill.Statement.{statement}
@@ -50,10 +52,10 @@ judged : (c : tie.After-known-told Inv-loop μ-loop) → nodeIn (file (at-node c
 judged c = judged-sound (c .before .before .before .node-at .ensures) (c .before .m .given .0 .0) (c .before .m .given .1)
 
 room-depths : (c : tie.After-known-told Inv-loop μ-loop) → at-node c .loop .a < length (at-node c .loop .depths)
-room-depths c = omega (arith, turn c .before .before .loop-test .taken, filling (at-node c) .depths-kept .long, start (at-node c) .pre .room-depths)
+room-depths c = kept-lt (filling (at-node c) .depths-kept) (start (at-node c) .pre .room-depths) (turn c .before .before .loop-test .taken)
 
 room-sums : (c : tie.After-known-told Inv-loop μ-loop) → at-node c .loop .a < length (at-node c .loop .sums)
-room-sums c = omega (arith, turn c .before .before .loop-test .taken, filling (at-node c) .sums-kept .long, start (at-node c) .pre .room-sums)
+room-sums c = kept-lt (filling (at-node c) .sums-kept) (start (at-node c) .pre .room-sums) (turn c .before .before .loop-test .taken)
 
 ready : (c : tie.After-known-told Inv-loop μ-loop) → Surveyable (at-node c .loop .depths) (at-node c .loop .sums) (node c .finalOutput) (node c .transitions)
 ready c =
@@ -63,14 +65,16 @@ ready c =
 abbrev at-store : tie.After-clamped Inv-loop μ-loop → tie.After-known-told Inv-loop μ-loop
 at-store c = c .before .before .before .before .before .before .before .before .before
 
+-- no address is passed yet
 loop-holds : tie.Need-loop-holds Inv-loop μ-loop
 loop-holds c = (search needs, filling-none _ _ _)
 
 mul-if1 : tie.Need-mul-if1 Inv-loop μ-loop
 mul-if1 c = search needs
 
+-- the depths have room for the file
 slice-read-if1 : tie.Need-slice-read-if1 Inv-loop μ-loop
-slice-read-if1 c = omega (arith, filling (c .before .before) .depths-kept .long, start (c .before .before) .pre .room-depths)
+slice-read-if1 c = kept-lt (filling (c .before .before) .depths-kept) (start (c .before .before) .pre .room-depths) (c .before .loop-test .taken)
 
 node-at-requires : tie.Need-node-at-requires Inv-loop μ-loop
 node-at-requires c κs = search needs
@@ -81,9 +85,11 @@ enum-known-m c = search needs
 enum-told : tie.Need-enum-told Inv-loop μ-loop
 enum-told c = search needs
 
+-- the depths keep their length
 same-length : tie.Need-same-length Inv-loop μ-loop
 same-length c = filling (c .before .before .before .before .before .before) .depths-kept .long
 
+-- the sums keep their length
 same-length-2 : tie.Need-same-length-2 Inv-loop μ-loop
 same-length-2 c = filling (c .before .before .before .before .before .before) .sums-kept .long
 
@@ -107,9 +113,11 @@ enum-known-d c = search needs
 enum-told-2 : tie.Need-enum-told-2 Inv-loop μ-loop
 enum-told-2 c = search needs
 
+-- the depths keep their length
 same-length-3 : tie.Need-same-length-3 Inv-loop μ-loop
 same-length-3 c = filling (at-node (c .before .before .before .before .before)) .depths-kept .long
 
+-- the sums keep their length
 same-length-4 : tie.Need-same-length-4 Inv-loop μ-loop
 same-length-4 c = filling (at-node (c .before .before .before .before .before)) .sums-kept .long
 
@@ -118,13 +126,9 @@ returns-2 : tie.Need-returns-2 Inv-loop μ-loop
 returns-2 c =
     let node = c .before .before .before .before .before in
     let h = filling (at-node node) in
-    record {
-      depths-kept = h .depths-kept;
-      sums-kept = h .sums-kept;
-      found =
-          filling-lost h _ (judged node) (turn node .before .before .loop-test .taken) (turn node .if1 .taken)
-          (surveyed-as (c .enum-told2 .given .1) (c .before .before .survey-node .ensures));
-    }
+    filling-ends h Lost
+    (filling-lost h _ (judged node) (turn node .before .before .loop-test .taken) (turn node .if1 .taken)
+    (surveyed-as (c .enum-told2 .given .1) (c .before .before .survey-node .ensures)))
 
 or-deep-requires : tie.Need-or-deep-requires Inv-loop μ-loop
 or-deep-requires c κs = search needs
@@ -135,22 +139,26 @@ or-over-requires c κs = search needs
 clamped-requires : tie.Need-clamped-requires Inv-loop μ-loop
 clamped-requires c κs = search needs
 
+-- the place of the entry, in bytes, fits
 mul-depths : tie.Need-mul-depths Inv-loop μ-loop
 mul-depths c =
     let node = at-store c in
     omega (arith, room-depths node, filling (at-node node) .depths-kept .long, start (at-node node) .good .1 .1 .1 .0 .1)
 
+-- the depths have room for the file
 slice-write-depths : tie.Need-slice-write-depths Inv-loop μ-loop
 slice-write-depths c = room-depths (at-store c)
 
 entry-of-requires : tie.Need-entry-of-requires Inv-loop μ-loop
 entry-of-requires c κs = search needs
 
+-- the place of the entry, in bytes, fits
 mul-sums : tie.Need-mul-sums Inv-loop μ-loop
 mul-sums c =
     let node = at-store (c .before) in
     omega (arith, room-sums node, filling (at-node node) .sums-kept .long, start (at-node node) .good .1 .1 .1 .1 .0 .1)
 
+-- the sums have room for the file
 slice-write-sums : tie.Need-slice-write-sums Inv-loop μ-loop
 slice-write-sums c = room-sums (at-store (c .before))
 
@@ -180,9 +188,11 @@ loop-again c =
           (c .if1 .came),
     )
 
+-- the depths keep their length
 same-length-5 : tie.Need-same-length-5 Inv-loop μ-loop
 same-length-5 c = filling (c .before .before) .depths-kept .long
 
+-- the sums keep their length
 same-length-6 : tie.Need-same-length-6 Inv-loop μ-loop
 same-length-6 c = filling (c .before .before) .sums-kept .long
 
@@ -190,15 +200,13 @@ same-length-6 c = filling (c .before .before) .sums-kept .long
 returns-3 : tie.Need-returns-3 Inv-loop μ-loop
 returns-3 c =
     let h = filling (c .before .before) in
-    record {
-      depths-kept = h .depths-kept;
-      sums-kept = h .sums-kept;
-      found = (closed-all h (c .before .loop-test .left), h .one-deep (c .if2 .taken));
-    }
+    filling-ends h Deep (closed-all h (c .before .loop-test .left), h .one-deep (c .if2 .taken))
 
+-- the depths keep their length
 same-length-7 : tie.Need-same-length-7 Inv-loop μ-loop
 same-length-7 c = filling (c .before .before .before) .depths-kept .long
 
+-- the sums keep their length
 same-length-8 : tie.Need-same-length-8 Inv-loop μ-loop
 same-length-8 c = filling (c .before .before .before) .sums-kept .long
 
@@ -206,15 +214,13 @@ same-length-8 c = filling (c .before .before .before) .sums-kept .long
 returns-4 : tie.Need-returns-4 Inv-loop μ-loop
 returns-4 c =
     let h = filling (c .before .before .before) in
-    record {
-      depths-kept = h .depths-kept;
-      sums-kept = h .sums-kept;
-      found = filled-heavy h (c .before .before .loop-test .left) (c .before .if2 .left) (c .if3 .taken);
-    }
+    filling-ends h Heavy (filled-heavy h (c .before .before .loop-test .left) (c .before .if2 .left) (c .if3 .taken))
 
+-- the depths keep their length
 same-length-9 : tie.Need-same-length-9 Inv-loop μ-loop
 same-length-9 c = filling (c .before .before .before) .depths-kept .long
 
+-- the sums keep their length
 same-length-10 : tie.Need-same-length-10 Inv-loop μ-loop
 same-length-10 c = filling (c .before .before .before) .sums-kept .long
 
@@ -222,11 +228,7 @@ same-length-10 c = filling (c .before .before .before) .sums-kept .long
 returns-5 : tie.Need-returns-5 Inv-loop μ-loop
 returns-5 c =
     let h = filling (c .before .before .before) in
-    record {
-      depths-kept = h .depths-kept;
-      sums-kept = h .sums-kept;
-      found = filled-good h (c .before .before .loop-test .left) (c .before .if2 .left) (c .if3 .left);
-    }
+    filling-ends h Good (filled-good h (c .before .before .loop-test .left) (c .before .if2 .left) (c .if3 .left))
 
 pub fill-spec : {M : Type 1} → statement M
 fill-spec =

@@ -4,9 +4,11 @@ use borrow.Author.Tests.{lt-ltb, le-ltb}
 use Rattle.admission.proofs.or_deep.Statement.{statement}
 use Rattle.admission.proofs.or_deep.Tie as tie
 
+-- over the limit now
 returns : tie.Need-returns
 returns c = simp (lt-ltb _ _ (c .if1 .taken))
 
+-- not over it now, so as before
 returns-2 : tie.Need-returns-2
 returns-2 c = simp (le-ltb _ _ (c .if1 .left))
 

@@ -15,6 +15,7 @@ enum-known-t c = search needs
 sub-if1 : tie.Need-sub-if1
 sub-if1 c = search needs
 
+-- w + s passes the limit
 returns : tie.Need-returns
 returns c = raised-over (c .before .before .before .before .args .t) (c .before .before .t .given .0 .0) _ (c .before .before .t .given .1) (omega arith)
 
@@ -27,6 +28,7 @@ larger64-requires c κs = search needs
 returns-2 : tie.Need-returns-2
 returns-2 c = search needs
 
+-- w + s is within the limit
 returns-3 : tie.Need-returns-3
 returns-3 c = raised-is (c .before .before .before .before .before .args .t) (c .before .before .before .t .given .0 .0) _ _ (c .before .before .before .t .given .1) (omega arith) (c .larger64 .ensures)
 

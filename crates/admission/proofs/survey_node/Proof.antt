@@ -38,12 +38,14 @@ ready q = start q .pre .1
 in-list : (q : tie.In-loop Inv-loop μ-loop) → q .before .loop .i < length (transitions (q .before))
 in-list q = omega (arith, count (q .before))
 
+-- no transition is passed yet
 loop-holds : tie.Need-loop-holds Inv-loop μ-loop
 loop-holds c = surveyed-none (c .before .before .before .pre .1)
 
 transition-addr-requires : tie.Need-transition-addr-requires Inv-loop μ-loop
 transition-addr-requires c κs = search needs
 
+-- the target lies within the depths
 child-depth-requires : tie.Need-child-depth-requires Inv-loop μ-loop
 child-depth-requires c κs =
     target-in-depths (ready (c .before .before)) (c .before .before .loop .i) (in-list (c .before)) _ (c .transition-addr .ensures)
@@ -56,6 +58,7 @@ returns c =
     surveyed-lost (ready (turn .before)) (turn .before .loop .i) (in-list turn) _ (targeted .transition-addr .ensures) _ (c .before .child-depth .ensures)
     (c .if1 .taken)
 
+-- the target lies within the sums
 child-sum-requires : tie.Need-child-sum-requires Inv-loop μ-loop
 child-sum-requires c κs =
     let targeted = c .before .before in

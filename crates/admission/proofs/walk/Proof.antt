@@ -10,8 +10,8 @@ use Rattle.format.specs.Paths.{Fst, nodeIn}
 use Rattle.node.specs.Read.{meaning}
 use Rattle.admission.specs.Passes.{Kept}
 use Rattle.format.specs.Paths.{fstWith}
-use Rattle.admission.proofs.Stores.{kept-none, kept-set}
-use Rattle.admission.proofs.Judging.{judged-sound, judged-unsound}
+use Rattle.admission.proofs.Stores.{kept-none, kept-set, kept-lt}
+use Rattle.admission.proofs.JudgedNodes.{judged-sound, judged-unsound}
 use Rattle.admission.proofs.Walking.{Walking, walking-none, walking-broken, walked-inside, walked-below, walked-first-low, walking-last, walking-next}
 use borrow.Author.Needs.{needs}
 use native.Mathlib.Omega.{arith}
@@ -43,11 +43,12 @@ judged : (c : tie.After-known-told Inv-loop μ-loop) → nodeIn (file c) (at-nod
 judged c = judged-sound (c .before .before .before .node-at .ensures) (c .before .m .given .0 .0) (c .before .m .given .1)
 
 room : (c : tie.After-known-told Inv-loop μ-loop) → at-node c .loop .a < length (at-node c .loop .depths)
-room c = omega (arith, walked-inside (walked c) _ (judged c), at-node c .loop .inv .0 .long, start c .pre .0)
+room c = kept-lt (at-node c .loop .inv .0) (start c .pre .0) (walked-inside (walked c) _ (judged c))
 
 kept-now : (c : tie.After-known-told Inv-loop μ-loop) → Kept (length (file c .bytes)) (now (start c .args .depths)) (set (at-node c .loop .depths) (at-node c .loop .a) 1)
 kept-now c = kept-set (at-node c .loop .a) 1 (walked-inside (walked c) _ (judged c)) (at-node c .loop .inv .0)
 
+-- no address is passed yet
 loop-holds : tie.Need-loop-holds Inv-loop μ-loop
 loop-holds c = (kept-none _ _, ([], walking-none _ _ (c .before .before .pre .1)))
 
@@ -60,6 +61,7 @@ enum-known-m c = search needs
 enum-told : tie.Need-enum-told Inv-loop μ-loop
 enum-told c = search needs
 
+-- the depths keep their length
 same-length : tie.Need-same-length Inv-loop μ-loop
 same-length c = c .before .before .before .loop .inv .0 .long
 
@@ -69,12 +71,15 @@ returns c =
     let at = c .before .before .before in
     (at .loop .inv .0, walking-broken (at .loop .inv .1 .1) (judged-unsound (c .before .before .node-at .ensures) (c .enum-told .given .1)))
 
+-- the place of the entry, in bytes, fits
 mul-depths : tie.Need-mul-depths Inv-loop μ-loop
 mul-depths c = let r = room c in omega arith
 
+-- the depths have room for the file
 slice-write-depths : tie.Need-slice-write-depths Inv-loop μ-loop
 slice-write-depths c = room c
 
+-- the depths keep their length
 same-length-2 : tie.Need-same-length-2 Inv-loop μ-loop
 same-length-2 c = kept-now (c .before) .long
 
@@ -86,6 +91,7 @@ returns-2 c = (kept-now (c .before), (_, walking-last (walked (c .before)) _ (ju
 sub-a : tie.Need-sub-a Inv-loop μ-loop
 sub-a c = omega (arith, walked-first-low (walked (c .before)) _ (judged (c .before)))
 
+-- the next node lies below
 loop-less : tie.Need-loop-less Inv-loop μ-loop
 loop-less c = walked-below (walked (c .before)) _ (judged (c .before))
 

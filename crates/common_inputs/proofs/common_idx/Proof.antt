@@ -2,7 +2,7 @@
 -- Assumes nothing.
 use native.Mathlib.Omega.{arith}
 use borrow.Author.Needs.{needs}
-use Rattle.common_inputs.proofs.Idx.{idx-lt, idx-le}
+use Rattle.common_inputs.proofs.IdxLaws.{idx-lt, idx-le}
 use Rattle.common_inputs.proofs.common_idx.Statement.{statement}
 use Rattle.common_inputs.proofs.common_idx.Tie as tie
 

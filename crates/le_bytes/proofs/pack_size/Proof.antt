@@ -4,7 +4,7 @@
 use native.Mathlib.Omega.{arith}
 use borrow.Author.Needs.{needs}
 use lib.Count.{leading-le}
-use Rattle.le_bytes.proofs.Size.{size-zero, size-is, packed-in}
+use Rattle.le_bytes.proofs.SizeLaws.{size-zero, size-is, packed-in}
 use Rattle.le_bytes.proofs.pack_size.Statement.{statement}
 use Rattle.le_bytes.proofs.pack_size.Tie as tie
 

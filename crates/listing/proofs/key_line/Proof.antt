@@ -12,7 +12,7 @@ use lib.Seq.{length-take-le}
 use Rattle.listing.specs.Lines.{keyText, decimal, keyLine}
 use Rattle.listing.specs.LinesLaws.{length-key-line}
 use Rattle.buffers.specs.WritingLaws.{Writing, writing-none, part-room, part-written}
-use Rattle.listing.proofs.Parts.{line-written}
+use Rattle.listing.proofs.LineParts.{line-written}
 use Rattle.listing.proofs.key_line.Statement.{statement}
 use Rattle.listing.proofs.key_line.Tie as tie
 

@@ -1,4 +1,5 @@
--- `node::ascends` meets its contract.
+-- `node::ascends` meets its contract. The loop's invariant: the first j bytes descend, as they are stored last first.
+-- The measure is n - j.
 -- Assumes nothing.
 use Prim.Native.Nat.{ℕ, _+_, _-_, _*_, _≤_, _<_}
 use mathlib.Core.List.{List}
@@ -20,6 +21,7 @@ Inv-loop file at n j₀ j = (1 ≤ j) × Descends file at j
 abbrev μ-loop : tie.MeasureT-loop
 μ-loop file at n j₀ j = n - j
 
+-- one byte alone
 loop-holds : tie.Need-loop-holds Inv-loop μ-loop
 loop-holds c = (le-refl 1, descends-one (now (c .args .file)) (c .args .at))
 
@@ -38,6 +40,7 @@ add-if1-2 c = search needs
 shared-slice-read-if1-2 : tie.Need-shared-slice-read-if1-2 Inv-loop μ-loop
 shared-slice-read-if1-2 c = search needs
 
+-- an input is not above the one before it
 returns : tie.Need-returns Inv-loop μ-loop
 returns c =
     let body = c .before .before .before in
@@ -52,11 +55,13 @@ add-j c = search needs
 loop-less : tie.Need-loop-less Inv-loop μ-loop
 loop-less c = search needs
 
+-- the input is above the one before it
 loop-again : tie.Need-loop-again Inv-loop μ-loop
 loop-again c =
     let body = c .before .before .before in
     (omega arith, descends-step (body .before .loop .inv .0) (body .before .loop .inv .1) (c .if1 .left))
 
+-- all inputs are compared
 returns-2 : tie.Need-returns-2 Inv-loop μ-loop
 returns-2 c = decides-true (ascending-all (c .before .before .args .n) (c .loop-test .left) (c .before .loop .inv .1))
 

@@ -1,4 +1,5 @@
--- `node::count_below` meets its contract.
+-- `node::count_below` meets its contract. The loop's invariant: count is how many of the first b entries are below n.
+-- The measure is 256 - b.
 -- Assumes nothing.
 use Prim.Native.Nat.{ℕ, _+_, _-_, _*_, _≤_, _<_}
 use mathlib.Core.List.{List}
@@ -19,6 +20,7 @@ Inv-loop file index n count₀ b₀ count b = Counted file index n count b
 abbrev μ-loop : tie.MeasureT-loop
 μ-loop file index n count₀ b₀ count b = 256 - b
 
+-- no entry is passed yet
 loop-holds : tie.Need-loop-holds Inv-loop μ-loop
 loop-holds c = counted-none (now (c .before .args .file)) (c .before .args .index) (c .before .args .n)
 
@@ -40,6 +42,7 @@ add-b c = search needs
 loop-less : tie.Need-loop-less Inv-loop μ-loop
 loop-less c = search needs
 
+-- one entry more, below n or not
 loop-again : tie.Need-loop-again Inv-loop μ-loop
 loop-again c =
     let call = c .before in
@@ -51,6 +54,7 @@ loop-again c =
     (λ w. rw (w .1) (counted-other (call .small .result) (call .small .ensures) (start .pre) (body .loop-test .taken) (w .0 .left) (body .before .loop .inv)))
     (c .if1 .came)
 
+-- all 256 entries are passed
 returns : tie.Need-returns Inv-loop μ-loop
 returns c = counted-all (c .before .before .before .pre) (c .loop-test .left) (c .before .loop .inv)
 

@@ -29,12 +29,15 @@ number-of-requires-2 c κs = search needs
 enum-told-3 : tie.Need-enum-told-3
 enum-told-3 c = search needs
 
+-- any number of transitions: the delta is stored
 returns : tie.Need-returns
 returns c = rw (c .before .enum-told .given .1) (c .number-of .ensures)
 
+-- one transition: the delta is stored
 returns-2 : tie.Need-returns-2
 returns-2 c = rw (c .before .enum-told2 .given .1) (c .number-of2 .ensures)
 
+-- one transition to the node just below: the delta is 1
 returns-3 : tie.Need-returns-3
 returns-3 c = let start = c .before .before .before .before .before in
     let s = now (start .args .file) in let m = start .args .node in let r = start .pre .0 in let i = start .args .i in let l = start .pre .1 in

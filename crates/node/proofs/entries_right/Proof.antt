@@ -8,15 +8,18 @@ use denote.Ref.{now}
 use Rattle.node.proofs.entries_right.Statement.{statement}
 use Rattle.node.proofs.entries_right.Tie as tie
 
+-- there is no index
 returns : tie.Need-returns
 returns c = decides-true (λ ne. absurd (ne (c .if1 .taken)))
 
 add-index-right : tie.Need-add-index-right
 add-index-right c = search needs
 
+-- an index has 256 bytes, and they lie within the file
 index-right-requires : tie.Need-index-right-requires
 index-right-requires c κs = let start = c .before .before in omega (arith, start .pre .1 (c .if1 .left))
 
+-- there is an index
 returns-2 : tie.Need-returns-2
 returns-2 c = decides-iff (λ right _. right) (λ h. h (c .before .if1 .left)) (c .index-right .ensures)
 

@@ -20,26 +20,31 @@ mul-inputs-2 c = search needs
 add-inputs-2 : tie.Need-add-inputs-2
 add-inputs-2 c = search needs
 
+-- the inputs lie within the file
 seek-requires : tie.Need-seek-requires
 seek-requires c κs = let start = c .before .before .before .before .before .before in
     let s = now (start .args .file) in let m = start .args .node in let r = start .pre .0 in
     omega (arith, any-room s m r (start .pre .1))
 
+-- no index: the inputs are searched
 returns : tie.Need-returns
 returns c = let start = c .before .before .before .before .before .before .before in
     let s = now (start .args .file) in let m = start .args .node in let r = start .pre .0 in
     any-finds s m r (start .args .b) (c .seek .result) (start .pre .1) (c .seek .ensures)
 
+-- the index starts within the file
 add-look-up : tie.Need-add-look-up
 add-look-up c = let start = c .before .before .before .before .before .before in
     let s = now (start .args .file) in let m = start .args .node in let r = start .pre .0 in
     omega (arith, any-room s m r (start .pre .1))
 
+-- the index lies within the file
 look-up-requires : tie.Need-look-up-requires
 look-up-requires c κs = let start = c .before .before .before .before .before .before in
     let s = now (start .args .file) in let m = start .args .node in let r = start .pre .0 in
     omega (arith, any-room s m r (start .pre .1), r .entries-len (c .if1 .left))
 
+-- by the index
 returns-2 : tie.Need-returns-2
 returns-2 c = let start = c .before .before .before .before .before .before .before in
     let s = now (start .args .file) in let m = start .args .node in let r = start .pre .0 in

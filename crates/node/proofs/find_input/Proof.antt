@@ -11,6 +11,7 @@ use Rattle.node.proofs.find_input.Tie as tie
 enum-told : tie.Need-enum-told
 enum-told c = search needs
 
+-- any number of transitions
 find-any-requires : tie.Need-find-any-requires
 find-any-requires c κs = (c .before .before .before .pre, c .enum-told .given .1)
 
@@ -26,16 +27,19 @@ enum-told-3 c = search needs
 find-one-requires-2 : tie.Need-find-one-requires-2
 find-one-requires-2 c κs = search needs
 
+-- any number of transitions
 returns : tie.Need-returns
 returns c = let start = c .before .before .before .before in
     let s = now (start .args .file) in let m = start .args .node in let r = start .pre in
     node-find s m r (start .args .b) (c .find-any .result) (c .find-any .ensures)
 
+-- one transition
 returns-2 : tie.Need-returns-2
 returns-2 c = let start = c .before .before .before .before in
     let s = now (start .args .file) in let m = start .args .node in let r = start .pre in
     node-find s m r (start .args .b) (c .find-one .result) (rw (c .before .enum-told2 .given .1) (c .find-one .ensures))
 
+-- one transition to the node just below
 returns-3 : tie.Need-returns-3
 returns-3 c = let start = c .before .before .before .before in
     let s = now (start .args .file) in let m = start .args .node in let r = start .pre in

@@ -11,9 +11,11 @@ use denote.Ref.{now}
 use Rattle.node.proofs.find_one.Statement.{statement}
 use Rattle.node.proofs.find_one.Tie as tie
 
+-- the one input is b
 returns : tie.Need-returns
 returns c = finds-at 0 (omega arith) (c .if1 .taken)
 
+-- the one input is another
 returns-2 : tie.Need-returns-2
 unfolding Absent
 returns-2 c = finds-missing (λ i l. let z : i ≡ 0 = omega arith in rw z (c .if1 .left))

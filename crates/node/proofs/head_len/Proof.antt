@@ -15,10 +15,12 @@ shared-slice-read-small c = search needs
 small-requires : tie.Need-small-requires
 small-requires c κs = search needs
 
+-- the low six bits are 0: a byte below the state belongs to it
 returns : tie.Need-returns
 returns c = let call = c .before in let start = call .before .before .before in let st = call .small .ensures in
     record { is = sym (head-len-two (now (start .args .file)) (start .args .addr) (rw (← st) (c .if1 .taken))); low = omega arith; high = omega arith }
 
+-- the state byte alone
 returns-2 : tie.Need-returns-2
 returns-2 c = let call = c .before in let start = call .before .before .before in let st = call .small .ensures in
     record { is = sym (head-len-one (now (start .args .file)) (start .args .addr) (rw (← st) (c .if1 .left))); low = omega arith; high = omega arith }

@@ -10,14 +10,17 @@ use denote.Ref.{now}
 use Rattle.node.proofs.index_len_of.Statement.{statement}
 use Rattle.node.proofs.index_len_of.Tie as tie
 
+-- below version 2
 returns : tie.Need-returns
 unfolding indexLen
 returns c = let start = c .before in (rw (lt-leb 2 (start .args .version) (c .if1 .taken)), omega arith)
 
+-- more than 32 transitions
 returns-2 : tie.Need-returns-2
 unfolding indexLen
 returns-2 c = let start = c .before .before in (rw (le-leb 2 (start .args .version) (c .before .if1 .left), lt-ltb 32 (start .args .n) (c .if2 .taken)), omega arith)
 
+-- 32 transitions at most
 returns-3 : tie.Need-returns-3
 returns-3 c = let start = c .before .before in (sym (index-len-few (start .args .version) (start .args .n) (c .if2 .left)), omega arith)
 

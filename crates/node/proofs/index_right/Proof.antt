@@ -12,6 +12,7 @@ use Rattle.node.proofs.index_right.Tie as tie
 probes-requires : tie.Need-probes-requires
 probes-requires c κs = search needs
 
+-- an input's entry is not its place
 returns : tie.Need-returns
 unfolding Probed
 returns c = decides-false (λ right. c .before .probes .ensures .no (c .if1 .left) (λ i l. right .present i l))
@@ -19,6 +20,7 @@ returns c = decides-false (λ right. c .before .probes .ensures .no (c .if1 .lef
 count-below-requires : tie.Need-count-below-requires
 count-below-requires c κs = search needs
 
+-- each input's entry is its place: the count of the entries below n decides
 returns-2 : tie.Need-returns-2
 returns-2 c =
     let probed = c .before .before in

@@ -29,11 +29,13 @@ sub-result c = search needs
 sub-result-2 : tie.Need-sub-result-2
 sub-result-2 c = search needs
 
+-- the input lies within the file
 add-result : tie.Need-add-result
 add-result c = let start = c .before .before .before .before in
     let s = now (start .args .file) in let m = start .args .node in let r = start .pre .0 in let i = start .args .i in let l = start .pre .1 in
     omega (arith, any-room s m r (c .enum-told .given .1))
 
+-- the input lies within the file
 shared-slice-read-result : tie.Need-shared-slice-read-result
 shared-slice-read-result c = let start = c .before .before .before .before .before in
     let s = now (start .args .file) in let m = start .args .node in let r = start .pre .0 in let i = start .args .i in let l = start .pre .1 in
@@ -45,16 +47,19 @@ enum-told-2 c = search needs
 enum-told-3 : tie.Need-enum-told-3
 enum-told-3 c = search needs
 
+-- any number of transitions: the input is stored
 returns : tie.Need-returns
 returns c = let start = c .before .before .before .before .before in
     let s = now (start .args .file) in let m = start .args .node in let r = start .pre .0 in let i = start .args .i in let l = start .pre .1 in
     input-any s m r i l (c .before .enum-told .given .1)
 
+-- one transition: the input was read when the node was judged
 returns-2 : tie.Need-returns-2
 returns-2 c = let start = c .before .before .before .before in
     let s = now (start .args .file) in let m = start .args .node in let r = start .pre .0 in let i = start .args .i in let l = start .pre .1 in
     input-one s m r i l (rw (c .enum-told2 .given .1))
 
+-- one transition to the node just below: the input was read when the node was judged
 returns-3 : tie.Need-returns-3
 returns-3 c = let start = c .before .before .before .before in
     let s = now (start .args .file) in let m = start .args .node in let r = start .pre .0 in let i = start .args .i in let l = start .pre .1 in

@@ -20,9 +20,11 @@ shared-slice-read-result c = search needs
 common-input-requires : tie.Need-common-input-requires
 common-input-requires c κs = search needs
 
+-- the low six bits are 0: the input is the byte below the state
 returns : tie.Need-returns
 returns c = let left = c .before in let start = left .before .before .before in sym (input-of-byte (now (start .args .file)) (start .args .addr) (left .if1 .taken))
 
+-- a common input
 returns-2 : tie.Need-returns-2
 returns-2 c = let left = c .before in let start = left .before .before .before in c .common-input .ensures ∙ sym (input-of-common (now (start .args .file)) (start .args .addr) (left .if1 .left))
 

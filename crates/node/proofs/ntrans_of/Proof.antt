@@ -15,6 +15,7 @@ shared-slice-read-small c = search needs
 small-requires : tie.Need-small-requires
 small-requires c κs = search needs
 
+-- the count is in the low six bits
 returns : tie.Need-returns
 returns c = let call = c .before in let start = call .before .before .before in let st = call .small .ensures in
     (rw st (sym (count-of-bits (now (start .args .file)) (start .args .addr) (rw (← st) (c .if1 .taken)))), omega arith)
@@ -28,10 +29,12 @@ shared-slice-read-small-2 c = search needs
 small-requires-2 : tie.Need-small-requires-2
 small-requires-2 c κs = search needs
 
+-- the count byte is 1
 returns-2 : tie.Need-returns-2
 returns-2 c = let count = c .before in let call = count .before .before .before in let start = call .before .before .before in let st = call .small .ensures in
     (sym (count-of-256 (now (start .args .file)) (start .args .addr) (rw (← st) (count .before .before .if1 .left)) (sym (count .small2 .ensures) ∙ c .if2 .taken)), omega arith)
 
+-- the count byte is another
 returns-3 : tie.Need-returns-3
 returns-3 c = let count = c .before in let call = count .before .before .before in let start = call .before .before .before in let st = call .small .ensures in
     let byte = count .before .shared-slice-known3 .given (start .args .addr - 1) in

@@ -60,6 +60,7 @@ small-requires c κs = search needs
 sizes-right-requires : tie.Need-sizes-right-requires
 sizes-right-requires c κs = search needs
 
+-- a size is above 8, or the delta has no byte
 returns : tie.Need-returns
 returns c = no-at (c .before .before) (λ h. c .before .sizes-right .ensures .no (c .if1 .left) (h .sizes .tsize-le, h .sizes .osize-le, h .sizes .tsize-pos refl))
 
@@ -75,6 +76,7 @@ add-size-3 c = search needs
 sub-if2 : tie.Need-sub-if2
 sub-if2 c = search needs
 
+-- the first byte would lie below 16
 returns-2 : tie.Need-returns-2
 returns-2 c = no-at (c .before .before .before) (λ h. omega (arith, h .above))
 
@@ -87,6 +89,7 @@ sub-first c = search needs
 add-number-of : tie.Need-add-number-of
 add-number-of c = search needs
 
+-- the delta lies within the node, and the sizes are right
 number-of-requires : tie.Need-number-of-requires
 number-of-requires c κs = let read = c .before .before .before in
     let right = c .before .before .sizes-right .ensures .yes (c .before .if1 .taken) in
@@ -95,6 +98,7 @@ number-of-requires c κs = let read = c .before .before .before in
 target-right-requires : tie.Need-target-right-requires
 target-right-requires c κs = search needs
 
+-- the target is wrong
 returns-3 : tie.Need-returns-3
 returns-3 c = let judged = c .before in
     let read = judged .before .before .before .before .before in
@@ -104,6 +108,7 @@ returns-3 c = let judged = c .before in
 input-of-requires : tie.Need-input-of-requires
 input-of-requires c κs = search needs
 
+-- every condition holds: the node is sound
 returns-4 : tie.Need-returns-4
 unfolding le
 returns-4 c = let judged = c .before .before in

@@ -18,6 +18,7 @@ head-len-requires c κs = search needs
 sub-if1 : tie.Need-sub-if1
 sub-if1 c = search needs
 
+-- the target would lie below 16
 returns : tie.Need-returns
 returns c = let call = c .before in
     let start = call .before .before in
@@ -35,6 +36,7 @@ sub-first c = search needs
 input-of-requires : tie.Need-input-of-requires
 input-of-requires c κs = search needs
 
+-- the target is 16 at least: the node is sound
 returns-2 : tie.Need-returns-2
 unfolding le
 returns-2 c = let left = c .before in

@@ -11,6 +11,7 @@ use Rattle.node.proofs.output.Tie as tie
 number-of-requires : tie.Need-number-of-requires
 number-of-requires c κs = search needs
 
+-- the one way out: the number that was read is the output
 returns : tie.Need-returns
 returns c = let start = c .before .before in
     let s = now (start .args .file) in let m = start .args .node in let r = start .pre .0 in let i = start .args .i in let l = start .pre .1 in

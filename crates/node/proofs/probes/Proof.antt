@@ -1,4 +1,5 @@
--- `node::probes` meets its contract.
+-- `node::probes` meets its contract. The loop's invariant: the entry of each of the first i inputs is its place.
+-- The measure is n - i.
 -- Assumes nothing.
 use Prim.Native.Nat.{ℕ, _+_, _-_, _*_, _≤_, _<_}
 use mathlib.Core.List.{List}
@@ -20,6 +21,7 @@ Inv-loop file at n index i₀ i = ProbedTo file at n index i
 abbrev μ-loop : tie.MeasureT-loop
 μ-loop file at n index i₀ i = n - i
 
+-- no input is probed yet
 loop-holds : tie.Need-loop-holds Inv-loop μ-loop
 loop-holds c = probed-none (now (c .before .args .file)) (c .before .args .at) (c .before .args .n) (c .before .args .index)
 
@@ -38,6 +40,7 @@ shared-slice-read-small c = search needs
 small-requires : tie.Need-small-requires Inv-loop μ-loop
 small-requires c κs = search needs
 
+-- an input is below 256, so its entry lies in the index
 add-small-2 : tie.Need-add-small-2 Inv-loop μ-loop
 add-small-2 c =
     let body = c .before .before in
@@ -46,6 +49,7 @@ add-small-2 c =
     let byte = c .before .shared-slice-known2 .given (start .args .at + (start .args .n - 1 - i)) in
     omega arith
 
+-- an input is below 256, so its entry lies in the index
 shared-slice-read-small-2 : tie.Need-shared-slice-read-small-2 Inv-loop μ-loop
 shared-slice-read-small-2 c =
     let body = c .before .before .before in
@@ -57,6 +61,7 @@ shared-slice-read-small-2 c =
 small-requires-2 : tie.Need-small-requires-2 Inv-loop μ-loop
 small-requires-2 c κs = search needs
 
+-- an input's entry is not its place
 returns : tie.Need-returns Inv-loop μ-loop
 returns c =
     let call2 = c .before in
@@ -75,6 +80,7 @@ add-i c = search needs
 loop-less : tie.Need-loop-less Inv-loop μ-loop
 loop-less c = search needs
 
+-- the input's entry is its place
 loop-again : tie.Need-loop-again Inv-loop μ-loop
 loop-again c =
     let call2 = c .before in
@@ -86,6 +92,7 @@ loop-again c =
     probed-step (call .small .result) (call2 .small2 .result) (call .small .ensures) (call2 .small2 .ensures) (omega arith) (body .loop-test .taken)
     (c .if1 .left) (body .before .loop .inv)
 
+-- all inputs are probed
 returns-2 : tie.Need-returns-2 Inv-loop μ-loop
 returns-2 c = decides-true (probed-all (c .loop-test .left) (c .before .loop .inv))
 

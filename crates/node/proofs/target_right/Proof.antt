@@ -11,9 +11,11 @@ use Rattle.node.proofs.target_right.Tie as tie
 sub-if1 : tie.Need-sub-if1
 sub-if1 c = search needs
 
+-- delta 0, or a target that is 16 at least
 returns : tie.Need-returns
 returns c = let a = c .before .args in decides-true (target-near (a .first) (a .delta) (c .before .pre) (c .if1 .taken))
 
+-- any other delta is right only where it leads to 0
 returns-2 : tie.Need-returns-2
 returns-2 c = let a = c .before .args in decides-far (a .first) (a .delta) (c .before .pre) (c .if1 .left)
 

@@ -17,6 +17,7 @@ output-requires c κs = search needs
 transition-addr-requires : tie.Need-transition-addr-requires
 transition-addr-requires c κs = search needs
 
+-- the one way out: input, output and address
 returns : tie.Need-returns
 returns c = let start = c .before .before .before .before in
     let s = now (start .args .file) in let m = start .args .node in let r = start .pre .0 in let i = start .args .i in let l = start .pre .1 in

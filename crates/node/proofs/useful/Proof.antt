@@ -12,14 +12,17 @@ use denote.Ref.{now}
 use Rattle.node.proofs.useful.Statement.{statement}
 use Rattle.node.proofs.useful.Tie as tie
 
+-- a final node
 returns : tie.Need-returns
 unfolding Useful
 returns c = decides-true (inl (c .if1 .taken))
 
+-- a node with a transition
 returns-2 : tie.Need-returns-2
 unfolding Useful
 returns-2 c = decides-true (inr (inl (c .if2 .taken)))
 
+-- neither: useful only as the root
 returns-3 : tie.Need-returns-3
 unfolding Useful
 returns-3 c = let start = c .before .before in

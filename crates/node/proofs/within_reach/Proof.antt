@@ -12,15 +12,18 @@ use Rattle.node.proofs.within_reach.Tie as tie
 sub-result : tie.Need-sub-result
 sub-result c = search needs
 
+-- a size of one byte
 returns : tie.Need-returns
 returns c = λ e. let h = leb-true 255 (c .before .args .first - 16) e in rw (c .if1 .taken) (omega (arith, c .before .pre))
 
 sub-result-2 : tie.Need-sub-result-2
 sub-result-2 c = search needs
 
+-- a size of two bytes
 returns-2 : tie.Need-returns-2
 returns-2 c = λ e. let start = c .before .before in let h = leb-true 65535 (start .args .first - 16) e in rw (c .if2 .taken) (omega (arith, start .pre))
 
+-- any other size: false claims nothing
 returns-3 : tie.Need-returns-3
 returns-3 c = λ e. absurd (false≢true e)
 

@@ -1,7 +1,7 @@
 -- `node_view::place_in` meets its contract: an unsound node has no input, and of a sound one `find_input` answers.
 -- Assumes nothing.
 use borrow.Author.Needs.{needs}
-use Rattle.node_view.proofs.Answers.{place-in-unsound, place-in-sound}
+use Rattle.node_view.proofs.ViewAnswers.{place-in-unsound, place-in-sound}
 use Rattle.node_view.proofs.place_in.Statement.{statement}
 use Rattle.node_view.proofs.place_in.Tie as tie
 

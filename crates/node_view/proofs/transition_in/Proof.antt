@@ -1,7 +1,7 @@
 -- `node_view::transition_in` meets its contract: an unsound node has no transition, and a sound one has those below its count.
 -- Assumes nothing.
 use borrow.Author.Needs.{needs}
-use Rattle.node_view.proofs.Answers.{transition-in-unsound, transition-in-at, transition-in-past}
+use Rattle.node_view.proofs.ViewAnswers.{transition-in-unsound, transition-in-at, transition-in-past}
 use Rattle.node_view.proofs.transition_in.Statement.{statement}
 use Rattle.node_view.proofs.transition_in.Tie as tie
 

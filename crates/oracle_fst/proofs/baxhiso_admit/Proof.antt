@@ -1,7 +1,7 @@
 -- `oracle_fst::baxhiso_admit` meets its contract: the number stands for what admission answered.
 -- Assumes nothing.
 use borrow.Author.Needs.{needs}
-use Rattle.oracle_fst.proofs.Told.{admitted-told, refused-told}
+use Rattle.oracle_fst.proofs.FstTold.{admitted-told, refused-told}
 use Rattle.oracle_fst.proofs.baxhiso_admit.Statement.{statement}
 use Rattle.oracle_fst.proofs.baxhiso_admit.Tie as tie
 

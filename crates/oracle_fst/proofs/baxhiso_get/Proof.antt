@@ -2,7 +2,7 @@
 -- Assumes nothing.
 use borrow.Author.Needs.{needs}
 use denote.Ref.{now}
-use Rattle.oracle_fst.proofs.Told.{value-told, none-told, not-got-told}
+use Rattle.oracle_fst.proofs.FstTold.{value-told, none-told, not-got-told}
 use Rattle.oracle_fst.proofs.baxhiso_get.Statement.{statement}
 use Rattle.oracle_fst.proofs.baxhiso_get.Tie as tie
 

@@ -2,7 +2,7 @@
 -- Assumes nothing.
 use borrow.Author.Needs.{needs}
 use Rattle.lookup.specs.declared.KeyAnswer.the-variants.{Key, None, Refused}
-use Rattle.oracle_fst.proofs.Told.{key-told}
+use Rattle.oracle_fst.proofs.FstTold.{key-told}
 use Rattle.oracle_fst.proofs.baxhiso_get_key.Statement.{statement}
 use Rattle.oracle_fst.proofs.baxhiso_get_key.Tie as tie
 

@@ -2,7 +2,7 @@
 -- Assumes nothing.
 use borrow.Author.Needs.{needs}
 use denote.Ref.{now}
-use Rattle.oracle_fst.proofs.Told.{open-refused, open-told}
+use Rattle.oracle_fst.proofs.FstTold.{open-refused, open-told}
 use Rattle.oracle_fst.proofs.baxhiso_open.Statement.{statement}
 use Rattle.oracle_fst.proofs.baxhiso_open.Tie as tie
 

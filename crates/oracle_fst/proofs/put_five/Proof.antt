@@ -5,7 +5,7 @@ use native.Mathlib.Omega.{arith}
 use borrow.Author.Needs.{needs}
 use denote.Ref.{now}
 use lib.ListN.{length-set}
-use Rattle.oracle_fst.proofs.Front.{front-short, front-five}
+use Rattle.oracle_fst.proofs.FstFront.{front-short, front-five}
 use Rattle.oracle_fst.proofs.put_five.Statement.{statement}
 use Rattle.oracle_fst.proofs.put_five.Tie as tie
 

@@ -3,7 +3,7 @@
 use mathlib.Core.List.{[], _∷_}
 use borrow.Author.Needs.{needs}
 use denote.Ref.{now}
-use Rattle.oracle_fst.proofs.Front.{front-short, front-one}
+use Rattle.oracle_fst.proofs.FstFront.{front-short, front-one}
 use Rattle.oracle_fst.proofs.put_one.Statement.{statement}
 use Rattle.oracle_fst.proofs.put_one.Tie as tie
 

@@ -1,7 +1,7 @@
 -- `oracle_node::baxhiso_compile` meets its contract: what the packer answers is the definition's packing.
 -- Assumes nothing.
 use borrow.Author.Needs.{needs}
-use Rattle.oracle_node.proofs.Told.{packed-told, refused-told}
+use Rattle.oracle_node.proofs.NodeTold.{packed-told, refused-told}
 use Rattle.oracle_node.proofs.baxhiso_compile.Statement.{statement}
 use Rattle.oracle_node.proofs.baxhiso_compile.Tie as tie
 

@@ -2,7 +2,7 @@
 -- Assumes nothing.
 use borrow.Author.Needs.{needs}
 use denote.Ref.{now}
-use Rattle.oracle_node.proofs.Told.{found-unsound, found-absent, found-at}
+use Rattle.oracle_node.proofs.NodeTold.{found-unsound, found-absent, found-at}
 use Rattle.oracle_node.proofs.baxhiso_find_input.Statement.{statement}
 use Rattle.oracle_node.proofs.baxhiso_find_input.Tie as tie
 

@@ -2,7 +2,7 @@
 -- Assumes nothing.
 use borrow.Author.Needs.{needs}
 use denote.Ref.{now}
-use Rattle.oracle_node.proofs.Told.{node-unsound, node-sound}
+use Rattle.oracle_node.proofs.NodeTold.{node-unsound, node-sound}
 use Rattle.oracle_node.proofs.baxhiso_node.Statement.{statement}
 use Rattle.oracle_node.proofs.baxhiso_node.Tie as tie
 

@@ -3,7 +3,7 @@
 -- Assumes nothing.
 use borrow.Author.Needs.{needs}
 use denote.Ref.{now}
-use Rattle.oracle_node.proofs.Told.{transition-unsound, transition-none, transition-no-room, transition-told}
+use Rattle.oracle_node.proofs.NodeTold.{transition-unsound, transition-none, transition-no-room, transition-told}
 use Rattle.oracle_node.proofs.baxhiso_transition.Statement.{statement}
 use Rattle.oracle_node.proofs.baxhiso_transition.Tie as tie
 

@@ -3,7 +3,7 @@
 use mathlib.Core.Path.{_∙_}
 use native.Mathlib.Omega.{arith}
 use denote.Ref.{now}
-use Rattle.oracle_node.proofs.Told.{unpacked-long, unpacked-past, unpacked-within}
+use Rattle.oracle_node.proofs.NodeTold.{unpacked-long, unpacked-past, unpacked-within}
 use Rattle.oracle_node.proofs.baxhiso_unpack_uint.Statement.{statement}
 use Rattle.oracle_node.proofs.baxhiso_unpack_uint.Tie as tie
 

@@ -5,7 +5,7 @@ use native.Mathlib.Omega.{arith}
 use borrow.Author.Needs.{needs}
 use denote.Ref.{now}
 use lib.ListN.{length-set}
-use Rattle.oracle_node.proofs.Front.{front-short, front-three}
+use Rattle.oracle_node.proofs.NodeFront.{front-short, front-three}
 use Rattle.oracle_node.proofs.put_three.Statement.{statement}
 use Rattle.oracle_node.proofs.put_three.Tie as tie
 

@@ -1,5 +1,6 @@
 -- From what judging all nodes ensures to what admission answers.
 --     AllJudged s ..      a file that opens, tables with room, cleared, and the nodes judged with the verdict v
+--     Wipes s .. r n      the answer r is the refusal n, and both tables are wiped
 -- Assumes nothing.
 use mathlib.Core.Path.{_≡_, refl, sym, ap, _∙_, subst}
 use mathlib.Core.Logic.{_⊎_}
@@ -60,6 +61,9 @@ opens-fst o = rw (o .version, o .root-is)
 holds-after : {g : ℕ → ℕ} {l : List ℕ} {n : ℕ} {d₀ d₁ d : List ℕ} → Kept n d₀ d₁ → Holds g l n d₁ d → Holds g l n d₀ d
 holds-after k h = record { on = h .on; off = h .off; kept = kept-then k (h .kept) }
 
+abbrev Wipes : List ℕ → List ℕ → List ℕ → List ℕ → List ℕ → Admission → ℕ → Type 0
+Wipes s d d′ t t′ r n = (r ≡ Refused n) × Wiped (length s) d d′ × Wiped (length s) t t′
+
 module _ {s : List ℕ} {version root : ℕ} {d₀ s₀ d₁ s₁ d t : List ℕ} {v : Verdict} (j : AllJudged s version root d₀ s₀ d₁ s₁ d t v) where
   depths-cleared : Kept (length s) d₀ d₁
   depths-cleared = wiped-kept (length s) d₀ d₁ (j .room-depths) (j .depths-wiped)
@@ -98,25 +102,20 @@ module _ {s : List ℕ} {version root : ℕ} {d₀ s₀ d₁ s₁ d t : List ℕ
         sums = holds-after sums-cleared (g .sums);
       }
 
-  -- the tables, wiped again
-  module _ {d′ t′ : List ℕ} (wd : Wiped (length s) d d′) (wt : Wiped (length s) t t′) where
-    pub lost-refused : v ≡ Lost → RefusedFor s d₀ s₀ d′ t′ NODE
-    lost-refused e =
-        no-nodes (j .open-file .meta) (j .open-file .opens) (j .room-depths) (j .room-sums) refl (case Lost e)
-        (wiped-after depths-kept wd) (wiped-after sums-kept wt)
+  module _ {d′ t′ : List ℕ} {r : Admission} where
+    wiped-refused : {n : ℕ} → Wipes s d d′ t t′ r n → (Wiped (length s) d₀ d′ → Wiped (length s) s₀ t′ → RefusedFor s d₀ s₀ d′ t′ n) → Outcome s d₀ s₀ d′ t′ r
+    wiped-refused w why = subst (λ x. Outcome s d₀ s₀ d′ t′ x) (sym (w .0)) (why (wiped-after depths-kept (w .1)) (wiped-after sums-kept (w .2)))
 
-    pub deep-refused : v ≡ Deep → RefusedFor s d₀ s₀ d′ t′ DEEP
-    deep-refused e =
+    pub lost-refused : Wipes s d d′ t t′ r NODE → v ≡ Lost → Outcome s d₀ s₀ d′ t′ r
+    lost-refused w e =
+        wiped-refused w (no-nodes (j .open-file .meta) (j .open-file .opens) (j .room-depths) (j .room-sums) refl (case Lost e))
+
+    pub deep-refused : Wipes s d d′ t t′ r DEEP → v ≡ Deep → Outcome s d₀ s₀ d′ t′ r
+    deep-refused w e =
         let g = case Deep e in
-        too-deep (j .open-file .meta) (g .0) (j .open-file .opens) (j .room-depths) (j .room-sums) refl (g .1) (g .2)
-        (wiped-after depths-kept wd) (wiped-after sums-kept wt)
+        wiped-refused w (too-deep (j .open-file .meta) (g .0) (j .open-file .opens) (j .room-depths) (j .room-sums) refl (g .1) (g .2))
 
-    pub heavy-refused : v ≡ Heavy → RefusedFor s d₀ s₀ d′ t′ SUM
-    heavy-refused e =
+    pub heavy-refused : Wipes s d d′ t t′ r SUM → v ≡ Heavy → Outcome s d₀ s₀ d′ t′ r
+    heavy-refused w e =
         let g = case Heavy e in
-        too-heavy (j .open-file .meta) (g .0) (j .open-file .opens) (j .room-depths) (j .room-sums) refl (g .1) (g .2) (g .3)
-        (wiped-after depths-kept wd) (wiped-after sums-kept wt)
-
--- an answer that is a refusal
-pub refused-outcome : {s d₀ s₀ d t : List ℕ} {n : ℕ} (r : Admission) → r ≡ Refused n → RefusedFor s d₀ s₀ d t n → Outcome s d₀ s₀ d t r
-refused-outcome {s} {d₀} {s₀} {d} {t} r e h = subst (λ x. Outcome s d₀ s₀ d t x) (sym e) h
+        wiped-refused w (too-heavy (j .open-file .meta) (g .0) (j .open-file .opens) (j .room-depths) (j .room-sums) refl (g .1) (g .2) (g .3))

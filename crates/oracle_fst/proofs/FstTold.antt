@@ -22,7 +22,7 @@ use Rattle.lookup.specs.declared.Answer.the-variants.{Value, None, Refused as N
 use Rattle.lookup.specs.declared.KeyAnswer.{KeyAnswer}
 use Rattle.lookup.specs.declared.KeyAnswer.the-variants.{Key, None as NoKey, Refused as KeyRefused}
 use Rattle.lookup.specs.Answers.{answerIs, keyAnswerAs, KeyWritten}
-use Rattle.oracle_fst.specs.Answers.{front, checksumNumber, OpenTold, admissionIs, GetTold, keyNumber, KeyTold}
+use Rattle.oracle_fst.specs.FstTells.{front, checksumNumber, OpenTold, admissionIs, GetTold, keyNumber, KeyTold}
 
 -- ---- opening
 

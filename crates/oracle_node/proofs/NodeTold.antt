@@ -22,8 +22,8 @@ use Rattle.node.specs.ReadLaws.{length-node-transitions}
 use Rattle.node_compile.specs.declared.Compiled.{Compiled}
 use Rattle.node_compile.specs.declared.Compiled.the-variants.{Len, Refused}
 use Rattle.node_compile.specs.Compile.{answerAs, bufferAfter, Compiles}
-use Rattle.oracle_node.proofs.Front.{front-short}
-use Rattle.oracle_node.specs.Answers.{unpacked, flagAs, front, transitionNumbers, placeNumber, packingNumber, packingBuffer, PackingTold, NodeTold, TransitionTold, foundAs}
+use Rattle.oracle_node.proofs.NodeFront.{front-short}
+use Rattle.oracle_node.specs.NodeTells.{unpacked, flagAs, front, transitionNumbers, placeNumber, packingNumber, packingBuffer, PackingTold, NodeTold, TransitionTold, foundAs}
 
 -- ---- stored numbers
 
