@@ -10,7 +10,7 @@ use lib.ListN.{length, getD, take, drop}
 use Rattle.format.specs.declared.State.{State}
 use Rattle.format.specs.declared.State.the-variants.{OneTransNext, OneTrans, AnyTrans}
 use Rattle.format.specs.declared.Transition.{Transition}
-use Rattle.format.specs.Node.{bytesDown, numbersDown, inputsAt, deltasAt, inputsLen, inputsIn, deltasIn, targetOf, TargetsRight, transitionAt}
+use Rattle.format.specs.Node.{bytesDown, numbersDown, inputsAt, deltasAt, inputsLen, inputsIn, deltasIn, targetOf, Ascending, TargetsRight, transitionAt}
 use Rattle.format.specs.laws.StoredLaws.{getD-bytes-down, length-bytes-down}
 use Rattle.node.specs.declared.Node.{Node}
 use Rattle.node.specs.declared.Found.{Found}
@@ -21,6 +21,9 @@ module _ (s : List ℕ) (m : Node) (r : Readable s m) where
   -- the inputs and the index of a node with any number of transitions
   pub any-room : m .state ≡ AnyTrans → inputsAt (m .outputs) (m .ntrans) (m .osize) (m .tsize) + m .ntrans + m .«index_len» ≤ length s
   any-room any = rw any at (r .room)
+
+  pub any-ascending : m .state ≡ AnyTrans → Ascending (bytesDown s (inputsAt (m .outputs) (m .ntrans) (m .osize) (m .tsize)) (m .ntrans))
+  any-ascending any = rw any at (r .ascending)
 
   pub any-finds : (b : ℕ) (f : Found) → m .state ≡ AnyTrans → Finds (bytesDown s (inputsAt (m .outputs) (m .ntrans) (m .osize) (m .tsize)) (m .ntrans)) b f
       → Finds (nodeInputs s m) b f

@@ -10,6 +10,8 @@ use lib.ListN.{length, getD, take, drop}
 use Rattle.format.specs.declared.State.{State}
 use Rattle.format.specs.declared.State.the-variants.{OneTransNext, OneTrans, AnyTrans}
 use Rattle.format.specs.Bytes.{le}
+use Rattle.buffers.specs.Decide.{Decides}
+use Rattle.buffers.specs.DecideLaws.{decides-false, decides-iff}
 use Rattle.format.specs.Node as F
 use Rattle.format.specs.Node.{stateForm, isFinal, countOf, headLen, inputOf, ntransIn, ntransOf, sizesIn, sizesByte, sizesLen, inputsLen, indexLen, endLen, sizeOf, shapeOf, firstOf, outputsAt, deltasAt, inputsAt, inputsIn, shapeInputs, shapeDeltas, shapeNode, nodeOf, SoundShape, SoundAt, sound, unsound, nodeAt}
 use Rattle.format.specs.laws.NodeLaws.{node-at-zero, node-at-sound, node-at-unsound}
@@ -106,8 +108,16 @@ module _ (s : List ℕ) (v root a : ℕ) (h : F.Shape) (is-h : h ≡ shapeOf s v
   pub parts : Parts h
   parts = rw is-h (parts-of s v a)
 
-  pub judged-no : ¬ SoundShape s root a h (a + 1 - h .size) → Judges s v root a Unsound
-  judged-no not-sound = judged-unsound s v root a ne (rw is-h at not-sound)
+  -- soundness is that of the shape
+  pub sound-no : ¬ SoundShape s root a h (a + 1 - h .size) → Decides false (SoundAt s v root a)
+  sound-no not-sound = decides-false (rw is-h at not-sound)
+
+  pub sound-iff : {P : Type 0} {r : Bool} → (P → SoundShape s root a h (a + 1 - h .size)) → (SoundShape s root a h (a + 1 - h .size) → P) → Decides r P
+      → Decides r (SoundAt s v root a)
+  sound-iff to from d = rw is-h at (decides-iff to from d)
+
+  pub shape-sound : SoundAt s v root a → SoundShape s root a h (a + 1 - h .size)
+  shape-sound is-sound = rw is-h is-sound
 
   pub judged-yes : (fo inp outs : ℕ) → SoundShape s root a h (a + 1 - h .size) → fo ≡ le (take (endLen (h .final) (h .osize)) (drop (a + 1 - h .size) s))
       → inputsIn (h .state) s (inputsAt (outputsAt (a + 1 - h .size) (h .final) (h .osize)) (h .ntrans) (h .osize) (h .tsize)) (h .ntrans) inp ≡ shapeInputs s a h (a + 1 - h .size)

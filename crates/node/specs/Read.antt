@@ -4,7 +4,7 @@
 --     Readable s m            what reading the judged node m leans on
 --     Judges s v root a r     the answer r is `nodeAt`, and a node that it hands out can be read
 --     placeIs r               what an answer says of the place of an input
---     Head, AtForm, shapeIs, Probed, below, Finds, LooksUp     parts of the private functions' contracts
+--     Head, AtForm, shapeIs, Falls, Probed, below, AtMost, Finds, LooksUp     parts of the private functions' contracts
 -- Assumes nothing.
 use mathlib.Core.Path.{_≡_}
 use mathlib.Core.Bool.{Bool, true, false, cond}
@@ -15,6 +15,7 @@ use lib.ListN.{length, getD, take, drop}
 use Rattle.format.specs.declared.State.{State}
 use Rattle.format.specs.declared.State.the-variants.{OneTransNext, OneTrans, AnyTrans}
 use Rattle.format.specs.declared.Transition.{Transition}
+use Rattle.format.specs.Bytes.{le}
 use Rattle.format.specs.Node as F
 use Rattle.format.specs.Node.{headLen, inputsLen, endLen, inputsIn, deltasIn, inputsAt, deltasAt, storedTransitions, Absent, Indexed, SizesRight, TargetsRight, Judgement, sound, unsound, nodeAt, Place, at, absent}
 use Rattle.node.specs.declared.Node.{Node}
@@ -116,6 +117,10 @@ shapeIs h = record {
   size = h .size;
 }
 
+-- each byte of n pairs from place at on is above the next
+pub record Falls (s : List ℕ) (at n : ℕ) : Type 0 where
+  pub down : (k : ℕ) → k < n → getD s (at + k + 1) 0 < getD s (at + k) 0
+
 -- the entry of each byte of bs is its place
 unfoldable pub Probed : List ℕ → List ℕ → Type 0
 Probed bs es = (i : ℕ) → i < length bs → getD es (getD bs i 0) 0 ≡ i
@@ -124,6 +129,10 @@ Probed bs es = (i : ℕ) → i < length bs → getD es (getD bs i 0) 0 ≡ i
 unfoldable pub below : ℕ → List ℕ → ℕ
 below n [] = 0
 below n (e ∷ es) = cond (ltb e n) 1 0 + below n es
+
+-- n numbers of k bytes from place at on are at most m
+pub record AtMost (s : List ℕ) (at k n m : ℕ) : Type 0 where
+  pub each : (j : ℕ) → j < n → le (take k (drop (at + j * k) s)) ≤ m
 
 -- a place of b in bs, or b is absent
 pub record Finds (bs : List ℕ) (b : ℕ) (r : Found) : Type 0 where

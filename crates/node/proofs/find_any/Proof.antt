@@ -1,7 +1,7 @@
 -- `node::find_any` meets its contract: the inputs are searched, or the index says the place.
 -- Assumes nothing.
 use mathlib.Core.Path.{_≡_, refl, sym, ap, _∙_}
-use Rattle.node.proofs.Accessors.{any-room, any-finds, any-looks-up}
+use Rattle.node.proofs.Accessors.{any-room, any-ascending, any-finds, any-looks-up}
 use borrow.Author.Needs.{needs}
 use native.Mathlib.Omega.{arith}
 use denote.Ref.{now}
@@ -24,7 +24,7 @@ add-inputs-2 c = search needs
 seek-requires : tie.Need-seek-requires
 seek-requires c κs = let start = c .before .before .before .before .before .before in
     let s = now (start .args .file) in let m = start .args .node in let r = start .pre .0 in
-    omega (arith, any-room s m r (start .pre .1))
+    (omega (arith, any-room s m r (start .pre .1)), any-ascending s m r (start .pre .1))
 
 -- no index: the inputs are searched
 returns : tie.Need-returns
