@@ -8,8 +8,9 @@ ghost use lib.ListN.{length, getD, take, drop};
 ghost use Rattle.format.specs.Bytes.{le};
 ghost use Rattle.buffers.specs.Decide.{Decides};
 ghost use Rattle.format.specs.Limits.{firstNode, maxTrans};
-ghost use Rattle.format.specs.Node.{bytesDown, numbersDown, countOf, inputOf, indexLen, endLen, Ascending, Indexed, TargetRight, TargetsRight, Useful, SoundAt, shapeOf, transitionAt, findInput};
-ghost use Rattle.node.specs.Read.{Head, Falls, Probed, below, AtMost, shapeIs, AtForm, emptyNode, Judges, transitionsIn, nodeInputs, nodeDeltas, Readable, Finds, LooksUp, placeIs};
+ghost use Rattle.format.specs.Node.{bytesDown, numbersDown, countOf, inputOf, indexLen, endLen, Ascending, Indexed, TargetRight, TargetsRight, Useful, SoundAt, shapeOf, transitionAt, nodeAt, targetOf, findInput};
+ghost use Rattle.node.specs.Read.{Head, Falls, Probed, below, AtMost, PartsRight, Searchable, shapeIs, AtForm, emptyNode, Judges, transitionsIn, nodeInputs, nodeDeltas, Readable, Finds, LooksUp, placeIs, anyNode, wayIn, stepOf};
+ghost use Rattle.node.specs.declared.Step.the-variants.{Sound as Stepped};
 ghost use Rattle.node.specs.declared.Judged.the-variants.{Sound};
 ghost use Rattle.format.specs.declared.State.the-variants.{AnyTrans};
 ghost use mathlib.Core.List.{[], _∷_};
@@ -55,6 +56,18 @@ pub enum Judged {
 pub enum Found {
     At(usize),
     Absent,
+}
+
+// Where an input leads from a sound node: the output and the target of its transition, or nowhere.
+pub enum Way {
+    To(u64, usize),
+    Absent,
+}
+
+// One step of a lookup by key: what a node that is judged as it is entered says of an input.
+pub enum Step {
+    Sound(Way),
+    Unsound,
 }
 
 // What the last bytes of a node with any number of transitions say of its parts.
@@ -476,6 +489,32 @@ fn shape_of(file: &[u8], version: u64, addr: usize) -> Shape
     }
 }
 
+// Whether the inputs ascend, each delta leads to a right target, and the index is right: what takes
+// time of a node with any number of transitions.
+fn parts_right(
+    file: &[u8],
+    first: usize,
+    deltas: usize,
+    tsize: usize,
+    inputs: usize,
+    n: usize,
+    index_len: usize,
+) -> bool
+    requires { ⌜ (deltas + n * tsize ≤ length (now file)) × (tsize ≤ 8) × (firstNode ≤ first)
+        × (inputs + n + «index_len» ≤ length (now file))
+        × (¬ («index_len» ≡ 0) → «index_len» ≡ 256) ⌝ }
+    ensures { λ r. ⌜ Decides r (PartsRight (now (file .entry)) first deltas tsize inputs n
+        «index_len») ⌝ }
+{
+    if ascends(file, inputs, n) {} else {
+        return false;
+    }
+    if targets_right(file, deltas, tsize, n, first) {} else {
+        return false;
+    }
+    entries_right(file, inputs, n, index_len)
+}
+
 // Whether a node with any number of transitions is sound (node.rs, `StateAnyTrans`).
 fn any_sound(file: &[u8], version: u64, root: usize, addr: usize) -> bool
     requires { ⌜ AtForm (now file) root addr × (getD (now file) addr 0 < 128) ⌝ }
@@ -502,14 +541,8 @@ fn any_sound(file: &[u8], version: u64, root: usize, addr: usize) -> bool
     let outputs = first + end_len;
     let deltas = outputs + ntrans * osize;
     let inputs = deltas + ntrans * tsize;
-    if ascends(file, inputs, ntrans) {} else {
-        return false;
-    }
-    if targets_right(file, deltas, tsize, ntrans, first) {} else {
-        return false;
-    }
     let index_len = shape.index_len;
-    entries_right(file, inputs, ntrans, index_len)
+    parts_right(file, first, deltas, tsize, inputs, ntrans, index_len)
 }
 
 // Whether a node with one transition, with its output and its delta, is sound (node.rs,
@@ -798,17 +831,25 @@ fn look_up(file: &[u8], index: usize, n: usize, b: u8) -> Found
     if e < n { Found::At(e) } else { Found::Absent }
 }
 
-// The place of b in a node with any number of transitions, by the index if there is one.
+// The place of b among n inputs from place at on, by the index that follows them if there is one.
+fn find_in(file: &[u8], at: usize, n: usize, index_len: usize, b: u8) -> Found
+    requires { ⌜ Searchable (now file) at n «index_len» ⌝ }
+    ensures { λ r. ⌜ Finds (bytesDown (now (file .entry)) at n) b r ⌝ }
+{
+    if index_len == 0 {
+        return seek(file, at, n, b);
+    }
+    look_up(file, at + n, n, b)
+}
+
+// The place of b in a node with any number of transitions.
 fn find_any(file: &[u8], node: Node, b: u8) -> Found
     requires { ⌜ Readable (now file) node × (node .state ≡ AnyTrans) ⌝ }
     ensures { λ r. ⌜ Finds (nodeInputs (now (file .entry)) node) b r ⌝ }
 {
     let n = node.ntrans;
     let inputs = node.outputs + n * node.osize + n * node.tsize;
-    if node.index_len == 0 {
-        return seek(file, inputs, n, b);
-    }
-    look_up(file, inputs + n, n, b)
+    find_in(file, inputs, n, node.index_len, b)
 }
 
 // The place of b where there is one transition.
@@ -833,4 +874,157 @@ pub fn find_input(file: &[u8], node: Node, b: u8) -> Found
         State::OneTrans => find_one(node.input, b),
         State::OneTransNext => find_one(node.input, b),
     }
+}
+
+// ---- one step of a lookup by key
+
+// The address that a right delta leads to.
+fn target_of(first: usize, delta: u64) -> usize
+    requires { ⌜ delta ≤ first ⌝ }
+    ensures { λ r. ⌜ r ≡ targetOf first delta ⌝ }
+{
+    let d = delta as usize;
+    // delta 0 is target 0
+    if d == 0 { 0 } else { first - d }
+}
+
+// Where b leads from a node with any number of transitions, whose outputs start at this place.
+fn any_way(
+    file: &[u8],
+    first: usize,
+    outputs: usize,
+    n: usize,
+    tsize: usize,
+    osize: usize,
+    index_len: usize,
+    b: u8,
+) -> Way
+    requires { ⌜ Readable (now file) (anyNode first outputs n tsize osize «index_len») ⌝ }
+    ensures { λ r. ⌜ r ≡ wayIn (transitionsIn (now (file .entry))
+        (anyNode first outputs n tsize osize «index_len»)) b ⌝ }
+{
+    let deltas = outputs + n * osize;
+    let inputs = deltas + n * tsize;
+    let Found::At(i) = find_in(file, inputs, n, index_len, b) else {
+        return Way::Absent;
+    };
+    let out = number_of(file, outputs, osize, n, i);
+    let delta = number_of(file, deltas, tsize, n, i);
+    Way::To(out, target_of(first, delta))
+}
+
+// A node with any number of transitions, judged as by `any_sound`. Its numbers go on to `any_way` one by
+// one: no node is made.
+fn any_step(file: &[u8], version: u64, root: usize, addr: usize, b: u8) -> Step
+    requires { ⌜ AtForm (now file) root addr × (getD (now file) addr 0 < 128) ⌝ }
+    ensures { λ r. ⌜ r ≡ stepOf (nodeAt (now (file .entry)) version root addr) b ⌝ }
+{
+    let shape = shape_of(file, version, addr);
+    let size = shape.size;
+    // the first byte, addr + 1 - size, is 16 at least
+    if addr - 15 < size {
+        return Step::Unsound;
+    }
+    let is_final = shape.is_final;
+    let ntrans = shape.ntrans;
+    let tsize = shape.tsize;
+    let osize = shape.osize;
+    if sizes_right(ntrans, tsize, osize) {} else {
+        return Step::Unsound;
+    }
+    if useful(is_final, ntrans, addr, root) {} else {
+        return Step::Unsound;
+    }
+    let first = addr + 1 - size;
+    let end_len = shape.end_len;
+    let outputs = first + end_len;
+    let deltas = outputs + ntrans * osize;
+    let inputs = deltas + ntrans * tsize;
+    let index_len = shape.index_len;
+    if parts_right(file, first, deltas, tsize, inputs, ntrans, index_len) {} else {
+        return Step::Unsound;
+    }
+    Step::Sound(any_way(file, first, outputs, ntrans, tsize, osize, index_len, b))
+}
+
+// Where b leads from a sound node with one transition.
+fn one_way(file: &[u8], version: u64, root: usize, addr: usize, b: u8) -> Way
+    requires { ⌜ SoundAt (now file) version root addr × (128 ≤ getD (now file) addr 0)
+        × (getD (now file) addr 0 < 192) ⌝ }
+    ensures { λ r. ⌜ Stepped r ≡ stepOf (nodeAt (now (file .entry)) version root addr) b ⌝ }
+{
+    let len = head_len(file, addr);
+    let sizes = small(file[addr - len]);
+    let tsize = sizes / 16;
+    let osize = sizes % 16;
+    let first = addr + 1 - (osize + tsize + 1 + len);
+    if input_of(file, addr) != b {
+        return Way::Absent;
+    }
+    let out = number_of(file, first, osize, 1, 0);
+    let delta = number_of(file, first + osize, tsize, 1, 0);
+    Way::To(out, target_of(first, delta))
+}
+
+// Where b leads from a sound node with one transition to the node just below it.
+fn next_way(file: &[u8], version: u64, root: usize, addr: usize, b: u8) -> Way
+    requires { ⌜ SoundAt (now file) version root addr × (192 ≤ getD (now file) addr 0) ⌝ }
+    ensures { λ r. ⌜ Stepped r ≡ stepOf (nodeAt (now (file .entry)) version root addr) b ⌝ }
+{
+    let len = head_len(file, addr);
+    if input_of(file, addr) != b {
+        return Way::Absent;
+    }
+    Way::To(0, addr - len)
+}
+
+// A node with one transition, judged and followed.
+fn one_step(file: &[u8], version: u64, root: usize, addr: usize, b: u8) -> Step
+    requires { ⌜ AtForm (now file) root addr × (128 ≤ getD (now file) addr 0)
+        × (getD (now file) addr 0 < 192) ⌝ }
+    ensures { λ r. ⌜ r ≡ stepOf (nodeAt (now (file .entry)) version root addr) b ⌝ }
+{
+    if one_sound(file, version, root, addr) {
+        return Step::Sound(one_way(file, version, root, addr, b));
+    }
+    Step::Unsound
+}
+
+// A node with one transition to the node just below it, judged and followed.
+fn next_step(file: &[u8], version: u64, root: usize, addr: usize, b: u8) -> Step
+    requires { ⌜ AtForm (now file) root addr × (192 ≤ getD (now file) addr 0) ⌝ }
+    ensures { λ r. ⌜ r ≡ stepOf (nodeAt (now (file .entry)) version root addr) b ⌝ }
+{
+    if next_sound(file, version, root, addr) {
+        return Step::Sound(next_way(file, version, root, addr, b));
+    }
+    Step::Unsound
+}
+
+// Judges the node at addr and follows b from it: what `node_at`, `find_input`, `output` and
+// `transition_addr` say together, with no node made between them.
+pub fn step_at(file: &[u8], version: u64, root: usize, addr: usize, b: u8) -> Step
+    ensures { λ r. ⌜ r ≡ stepOf (nodeAt (now (file .entry)) version root addr) b ⌝ }
+{
+    if addr == 0 {
+        return Step::Sound(Way::Absent);
+    }
+    // the state byte itself lies from 16 to the root, and in the file
+    if addr < FIRST_NODE {
+        return Step::Unsound;
+    }
+    if root < addr {
+        return Step::Unsound;
+    }
+    if file.len() <= addr {
+        return Step::Unsound;
+    }
+    let state = small(file[addr]);
+    if state < 128 {
+        return any_step(file, version, root, addr, b);
+    }
+    if state < 192 {
+        return one_step(file, version, root, addr, b);
+    }
+    next_step(file, version, root, addr, b)
 }

@@ -9,7 +9,7 @@ use Rattle.format.specs.Node as F
 use Rattle.format.specs.Node.{shapeOf, endLen, SoundShape, SoundAt}
 use Rattle.node.specs.declared.Shape.{Shape}
 use Rattle.node.specs.Read.{shapeIs}
-use Rattle.node.proofs.Judging.{Parts, parts, sound-no, sound-iff}
+use Rattle.node.proofs.Judging.{Parts, parts, sound-no, sound-iff, shape-right, right-parts}
 use borrow.Author.Needs.{needs}
 use native.Mathlib.Omega.{arith}
 use denote.Ref.{now}
@@ -98,44 +98,21 @@ mul-inputs c = let q = c .before .before .before .before .before in omega (arith
 add-inputs : tie.Need-add-inputs
 add-inputs c = let q = c .before .before .before .before .before in omega (arith, parts-at q .whole, is-end q)
 
--- the inputs lie within the node
-ascends-requires : tie.Need-ascends-requires
-ascends-requires c κs = let q = c .before .before .before .before .before in omega (arith, parts-at q .whole, is-end q)
+-- the deltas, the inputs and the index lie within the node, and the sizes are right
+parts-right-requires : tie.Need-parts-right-requires
+parts-right-requires c κs =
+    let q = c .before .before .before .before .before in
+    let right = c .before .before .before .sizes-right .ensures .yes (c .before .before .if2 .taken) in
+    (omega (arith, parts-at q .whole, is-end q), right .0, omega arith, omega (arith, parts-at q .whole, is-end q), parts-at q .entries)
 
--- the inputs do not ascend
+-- the other conditions hold: the answer is that of the parts
 returns-4 : tie.Need-returns-4
-returns-4 c = let q = c .before .before .before .before .before .before .before in no-at q (λ h. c .before .ascends .ensures .no (c .if4 .left) (rw (is-end q) (h .ascending)))
-
--- the deltas lie within the node, and the sizes are right
-targets-right-requires : tie.Need-targets-right-requires
-targets-right-requires c κs = let q = c .before .before .before .before .before .before .before in
-    let right = c .before .before .before .before .before .sizes-right .ensures .yes (c .before .before .before .before .if2 .taken) in
-    (omega (arith, parts-at q .whole, is-end q), right .0, omega arith)
-
--- a target is wrong
-returns-5 : tie.Need-returns-5
-returns-5 c = let q = c .before .before .before .before .before .before .before .before .before in no-at q (λ h. c .before .targets-right .ensures .no (c .if5 .left) (rw (is-end q) (h .targets)))
-
--- the index lies within the node
-entries-right-requires : tie.Need-entries-right-requires
-entries-right-requires c κs = let q = c .before .before .before .before .before .before .before .before .before in (omega (arith, parts-at q .whole, is-end q), parts-at q .entries)
-
--- all other conditions hold: the answer is that of the index
-returns-6 : tie.Need-returns-6
-returns-6 c = let q = c .before .before .before .before .before .before .before .before .before .before in
+returns-4 c =
+    let q = c .before .before .before .before .before .before in
     sound-iff (file q) (start q .args .version) (start q .args .root) (addr q) (h-at q) (is-h q) (λ z. omega (arith, start q .pre .0 .low))
-    (λ entries. record {
-      inside = start q .pre .0 .inside;
-      below = start q .pre .0 .below;
-      above = omega arith;
-      sizes =
-          let right = c .before .before .before .before .before .before .before .before .sizes-right .ensures .yes (c .before .before .before .before .before .before .before .if2 .taken) in
-          record { tsize-le = right .0; osize-le = right .1; tsize-pos = λ _. right .2 };
-      ascending = rw (is-end q) at (c .before .before .before .before .ascends .ensures .yes (c .before .before .before .if4 .taken));
-      entries = rw (is-end q) at entries;
-      targets = rw (is-end q) at (c .before .before .targets-right .ensures .yes (c .before .if5 .taken));
-      useful = c .before .before .before .before .before .before .useful .ensures .yes (c .before .before .before .before .before .if3 .taken);
-    }) (λ sound. rw (is-end q) (sound .entries)) (c .entries-right .ensures)
+    (shape-right (file q) (start q .args .root) (addr q) (h q) (is-end q) (start q .pre .0) (c .before .before .before .before .before .if1 .left)
+    (c .before .before .before .before .sizes-right .ensures .yes (c .before .before .before .if2 .taken)) (c .before .before .useful .ensures .yes (c .before .if3 .taken)))
+    (right-parts (file q) (start q .args .root) (addr q) (h q) (is-end q)) (c .parts-right .ensures)
 
 pub any-sound-spec : {M : Type 1} → statement M
 any-sound-spec =
@@ -155,9 +132,5 @@ any-sound-spec =
     add-deltas
     mul-inputs
     add-inputs
-    ascends-requires
-    returns-4
-    targets-right-requires
-    returns-5
-    entries-right-requires
-    returns-6)
+    parts-right-requires
+    returns-4)
