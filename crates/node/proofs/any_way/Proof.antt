@@ -70,7 +70,7 @@ returns c =
 
 -- the outputs lie within the file
 number-of-requires : tie.Need-number-of-requires
-number-of-requires c κs = (omega (arith, start c .pre .room), start c .pre .osize-le, low c)
+number-of-requires c κs = (omega (arith, start c .pre .room), start c .pre .osize-le, omega (arith, low c))
 
 -- the deltas lie within the file
 number-of-requires-2 : tie.Need-number-of-requires-2

@@ -12,7 +12,7 @@ returns : tie.Need-returns
 returns c =
     let known = c .before in
     let a = known .before .args in
-    below-every (now (a .file)) (a .index) (a .n) (known .before .pre) (λ i. known .shared-slice-known .given i .fits) (c .if1 .taken)
+    below-every (now (a .file)) (a .index) (a .n) (known .before .pre) (λ i. known .shared-slice-known .given i .fits) (omega (arith, c .if1 .taken))
 
 cast-m : tie.Need-cast-m
 cast-m c = search needs
