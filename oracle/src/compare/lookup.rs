@@ -20,7 +20,7 @@ fn describe_key(file: &[u8], key: &[u8]) -> String {
 }
 
 // The key's value by the model and by ours, and by the Rust where it is given.
-fn got(
+pub fn got(
     ours: Option<&dyn FileAnswers>,
     rust: Option<&Opened>,
     file: &[u8],
@@ -59,7 +59,7 @@ fn got(
 }
 
 // A key for a value by the model and by ours, in a buffer of so many bytes, and by the Rust where it is given.
-fn got_key(
+pub fn got_key(
     ours: Option<&dyn FileAnswers>,
     rust: Option<&Opened>,
     file: &[u8],
