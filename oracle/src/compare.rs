@@ -10,6 +10,7 @@ use crate::given;
 use crate::prng::Prng;
 
 mod admission;
+mod boundaries;
 mod long;
 mod lookup;
 mod made;
@@ -176,7 +177,9 @@ impl<'a> Run<'a> {
                 ("lookup in damaged files", Run::lookup_damaged),
             ],
         )?;
-        self.readings(print)
+        self.readings(print)?;
+        // last, so that the cases before it stay what they are
+        self.sections(print, &[("boundaries of judging", Run::boundaries)])
     }
 
     // The comparisons of readings alone.

@@ -1,6 +1,8 @@
 // Compares the given Rust with our static library, and both with a model of document 01 (oracle/README.md).
 // `oracle/run` lays this file and the Rust's beside each other and compiles them.
 
+#![cfg_attr(timed, allow(dead_code, unused_imports))]
+
 // The Rust, as it is given.
 #[allow(warnings)]
 mod automaton;
@@ -16,7 +18,7 @@ mod stream;
 mod error;
 
 mod answers;
-#[cfg(library)]
+#[cfg(timed)]
 mod bench;
 mod builder;
 mod compare;
@@ -24,7 +26,10 @@ mod generate;
 mod generate_file;
 mod generate_reading;
 mod given;
+// some of what they ask is for the benchmark alone
+#[cfg_attr(not(timed), allow(dead_code))]
 mod given_file;
+#[cfg_attr(not(timed), allow(dead_code))]
 mod given_reading;
 mod hand_made;
 mod listing;
@@ -153,16 +158,10 @@ fn self_test() -> bool {
     true
 }
 
-#[cfg(library)]
+#[cfg(timed)]
 fn bench() -> bool {
     bench::bench(&ours::Library, &ours::Library, &ours::Library);
     true
-}
-
-#[cfg(not(library))]
-fn bench() -> bool {
-    println!("oracle: nothing to time, without our library");
-    false
 }
 
 fn record(lists: &[String]) -> bool {
@@ -179,6 +178,14 @@ fn record(lists: &[String]) -> bool {
     true
 }
 
+// The benchmark has a program of its own: with the comparison beside it the Rust's lookup by value takes half as long again.
+#[cfg(timed)]
+fn main() {
+    given::quiet_panics();
+    process::exit(if bench() { 0 } else { 1 });
+}
+
+#[cfg(not(timed))]
 fn main() {
     given::quiet_panics();
     let args: Vec<String> = std::env::args().collect();
@@ -189,9 +196,8 @@ fn main() {
         Some("self-test") => self_test(),
         Some("record") => record(&args[2..]),
         Some("listing") => listing::make(),
-        Some("bench") => bench(),
         _ => {
-            println!("oracle: compare, readings, long, self-test, record, listing or bench");
+            println!("oracle: compare, readings, long, self-test, record or listing");
             process::exit(2);
         }
     };

@@ -1,19 +1,20 @@
--- A number read from its lowest byte up, with the weight of the byte at hand: 256 ^ i for byte i.
---     le-take-lt         k bytes stand for a number below 256 ^ k
---     le-snoc            one byte more adds it with its weight
---     ReadUp s k i n w   the first i bytes of s, of k, are read into n, and w is the weight of the last of them
---     weight-fits        the weight of each of 8 bytes fits 64 bits
+-- A number of up to 8 bytes, each with its weight: 256 ^ i for byte i.
+--     le-take-lt      k bytes stand for a number below 256 ^ k
+--     le-snoc         one byte more adds it with its weight
+--     le-eight        eight bytes, each with its weight
+--     cut-eight       eight bytes, shifted up and down again, are the lowest k of them
+--     le-padded       bytes before zeros stand for what they stand for alone
 -- Assumes nothing.
 use mathlib.Core.Path.{_≡_, refl, sym, _∙_}
-use mathlib.Core.List.{List, [], _∷_}
-use Prim.Native.Nat.{ℕ, zero, suc, _+_, _-_, _*_, _^_, _≤_, _<_}
-use native.Mathlib.Nat.{pow-suc, mul-assoc}
-use native.Mathlib.Numerals.{add-one}
+use mathlib.Core.List.{List, [], _∷_, _++_}
+use Prim.Native.Nat.{ℕ, zero, suc, _+_, _-_, _*_, _/_, _%_, _^_, _≤_, _<_}
+use native.Mathlib.Nat.{pow-suc, mul-assoc, mul-comm, mul-mod-left, mod-eq-of-lt, add-mul-mod-self-left, add-zero}
 use native.Mathlib.Omega.{arith}
-use lib.ListN.{length, getD, take}
-use lib.Seq.{getD-take, length-take-le}
+use lib.ListN.{length, getD, take, drop, replicate, length-append, length-drop, length-replicate}
+use lib.Pow.{mod-pow-add, shl-shr}
+use lib.Seq.{getD-take, length-take-le, take-nil, drop-nil, take-take, take-all, take-at, drop-at}
 use Rattle.format.specs.Bytes.{le}
-use Rattle.format.specs.laws.BytesLaws.{le-lt, pow-256-suc, pow-256-le}
+use Rattle.format.specs.laws.BytesLaws.{le-lt, pow-256-pow-2}
 
 -- k bytes stand for a number below 256 ^ k
 pub le-take-lt : (s : List ℕ) (k : ℕ) → k ≤ length s → ((i : ℕ) → getD s i 0 < 256) → le (take k s) < 256 ^ k
@@ -32,44 +33,65 @@ le-snoc (b ∷ s) (suc i) h =
     let m : getD s i 0 * (256 ^ i * 256) ≡ getD s i 0 * 256 ^ i * 256 = sym (mul-assoc (getD s i 0) (256 ^ i) 256) in
     rw (p, m) (omega (arith, e))
 
--- the first i bytes of s are read into n, and w is the weight of the last of them
-pub record ReadUp (s : List ℕ) (k i n w : ℕ) : Type 0 where
-  pub low : 1 ≤ i
-  pub high : i ≤ k
-  pub is : n ≡ le (take i s)
-  pub weight : w ≡ 256 ^ (i - 1)
-
-pub read-one : (s : List ℕ) (k : ℕ) → 0 < k → 0 < length s → ReadUp s k 1 (getD s 0 0) 1
+-- eight bytes, each with its weight
+pub le-eight : (s : List ℕ) → 8 ≤ length s → le (take 8 s) ≡ getD s 0 0 + getD s 1 0 * 2 ^ 8 + getD s 2 0 * 2 ^ 16 + getD s 3 0 * 2 ^ 24
+    + getD s 4 0 * 2 ^ 32 + getD s 5 0 * 2 ^ 40 + getD s 6 0 * 2 ^ 48 + getD s 7 0 * 2 ^ 56
 unfolding le
-read-one s k h l = record { low = omega arith; high = omega arith; is = omega (arith, le-snoc s 0 l); weight = refl }
+le-eight s h =
+    let e0 = le-snoc s 0 (omega arith) in
+    let e1 = le-snoc s 1 (omega arith) in
+    let e2 = le-snoc s 2 (omega arith) in
+    let e3 = le-snoc s 3 (omega arith) in
+    let e4 = le-snoc s 4 (omega arith) in
+    let e5 = le-snoc s 5 (omega arith) in
+    let e6 = le-snoc s 6 (omega arith) in
+    let e7 = le-snoc s 7 (omega arith) in
+    omega arith
 
--- the next weight fits, and so does the byte with it, and so does the sum
-pub next-weight : {s : List ℕ} {k i n w : ℕ} → ReadUp s k i n w → w * 256 ≡ 256 ^ i
-next-weight {s} {k} {i} {n} {w} r =
-    let e : i - 1 + 1 ≡ i = omega (arith, r .low) in
-    let p = pow-256-suc (i - 1) in
-    rw (r .weight) (omega (arith, rw e at p))
+-- a shift up by k of a word of j + k bits and back down drops all but the j lowest bits
+pub shift-pair : (v j k : ℕ) → (v * 2 ^ k) % 2 ^ (j + k) / 2 ^ k ≡ v % 2 ^ j
+shift-pair v j k =
+    rw (mod-pow-add (v * 2 ^ k) j k, shl-shr v k, mul-mod-left v (2 ^ k), add-zero) (shl-shr (v % 2 ^ j) k)
 
-pub weight-fits : {i : ℕ} → i < 8 → 256 ^ i ≤ 2 ^ 56
-weight-fits {i} h = pow-256-le {j = i} {k = 7} (omega arith)
+-- the bytes before k, and those from k on with their weight
+le-split : (l : List ℕ) (k : ℕ) → le l ≡ le (take k l) + 256 ^ k * le (drop k l)
+unfolding le
+le-split [] k = rw (take-nil k, drop-nil k) (omega arith)
+le-split (b ∷ l) zero = omega arith
+le-split (b ∷ l) (suc k) =
+    let e = le-split l k in
+    let p : 256 ^ suc k ≡ 256 * 256 ^ k = pow-suc 256 k ∙ mul-comm (256 ^ k) 256 in
+    let m : 256 * 256 ^ k * le (drop k l) ≡ 256 * (256 ^ k * le (drop k l)) = mul-assoc 256 (256 ^ k) (le (drop k l)) in
+    rw (p, m) (omega (arith, e))
 
-pub read-up : {s : List ℕ} {k i n w : ℕ} → k ≤ length s → i < k → ReadUp s k i n w → ReadUp s k (i + 1) (n + getD s i 0 * (w * 256)) (w * 256)
-read-up {s} {k} {i} {n} {w} l h r =
-    let e = le-snoc s i (omega arith) in
-    let z : i + 1 - 1 ≡ i = omega arith in
-    record {
-      low = omega arith;
-      high = omega arith;
-      is = rw (next-weight r, add-one) (omega (arith, e, r .is));
-      weight = rw z (next-weight r);
-    }
+-- the number of more bytes, cut to k bytes
+pub le-cut : (s : List ℕ) (k m : ℕ) → k ≤ m → m ≤ length s → ((i : ℕ) → getD s i 0 < 256) → le (take m s) % 256 ^ k ≡ le (take k s)
+le-cut s k m h l bytes =
+    rw (le-split (take m s) k, take-take k m s h, add-mul-mod-self-left (le (take k s)) (256 ^ k) (le (drop k (take m s))))
+    (mod-eq-of-lt (le-take-lt s k (omega arith) bytes))
 
-pub sum-fits : {s : List ℕ} {k i n w : ℕ} → k ≤ 8 → k ≤ length s → i < k → ((j : ℕ) → getD s j 0 < 256) → ReadUp s k i n w → n + getD s i 0 * (w * 256) < 2 ^ 64
-sum-fits {s} {k} {i} {n} {w} k8 l h bytes r =
-    let q = read-up l h r in
-    let b = le-take-lt s (i + 1) (omega arith) bytes in
-    let p = pow-256-le {j = i + 1} {k = 8} (omega arith) in
-    omega (arith, q .is, b, p)
+-- eight bytes shifted up and down are the k lowest of them
+pub cut-eight : (s : List ℕ) (k above : ℕ) → k ≤ 8 → above ≡ 64 - 8 * k → 8 ≤ length s → ((i : ℕ) → getD s i 0 < 256)
+    → (le (take 8 s) * 2 ^ above) % 2 ^ 64 / 2 ^ above ≡ le (take k s)
+cut-eight s k above h ea l bytes =
+    let e : 8 * k + above ≡ 64 = omega arith in
+    let p = shift-pair (le (take 8 s)) (8 * k) above in
+    (rw e at p) ∙ (rw (← pow-256-pow-2 k)) ∙ le-cut s k 8 h l bytes
 
-pub read-up-all : {s : List ℕ} {k i n w : ℕ} → k ≤ i → ReadUp s k i n w → n ≡ le (take k s)
-read-up-all {s} {k} {i} {n} {w} h r = let z : i ≡ k = omega (arith, r .high) in r .is ∙ rw z
+-- ---- bytes before zeros
+
+zeros-nothing : (n k : ℕ) → le (drop k (replicate n 0)) ≡ 0
+unfolding le
+zeros-nothing zero k = rw (drop-nil k)
+zeros-nothing (suc n) zero = omega (arith, zeros-nothing n 0)
+zeros-nothing (suc n) (suc k) = zeros-nothing n k
+
+-- k bytes before zeros, eight in all
+pub le-padded : (s : List ℕ) (k : ℕ) → k ≤ 8 → k ≤ length s → le (take 8 (take k s ++ drop k (replicate 8 0))) ≡ le (take k s)
+le-padded s k h l =
+    let len = length-take-le k s l in
+    let whole : length (take k s ++ drop k (replicate 8 0)) ≡ 8 =
+    length-append (take k s) (drop k (replicate 8 0)) ∙ rw (len, length-drop, length-replicate) (omega arith) in
+    rw (take-all 8 (take k s ++ drop k (replicate 8 0)) (omega arith))
+    (rw (le-split (take k s ++ drop k (replicate 8 0)) k)
+    (rw (take-at (take k s) (drop k (replicate 8 0)) k len, drop-at (take k s) (drop k (replicate 8 0)) k len, zeros-nothing 8 k) (omega arith)))

@@ -8,6 +8,7 @@ ghost use Rattle.format.specs.Bytes.{le, bytesOf};
 ghost use Rattle.buffers.specs.Put.{put};
 ghost use Rattle.format.specs.Node.{numbersDown};
 ghost use Rattle.le_bytes.specs.Size.{PackedIn};
+use buffers::copy_front;
 
 // A byte as a number of 64 bits.
 pub fn wide(x: u8) -> u64
@@ -44,19 +45,57 @@ pub fn unpack_uint(slice: &[u8], nbytes: usize) -> u64
     requires { ⌜ (nbytes ≤ 8) × (nbytes ≤ length (now slice)) ⌝ }
     ensures { λ r. ⌜ r ≡ le (take nbytes (now (slice .entry))) ⌝ }
 {
+    if slice.len() < 8 {
+        return unpack_short(slice, nbytes);
+    }
+    unpack_wide(slice, nbytes)
+}
+
+// The same where 8 bytes are there: all 8 are read, and a pair of shifts drops those above nbytes.
+fn unpack_wide(slice: &[u8], nbytes: usize) -> u64
+    requires { ⌜ (nbytes ≤ 8) × (8 ≤ length (now slice)) ⌝ }
+    ensures { λ r. ⌜ r ≡ le (take nbytes (now (slice .entry))) ⌝ }
+{
+    // a shift by 64 is none
     if nbytes == 0 {
         return 0;
     }
+    let above = 64 - 8 * nbytes;
+    (load8(slice) << above) >> above
+}
+
+// The number that the first 8 bytes of slice stand for, in steps that compile to one load. The weight is not
+// multiplied after the last byte, since 256^8 has no 64 bits.
+fn load8(slice: &[u8]) -> u64
+    requires { ⌜ 8 ≤ length (now slice) ⌝ }
+    ensures { λ r. ⌜ r ≡ le (take 8 (now (slice .entry))) ⌝ }
+{
     let mut n = wide(slice[0]);
-    // the weight of byte i - 1; multiplied before a byte that is still to come, since 256^8 has no 64 bits
-    let mut weight: u64 = 1;
-    let mut i = 1;
-    while i < nbytes {
-        weight *= 256;
-        n += wide(slice[i]) * weight;
-        i += 1;
-    }
+    let mut weight: u64 = 256;
+    n += wide(slice[1]) * weight;
+    weight *= 256;
+    n += wide(slice[2]) * weight;
+    weight *= 256;
+    n += wide(slice[3]) * weight;
+    weight *= 256;
+    n += wide(slice[4]) * weight;
+    weight *= 256;
+    n += wide(slice[5]) * weight;
+    weight *= 256;
+    n += wide(slice[6]) * weight;
+    weight *= 256;
+    n += wide(slice[7]) * weight;
     n
+}
+
+// The same where fewer than 8 bytes are there: they are copied before zeros, which add nothing.
+fn unpack_short(slice: &[u8], nbytes: usize) -> u64
+    requires { ⌜ (nbytes ≤ 8) × (nbytes ≤ length (now slice)) ⌝ }
+    ensures { λ r. ⌜ r ≡ le (take nbytes (now (slice .entry))) ⌝ }
+{
+    let mut eight: [u8; 8] = [0; 8];
+    copy_front(slice, nbytes, &mut eight);
+    load8(&eight)
 }
 
 // How many bytes the packer gives n, from its leading zero bits; zero, which has no bit, takes one byte.

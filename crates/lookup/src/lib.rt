@@ -21,6 +21,8 @@ use fst::Opened;
 use node::Found;
 use node::Judged;
 use node::Node;
+use node::Step;
+use node::Way;
 
 // What a lookup by key answers: the key's value, that the key is not held, or the number of a refusal.
 pub enum Answer {
@@ -64,15 +66,14 @@ fn get_from(file: &[u8], version: u64, root: usize, key: &[u8]) -> Answer
     let mut sum: u64 = 0;
     let mut i = 0;
     while i < key.len() {
-        let Judged::Sound(m) = node::node_at(file, version, root, addr) else {
+        let b = key[i];
+        let Step::Sound(way) = node::step_at(file, version, root, addr, b) else {
             return Answer::Refused(NODE);
         };
-        let b = key[i];
-        let Found::At(p) = node::find_input(file, m, b) else {
+        let Way::To(out, target) = way else {
             return Answer::None;
         };
-        let out = node::output(file, m, p);
-        addr = node::transition_addr(file, m, p);
+        addr = target;
         if u64::MAX - sum < out {
             return Answer::Refused(fst::past_sum(file, version, root, addr));
         }

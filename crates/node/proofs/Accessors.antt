@@ -10,24 +10,26 @@ use lib.ListN.{length, getD, take, drop}
 use Rattle.format.specs.declared.State.{State}
 use Rattle.format.specs.declared.State.the-variants.{OneTransNext, OneTrans, AnyTrans}
 use Rattle.format.specs.declared.Transition.{Transition}
-use Rattle.format.specs.Node.{bytesDown, numbersDown, inputsAt, deltasAt, inputsLen, inputsIn, deltasIn, targetOf, TargetsRight, transitionAt}
+use Rattle.format.specs.Node.{bytesDown, numbersDown, inputsAt, deltasAt, inputsLen, inputsIn, deltasIn, targetOf, Ascending, TargetsRight, transitionAt}
 use Rattle.format.specs.laws.StoredLaws.{getD-bytes-down, length-bytes-down}
 use Rattle.node.specs.declared.Node.{Node}
 use Rattle.node.specs.declared.Found.{Found}
-use Rattle.node.specs.Read.{transitionsIn, nodeInputs, nodeDeltas, nodeEntries, isAny, Readable, Finds, LooksUp}
-use Rattle.node.specs.ReadLaws.{node-transition, length-node-deltas, length-node-inputs, looks-up-finds}
+use Rattle.node.specs.Read.{transitionsIn, nodeInputs, nodeDeltas, isAny, Readable, Searchable, Finds}
+use Rattle.node.specs.ReadLaws.{node-transition, length-node-deltas}
 
 module _ (s : List ℕ) (m : Node) (r : Readable s m) where
   -- the inputs and the index of a node with any number of transitions
-  pub any-room : m .state ≡ AnyTrans → inputsAt (m .outputs) (m .ntrans) (m .osize) (m .tsize) + m .ntrans + m .«index_len» ≤ length s
-  any-room any = rw any at (r .room)
+  pub any-searchable : m .state ≡ AnyTrans → Searchable s (inputsAt (m .outputs) (m .ntrans) (m .osize) (m .tsize)) (m .ntrans) (m .«index_len»)
+  any-searchable any = record {
+    room = rw any at (r .room);
+    ascending = rw any at (r .ascending);
+    entries-len = r .entries-len;
+    index = rw any at (r .entries);
+  }
 
   pub any-finds : (b : ℕ) (f : Found) → m .state ≡ AnyTrans → Finds (bytesDown s (inputsAt (m .outputs) (m .ntrans) (m .osize) (m .tsize)) (m .ntrans)) b f
       → Finds (nodeInputs s m) b f
   any-finds b f any h = rw any h
-
-  pub any-looks-up : (b : ℕ) (f : Found) → ¬ (m .«index_len» ≡ 0) → b < 256 → LooksUp (nodeEntries s m) (m .ntrans) b f → Finds (nodeInputs s m) b f
-  any-looks-up b f ne byte h = looks-up-finds (nodeInputs s m) (nodeEntries s m) b f (r .entries ne) byte (rw (length-node-inputs s m r) h)
 
 module _ (s : List ℕ) (m : Node) (r : Readable s m) (i : ℕ) (l : i < m .ntrans) where
   transition-inp : transitionAt (transitionsIn s m) i .inp ≡ getD (nodeInputs s m) i 0

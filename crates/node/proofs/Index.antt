@@ -3,7 +3,7 @@
 use mathlib.Core.Path.{_≡_, refl, sym, ap, _∙_}
 use mathlib.Core.Bool.{Bool, true, false}
 use mathlib.Core.Logic.{_⊎_, inl, inr, ⊎-elim}
-use mathlib.Core.List.{List, [], _∷_}
+use mathlib.Core.List.{List, [], _∷_, _++_}
 use Prim.Native.Nat.{ℕ, zero, suc, _+_, _-_, _≤_, _<_}
 use native.Mathlib.Nat.{le-refl, not-le-of-lt, eq-or-lt-of-le, le-of-suc-le-suc}
 use native.Mathlib.Omega.{arith}
@@ -12,9 +12,9 @@ use lib.Dec.{ltb, eqb}
 use lib.ListN.{length, getD, take, drop, set, length-set, length-drop, drop-of-length-le}
 use native.Mathlib.Numerals.{add-one}
 use borrow.Author.Count.{below-more, below-none as below-no}
-use lib.Seq.{getD-set-same, getD-set-other, getD-take, getD-drop, drop-cons, length-take-le}
+use lib.Seq.{getD-set-same, getD-set-other, getD-take, getD-drop, drop-cons, drop-drop, take-add, length-take-le}
 use Rattle.buffers.specs.Decide.{Decides}
-use Rattle.buffers.specs.DecideLaws.{decides-eq, decides-iff}
+use Rattle.buffers.specs.DecideLaws.{decides-eq, decides-iff, decides-true, decides-false}
 use Rattle.format.specs.Node.{bytesDown, Absent, Indexed}
 use Rattle.format.specs.laws.StoredLaws.{length-bytes-down, getD-bytes-down}
 use Rattle.node.specs.Read.{Probed, below}
@@ -133,75 +133,116 @@ module _ (es bs : List ℕ) (bytes : (i : ℕ) → i < length bs → getD bs i 0
 
 -- ---- the loops
 
--- the entries of the first i inputs are their places
-pub record ProbedTo (s : List ℕ) (at n index i : ℕ) : Type 0 where
-  pub within : i ≤ n
-  pub right : (j : ℕ) → j < i → getD (entriesOf s index) (getD (bytesDown s at n) j 0) 0 ≡ j
-
-pub probed-none : (s : List ℕ) (at n index : ℕ) → ProbedTo s at n index 0
-probed-none s at n index = record { within = omega arith; right = below-no _ }
-
 -- the entry of input i, as the code reads it
 pub entry-of : (s : List ℕ) (at n index i : ℕ) → i < n → getD s (at + (n - 1 - i)) 0 < 256
     → getD (entriesOf s index) (getD (bytesDown s at n) i 0) 0 ≡ getD s (index + getD s (at + (n - 1 - i)) 0) 0
 entry-of s at n index i l byte = rw (getD-bytes-down s at n i l, getD-take 256 (drop index s) (getD s (at + (n - 1 - i)) 0) 0 byte, getD-drop)
 
-pub probed-step : {s : List ℕ} {at n index i : ℕ} (b e : ℕ) → b ≡ getD s (at + (n - 1 - i)) 0 → e ≡ getD s (index + b) 0 → b < 256 → i < n → e ≡ i
-    → ProbedTo s at n index i → ProbedTo s at n index (i + 1)
-probed-step {s} {at} {n} {index} {i} b e is-b is-e byte l here p =
-    let q : getD s (index + getD s (at + (n - 1 - i)) 0) 0 ≡ i = rw (← is-b) (sym is-e ∙ here) in
-    record { within = omega arith; right = below-more _ i (p .right) (entry-of s at n index i l (omega arith) ∙ q) }
+-- the bytes from at on, up to j of them, have the entries that their places ask for: the byte at k is input n - 1 - k
+pub record PlacedTo (s : List ℕ) (at n index j : ℕ) : Type 0 where
+  pub right : (k : ℕ) → k < j → getD s (index + getD s (at + k) 0) 0 + k ≡ n - 1
 
-pub probed-all : {s : List ℕ} {at n index i : ℕ} → n ≤ i → ProbedTo s at n index i → Probed (bytesDown s at n) (entriesOf s index)
+pub placed-none : (s : List ℕ) (at n index : ℕ) → Decides true (PlacedTo s at n index 0)
+placed-none s at n index = decides-true (record { right = below-no _ })
+
+module _ (s : List ℕ) (at n index j b e : ℕ) (is-b : b ≡ getD s (at + j) 0) (is-e : e ≡ getD s (index + b) 0) where
+  entry-at-j : e ≡ getD s (index + getD s (at + j) 0) 0
+  entry-at-j = rw (← is-b) is-e
+
+  pub placed-kept : {good : Bool} → e + j ≡ n - 1 → Decides good (PlacedTo s at n index j) → Decides good (PlacedTo s at n index (j + 1))
+  placed-kept here d =
+      decides-iff (λ p. record { right = below-more _ j (p .right) (rw (← entry-at-j) here) }) (λ p. record { right = λ k l. p .right k (omega arith) }) d
+
+  pub placed-lost : ¬ (e + j ≡ n - 1) → Decides false (PlacedTo s at n index (j + 1))
+  placed-lost ne = decides-false (λ p. ne (rw entry-at-j (p .right j (omega arith))))
+
+-- every byte has its entry where every input's entry is its place
+pub placed-all : {s : List ℕ} {at n index j : ℕ} {good : Bool} → j ≤ n → n ≤ j → ((i : ℕ) → getD s i 0 < 256) → Decides good (PlacedTo s at n index j)
+    → Decides good (Probed (bytesDown s at n) (entriesOf s index))
 unfolding Probed
-probed-all {s} {at} {n} {index} {i} past p j l = p .right j (omega (arith, length-bytes-down s at n))
+placed-all {s} {at} {n} {index} {j} within past bytes d = decides-iff to from d
+  where
+    to : PlacedTo s at n index j → (i : ℕ) → i < length (bytesDown s at n) → getD (entriesOf s index) (getD (bytesDown s at n) i 0) 0 ≡ i
+    to p i l =
+        let few : i < n = omega (arith, length-bytes-down s at n) in
+        let here = p .right (n - 1 - i) (omega arith) in
+        entry-of s at n index i few (bytes (at + (n - 1 - i))) ∙ omega arith
 
-pub not-probed : (s : List ℕ) (at n index i b e : ℕ) → b ≡ getD s (at + (n - 1 - i)) 0 → e ≡ getD s (index + b) 0 → b < 256 → i < n → ¬ (e ≡ i)
-    → ¬ Probed (bytesDown s at n) (entriesOf s index)
-unfolding Probed
-not-probed s at n index i b e is-b is-e byte l ne p =
-    let q : e ≡ getD s (index + getD s (at + (n - 1 - i)) 0) 0 = rw (← is-b) is-e in
-    ne (q ∙ sym (entry-of s at n index i l (omega arith)) ∙ p i (omega (arith, length-bytes-down s at n)))
+    from : ((i : ℕ) → i < length (bytesDown s at n) → getD (entriesOf s index) (getD (bytesDown s at n) i 0) 0 ≡ i) → PlacedTo s at n index j
+    from p = record { right = λ k l. back k l }
+      where
+        back : (k : ℕ) → k < j → getD s (index + getD s (at + k) 0) 0 + k ≡ n - 1
+        back k l =
+            let e : n - 1 - (n - 1 - k) ≡ k = omega arith in
+            let here = p (n - 1 - k) (omega (arith, length-bytes-down s at n)) in
+            let there = entry-of s at n index (n - 1 - k) (omega arith) (bytes (at + (n - 1 - (n - 1 - k)))) in
+            let both = rw e at there in
+            omega arith
 
--- what is counted, and what is left to count
-pub record Counted (s : List ℕ) (index n count b : ℕ) : Type 0 where
-  pub within : b ≤ 256
-  pub few : count ≤ b
-  pub rest : count + below n (drop b (entriesOf s index)) ≡ below n (entriesOf s index)
+-- ---- counting in parts
 
-pub length-entries-of : (s : List ℕ) (index : ℕ) → index + 256 ≤ length s → length (entriesOf s index) ≡ 256
+length-entries-of : (s : List ℕ) (index : ℕ) → index + 256 ≤ length s → length (entriesOf s index) ≡ 256
 length-entries-of s index h = length-take-le 256 (drop index s) (simp length-drop (omega arith))
 
-pub counted-none : (s : List ℕ) (index n : ℕ) → Counted s index n 0 0
-counted-none s index n = record { within = omega arith; few = omega arith; rest = omega arith }
+-- of w bytes from at on the first j are looked at, and count of them are below n
+pub record Counted (s : List ℕ) (at w n count j : ℕ) : Type 0 where
+  pub within : j ≤ w
+  pub few : count ≤ j
+  pub rest : count + below n (drop j (take w (drop at s))) ≡ below n (take w (drop at s))
 
-entry-at : (s : List ℕ) (index b : ℕ) → index + 256 ≤ length s → b < 256
-    → drop b (entriesOf s index) ≡ getD s (index + b) 0 ∷ drop (b + 1) (entriesOf s index)
-entry-at s index b h l =
-    let len = length-entries-of s index h in
-    drop-cons (entriesOf s index) b 0 (omega arith) ∙ rw (add-one, getD-take 256 (drop index s) b 0 l, getD-drop)
+pub counted-none : (s : List ℕ) (at w n : ℕ) → Counted s at w n 0 0
+counted-none s at w n = record { within = omega arith; few = omega arith; rest = omega arith }
 
-pub counted-below : {s : List ℕ} {index n count b : ℕ} (e : ℕ) → e ≡ getD s (index + b) 0 → index + 256 ≤ length s → b < 256 → e < n → Counted s index n count b
-    → Counted s index n (count + 1) (b + 1)
-counted-below {s} {index} {n} {count} {b} e is-e h l lt p =
-    let one = below-lt {n = n} {e = getD s (index + b) 0} (drop (b + 1) (entriesOf s index)) (omega arith) in
-    let here : below n (drop b (entriesOf s index)) ≡ below n (getD s (index + b) 0 ∷ drop (b + 1) (entriesOf s index)) = rw (entry-at s index b h l) in
-    record { within = omega arith; few = omega (arith, p .few); rest = omega (arith, p .rest) }
+part-at : (s : List ℕ) (at w j : ℕ) → at + w ≤ length s → j < w
+    → drop j (take w (drop at s)) ≡ getD s (at + j) 0 ∷ drop (j + 1) (take w (drop at s))
+part-at s at w j h l =
+    let len : length (take w (drop at s)) ≡ w = length-take-le w (drop at s) (simp length-drop (omega arith)) in
+    drop-cons (take w (drop at s)) j 0 (omega arith) ∙ rw (add-one, getD-take w (drop at s) j 0 l, getD-drop)
 
-pub counted-other : {s : List ℕ} {index n count b : ℕ} (e : ℕ) → e ≡ getD s (index + b) 0 → index + 256 ≤ length s → b < 256 → n ≤ e → Counted s index n count b
-    → Counted s index n count (b + 1)
-counted-other {s} {index} {n} {count} {b} e is-e h l ge p =
-    let none = below-ge {n = n} {e = getD s (index + b) 0} (drop (b + 1) (entriesOf s index)) (omega arith) in
-    let here : below n (drop b (entriesOf s index)) ≡ below n (getD s (index + b) 0 ∷ drop (b + 1) (entriesOf s index)) = rw (entry-at s index b h l) in
-    record { within = omega arith; few = omega (arith, p .few); rest = omega (arith, p .rest) }
+module _ {s : List ℕ} {at w n count j : ℕ} (h : at + w ≤ length s) (l : j < w) (p : Counted s at w n count j) where
+  here : below n (drop j (take w (drop at s))) ≡ below n (getD s (at + j) 0 ∷ drop (j + 1) (take w (drop at s)))
+  here = rw (part-at s at w j h l)
 
-pub counted-all : {s : List ℕ} {index n count b : ℕ} → index + 256 ≤ length s → 256 ≤ b → Counted s index n count b → count ≡ below n (entriesOf s index)
+  pub counted-below : getD s (at + j) 0 < n → Counted s at w n (count + 1) (j + 1)
+  counted-below lt =
+      let one = below-lt {n = n} {e = getD s (at + j) 0} (drop (j + 1) (take w (drop at s))) lt in
+      let same = here in
+      record { within = omega arith; few = omega (arith, p .few); rest = omega (arith, p .rest) }
+
+  pub counted-other : n ≤ getD s (at + j) 0 → Counted s at w n count (j + 1)
+  counted-other ge =
+      let none = below-ge {n = n} {e = getD s (at + j) 0} (drop (j + 1) (take w (drop at s))) ge in
+      let same = here in
+      record { within = omega arith; few = omega (arith, p .few); rest = omega (arith, p .rest) }
+
+pub counted-all : {s : List ℕ} {at w n count j : ℕ} → at + w ≤ length s → w ≤ j → Counted s at w n count j → count ≡ below n (take w (drop at s))
 unfolding below
-counted-all {s} {index} {n} {count} {b} h past p =
-    let len = length-entries-of s index h in
-    let nil : drop b (entriesOf s index) ≡ [] = drop-of-length-le (entriesOf s index) {i = b} (omega arith) in
-    let z : below n (drop b (entriesOf s index)) ≡ 0 = rw nil in
+counted-all {s} {at} {w} {n} {count} {j} h past p =
+    let len : length (take w (drop at s)) ≡ w = length-take-le w (drop at s) (simp length-drop (omega arith)) in
+    let nil : drop j (take w (drop at s)) ≡ [] = drop-of-length-le (take w (drop at s)) {i = j} (omega arith) in
+    let z : below n (drop j (take w (drop at s))) ≡ 0 = rw nil in
     omega (arith, p .rest)
+
+below-append : (n : ℕ) (xs ys : List ℕ) → below n (xs ++ ys) ≡ below n xs + below n ys
+unfolding below
+below-append n [] ys = omega arith
+below-append n (x ∷ xs) ys = omega (arith, below-append n xs ys)
+
+-- the entries are two halves
+pub below-halves : (s : List ℕ) (index n : ℕ) → below n (entriesOf s index) ≡ below n (take 128 (drop index s)) + below n (take 128 (drop (index + 128) s))
+below-halves s index n =
+    (rw (take-add 128 128 (drop index s), drop-drop 128 index s)) ∙ below-append n (take 128 (drop index s)) (take 128 (drop (index + 128) s))
+
+every-below : (n : ℕ) (es : List ℕ) → ((b : ℕ) → b < length es → getD es b 0 < n) → below n es ≡ length es
+unfolding below
+every-below n [] h = refl
+every-below n (e ∷ es) h = omega (arith, below-lt es (h 0 (omega arith)), every-below n es (λ b l. h (suc b) (omega arith)))
+
+-- every byte is below 256
+pub below-every : (s : List ℕ) (index n : ℕ) → index + 256 ≤ length s → ((i : ℕ) → getD s i 0 < 256) → 256 ≤ n → 256 ≡ below n (entriesOf s index)
+below-every s index n h bytes many =
+    let len = length-entries-of s index h in
+    sym (every-below n (entriesOf s index) (λ b l. rw (getD-take 256 (drop index s) b 0 (omega arith), getD-drop) (omega (arith, bytes (index + b)))) ∙ len)
 
 -- ---- both ways
 

@@ -1,36 +1,101 @@
--- The inputs of a node searched one by one.
+-- The place of a byte among ascending inputs, by how many are above it.
 -- Assumes nothing.
 use mathlib.Core.Path.{_≡_, refl, sym, ap, _∙_}
+use mathlib.Core.Logic.{_⊎_, inl, inr}
 use mathlib.Core.List.{List}
 use Prim.Native.Nat.{ℕ, zero, suc, _+_, _-_, _*_, _≤_, _<_}
+use native.Mathlib.Nat.{le-refl, eq-or-lt-of-le}
 use native.Mathlib.Omega.{arith}
 use borrow.Author.Count.{below-more}
 use lib.ListN.{length, getD, take, drop}
 use lib.Seq.{getD-take, getD-drop}
-use Rattle.format.specs.Node.{bytesDown, Absent}
+use Rattle.format.specs.Node.{bytesDown, Ascending, Absent}
 use Rattle.format.specs.laws.StoredLaws.{length-bytes-down, getD-bytes-down}
 use Rattle.node.specs.declared.Found.the-variants.{At, Absent as Missing}
 use Rattle.node.specs.Read.{Finds}
 use Rattle.node.specs.ReadLaws.{finds-at, finds-missing}
+use Rattle.node.proofs.Ascent.{lt-or, falls-ascending, falls-by}
 
--- b is none of the first i inputs
-pub record Passed (s : List ℕ) (at n b i : ℕ) : Type 0 where
-  pub within : i ≤ n
-  pub none : (j : ℕ) → j < i → ¬ (getD (bytesDown s at n) j 0 ≡ b)
+-- of the first j bytes from at on, `over` are above b, and they stand first
+pub record Over (s : List ℕ) (at n b over j : ℕ) : Type 0 where
+  pub within : j ≤ n
+  pub few : over ≤ j
+  pub above : (k : ℕ) → k < over → b < getD s (at + k) 0
+  pub rest : (k : ℕ) → over ≤ k → k < j → getD s (at + k) 0 ≤ b
 
-pub passed-none : (s : List ℕ) (at n b : ℕ) → Passed s at n b 0
-passed-none s at n b = record { within = omega arith; none = λ j l. absurd (omega arith) }
+pub over-none : (s : List ℕ) (at n b : ℕ) → Over s at n b 0 0
+over-none s at n b = record { within = omega arith; few = omega arith; above = λ k l. absurd (omega arith); rest = λ k h l. absurd (omega arith) }
 
-pub passed-step : {s : List ℕ} {at n b i : ℕ} → i < n → ¬ (getD s (at + (n - 1 - i)) 0 ≡ b) → Passed s at n b i → Passed s at n b (i + 1)
-passed-step {s} {at} {n} {b} {i} l ne p =
-    record { within = omega arith; none = below-more _ i (p .none) (λ e. ne (sym (getD-bytes-down s at n i l) ∙ e)) }
+module _ {s : List ℕ} {at n b over j : ℕ} (asc : Ascending (bytesDown s at n)) (l : j < n) (o : Over s at n b over j) where
+  -- a byte above b follows none that is not
+  over-all : b < getD s (at + j) 0 → over ≡ j
+  over-all up = go (eq-or-lt-of-le (o .few))
+    where
+      go : (over ≡ j) ⊎ (over < j) → over ≡ j
+      go (inl e) = e
+      go (inr m) =
+          let e : over + (j - over) ≡ j = omega arith in
+          let low = o .rest over (le-refl over) m in
+          let by = falls-by over (j - over) (omega arith) (falls-ascending s at n asc) in
+          absurd (omega (arith, rw e at by))
 
-pub passed-all : {s : List ℕ} {at n b i : ℕ} → n ≤ i → Passed s at n b i → Finds (bytesDown s at n) b Missing
-unfolding Absent
-passed-all {s} {at} {n} {b} {i} past p = finds-missing (λ j l. p .none j (omega (arith, length-bytes-down s at n)))
+  pub over-more : b < getD s (at + j) 0 → Over s at n b (over + 1) (j + 1)
+  over-more up =
+      let e = over-all up in
+      record {
+        within = omega arith;
+        few = omega arith;
+        above = below-more (λ k. b < getD s (at + k) 0) over (o .above) (rw e up);
+        rest = λ k h m. absurd (omega arith);
+      }
+
+  pub over-same : getD s (at + j) 0 ≤ b → Over s at n b over (j + 1)
+  over-same low =
+      record {
+        within = omega arith;
+        few = omega (arith, o .few);
+        above = o .above;
+        rest = λ k h m. below-more (λ i. over ≤ i → getD s (at + i) 0 ≤ b) j (λ i q g. o .rest i g q) (λ _. low) k m h;
+      }
+
+  -- the first byte is above b by more than the count
+  pub over-fits : ((i : ℕ) → getD s i 0 < 256) → b < getD s (at + j) 0 → over + 1 < 256
+  over-fits bytes up =
+      let e = over-all up in
+      let z : 0 + j ≡ j = omega arith in
+      let by = falls-by 0 j (omega arith) (falls-ascending s at n asc) in
+      omega (arith, rw z at by, bytes (at + 0))
 
 pub found-at : (s : List ℕ) (at n b i : ℕ) → i < n → getD s (at + (n - 1 - i)) 0 ≡ b → Finds (bytesDown s at n) b (At i)
 found-at s at n b i l e = finds-at i (omega (arith, length-bytes-down s at n)) (getD-bytes-down s at n i l ∙ e)
+
+-- the first byte that is not above b is b itself
+pub over-found : (s : List ℕ) (at n b p : ℕ) → p < n → getD s (at + p) 0 ≡ b → Finds (bytesDown s at n) b (At (n - 1 - p))
+over-found s at n b p l e =
+    let back : n - 1 - (n - 1 - p) ≡ p = omega arith in
+    found-at s at n b (n - 1 - p) (omega arith) (rw back e)
+
+pub over-missing : {s : List ℕ} {at n b over j : ℕ} (p : ℕ) → p ≡ over → Ascending (bytesDown s at n) → n ≤ j → Over s at n b over j
+    → (p < n → ¬ (getD s (at + p) 0 ≡ b)) → Finds (bytesDown s at n) b Missing
+unfolding Absent
+over-missing {s} {at} {n} {b} {over} {j} p is-p asc past o ne = finds-missing (λ i l e. away i (omega (arith, length-bytes-down s at n)) e)
+  where
+    away : (i : ℕ) → i < n → ¬ (getD (bytesDown s at n) i 0 ≡ b)
+    away i l e = go (lt-or (n - 1 - i) over)
+      where
+        is : getD s (at + (n - 1 - i)) 0 ≡ b
+        is = sym (getD-bytes-down s at n i l) ∙ e
+
+        go : (n - 1 - i < over) ⊎ (over ≤ n - 1 - i) → ⊥
+        go (inl before) = omega (arith, o .above (n - 1 - i) before, is)
+        go (inr after) = at-or (eq-or-lt-of-le after)
+          where
+            at-or : (over ≡ n - 1 - i) ⊎ (over < n - 1 - i) → ⊥
+            at-or (inl q) = let here : p ≡ n - 1 - i = is-p ∙ q in ne (omega arith) (rw here is)
+            at-or (inr m) =
+                let f : over + (n - 1 - i - over) ≡ n - 1 - i = omega arith in
+                let by = falls-by over (n - 1 - i - over) (omega arith) (falls-ascending s at n asc) in
+                omega (arith, rw f at by, is, o .rest over (le-refl over) (omega arith))
 
 -- the entry of b, as the code reads it
 pub entry-is : (s : List ℕ) (index b e : ℕ) → b < 256 → e ≡ getD s (index + b) 0 → e ≡ getD (take 256 (drop index s)) b 0

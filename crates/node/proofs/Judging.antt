@@ -10,12 +10,15 @@ use lib.ListN.{length, getD, take, drop}
 use Rattle.format.specs.declared.State.{State}
 use Rattle.format.specs.declared.State.the-variants.{OneTransNext, OneTrans, AnyTrans}
 use Rattle.format.specs.Bytes.{le}
+use Rattle.buffers.specs.Decide.{Decides}
+use Rattle.buffers.specs.DecideLaws.{decides-false, decides-iff}
 use Rattle.format.specs.Node as F
 use Rattle.format.specs.Node.{stateForm, isFinal, countOf, headLen, inputOf, ntransIn, ntransOf, sizesIn, sizesByte, sizesLen, inputsLen, indexLen, endLen, sizeOf, shapeOf, firstOf, outputsAt, deltasAt, inputsAt, inputsIn, shapeInputs, shapeDeltas, shapeNode, nodeOf, SoundShape, SoundAt, sound, unsound, nodeAt}
 use Rattle.format.specs.laws.NodeLaws.{node-at-zero, node-at-sound, node-at-unsound}
 use Rattle.node.specs.declared.Node.{Node}
+use Rattle.node.specs.declared.Shape.{Shape}
 use Rattle.node.specs.declared.Judged.the-variants.{Sound, Unsound}
-use Rattle.node.specs.Read.{meaning, judgedIs, isAny, Readable, Judges, emptyNode, transitionsIn}
+use Rattle.node.specs.Read.{meaning, judgedIs, isAny, Readable, Judges, emptyNode, transitionsIn, shapeIs, AtForm, PartsRight}
 
 pub end-len-le : (final : Bool) (osize : ℕ) → endLen final osize ≤ osize
 end-len-le true osize = omega arith
@@ -106,8 +109,16 @@ module _ (s : List ℕ) (v root a : ℕ) (h : F.Shape) (is-h : h ≡ shapeOf s v
   pub parts : Parts h
   parts = rw is-h (parts-of s v a)
 
-  pub judged-no : ¬ SoundShape s root a h (a + 1 - h .size) → Judges s v root a Unsound
-  judged-no not-sound = judged-unsound s v root a ne (rw is-h at not-sound)
+  -- soundness is that of the shape
+  pub sound-no : ¬ SoundShape s root a h (a + 1 - h .size) → Decides false (SoundAt s v root a)
+  sound-no not-sound = decides-false (rw is-h at not-sound)
+
+  pub sound-iff : {P : Type 0} {r : Bool} → (P → SoundShape s root a h (a + 1 - h .size)) → (SoundShape s root a h (a + 1 - h .size) → P) → Decides r P
+      → Decides r (SoundAt s v root a)
+  sound-iff to from d = rw is-h at (decides-iff to from d)
+
+  pub shape-sound : SoundAt s v root a → SoundShape s root a h (a + 1 - h .size)
+  shape-sound is-sound = rw is-h is-sound
 
   pub judged-yes : (fo inp outs : ℕ) → SoundShape s root a h (a + 1 - h .size) → fo ≡ le (take (endLen (h .final) (h .osize)) (drop (a + 1 - h .size) s))
       → inputsIn (h .state) s (inputsAt (outputsAt (a + 1 - h .size) (h .final) (h .osize)) (h .ntrans) (h .osize) (h .tsize)) (h .ntrans) inp ≡ shapeInputs s a h (a + 1 - h .size)
@@ -129,3 +140,33 @@ module _ (s : List ℕ) (v root a : ℕ) (h : F.Shape) (is-h : h ≡ shapeOf s v
     where
       same : meaning s (codeNode h (a + 1 - h .size) fo inp (outputsAt (a + 1 - h .size) (h .final) (h .osize))) ≡ nodeOf s v a
       same = rw (is-fo, is-inputs, is-h)
+
+-- ---- a node with any number of transitions, by the shape that the code works out
+
+module _ (s : List ℕ) (root a : ℕ) (g : Shape) (is-end : g .«end_len» ≡ endLen (g .«is_final») (g .osize)) where
+  abbrev PartsAt : Type 0
+  PartsAt =
+      let first = a + 1 - g .size in
+      let deltas = first + g .«end_len» + g .ntrans * g .osize in
+      PartsRight s first deltas (g .tsize) (deltas + g .ntrans * g .tsize) (g .ntrans) (g .«index_len»)
+
+  -- all tests passed
+  pub shape-right : AtForm s root a → g .size ≤ a - 15 → (g .tsize ≤ 8) × (g .osize ≤ 8) × (0 < g .ntrans → 0 < g .tsize)
+      → F.Useful (g .«is_final») (g .ntrans) a root → PartsAt → SoundShape s root a (shapeIs g) (a + 1 - g .size)
+  shape-right form above sizes useful parts = record {
+    inside = form .inside;
+    below = form .below;
+    above = omega (arith, form .low);
+    sizes = record { tsize-le = sizes .0; osize-le = sizes .1; tsize-pos = λ _. sizes .2 };
+    ascending = rw is-end at (parts .ascending);
+    entries = rw is-end at (parts .index);
+    targets = rw is-end at (parts .targets);
+    useful = useful;
+  }
+
+  pub right-parts : SoundShape s root a (shapeIs g) (a + 1 - g .size) → PartsAt
+  right-parts is-sound = record {
+    ascending = rw is-end (is-sound .ascending);
+    targets = rw is-end (is-sound .targets);
+    index = rw is-end (is-sound .entries);
+  }

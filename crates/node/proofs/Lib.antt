@@ -6,3 +6,4 @@ mod Shapes
 mod InputSearch
 mod Targets
 mod Accessors
+mod Steps

@@ -4,7 +4,9 @@
 --     Readable s m            what reading the judged node m leans on
 --     Judges s v root a r     the answer r is `nodeAt`, and a node that it hands out can be read
 --     placeIs r               what an answer says of the place of an input
---     Head, AtForm, shapeIs, Probed, below, Finds, LooksUp     parts of the private functions' contracts
+--     wayIn ts b              where the input b leads among the transitions ts
+--     stepOf j b              one step of a lookup by key, from what judging says
+--     Head, AtForm, shapeIs, Falls, Probed, below, AtMost, Finds, LooksUp     parts of the private functions' contracts
 -- Assumes nothing.
 use mathlib.Core.Path.{_≡_}
 use mathlib.Core.Bool.{Bool, true, false, cond}
@@ -15,12 +17,17 @@ use lib.ListN.{length, getD, take, drop}
 use Rattle.format.specs.declared.State.{State}
 use Rattle.format.specs.declared.State.the-variants.{OneTransNext, OneTrans, AnyTrans}
 use Rattle.format.specs.declared.Transition.{Transition}
+use Rattle.format.specs.Bytes.{le}
 use Rattle.format.specs.Node as F
 use Rattle.format.specs.Node.{headLen, inputsLen, endLen, inputsIn, deltasIn, inputsAt, deltasAt, storedTransitions, Absent, Indexed, SizesRight, TargetsRight, Judgement, sound, unsound, nodeAt, Place, at, absent}
 use Rattle.node.specs.declared.Node.{Node}
 use Rattle.node.specs.declared.Shape.{Shape}
 use Rattle.node.specs.declared.Judged.{Judged}
 use Rattle.node.specs.declared.Judged.the-variants.{Sound, Unsound}
+use Rattle.node.specs.declared.Step.{Step}
+use Rattle.node.specs.declared.Step.the-variants.{Sound as Stepped, Unsound as Stuck}
+use Rattle.node.specs.declared.Way.{Way}
+use Rattle.node.specs.declared.Way.the-variants.{To, Absent as Nowhere}
 use Rattle.node.specs.declared.Found.{Found}
 use Rattle.node.specs.declared.Found.the-variants.{At, Absent as Missing}
 
@@ -44,6 +51,19 @@ judgedIs s Unsound = unsound
 abbrev pub placeIs : Found → Place
 placeIs (At i) = at i
 placeIs Missing = absent
+
+-- where b leads among these transitions
+abbrev pub wayAs : List Transition → Place → Way
+wayAs ts (at i) = To (F.transitionAt ts i .out) (F.transitionAt ts i .addr)
+wayAs ts absent = Nowhere
+
+abbrev pub wayIn : List Transition → ℕ → Way
+wayIn ts b = wayAs ts (F.findInput ts b)
+
+-- one step of a lookup by key, from what judging says
+abbrev pub stepOf : Judgement → ℕ → Step
+stepOf (sound m) b = Stepped (wayIn (m .transitions) b)
+stepOf unsound b = Stuck
 
 -- ---- what reading a judged node leans on
 
@@ -75,6 +95,21 @@ pub record Readable (s : List ℕ) (m : Node) : Type 0 where
 pub record Judges (s : List ℕ) (v root a : ℕ) (r : Judged) : Type 0 where
   pub answer : judgedIs s r ≡ nodeAt s v root a
   pub readable : (m : Node) → r ≡ Sound m → Readable s m
+
+-- a node with any number of transitions, for those who read its transitions alone
+abbrev pub anyNode : ℕ → ℕ → ℕ → ℕ → ℕ → ℕ → Node
+anyNode first outputs n tsize osize entries = record {
+  state = AnyTrans;
+  first = first;
+  «is_final» = false;
+  ntrans = n;
+  tsize = tsize;
+  osize = osize;
+  «index_len» = entries;
+  «final_output» = 0;
+  input = 0;
+  outputs = outputs;
+}
 
 -- address 0
 abbrev pub emptyNode : Node
@@ -116,6 +151,10 @@ shapeIs h = record {
   size = h .size;
 }
 
+-- each byte of n pairs from place at on is above the next
+pub record Falls (s : List ℕ) (at n : ℕ) : Type 0 where
+  pub down : (k : ℕ) → k < n → getD s (at + k + 1) 0 < getD s (at + k) 0
+
 -- the entry of each byte of bs is its place
 unfoldable pub Probed : List ℕ → List ℕ → Type 0
 Probed bs es = (i : ℕ) → i < length bs → getD es (getD bs i 0) 0 ≡ i
@@ -124,6 +163,23 @@ Probed bs es = (i : ℕ) → i < length bs → getD es (getD bs i 0) 0 ≡ i
 unfoldable pub below : ℕ → List ℕ → ℕ
 below n [] = 0
 below n (e ∷ es) = cond (ltb e n) 1 0 + below n es
+
+-- n numbers of k bytes from place at on are at most m
+pub record AtMost (s : List ℕ) (at k n m : ℕ) : Type 0 where
+  pub each : (j : ℕ) → j < n → le (take k (drop (at + j * k) s)) ≤ m
+
+-- the inputs, the deltas and the index of a node with any number of transitions
+pub record PartsRight (s : List ℕ) (first deltas tsize inputs n entries : ℕ) : Type 0 where
+  pub ascending : F.Ascending (F.bytesDown s inputs n)
+  pub targets : TargetsRight first (F.numbersDown s deltas tsize n)
+  pub index : ¬ (entries ≡ 0) → Indexed (F.bytesDown s inputs n) (take 256 (drop (inputs + n) s))
+
+-- what finding one of n inputs from place at on leans on
+pub record Searchable (s : List ℕ) (at n entries : ℕ) : Type 0 where
+  pub room : at + n + entries ≤ length s
+  pub ascending : F.Ascending (F.bytesDown s at n)
+  pub entries-len : ¬ (entries ≡ 0) → entries ≡ 256
+  pub index : ¬ (entries ≡ 0) → Indexed (F.bytesDown s at n) (take 256 (drop (at + n) s))
 
 -- a place of b in bs, or b is absent
 pub record Finds (bs : List ℕ) (b : ℕ) (r : Found) : Type 0 where

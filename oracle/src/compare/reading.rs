@@ -118,7 +118,7 @@ impl<'a> Run<'a> {
         Ok(())
     }
 
-    fn read_unsound(&mut self, at: At) -> Checked {
+    pub fn read_unsound(&mut self, at: At) -> Checked {
         let ours = match self.ours {
             Some(ours) => ours,
             None => return Ok(()),

@@ -1,75 +1,56 @@
--- `node::count_below` meets its contract. The loop's invariant: count is how many of the first b entries are below n.
--- The measure is 256 - b.
+-- `node::count_below` meets its contract: every byte is below 256, and the entries are two halves.
 -- Assumes nothing.
-use Prim.Native.Nat.{ℕ, _+_, _-_, _*_, _≤_, _<_}
-use mathlib.Core.List.{List}
-use mathlib.Core.Path.{_≡_, _∙_, sym, refl}
-use mathlib.Core.Logic.{⊎-elim}
-use native.Mathlib.Omega.{arith}
-use native.Mathlib.Nat.{le-refl}
 use denote.Ref.{now}
-use lib.ListN.{length, getD}
-use Rattle.node.proofs.Index.{Counted, counted-none, counted-below, counted-other, counted-all}
+use Rattle.node.proofs.Index.{below-every, below-halves}
 use borrow.Author.Needs.{needs}
+use native.Mathlib.Omega.{arith}
 use Rattle.node.proofs.count_below.Statement.{statement}
 use Rattle.node.proofs.count_below.Tie as tie
 
-abbrev Inv-loop : tie.InvT-loop
-Inv-loop file index n count₀ b₀ count b = Counted file index n count b
+-- every byte is below 256
+returns : tie.Need-returns
+returns c =
+    let known = c .before in
+    let a = known .before .args in
+    below-every (now (a .file)) (a .index) (a .n) (known .before .pre) (λ i. known .shared-slice-known .given i .fits) (omega (arith, c .if1 .taken))
 
-abbrev μ-loop : tie.MeasureT-loop
-μ-loop file index n count₀ b₀ count b = 256 - b
+cast-m : tie.Need-cast-m
+cast-m c = search needs
 
--- no entry is passed yet
-loop-holds : tie.Need-loop-holds Inv-loop μ-loop
-loop-holds c = counted-none (now (c .before .args .file)) (c .before .args .index) (c .before .args .n)
+below128-requires : tie.Need-below128-requires
+below128-requires c κs = search needs
 
-add-small : tie.Need-add-small Inv-loop μ-loop
-add-small c = search needs
-
-shared-slice-read-small : tie.Need-shared-slice-read-small Inv-loop μ-loop
-shared-slice-read-small c = search needs
-
-small-requires : tie.Need-small-requires Inv-loop μ-loop
+small-requires : tie.Need-small-requires
 small-requires c κs = search needs
 
-add-count : tie.Need-add-count Inv-loop μ-loop
-add-count c = search needs
+add-below128 : tie.Need-add-below128
+add-below128 c = search needs
 
-add-b : tie.Need-add-b Inv-loop μ-loop
-add-b c = search needs
+below128-requires-2 : tie.Need-below128-requires-2
+below128-requires-2 c κs = search needs
 
-loop-less : tie.Need-loop-less Inv-loop μ-loop
-loop-less c = search needs
+small-requires-2 : tie.Need-small-requires-2
+small-requires-2 c κs = search needs
 
--- one entry more, below n or not
-loop-again : tie.Need-loop-again Inv-loop μ-loop
-loop-again c =
-    let call = c .before in
-    let body = call .before .before in
-    let start = body .before .before .before in
-    let b = body .before .loop .b in
-    ⊎-elim
-    (λ w. rw (w .1) (counted-below (call .small .result) (call .small .ensures) (start .pre) (body .loop-test .taken) (w .0 .taken) (body .before .loop .inv)))
-    (λ w. rw (w .1) (counted-other (call .small .result) (call .small .ensures) (start .pre) (body .loop-test .taken) (w .0 .left) (body .before .loop .inv)))
-    (c .if1 .came)
+add-result : tie.Need-add-result
+add-result c = search needs
 
--- all 256 entries are passed
-returns : tie.Need-returns Inv-loop μ-loop
-returns c = counted-all (c .before .before .before .pre) (c .loop-test .left) (c .before .loop .inv)
+-- the two halves are counted
+returns-2 : tie.Need-returns-2
+returns-2 c =
+    let a = c .before .before .before .before .before .before .args in
+    omega (arith, below-halves (now (a .file)) (a .index) (a .n))
 
 pub count-below-spec : {M : Type 1} → statement M
 count-below-spec =
     tie.close
     (tie.spec
-    Inv-loop
-    μ-loop
-    loop-holds
-    add-small
-    shared-slice-read-small
+    returns
+    cast-m
+    below128-requires
     small-requires
-    add-count
-    add-b
-    loop-less
-    loop-again
-    returns)
+    add-below128
+    below128-requires-2
+    small-requires-2
+    add-result
+    returns-2)

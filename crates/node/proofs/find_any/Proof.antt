@@ -1,7 +1,7 @@
--- `node::find_any` meets its contract: the inputs are searched, or the index says the place.
+-- `node::find_any` meets its contract: its inputs and its index can be searched.
 -- Assumes nothing.
-use mathlib.Core.Path.{_≡_, refl, sym, ap, _∙_}
-use Rattle.node.proofs.Accessors.{any-room, any-finds, any-looks-up}
+use mathlib.Core.Path.{refl}
+use Rattle.node.proofs.Accessors.{any-searchable, any-finds}
 use borrow.Author.Needs.{needs}
 use native.Mathlib.Omega.{arith}
 use denote.Ref.{now}
@@ -20,35 +20,17 @@ mul-inputs-2 c = search needs
 add-inputs-2 : tie.Need-add-inputs-2
 add-inputs-2 c = search needs
 
--- the inputs lie within the file
-seek-requires : tie.Need-seek-requires
-seek-requires c κs = let start = c .before .before .before .before .before .before in
-    let s = now (start .args .file) in let m = start .args .node in let r = start .pre .0 in
-    omega (arith, any-room s m r (start .pre .1))
+-- the node can be read
+find-in-requires : tie.Need-find-in-requires
+find-in-requires c κs =
+    let start = c .before .before .before .before in
+    any-searchable (now (start .args .file)) (start .args .node) (start .pre .0) (start .pre .1)
 
--- no index: the inputs are searched
+-- the place among the node's inputs
 returns : tie.Need-returns
-returns c = let start = c .before .before .before .before .before .before .before in
-    let s = now (start .args .file) in let m = start .args .node in let r = start .pre .0 in
-    any-finds s m r (start .args .b) (c .seek .result) (start .pre .1) (c .seek .ensures)
-
--- the index starts within the file
-add-look-up : tie.Need-add-look-up
-add-look-up c = let start = c .before .before .before .before .before .before in
-    let s = now (start .args .file) in let m = start .args .node in let r = start .pre .0 in
-    omega (arith, any-room s m r (start .pre .1))
-
--- the index lies within the file
-look-up-requires : tie.Need-look-up-requires
-look-up-requires c κs = let start = c .before .before .before .before .before .before in
-    let s = now (start .args .file) in let m = start .args .node in let r = start .pre .0 in
-    omega (arith, any-room s m r (start .pre .1), r .entries-len (c .if1 .left))
-
--- by the index
-returns-2 : tie.Need-returns-2
-returns-2 c = let start = c .before .before .before .before .before .before .before in
-    let s = now (start .args .file) in let m = start .args .node in let r = start .pre .0 in
-    any-looks-up s m r (start .args .b) (c .look-up .result) (c .before .if1 .left) (start .fits .b .fits) (c .look-up .ensures)
+returns c =
+    let start = c .before .before .before .before .before in
+    any-finds (now (start .args .file)) (start .args .node) (start .pre .0) (start .args .b) (c .find-in .result) (start .pre .1) (c .find-in .ensures)
 
 pub find-any-spec : {M : Type 1} → statement M
 find-any-spec =
@@ -58,8 +40,5 @@ find-any-spec =
     add-inputs
     mul-inputs-2
     add-inputs-2
-    seek-requires
-    returns
-    add-look-up
-    look-up-requires
-    returns-2)
+    find-in-requires
+    returns)

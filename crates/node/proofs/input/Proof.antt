@@ -1,7 +1,7 @@
 -- `node::input` meets its contract: by the state, the input is stored or was read when the node was judged.
 -- Assumes nothing.
 use mathlib.Core.Path.{_≡_, refl, sym, ap, _∙_}
-use Rattle.node.proofs.Accessors.{any-room, input-any, input-one}
+use Rattle.node.proofs.Accessors.{any-searchable, input-any, input-one}
 use borrow.Author.Needs.{needs}
 use native.Mathlib.Omega.{arith}
 use denote.Ref.{now}
@@ -33,13 +33,13 @@ sub-result-2 c = search needs
 add-result : tie.Need-add-result
 add-result c = let start = c .before .before .before .before in
     let s = now (start .args .file) in let m = start .args .node in let r = start .pre .0 in let i = start .args .i in let l = start .pre .1 in
-    omega (arith, any-room s m r (c .enum-told .given .1))
+    omega (arith, any-searchable s m r (c .enum-told .given .1) .room)
 
 -- the input lies within the file
 shared-slice-read-result : tie.Need-shared-slice-read-result
 shared-slice-read-result c = let start = c .before .before .before .before .before in
     let s = now (start .args .file) in let m = start .args .node in let r = start .pre .0 in let i = start .args .i in let l = start .pre .1 in
-    omega (arith, any-room s m r (c .before .enum-told .given .1))
+    omega (arith, any-searchable s m r (c .before .enum-told .given .1) .room)
 
 enum-told-2 : tie.Need-enum-told-2
 enum-told-2 c = search needs

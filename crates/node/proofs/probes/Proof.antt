@@ -1,35 +1,25 @@
--- `node::probes` meets its contract. The loop's invariant: the entry of each of the first i inputs is its place.
--- The measure is n - i.
+-- `node::probes` meets its contract. The invariant: the flag says whether each of the first j bytes has the entry that its place
+-- asks for. The measure is n less j.
 -- Assumes nothing.
-use Prim.Native.Nat.{ℕ, _+_, _-_, _*_, _≤_, _<_}
-use mathlib.Core.List.{List}
-use mathlib.Core.Path.{_≡_, _∙_, sym, refl}
+use Prim.Native.Nat.{_-_, _+_, _≤_}
 use mathlib.Core.Logic.{⊎-elim}
-use native.Mathlib.Omega.{arith}
-use native.Mathlib.Nat.{le-refl}
 use denote.Ref.{now}
-use lib.ListN.{length, getD}
-use Rattle.buffers.specs.DecideLaws.{decides-true, decides-false}
-use Rattle.node.proofs.Index.{ProbedTo, probed-none, probed-step, probed-all, not-probed}
+use Rattle.buffers.specs.Decide.{Decides}
+use Rattle.node.proofs.Index.{PlacedTo, placed-none, placed-kept, placed-lost, placed-all}
 use borrow.Author.Needs.{needs}
+use native.Mathlib.Omega.{arith}
 use Rattle.node.proofs.probes.Statement.{statement}
 use Rattle.node.proofs.probes.Tie as tie
 
 abbrev Inv-loop : tie.InvT-loop
-Inv-loop file at n index i₀ i = ProbedTo file at n index i
+Inv-loop file at n index good₀ j₀ good j = (j ≤ n) × Decides good (PlacedTo file at n index j)
 
 abbrev μ-loop : tie.MeasureT-loop
-μ-loop file at n index i₀ i = n - i
+μ-loop file at n index good₀ j₀ good j = n - j
 
 -- no input is probed yet
 loop-holds : tie.Need-loop-holds Inv-loop μ-loop
-loop-holds c = probed-none (now (c .before .args .file)) (c .before .args .at) (c .before .args .n) (c .before .args .index)
-
-sub-small : tie.Need-sub-small Inv-loop μ-loop
-sub-small c = search needs
-
-sub-small-2 : tie.Need-sub-small-2 Inv-loop μ-loop
-sub-small-2 c = search needs
+loop-holds c = let a = c .before .args in (omega arith, placed-none (now (a .file)) (a .at) (a .n) (a .index))
 
 add-small : tie.Need-add-small Inv-loop μ-loop
 add-small c = search needs
@@ -45,8 +35,7 @@ add-small-2 : tie.Need-add-small-2 Inv-loop μ-loop
 add-small-2 c =
     let body = c .before .before in
     let start = body .before .before .before in
-    let i = body .before .loop .i in
-    let byte = c .before .shared-slice-known2 .given (start .args .at + (start .args .n - 1 - i)) in
+    let byte = c .before .shared-slice-known2 .given (start .args .at + body .before .loop .j) in
     omega arith
 
 -- an input is below 256, so its entry lies in the index
@@ -54,47 +43,50 @@ shared-slice-read-small-2 : tie.Need-shared-slice-read-small-2 Inv-loop μ-loop
 shared-slice-read-small-2 c =
     let body = c .before .before .before in
     let start = body .before .before .before in
-    let i = body .before .loop .i in
-    let byte = c .before .before .shared-slice-known2 .given (start .args .at + (start .args .n - 1 - i)) in
+    let byte = c .before .before .shared-slice-known2 .given (start .args .at + body .before .loop .j) in
     omega arith
 
 small-requires-2 : tie.Need-small-requires-2 Inv-loop μ-loop
 small-requires-2 c κs = search needs
 
--- an input's entry is not its place
-returns : tie.Need-returns Inv-loop μ-loop
-returns c =
-    let call2 = c .before in
-    let call = call2 .before .before in
-    let body = call .before .before in
-    let start = body .before .before .before in
-    let i = body .before .loop .i in
-    let byte = call .before .shared-slice-known2 .given (start .args .at + (start .args .n - 1 - i)) in
-    decides-false
-    (not-probed (now (start .args .file)) (start .args .at) (start .args .n) (start .args .index) i (call .small .result) (call2 .small2 .result)
-    (call .small .ensures) (call2 .small2 .ensures) (omega arith) (body .loop-test .taken) (c .if1 .taken))
+-- an entry is a byte, and j is below n
+add-if1 : tie.Need-add-if1 Inv-loop μ-loop
+add-if1 c =
+    let byte = c .before .before in
+    omega (arith, c .before .shared-slice-known3 .given (byte .before .before .before .before .before .args .index + byte .small .result))
 
-add-i : tie.Need-add-i Inv-loop μ-loop
-add-i c = search needs
+sub-if1 : tie.Need-sub-if1 Inv-loop μ-loop
+sub-if1 c = search needs
+
+add-j : tie.Need-add-j Inv-loop μ-loop
+add-j c = search needs
 
 loop-less : tie.Need-loop-less Inv-loop μ-loop
 loop-less c = search needs
 
--- the input's entry is its place
+-- the entry is not what the byte's place asks for, or it is
 loop-again : tie.Need-loop-again Inv-loop μ-loop
 loop-again c =
-    let call2 = c .before in
-    let call = call2 .before .before in
-    let body = call .before .before in
-    let start = body .before .before .before in
-    let i = body .before .loop .i in
-    let byte = call .before .shared-slice-known2 .given (start .args .at + (start .args .n - 1 - i)) in
-    probed-step (call .small .result) (call2 .small2 .result) (call .small .ensures) (call2 .small2 .ensures) (omega arith) (body .loop-test .taken)
-    (c .if1 .left) (body .before .loop .inv)
+    let entry = c .before in
+    let byte = entry .before .before in
+    let at-loop = byte .before .before .before in
+    let a = at-loop .before .before .args in (
+      omega arith,
+      ⊎-elim
+          (λ w. rw (w .1)
+          (placed-lost (now (a .file)) (a .at) (a .n) (a .index) (at-loop .loop .j) (byte .small .result) (entry .small2 .result) (byte .small .ensures)
+          (entry .small2 .ensures) (w .0 .taken)))
+          (λ w. rw (w .1)
+          (placed-kept (now (a .file)) (a .at) (a .n) (a .index) (at-loop .loop .j) (byte .small .result) (entry .small2 .result) (byte .small .ensures)
+          (entry .small2 .ensures) (w .0 .left) (at-loop .loop .inv .1)))
+          (c .if1 .came),
+    )
 
 -- all inputs are probed
-returns-2 : tie.Need-returns-2 Inv-loop μ-loop
-returns-2 c = decides-true (probed-all (c .loop-test .left) (c .before .loop .inv))
+returns : tie.Need-returns Inv-loop μ-loop
+returns c =
+    let known = c .before .before in
+    placed-all (c .before .loop .inv .0) (c .loop-test .left) (λ i. known .shared-slice-known .given i .fits) (c .before .loop .inv .1)
 
 pub probes-spec : {M : Type 1} → statement M
 probes-spec =
@@ -103,16 +95,15 @@ probes-spec =
     Inv-loop
     μ-loop
     loop-holds
-    sub-small
-    sub-small-2
     add-small
     shared-slice-read-small
     small-requires
     add-small-2
     shared-slice-read-small-2
     small-requires-2
-    returns
-    add-i
+    add-if1
+    sub-if1
+    add-j
     loop-less
     loop-again
-    returns-2)
+    returns)

@@ -1,21 +1,19 @@
--- `node::one_trans` meets its contract: the shape is that of the form 10, and each way out is a condition of soundness.
+-- `node::one_sound` meets its contract: the shape is that of the form 10, and each way out is a condition of soundness.
 -- Assumes nothing.
-use mathlib.Core.Path.{_≡_, refl, sym, ap, _∙_}
-use Prim.Native.Nat.{ℕ, _+_, _-_, _*_, _/_, _%_, _≤_}
-use native.Mathlib.Nat.{add-zero}
-use Rattle.format.specs.Bytes.{le}
+use mathlib.Core.Path.{_≡_, refl}
+use mathlib.Core.Bool.{false}
+use Prim.Native.Nat.{ℕ, _+_, _-_, _/_, _%_}
 use mathlib.Core.List.{List}
+use Rattle.buffers.specs.Decide.{Decides}
 use Rattle.format.specs.Node as F
-use Rattle.format.specs.Node.{shapeOf, SoundShape}
-use Rattle.node.specs.declared.Judged.the-variants.{Unsound}
-use Rattle.node.specs.Read.{Judges}
-use Rattle.node.proofs.Judging.{judged-yes, judged-no}
+use Rattle.format.specs.Node.{shapeOf, SoundShape, SoundAt}
+use Rattle.node.proofs.Judging.{sound-no, sound-iff}
 use Rattle.node.proofs.Shapes.{oneShape, shape-one, one-sound, one-target}
 use borrow.Author.Needs.{needs}
 use native.Mathlib.Omega.{arith}
 use denote.Ref.{now}
-use Rattle.node.proofs.one_trans.Statement.{statement}
-use Rattle.node.proofs.one_trans.Tie as tie
+use Rattle.node.proofs.one_sound.Statement.{statement}
+use Rattle.node.proofs.one_sound.Tie as tie
 
 -- the parameters and the shape, seen from where the sizes byte is read
 abbrev start : tie.After-small → tie.Start
@@ -42,8 +40,8 @@ is-h q =
     (q .small .ensures)
 
 no-at : (q : tie.After-small) → ¬ SoundShape (file q) (start q .args .root) (addr q) (h-at q) (addr q + 1 - size q)
-    → Judges (file q) (start q .args .version) (start q .args .root) (addr q) Unsound
-no-at q = judged-no (file q) (start q .args .version) (start q .args .root) (addr q) (h-at q) (is-h q) (λ z. omega (arith, start q .pre .0 .low))
+    → Decides false (SoundAt (file q) (start q .args .version) (start q .args .root) (addr q))
+no-at q = sound-no (file q) (start q .args .version) (start q .args .root) (addr q) (h-at q) (is-h q) (λ z. omega (arith, start q .pre .0 .low))
 
 head-len-requires : tie.Need-head-len-requires
 head-len-requires c κs = search needs
@@ -89,7 +87,7 @@ sub-first c = search needs
 add-number-of : tie.Need-add-number-of
 add-number-of c = search needs
 
--- the delta lies within the node, and the sizes are right
+-- the delta lies within the node
 number-of-requires : tie.Need-number-of-requires
 number-of-requires c κs = let read = c .before .before .before in
     let right = c .before .before .sizes-right .ensures .yes (c .before .if1 .taken) in
@@ -98,31 +96,22 @@ number-of-requires c κs = let read = c .before .before .before in
 target-right-requires : tie.Need-target-right-requires
 target-right-requires c κs = search needs
 
--- the target is wrong
+-- all other conditions hold: the answer is that of the target
 returns-3 : tie.Need-returns-3
-returns-3 c = let judged = c .before in
-    let read = judged .before .before .before .before .before in
-    no-at read (λ h. judged .target-right .ensures .no (c .if3 .left) (one-target (file read) (start read .args .root) (addr read) (sizes read / 16) (sizes read % 16) (size read) (start read .pre .0) h
-    (judged .before .number-of .result) (judged .before .number-of .ensures)))
-
-input-of-requires : tie.Need-input-of-requires
-input-of-requires c κs = search needs
-
--- every condition holds: the node is sound
-returns-4 : tie.Need-returns-4
-unfolding le
-returns-4 c = let judged = c .before .before in
-    let delta = judged .before in
+returns-3 c =
+    let delta = c .before in
     let fits = delta .before in
     let read = fits .before .before .before in
-    let sound =
+    sound-iff (file read) (start read .args .version) (start read .args .root) (addr read) (h-at read) (is-h read) (λ z. omega (arith, start read .pre .0 .low))
+    (λ right.
     one-sound (file read) (start read .args .root) (addr read) (sizes read / 16) (sizes read % 16) (size read) (start read .pre .0) (omega arith)
-    (fits .before .before .sizes-right .ensures .yes (fits .before .if1 .taken)) (delta .number-of .result) (delta .number-of .ensures) (judged .target-right .ensures .yes (c .before .if3 .taken)) in
-    judged-yes (file read) (start read .args .version) (start read .args .root) (addr read) (h-at read) (is-h read) (λ z. omega (arith, start read .pre .0 .low)) 0 (c .input-of .result) (addr read + 1 - size read)
-    sound refl (rw (c .input-of .ensures)) (sym (add-zero (addr read + 1 - size read)))
+    (fits .before .before .sizes-right .ensures .yes (fits .before .if1 .taken)) (delta .number-of .result) (delta .number-of .ensures) right)
+    (λ sound.
+    one-target (file read) (start read .args .root) (addr read) (sizes read / 16) (sizes read % 16) (size read) (start read .pre .0) sound
+    (delta .number-of .result) (delta .number-of .ensures)) (c .target-right .ensures)
 
-pub one-trans-spec : {M : Type 1} → statement M
-one-trans-spec =
+pub one-sound-spec : {M : Type 1} → statement M
+one-sound-spec =
     tie.close
     (tie.spec
     head-len-requires
@@ -141,6 +130,4 @@ one-trans-spec =
     add-number-of
     number-of-requires
     target-right-requires
-    returns-3
-    input-of-requires
-    returns-4)
+    returns-3)
