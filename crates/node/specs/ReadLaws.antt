@@ -22,11 +22,8 @@ use Rattle.node.specs.declared.Judged.{Judged}
 use Rattle.node.specs.declared.Judged.the-variants.{Sound, Unsound}
 use Rattle.node.specs.declared.Found.{Found}
 use Rattle.node.specs.declared.Found.the-variants.{At, Absent as Missing}
-use Rattle.node.specs.declared.Step.{Step}
-use Rattle.node.specs.declared.Step.the-variants.{Sound as Stepped, Unsound as Stuck}
-use Rattle.node.specs.declared.Way.{Way}
-use Rattle.node.specs.declared.Way.the-variants.{To, Absent as Nowhere}
-use Rattle.node.specs.Read.{wayAs, wayIn, stepOf, meaning, judgedIs, Judges, transitionsIn, nodeInputs, nodeDeltas, isAny, Readable, placeIs, Finds, LooksUp}
+use Rattle.node.specs.Read.{meaning, judgedIs, Judges, transitionsIn, nodeInputs, nodeDeltas, Readable, placeIs, Finds, LooksUp}
+use Rattle.node_sound.specs.Shapes.{isAny}
 
 -- ---- a place or none
 
@@ -149,30 +146,3 @@ place-none p f e is = sym e ∙ ap placeIs is
 
 pub place-lt : (s : List ℕ) (m : Node) (r : Readable s m) (b i : ℕ) → findInput (transitionsIn s m) b ≡ at i → i < m .ntrans
 place-lt s m r b i e = omega (arith, find-input-member (transitionsIn s m) b i e .0, length-node-transitions s m r)
-
--- ---- what a step says to a caller
-
-pub step-sound : (j : Judgement) (b : ℕ) (w : Way) → Stepped w ≡ stepOf j b → (m : F.Node) × ((j ≡ sound m) × (w ≡ wayIn (m .transitions) b))
-step-sound (sound m) b w e = (m, (refl, cc))
-step-sound unsound b w e = absurd (let z : _≡_ {A = ℕ} 0 1 = cc in omega arith)
-
-pub step-stuck : (j : Judgement) (b : ℕ) → Stuck ≡ stepOf j b → j ≡ unsound
-step-stuck (sound m) b e = absurd (let z : _≡_ {A = ℕ} 0 1 = cc in omega arith)
-step-stuck unsound b e = refl
-
--- the transition that an input leads along
-pub way-found : (ts : List Transition) (b out target : ℕ) → To out target ≡ wayIn ts b
-    → (i : ℕ) × ((findInput ts b ≡ at i) × (out ≡ transitionAt ts i .out) × (target ≡ transitionAt ts i .addr))
-way-found ts b out target e = go (findInput ts b) refl e
-  where
-    go : (p : Place) → findInput ts b ≡ p → To out target ≡ wayAs ts p
-        → (i : ℕ) × ((findInput ts b ≡ at i) × (out ≡ transitionAt ts i .out) × (target ≡ transitionAt ts i .addr))
-    go (at i) is-p e = (i, (is-p, cc, cc))
-    go absent is-p e = absurd (let z : _≡_ {A = ℕ} 0 1 = cc in omega arith)
-
-pub way-none : (ts : List Transition) (b : ℕ) → Nowhere ≡ wayIn ts b → findInput ts b ≡ absent
-way-none ts b e = go (findInput ts b) refl e
-  where
-    go : (p : Place) → findInput ts b ≡ p → Nowhere ≡ wayAs ts p → findInput ts b ≡ absent
-    go (at i) is-p e = absurd (let z : _≡_ {A = ℕ} 0 1 = cc in omega arith)
-    go absent is-p e = is-p
