@@ -14,7 +14,7 @@ use Rattle.buffers.specs.Decide.{Decides}
 use Rattle.buffers.specs.DecideLaws.{decides-false, decides-iff}
 use Rattle.format.specs.Node as F
 use Rattle.format.specs.Node.{stateForm, isFinal, countOf, headLen, inputOf, ntransIn, ntransOf, sizesIn, sizesByte, sizesLen, inputsLen, indexLen, endLen, sizeOf, shapeOf, firstOf, outputsAt, deltasAt, inputsAt, inputsIn, shapeInputs, shapeDeltas, shapeNode, nodeOf, SoundShape, SoundAt, sound, unsound, nodeAt}
-use Rattle.format.specs.laws.NodeLaws.{node-at-zero, node-at-sound, node-at-unsound}
+use Rattle.format.specs.laws.NodeLaws.{node-at-zero, node-at-blank, node-at-sound, node-at-unsound}
 use Rattle.node.specs.declared.Node.{Node}
 use Rattle.node.specs.declared.Shape.{Shape}
 use Rattle.node.specs.declared.Judged.the-variants.{Sound, Unsound}
@@ -83,10 +83,17 @@ judged-unsound s v root a ne not-sound = record {
   readable = λ m e. absurd (let z : _≡_ {A = ℕ} 0 1 = cc in omega arith);
 }
 
-pub judged-empty : (s : List ℕ) (v root : ℕ) → Judges s v root 0 (Sound emptyNode)
+-- no bytes, no node
+pub judged-blank : (s : List ℕ) (v root a : ℕ) → length s ≡ 0 → Judges s v root a Unsound
+judged-blank s v root a z = record {
+  answer = sym (node-at-blank s v root a z);
+  readable = λ m e. absurd (let z : _≡_ {A = ℕ} 0 1 = cc in omega arith);
+}
+
+pub judged-empty : (s : List ℕ) (v root : ℕ) → ¬ (length s ≡ 0) → Judges s v root 0 (Sound emptyNode)
 unfolding F.transitionsOf F.bytesDown F.downFrom F.numbersDown F.Ascending F.TargetsRight
-judged-empty s v root = record {
-  answer = sym (node-at-zero s v root);
+judged-empty s v root some = record {
+  answer = sym (node-at-zero s v root (omega arith));
   readable = λ m e. let q : emptyNode ≡ m = cc in rw (← q) (record {
     room = omega arith;
     tsize-le = omega arith;

@@ -699,7 +699,7 @@ fn node_of(file: &[u8], version: u64, root: usize, addr: usize) -> Node
     next_node(file, version, root, addr)
 }
 
-// Address 0: a final node with no transitions, output 0 and no bytes.
+// Address 0 of a file that has bytes: a final node with no transitions, output 0 and no bytes.
 fn empty_final() -> Node
     ensures { λ r. ⌜ r ≡ emptyNode ⌝ }
 {
@@ -722,6 +722,10 @@ pub fn node_at(file: &[u8], version: u64, root: usize, addr: usize) -> Judged
     ensures { λ r. ⌜ Judges (now (file .entry)) version root addr r ⌝ }
 {
     if addr == 0 {
+        // a file without bytes has no node
+        if file.len() == 0 {
+            return Judged::Unsound;
+        }
         return Judged::Sound(empty_final());
     }
     if is_sound(file, version, root, addr) {
@@ -1007,6 +1011,10 @@ pub fn step_at(file: &[u8], version: u64, root: usize, addr: usize, b: u8) -> St
     ensures { λ r. ⌜ r ≡ stepOf (nodeAt (now (file .entry)) version root addr) b ⌝ }
 {
     if addr == 0 {
+        // a file without bytes has no node
+        if file.len() == 0 {
+            return Step::Unsound;
+        }
         return Step::Sound(Way::Absent);
     }
     // the state byte itself lies from 16 to the root, and in the file
