@@ -17,5 +17,13 @@ pub blank-level : (r : View) (l : Level) (ls : List Level) (space : ℕ) → r .
     → length (r .levels) ≤ maxLevels → r .boundLen ≤ maxPath → r .len ≡ 0 → maxPath ≤ space → next [] r space ≡ refuse r NODE
 unfolding pop next
 blank-level r l ls space is idle few short len room =
-    rw (opening-blank [] refl, le-leb (length (r .levels)) maxLevels few, le-leb (r .boundLen) maxPath short, eq-eqb (r .len) 0 len, le-leb maxPath space room,
-    idle, is, no-node (metaOf [] .version) (metaOf [] .root) (l .addr))
+    rw (
+      opening-blank [] refl,
+      le-leb (length (r .levels)) maxLevels few,
+      le-leb (r .boundLen) maxPath short,
+      eq-eqb (r .len) 0 len,
+      le-leb maxPath space room,
+      idle,
+      is,
+      no-node (metaOf [] .version) (metaOf [] .root) (l .addr),
+    )
