@@ -5,14 +5,16 @@ use mathlib.Core.Bool.{Bool, true, false, cond, _&&_}
 use mathlib.Core.Option.{Option, none, some}
 use mathlib.Core.List.{List, []}
 use Prim.Native.Nat.{ℕ, _+_, _-_, _≤_, _<_}
+use native.Mathlib.Decide.{ℕ-discrete}
 use native.Mathlib.Omega.{arith}
 use borrow.Author.Tests.{le-leb, lt-leb, eq-eqb, ne-eqb}
 use lib.Dec.{leb, eqb}
 use lib.ListN.{length}
 use Rattle.buffers.specs.Decide.{Decides}
 use Rattle.buffers.specs.DecideLaws.{decides-eq, decides-iff, decides-same}
-use Rattle.format.specs.Opening.{trailerLen, leastLen, numberAt, metaOf, rootTest}
-use Rattle.format.specs.laws.OpeningLaws.{blank-meta, root-none, root-some}
+use Rattle.format.specs.Limits.{minLen}
+use Rattle.format.specs.Opening.{trailerLen, leastLen, numberAt, metaOf, rootTest, opened, refused, opening}
+use Rattle.format.specs.laws.OpeningLaws.{blank-meta, opening-blank, opening-short, root-none, root-some}
 use Rattle.fst.specs.declared.Checksum.{Checksum}
 use Rattle.fst.specs.declared.Checksum.the-variants.{Missing}
 use Rattle.fst.specs.declared.Meta.{Meta}
@@ -42,6 +44,19 @@ rule-is r v w root n len e f is = rw (← e, ← f) is
 -- no bytes
 pub blank-is-meta : metaIs (record { version = 0; ty = 0; len = 0; root = 0; checksum = Missing }) ≡ metaOf []
 blank-is-meta = sym blank-meta
+
+pub opening-of-few : (s : List ℕ) → length s < minLen → opening s ≡ cond (eqb (length s) 0) (opened (metaOf [])) (refused 1)
+opening-of-few s few =
+    elim (ℕ-discrete (length s) 0) [
+      | yes z ↦ opening-blank s z ∙ rw (eq-eqb (length s) 0 z)
+      | no ne ↦ opening-short s ne few ∙ rw (ne-eqb (length s) 0 ne)
+    ]
+
+pub few-none : (n : ℕ) (m : Meta) → n ≡ 0 → metaIs m ≡ metaOf [] → opened (metaIs m) ≡ cond (eqb n 0) (opened (metaOf [])) (refused 1)
+few-none n m z e = rw (eq-eqb n 0 z) (ap opened e)
+
+pub few-some : (n : ℕ) → ¬ (n ≡ 0) → refused 1 ≡ cond (eqb n 0) (opened (metaOf [])) (refused 1)
+few-some n ne = rw (ne-eqb n 0 ne)
 
 -- ---- the rule on roots, by the tests of the code
 

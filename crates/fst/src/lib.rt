@@ -7,7 +7,7 @@ ghost use mathlib.Core.Bool.{cond};
 ghost use mathlib.Core.Option.{some, none};
 ghost use mathlib.Core.List.{[]};
 ghost use lib.Dec.{eqb};
-ghost use Rattle.format.specs.Opening.{trailerLen, leastLen, numberAt, metaOf, rootTest, opening};
+ghost use Rattle.format.specs.Opening.{trailerLen, leastLen, numberAt, metaOf, rootTest, opened, refused, opening};
 ghost use Rattle.format.specs.Node.{nodeAt};
 ghost use Rattle.format.specs.Lookup.{pastSum};
 ghost use Rattle.fst.specs.Open.{openingIs, metaIs, checksumIs};
@@ -97,17 +97,25 @@ fn blank() -> Meta
     }
 }
 
+// Opens a file of n bytes that has no room for header and trailer.
+fn of_few(n: usize) -> Opened
+    ensures { λ r. ⌜ openingIs r ≡ cond (eqb n 0) (opened (metaOf [])) (refused 1) ⌝ }
+{
+    if n == 0 {
+        Opened::Meta(blank())
+    } else {
+        Opened::Refused(SHORT)
+    }
+}
+
 // Opens a file: what it says, or SHORT, LARGE, VERSION, SHORT for its version, or ROOT, judged in this order.
 // A file without bytes is a blank card, and none of its bytes is read.
 pub fn open(file: &[u8]) -> Opened
     ensures { λ r. ⌜ openingIs r ≡ opening (now (file .entry)) ⌝ }
 {
     let n = file.len();
-    if n == 0 {
-        return Opened::Meta(blank());
-    }
     if n < MIN_LEN {
-        return Opened::Refused(SHORT);
+        return of_few(n);
     }
     if MAX_LEN < n {
         return Opened::Refused(LARGE);
