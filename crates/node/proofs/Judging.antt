@@ -90,10 +90,10 @@ judged-blank s v root a z = record {
   readable = λ m e. absurd (let z : _≡_ {A = ℕ} 0 1 = cc in omega arith);
 }
 
-pub judged-empty : (s : List ℕ) (v root : ℕ) → ¬ (length s ≡ 0) → Judges s v root 0 (Sound emptyNode)
+pub judged-empty : (s : List ℕ) (v root : ℕ) → 0 < length s → Judges s v root 0 (Sound emptyNode)
 unfolding F.transitionsOf F.bytesDown F.downFrom F.numbersDown F.Ascending F.TargetsRight
-judged-empty s v root some = record {
-  answer = sym (node-at-zero s v root (omega arith));
+judged-empty s v root pos = record {
+  answer = sym (node-at-zero s v root pos);
   readable = λ m e. let q : emptyNode ≡ m = cc in rw (← q) (record {
     room = omega arith;
     tsize-le = omega arith;

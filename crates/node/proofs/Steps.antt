@@ -76,5 +76,5 @@ step-blank s v root a b z = rw (node-at-blank s v root a z)
 pub step-empty : (s : List ℕ) (v root b : ℕ) → ¬ (length s ≡ 0) → Stepped Nowhere ≡ stepOf (nodeAt s v root 0) b
 unfolding F.bytesDown F.downFrom Absent
 step-empty s v root b some =
-    let j = judged-empty s v root some in
+    let j = judged-empty s v root (omega arith) in
     step-yes s v root 0 b emptyNode Nowhere j (way-absent s emptyNode (j .readable emptyNode refl) b Missing (finds-missing (λ i l. absurd (omega arith))) refl)

@@ -723,10 +723,10 @@ pub fn node_at(file: &[u8], version: u64, root: usize, addr: usize) -> Judged
 {
     if addr == 0 {
         // a file without bytes has no node
-        if file.len() == 0 {
-            return Judged::Unsound;
+        if 0 < file.len() {
+            return Judged::Sound(empty_final());
         }
-        return Judged::Sound(empty_final());
+        return Judged::Unsound;
     }
     if is_sound(file, version, root, addr) {
         return Judged::Sound(node_of(file, version, root, addr));

@@ -366,6 +366,7 @@ fn blank_reading(kind: Bound, bound_len: usize, bound: [u8; MAX_KEY]) -> Started
     ensures { λ r. ⌜ startedIs r ≡ readingAt 0 (boundIs kind (take «bound_len» bound)) «bound_len»
         none (R.got []) ⌝ }
 {
+    let levels: usize = 0;
     let reading = Reading {
         len: 0,
         kind,
@@ -373,7 +374,7 @@ fn blank_reading(kind: Bound, bound_len: usize, bound: [u8; MAX_KEY]) -> Started
         bound,
         empty_output: EmptyOutput::Absent,
         total: 0,
-        levels: 0,
+        levels,
         addrs: [0; LEVELS],
         inps: [0; LEVELS],
         trans: [0; LEVELS],

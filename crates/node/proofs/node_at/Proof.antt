@@ -7,19 +7,19 @@ use native.Mathlib.Omega.{arith}
 use Rattle.node.proofs.node_at.Statement.{statement}
 use Rattle.node.proofs.node_at.Tie as tie
 
--- address 0 of a file without bytes
-returns : tie.Need-returns
-returns c =
-    let a = c .before .before .before .args in judged-blank (now (a .file)) (a .version) (a .root) (a .addr) (c .if2 .taken)
-
 empty-final-requires : tie.Need-empty-final-requires
 empty-final-requires c κs = search needs
 
--- address 0
+-- address 0 of a file that has bytes
+returns : tie.Need-returns
+returns c =
+    let a = c .before .before .before .before .args in
+    rw (c .empty-final .ensures, c .before .before .if1 .taken) (judged-empty (now (a .file)) (a .version) (a .root) (c .before .if2 .taken))
+
+-- address 0 of a file without bytes
 returns-2 : tie.Need-returns-2
 returns-2 c =
-    let a = c .before .before .before .before .args in
-    rw (c .empty-final .ensures, c .before .before .if1 .taken) (judged-empty (now (a .file)) (a .version) (a .root) (c .before .if2 .left))
+    let a = c .before .before .before .args in judged-blank (now (a .file)) (a .version) (a .root) (a .addr) (omega (arith, c .if2 .left))
 
 is-sound-requires : tie.Need-is-sound-requires
 is-sound-requires c κs = search needs
@@ -41,4 +41,4 @@ returns-4 c =
 pub node-at-spec : {M : Type 1} → statement M
 node-at-spec =
     tie.close
-    (tie.spec returns empty-final-requires returns-2 is-sound-requires node-of-requires returns-3 returns-4)
+    (tie.spec empty-final-requires returns returns-2 is-sound-requires node-of-requires returns-3 returns-4)
