@@ -78,7 +78,7 @@ returns-5 c =
     let t = c .before in
     let call = read t in
     sym (opening-few (file call) (some call) (call .before .before .if1 .left) (call .before .if2 .left) (right t)
-    (rw (least t) (c .if5 .taken)))
+    (omega (arith, least t, c .if5 .taken)))
 
 sub-len-at : tie.Need-sub-len-at
 sub-len-at c = search needs
