@@ -431,8 +431,8 @@ fn start_from(
 }
 
 // A reading of the keys between two bounds. Opening's refusals, then BOUND for a bound over 255 bytes. A file without bytes gives a
-// reading at its end; on any other the walk goes along the lower bound, and answers, for
-// each node as it is entered, the last included, NODE for the node and SUM for the running sum up to it.
+// reading with no level. On any other the walk goes along the lower bound, and each node, the last included, is judged as it is entered:
+// NODE for the node, then SUM for the running sum up to it.
 pub fn start(
     file: &[u8],
     lower_kind: Bound,
