@@ -98,6 +98,7 @@ part-read-u64-le-end c = search needs
 read-u64-le-requires-2 : tie.Need-read-u64-le-requires-2
 read-u64-le-requires-2 c κs = search needs
 
+-- the file has room for header and trailer of its version
 root-right-requires : tie.Need-root-right-requires
 root-right-requires c κs = let t = c .before .before .before in rw (← t .trailer-len .ensures .0) (c .before .before .if5 .left)
 
