@@ -98,7 +98,7 @@ static void put_key(const uint8_t *key, size_t len)
 static const char *name_of(int32_t refusal)
 {
     switch (refusal) {
-    case FST_SHORT:   return "SHORT: the file is under 36 bytes";
+    case FST_SHORT:   return "SHORT: the file has 1 to 31 bytes, or under 36 in version 3";
     case FST_VERSION: return "VERSION: the version is not 1, 2 or 3";
     case FST_ROOT:    return "ROOT: the root address does not fit the version and the length";
     case FST_LARGE:   return "LARGE: the file is over 4294967295 bytes";
@@ -148,8 +148,10 @@ static int admit(const uint8_t *file, size_t file_len, int32_t *result)
     if (*result != FST_OK) {
         return 1;
     }
-    uint16_t *depths = malloc(file_len * sizeof *depths);
-    uint64_t *sums = malloc(file_len * sizeof *sums);
+    /* a blank card has no bytes, and malloc may give NULL for none */
+    const size_t entries = file_len > 0 ? file_len : 1;
+    uint16_t *depths = malloc(entries * sizeof *depths);
+    uint64_t *sums = malloc(entries * sizeof *sums);
     int enough = depths != NULL && sums != NULL;
     if (enough) {
         *result = fst_admit(file, file_len, depths, file_len, sums, file_len);

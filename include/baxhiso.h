@@ -43,7 +43,7 @@ extern "C" {
  * from 9 on belong to functions that are not exported. */
 #define FST_NONE    (-1) /* no such key or value                                                                   */
 #define FST_OK        0
-#define FST_SHORT     1  /* file under 36 bytes                                                                    */
+#define FST_SHORT     1  /* file of 1 to 31 bytes, or under 36 in version 3                                        */
 #define FST_VERSION   2  /* version not 1, 2 or 3                                                                  */
 #define FST_ROOT      3  /* root address does not fit the version and the file's length                            */
 #define FST_LARGE     4  /* file over FST_MAX_LEN bytes                                                            */
@@ -60,20 +60,21 @@ extern "C" {
 
 /* What the header and the trailer of a file say. Type, key count and checksum are read and not judged. */
 typedef struct fst_meta {
-    uint64_t version;  /* 1 to 3 */
+    uint64_t version;  /* 1 to 3; 0 for a file of no bytes */
     uint64_t type;
     uint64_t keys;     /* key count */
     uint64_t root;     /* address of the root node */
-    uint64_t checksum; /* at most 2^32 - 1, or FST_NO_CHECKSUM in versions 1 and 2 */
+    uint64_t checksum; /* at most 2^32 - 1, or FST_NO_CHECKSUM in versions 0, 1 and 2 */
 } fst_meta;
 
-/* Opens a file: reads its header and its trailer, and no node.
+/* Opens a file: reads its header and its trailer, and no node. A file of no bytes is a blank card: it opens with version, type,
+ * key count and root 0 and no checksum, holds no key, and fst_admit admits it.
  *
- *   file, file_len   the whole file
+ *   file, file_len   the whole file; file may be NULL where file_len is 0
  *   meta             all five numbers set on FST_OK, and left as they were on any other result
  *
- * Returns FST_OK, or the first that holds of FST_SHORT, FST_LARGE, FST_VERSION, FST_ROOT. The other functions open the file
- * themselves: there is no need to call this one before them. */
+ * Returns FST_OK, or the first that holds of FST_SHORT, FST_LARGE, FST_VERSION, FST_SHORT in version 3, FST_ROOT. The other
+ * functions open the file themselves: there is no need to call this one before them. */
 int32_t fst_open(const uint8_t *file, size_t file_len, fst_meta *meta);
 
 /* The value of a key.
@@ -82,8 +83,8 @@ int32_t fst_open(const uint8_t *file, size_t file_len, fst_meta *meta);
  *   key, key_len     the key; any length, also 0
  *   value            set on FST_OK, and left as it was on any other result
  *
- * Returns FST_SHORT, FST_LARGE, FST_VERSION or FST_ROOT, as fst_open. Then for each node on the key's path, the last one
- * included: FST_NODE if it is not sound, FST_SUM if the outputs up to it pass 2^64 - 1, FST_NONE if the key does not go on
+ * Returns FST_SHORT, FST_LARGE, FST_VERSION or FST_ROOT, as fst_open. Then FST_NONE if the file has no bytes. Then for each
+ * node on the key's path, the last one included: FST_NODE if it is not sound, FST_SUM if the outputs up to it pass 2^64 - 1, FST_NONE if the key does not go on
  * from it. At the key's end FST_NONE if the node is not final, FST_SUM if its final output is too much, else FST_OK.
  *
  * On a file that fst_admit admits, FST_OK comes exactly for the keys that the file holds, with their values, and FST_NONE for
@@ -98,8 +99,8 @@ int32_t fst_get(const uint8_t *file, size_t file_len, const uint8_t *key, size_t
  *                    result all bytes are left as they were. At least FST_KEY_SPACE bytes
  *   key_len          the key's length, 0 to 255, on FST_OK; left as it was on any other result
  *
- * Returns FST_SHORT, FST_LARGE, FST_VERSION or FST_ROOT, as fst_open, then FST_SPACE. Then for each node on the way:
- * FST_NODE if it is not sound; FST_OK if nothing is left of the value and it is final; FST_NONE if no transition fits what is
+ * Returns FST_SHORT, FST_LARGE, FST_VERSION or FST_ROOT, as fst_open, then FST_SPACE, then FST_NONE if the file has no bytes.
+ * Then for each node on the way: FST_NODE if it is not sound; FST_OK if nothing is left of the value and it is final; FST_NONE if no transition fits what is
  * left; FST_DEEP if 255 bytes do not end the key. Final outputs are not counted.
  *
  * On a numbered file (crates/format/specs/Lookup.antt, Numbered), FST_OK comes exactly when a held key has the value, with

@@ -11,6 +11,7 @@ use crate::prng::Prng;
 
 mod admission;
 mod boundaries;
+mod little;
 mod long;
 mod lookup;
 mod made;
@@ -190,6 +191,7 @@ impl<'a> Run<'a> {
                 ("ranges of admitted files", Run::ranges),
                 ("damaged files, and readings that no start gave", Run::made_readings),
                 ("ranges of files of 4,294,967,295 bytes", Run::long_ranges),
+                ("files of no bytes, and of under 36 bytes", Run::little),
             ],
         )
     }

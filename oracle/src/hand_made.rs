@@ -10,6 +10,15 @@ pub fn root_0() -> Vec<u8> {
     file
 }
 
+// Zeros with this version and this root, where a file of this length has them.
+pub fn ends(len: usize, version: u64, root: u64) -> Vec<u8> {
+    let mut file = vec![0; len];
+    file[..8].copy_from_slice(&version.to_le_bytes());
+    let root_at = len - if version == 3 { 12 } else { 8 };
+    file[root_at..root_at + 8].copy_from_slice(&root.to_le_bytes());
+    file
+}
+
 // Document 01's file D: a/1, at/3, e/4.
 pub fn d() -> Vec<u8> {
     file_of(3, &[0x00, 0x02, 0x00, 0x74, 0x11, 0x41, 0x04, 0x01, 0x00, 0x01, 0x65, 0x61, 0x11, 0x02])

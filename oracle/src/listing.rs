@@ -9,7 +9,7 @@ use crate::answers::{Bound, Kind, Record, DEEP, LARGE, NODE, ROOT, SHORT, SUM, V
 use crate::builder::{self, Builder};
 use crate::generate_file::{chained, distinct, file_of, header, nodes_of, word};
 use crate::given_file;
-use crate::hand_made;
+use crate::hand_made::{self, ends};
 use crate::model;
 use crate::model_file::{self, Admitted};
 use crate::prng::Prng;
@@ -184,6 +184,12 @@ fn admitted_rows() -> Vec<Row> {
         yes("words-version-2", "the same words, version 2", words(2, 200).finish(5)),
         yes("words-version-3", "the same words, version 3", words(3, 200).finish(5)),
         yes("root-0", "root 0: version 3, length 36; the empty key alone", hand_made::root_0()),
+        yes("no-bytes", "a blank card: no byte at all", Vec::new()),
+        yes("32-bytes-version-1", "header and trailer of version 1, root 0; the empty key alone", ends(32, 1, 0)),
+        yes("32-bytes-version-2", "the same in version 2", ends(32, 2, 0)),
+        yes("35-bytes-no-key", "version 2, three bytes of nodes: no key", file_of(2, &[0, 0, 0])),
+        yes("35-bytes-empty-key", "version 1, three bytes of nodes: the empty key", file_of(1, &[0, 0, 0x40])),
+        yes("35-bytes-one-key", "version 2, three bytes of nodes: one key", file_of(2, &[0, 0x10, 0x85])),
         yes("no-keys", "a root that is not final and has no transition", file_of(3, &[0, 0, 0])),
         yes(
             "no-keys-above-other-nodes",
@@ -341,20 +347,24 @@ fn refused_rows() -> Vec<Row> {
     let mut longer = filled(MOST);
     longer.resize(5_000, 0);
     vec![
-        row("refused-1-no-input", SHORT, "no byte at all", Vec::new()),
-        row("refused-1-35-zeros", SHORT, "document 01's example", vec![0; 35]),
-        row("refused-1-35-bytes-version-1", SHORT, "sound in all but its length", file_of(1, &[0, 0, 0x40])),
+        row("refused-1-1-byte", SHORT, "one byte", vec![1]),
+        row("refused-1-31-bytes", SHORT, "one byte under header and trailer of version 1", ends(31, 1, 0)),
+        row("refused-1-32-bytes-version-3", SHORT, "version 3 has a checksum, and needs 36 bytes", ends(32, 3, 0)),
+        row("refused-1-35-bytes-version-3", SHORT, "the same, one byte under", ends(35, 3, 14)),
+        row("refused-2-32-zeros", VERSION, "the shortest file of another version", vec![0; 32]),
+        row("refused-2-33-zeros", VERSION, "one byte more", vec![0; 33]),
+        row("refused-2-35-zeros", VERSION, "document 01's example, which document 02 changed from 1", vec![0; 35]),
         row("refused-2-version-0", VERSION, "document 01's example, 36 zeros", vec![0; 36]),
         row("refused-2-version-4", VERSION, "D with version 4", d_with(0, 4)),
         row("refused-2-version-high-byte", VERSION, "D with version 2^56 + 3", d_with(7, 1)),
         row("refused-3-root-17", ROOT, "document 01's example", rooted(17, 39)),
         row("refused-3-root-15", ROOT, "root plus 21 is the length, and the root is below 16", rooted(15, 36)),
         row("refused-3-root-0-in-39-bytes", ROOT, "root 0 with nodes", rooted(0, 39)),
-        row("refused-3-root-0-version-2", ROOT, "root 0 needs version 3", {
-            let mut file = hand_made::root_0();
-            file[0] = 2;
-            file
-        }),
+        row("refused-3-root-0-version-2", ROOT, "root 0 needs 32 bytes in version 2", ends(36, 2, 0)),
+        row("refused-3-root-0-in-35-bytes", ROOT, "the same in 35 bytes", ends(35, 2, 0)),
+        row("refused-3-32-bytes-root-15", ROOT, "32 bytes have root 0", ends(32, 1, 15)),
+        row("refused-3-32-bytes-root-16", ROOT, "the same", ends(32, 2, 16)),
+        row("refused-3-32-bytes-root-17", ROOT, "the same", ends(32, 1, 17)),
         row("refused-3-root-off-by-one", ROOT, "D with root 28", d_with(38, 28)),
         row("refused-3-root-high-byte", ROOT, "D with root 2^56 + 29", d_with(45, 1)),
         row("refused-4-4097-bytes", LARGE, "sound in all but its length", filled(MOST + 1)),
@@ -383,6 +393,8 @@ fn not_admitted_rows() -> Vec<Row> {
     // a final root above another file's nodes, none of which it leads to
     let aside = |file: &[u8]| file_of(3, &[&file[16..file.len() - 20], &[7, 1, 0, 0x40]].concat());
     vec![
+        row("refused-5-33-bytes", NODE, "a node of one byte at 16, version 2", file_of(2, &[0xc5])),
+        row("refused-5-34-bytes", NODE, "two bytes of nodes, version 1", file_of(1, &[0, 0x40])),
         no("refused-5-first-node", "document 01's example: the target would be 15", &[0xc1]),
         no("refused-5-begins-below-16", "a node whose bytes begin before 16", &[0, 0x10, 5]),
         no("refused-5-output-size-9", "an output of 9 bytes", &[0, 0, 0, 0, 0, 0, 0, 0, 0, 0, 0x19, 0x85]),
@@ -436,6 +448,10 @@ fn by_rust(file: &[u8]) -> Option<Listing> {
 
 // The held keys by following every path from the root, which the Rust's are held to.
 fn by_paths(found: &Admitted) -> Listing {
+    // no bytes, no node
+    if found.meta.version == 0 {
+        return (Vec::new(), 0);
+    }
     let nodes = nodes_of(found);
     let (mut keys, mut entered) = (Vec::new(), 0);
     let mut paths = vec![(Vec::new(), found.meta.root, 0)];
@@ -477,6 +493,8 @@ fn expected(row: &Row) -> Result<String, String> {
     }
     match judged {
         Err(why) => Ok(format!("refused {}\n", why)),
+        // the Rust opens none under 36 bytes
+        Ok(found) if row.file.len() < given_file::LEAST => Ok(lines(&by_paths(&found))),
         Ok(found) => match by_rust(&row.file) {
             Some(listing) if listing == by_paths(&found) => Ok(lines(&listing)),
             _ => Err(format!("{}: the Rust's stream is not the model's paths", row.name)),

@@ -209,6 +209,10 @@ impl<'f> Upward<'f> {
 pub fn judge(at: At) -> Result<Meaning, Unsound> {
     let At { file, version, root, addr } = at;
     if addr == 0 {
+        // no bytes, no node
+        if file.is_empty() {
+            return Err(Unsound::PastFile);
+        }
         return Ok(Meaning { first: 0, is_final: true, final_output: 0, transitions: Vec::new() });
     }
     if addr >= file.len() {

@@ -9,16 +9,20 @@ use crate::answers::{
 };
 use crate::model::{self, number, Model, FIRST_NODE, MAX_LEN};
 
-pub const MIN_LEN: usize = 36;
+// Header and trailer of versions 1 and 2.
+pub const MIN_LEN: usize = 32;
 // The longest path of an admitted file, and the longest key that a search by value finds.
 pub const MAX_PATH: usize = 255;
 pub const MAX_SUM: u128 = (1 << 64) - 1;
 
 // ---- opening
 
-// What the file says, or 1, 4, 2, 3, in this order.
+// What the file says, or 1, 4, 2, 1 in version 3, 3, in this order. No bytes are a blank card (document 02, N3).
 pub fn open(file: &[u8]) -> Result<Meta, u64> {
     let n = file.len();
+    if n == 0 {
+        return Ok(Meta { version: 0, ty: 0, len: 0, root: 0, checksum: None });
+    }
     if n < MIN_LEN {
         return Err(SHORT);
     }
@@ -31,12 +35,15 @@ pub fn open(file: &[u8]) -> Result<Meta, u64> {
     }
     // after the nodes: key count, root address, and in version 3 only a checksum
     let checksum_size = if version == 3 { 4 } else { 0 };
+    if n < MIN_LEN + checksum_size {
+        return Err(SHORT);
+    }
     let (rest, checksum) = file.split_at(n - checksum_size);
     let (rest, root) = rest.split_at(rest.len() - 8);
     let (_, len) = rest.split_at(rest.len() - 8);
     let root = number(root);
     let right = if root == 0 {
-        version == 3 && n == 36
+        n == if version == 3 { 36 } else { 32 }
     } else {
         root >= 16 && u128::from(root) + if version == 3 { 21 } else { 17 } == n as u128
     };
@@ -247,6 +254,10 @@ pub fn get(file: &[u8], key: &[u8]) -> Answer<u64> {
         Ok(meta) => meta,
         Err(why) => return Answer::Refused(why),
     };
+    // no bytes have no node to enter
+    if file.is_empty() {
+        return Answer::None;
+    }
     let (mut addr, mut sum, mut rest) = (meta.root, 0u128, key);
     loop {
         let node = match judge(file, &meta, addr) {
@@ -284,6 +295,9 @@ pub fn get_key(file: &[u8], value: u64, space: usize) -> Answer<Vec<u8>> {
     };
     if space < MAX_PATH {
         return Answer::Refused(SPACE);
+    }
+    if file.is_empty() {
+        return Answer::None;
     }
     let (mut addr, mut left, mut key) = (meta.root, value, Vec::new());
     loop {

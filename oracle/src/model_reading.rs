@@ -75,12 +75,26 @@ pub fn start(file: &[u8], lower: &Bound, upper: &Bound) -> Result<Reading, u64> 
     if meant(lower).len() > BOUND_BYTES || meant(upper).len() > BOUND_BYTES {
         return Err(BOUND);
     }
+    let mut reading = Reading {
+        file_len: file.len(),
+        kind: upper.kind,
+        bound_len: meant(upper).len(),
+        bound: meant(upper).to_vec(),
+        pending: None,
+        total: 0,
+        level_count: 0,
+        levels: Vec::new(),
+    };
+    // no bytes have no node to enter
+    if file.is_empty() {
+        return Ok(reading);
+    }
     let bytes = meant(lower);
     let mut entered = enter(file, &meta, bytes)?;
 
     let root = &entered[0].node;
     let empty_meets = bytes.is_empty() && lower.kind != Kind::Excluded;
-    let pending = if empty_meets && root.is_final { Some(root.final_output) } else { None };
+    reading.pending = if empty_meets && root.is_final { Some(root.final_output) } else { None };
 
     // the last level's next transition is the one that leads to the least key from the bound on
     let followed = entered.len() - 1;
@@ -109,16 +123,6 @@ pub fn start(file: &[u8], lower: &Bound, upper: &Bound) -> Result<Reading, u64> 
             sum: e.sum as u64,
         })
         .collect();
-    let mut reading = Reading {
-        file_len: file.len(),
-        kind: upper.kind,
-        bound_len: meant(upper).len(),
-        bound: meant(upper).to_vec(),
-        pending,
-        total: 0,
-        level_count: 0,
-        levels: Vec::new(),
-    };
     reading.set_levels(levels);
     Ok(reading)
 }

@@ -141,6 +141,12 @@ pub fn by_hand() -> Vec<Vec<u8>> {
         hand_made::root_0(),
         file_of(3, &[0, 0, 0]),
         file_of(1, &[7, 1, 0, 0x40]),
+        // files without a node, and under 36 bytes: the Rust opens none of them
+        Vec::new(),
+        vec![0; 31],
+        hand_made::ends(32, 2, 0),
+        file_of(2, &[0xc5]),
+        file_of(2, &[0, 0x10, 0x85]),
         vec![0; 35],
         vec![0; 36],
         // version 3, root 17 in 39 bytes
@@ -187,8 +193,9 @@ pub fn list() -> (Vec<u8>, Vec<(&'static str, usize)>) {
             continue;
         }
         let found = match model_file::admitted(&subject.file) {
-            Ok(found) => found,
-            Err(_) => continue,
+            // the Rust opens none under 36 bytes
+            Ok(found) if n >= given_file::LEAST => found,
+            _ => continue,
         };
         made += 1;
         let nodes = nodes_of(&found);

@@ -159,7 +159,7 @@ pub fn list() -> (Vec<u8>, Vec<(&'static str, usize)>) {
     while files < FILES {
         let file = small(&mut prng).file;
         let found = match model_file::admitted(&file) {
-            Ok(found) if file.len() <= 200 => found,
+            Ok(found) if (given_file::LEAST..=200).contains(&file.len()) => found,
             _ => continue,
         };
         let spelled = match strings(&found, 60) {

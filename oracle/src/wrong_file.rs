@@ -12,7 +12,11 @@ use crate::wrong::Wrong;
 
 pub const SLIPS: &[&str] = &[
     // opening
-    "35 bytes are enough",
+    "31 bytes are enough",
+    "36 bytes are asked for in every version",
+    "35 bytes are enough in version 3",
+    "a file without bytes is too short",
+    "a file without bytes has a checksum",
     "4,294,967,295 bytes are too large",
     "4,294,967,296 bytes are not too large",
     "a length is cut to 32 bits",
@@ -23,7 +27,8 @@ pub const SLIPS: &[&str] = &[
     "version 4 opens",
     "a wrong root opens, as in the Rust",
     "root 15 opens",
-    "root 0 opens in version 2",
+    "root 0 opens in version 2 at 36 bytes",
+    "root 0 opens at 33 to 35 bytes",
     "root 0 opens at any length",
     "version 2 has a checksum",
     "four places are written",
@@ -51,7 +56,10 @@ pub const SLIPS: &[&str] = &[
     "8 comes before opening's refusals",
     "a table one entry short is taken",
     "the second table's length is not judged",
+    "a file without bytes is turned down",
     // by key
+    "a file without bytes is refused by key",
+    "a file without bytes holds the empty key",
     "every key has the same value",
     "a value leaves the final output out",
     "a value wraps",
@@ -61,6 +69,8 @@ pub const SLIPS: &[&str] = &[
     "keys over 255 bytes are not held",
     "an absent key writes a place",
     // by value
+    "a file without bytes is refused by value",
+    "a file without bytes is looked at before 8",
     "the first fitting transition is followed",
     "a fitting transition is looked for behind one that does not fit",
     "a key may be found at any node",
@@ -78,7 +88,17 @@ pub const SLIPS: &[&str] = &[
 impl Wrong {
     fn opened(&self, file: &[u8]) -> Result<Meta, u64> {
         let n = file.len();
-        let least = if self.slips("35 bytes are enough") { MIN_LEN - 1 } else { MIN_LEN };
+        if n == 0 && !self.slips("a file without bytes is too short") {
+            let checksum = if self.slips("a file without bytes has a checksum") { Some(0) } else { None };
+            return Ok(Meta { version: 0, ty: 0, len: 0, root: 0, checksum });
+        }
+        let least = if self.slips("31 bytes are enough") {
+            MIN_LEN - 1
+        } else if self.slips("36 bytes are asked for in every version") {
+            MIN_LEN + 4
+        } else {
+            MIN_LEN
+        };
         if n < least {
             return Err(SHORT);
         }
@@ -103,8 +123,10 @@ impl Wrong {
         let tail = if version == 3 { 4 } else { 0 };
         let root = number(&file[n - tail - 8..n - tail]);
         let right = if root == 0 {
-            (version == 3 || self.slips("root 0 opens in version 2") && version == 2)
-                && (n == 36 || self.slips("root 0 opens at any length"))
+            n == MIN_LEN + tail
+                || self.slips("root 0 opens in version 2 at 36 bytes") && version == 2 && n == 36
+                || self.slips("root 0 opens at 33 to 35 bytes") && n < 36
+                || self.slips("root 0 opens at any length")
         } else {
             let least = if self.slips("root 15 opens") { 15 } else { 16 };
             root >= least && u128::from(root) + 17 + tail as u128 == n as u128
@@ -115,6 +137,9 @@ impl Wrong {
         }
         if !versions.contains(&version) {
             return Err(VERSION);
+        }
+        if n < MIN_LEN + tail - self.slips("35 bytes are enough in version 3") as usize {
+            return Err(SHORT);
         }
         if !right {
             return Err(ROOT);
@@ -238,8 +263,14 @@ impl Wrong {
             return Err(SPACE);
         }
         let meta = model_file::open(file)?;
+        if self.slips("a file without bytes is looked at before 8") && file.is_empty() {
+            return Ok(None);
+        }
         if space < least {
             return Err(SPACE);
+        }
+        if file.is_empty() {
+            return if self.slips("a file without bytes is refused by value") { Err(NODE) } else { Ok(None) };
         }
         let (mut addr, mut left, mut found) = (meta.root, value, Vec::new());
         loop {
@@ -289,6 +320,13 @@ impl Wrong {
         let meta = model_file::open(file)?;
         if self.slips("keys over 255 bytes are not held") && key.len() > MAX_PATH {
             return Ok(None);
+        }
+        if file.is_empty() {
+            return match key {
+                _ if self.slips("a file without bytes is refused by key") => Err(NODE),
+                b"" if self.slips("a file without bytes holds the empty key") => Ok(Some(0)),
+                _ => Ok(None),
+            };
         }
         let (mut addr, mut sum) = (meta.root, 0u128);
         for place in 0..=key.len() {
@@ -383,6 +421,9 @@ impl FileAnswers for Wrong {
         }
         if short {
             return SPACE;
+        }
+        if self.slips("a file without bytes is turned down") && file.is_empty() {
+            return NODE;
         }
         let entries = self.entries(file, &meta);
         if self.slips("a table stays as it was after 5") && entries == Err(NODE) {

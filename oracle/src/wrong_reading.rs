@@ -10,6 +10,9 @@ use crate::wrong::Wrong;
 
 pub const SLIPS: &[&str] = &[
     // start
+    "a start on no bytes enters a node",
+    "a start on no bytes has a level",
+    "a start on no bytes has a pending key",
     "the pending empty key is lost",
     "the empty key is pending from an excluded bound",
     "the lower bound's own key is skipped",
@@ -108,11 +111,21 @@ impl Wrong {
         if too_long && !self.slips("9 comes after the walk") {
             return Err(BOUND);
         }
-        let (levels, pending) = self.sought(file, &meta, lower)?;
+        let (levels, pending) = if !file.is_empty() {
+            self.sought(file, &meta, lower)?
+        } else if self.slips("a start on no bytes enters a node") {
+            return Err(NODE);
+        } else if self.slips("a start on no bytes has a level") {
+            (vec![Level::default()], None)
+        } else if self.slips("a start on no bytes has a pending key") {
+            (Vec::new(), Some(0))
+        } else {
+            (Vec::new(), None)
+        };
         if too_long {
             return Err(BOUND);
         }
-        let counted = if self.slips("the transitions of the start count") { levels.len() as u64 - 1 } else { 0 };
+        let counted = if self.slips("the transitions of the start count") { (levels.len() as u64).saturating_sub(1) } else { 0 };
         let bound: &[u8] = if upper.kind == Kind::Unbounded { &[] } else { &upper.bytes };
         Ok(Reading {
             file_len: file.len(),

@@ -18,11 +18,13 @@ use lib.Dec.{ltb, leb, eqb}
 use lib.IntN.{ℤ, pos, negsuc}
 use lib.ListN.{length, getD, take, drop, length-take}
 use lib.Seq.{getD-take, getD-drop}
-use Rattle.format.specs.Limits.{minLen, maxLen, maxSum, maxPath}
+use Rattle.format.specs.Limits.{maxSum, maxPath}
 use Rattle.format.specs.laws.BytesLaws.{le-lt, pow-256-le}
 use Rattle.format.specs.Node.{Node, Judgement, sound, unsound, Place, at, absent, findInput, transitionAt}
 use Rattle.format.specs.Opening as O
-use Rattle.format.specs.Opening.{Meta, Opening, opened, numberAt, versionTest, rootTest, metaOf, opening}
+use Rattle.format.specs.Opening.{Meta, Opening, opened, numberAt, metaOf, opening}
+use Rattle.format.specs.OpeningExact.{OpeningCase, no-bytes, under-32, over-limit, other-version, under-36, wrong-root, right-root}
+use Rattle.format.specs.laws.OpeningLaws.{opening-exactly}
 use Rattle.format.specs.Paths.{Fst, fstOf, nodeIn, Held}
 use Rattle.format.specs.Admitted.{Admitted}
 use Rattle.format.specs.Lookup as L
@@ -43,14 +45,17 @@ data OpeningNonzero : Opening → Type 0 where
   opens : (m : Meta) → OpeningNonzero (opened m)
   turns : (n : ℕ) → OpeningNonzero (O.Opening.refused (suc n))
 
+case-nonzero : {s : List ℕ} {o : Opening} → OpeningCase s o → OpeningNonzero o
+case-nonzero (no-bytes z) = opens (metaOf [])
+case-nonzero (under-32 h few) = turns 0
+case-nonzero (over-limit h) = turns 3
+case-nonzero (other-version low high ne) = turns 1
+case-nonzero (under-36 low few three) = turns 0
+case-nonzero (wrong-root w ne) = turns 2
+case-nonzero {s} (right-root w is) = opens (metaOf s)
+
 opening-nonzero : (s : List ℕ) → OpeningNonzero (opening s)
-unfolding opening
-opening-nonzero s =
-    picked OpeningNonzero (ltb (length s) minLen) (turns 0)
-    (picked OpeningNonzero (ltb maxLen (length s)) (turns 3)
-    (picked OpeningNonzero (versionTest (metaOf s .version))
-    (picked OpeningNonzero (rootTest (metaOf s .version) (metaOf s .root) (length s)) (opens (metaOf s)) (turns 2))
-    (turns 1)))
+opening-nonzero s = case-nonzero (opening-exactly s (opening s) .0 refl)
 
 opening-not-0 : (w : Opening) → OpeningNonzero w → ¬ (w ≡ O.Opening.refused 0)
 opening-not-0 w (opens m) e = let z : _≡_ {A = ℕ} 0 1 = cc in omega arith
@@ -95,7 +100,7 @@ opened-nonzero w (turns n) h = refuses n
 
 get-nonzero : (s k : List ℕ) → GetNonzero (L.get s k)
 unfolding L.get
-get-nonzero s k = opened-nonzero (opening s) (opening-nonzero s) (λ m. from-nonzero (fstOf s m) k (m .root) 0)
+get-nonzero s k = opened-nonzero (opening s) (opening-nonzero s) (λ m. picked GetNonzero (eqb (length s) 0) nones (from-nonzero (fstOf s m) k (m .root) 0))
 
 data KeyNonzero : L.KeyAnswer → Type 0 where
   finds : (k : List ℕ) → KeyNonzero (found k)
@@ -134,7 +139,9 @@ get-key-nonzero : (s : List ℕ) (v space : ℕ) → KeyNonzero (L.getKey s v sp
 unfolding L.getKey
 get-key-nonzero s v space =
     key-opened-nonzero (opening s) (opening-nonzero s) (λ m.
-    picked KeyNonzero (leb maxPath space) (key-from-nonzero maxPath (fstOf s m) (m .root) v) (KeyNonzero.refuses 7))
+    picked KeyNonzero (leb maxPath space)
+    (picked KeyNonzero (eqb (length s) 0) KeyNonzero.nones (key-from-nonzero maxPath (fstOf s m) (m .root) v))
+    (KeyNonzero.refuses 7))
 
 -- ---- the answer behind a result
 

@@ -4,6 +4,7 @@ pub mod CommonInputs
 pub mod Node
 pub mod Packed
 pub mod Opening
+pub mod OpeningExact
 pub mod Paths
 pub mod Admitted
 pub mod Tables

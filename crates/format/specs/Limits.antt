@@ -6,9 +6,9 @@ use Prim.Native.Nat.{ℕ}
 abbrev pub firstNode : ℕ
 firstNode = 16
 
--- the smallest length of a file
+-- the smallest length of a file that is not blank: header and trailer of versions 1 and 2
 abbrev pub minLen : ℕ
-minLen = 36
+minLen = 32
 
 -- the largest length of a file, and the largest F of a node record: the largest number of 32 bits
 abbrev pub maxLen : ℕ

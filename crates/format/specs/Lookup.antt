@@ -58,9 +58,10 @@ abbrev pub openedAs : Opening → (Meta → Answer) → Answer
 openedAs (opened m) go = go m
 openedAs (Opening.refused n) go = refused n
 
+-- a file without bytes has no node to enter: none
 unfoldable pub get : List ℕ → List ℕ → Answer
 unfolding getFrom
-get s k = openedAs (opening s) (λ m. getFrom (fstOf s m) k (m .root) 0)
+get s k = openedAs (opening s) (λ m. cond (eqb (length s) 0) none (getFrom (fstOf s m) k (m .root) 0))
 
 -- ---- by value
 
@@ -110,10 +111,14 @@ abbrev pub keyOpenedAs : Opening → (Meta → KeyAnswer) → KeyAnswer
 keyOpenedAs (opened m) go = go m
 keyOpenedAs (Opening.refused n) go = KeyAnswer.refused n
 
--- into a key buffer of space bytes: opening's refusals, then SPACE under 255
+-- into a key buffer of space bytes: opening's refusals, then SPACE under 255, then none on a file without bytes
 unfoldable pub getKey : List ℕ → ℕ → ℕ → KeyAnswer
 unfolding getKeyFrom
-getKey s v space = keyOpenedAs (opening s) (λ m. cond (leb maxPath space) (getKeyFrom maxPath (fstOf s m) (m .root) v) (KeyAnswer.refused SPACE))
+getKey s v space =
+    keyOpenedAs (opening s) (λ m.
+    cond (leb maxPath space)
+    (cond (eqb (length s) 0) KeyAnswer.none (getKeyFrom maxPath (fstOf s m) (m .root) v))
+    (KeyAnswer.refused SPACE))
 
 -- ---- numbered files
 

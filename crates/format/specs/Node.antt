@@ -303,12 +303,14 @@ pub data Judgement : Type 0 where
   sound : Node → Judgement
   unsound : Judgement
 
--- address 0: a final node with no transitions, output 0 and no bytes
+-- address 0 of a file that has bytes: a final node with no transitions, output 0 and no bytes
 abbrev pub emptyFinal : Node
 emptyFinal = record { first = 0; final = true; finalOutput = 0; transitions = [] }
 
+-- a file without bytes has no node, at address 0 neither
 unfoldable pub nodeAt : List ℕ → ℕ → ℕ → ℕ → Judgement
-nodeAt s v root a = cond (eqb a 0) (sound emptyFinal) (cond (soundTest s v root a) (sound (nodeOf s v a)) unsound)
+nodeAt s v root a =
+    cond (eqb a 0) (cond (eqb (length s) 0) unsound (sound emptyFinal)) (cond (soundTest s v root a) (sound (nodeOf s v a)) unsound)
 
 -- ---- the place of an input
 

@@ -1,12 +1,13 @@
 -- An opened file (document 01, "An opened file"; docs/FORMAT.md, "A file").
 --     Meta                   what the header and the trailer of a file say, by the source's name
 --     trailerLen v           the bytes after the root's node in version v: key count, root address, in version 3 a checksum
+--     leastLen v             the bytes of a file of version v with no node: header and trailer
 --     rootTest v root len    the rule on roots
 --     Opening, opening s     what opening the bytes s answers: what they say, or the number of a refusal
 -- Assumes nothing.
 use mathlib.Core.Bool.{Bool, true, false, cond, _&&_}
 use mathlib.Core.Option.{Option, none, some}
-use mathlib.Core.List.{List}
+use mathlib.Core.List.{List, []}
 use Prim.Native.Nat.{ℕ, _+_, _-_}
 use lib.Dec.{ltb, leb, eqb}
 use lib.ListN.{length, take, drop}
@@ -32,6 +33,10 @@ checksumLen v = cond (eqb v 3) 4 0
 abbrev pub trailerLen : ℕ → ℕ
 trailerLen v = 16 + checksumLen v
 
+-- 36 in version 3, else 32
+abbrev pub leastLen : ℕ → ℕ
+leastLen v = firstNode + trailerLen v
+
 unfoldable pub metaOf : List ℕ → Meta
 metaOf s = record {
   version = numberAt s 0 8;
@@ -44,20 +49,22 @@ metaOf s = record {
 abbrev pub versionTest : ℕ → Bool
 versionTest v = leb 1 v && leb v 3
 
--- root 0 needs version 3 and length 36; any other root is at least 16 and the last byte before the trailer
+-- root 0 stands in a file with no node; any other root is at least 16 and the last byte before the trailer
 unfoldable pub rootTest : ℕ → ℕ → ℕ → Bool
-rootTest v root len = cond (eqb root 0) (eqb v 3 && eqb len minLen) (leb firstNode root && eqb (root + 1 + trailerLen v) len)
+rootTest v root len = cond (eqb root 0) (eqb len (leastLen v)) (leb firstNode root && eqb (root + 1 + trailerLen v) len)
 
 pub data Opening : Type 0 where
   opened : Meta → Opening
   refused : ℕ → Opening
 
--- SHORT, LARGE, VERSION, ROOT, in this order
+-- no bytes are a blank card and open; else SHORT, LARGE, VERSION, SHORT for this version, ROOT, in this order
 unfoldable pub opening : List ℕ → Opening
 unfolding metaOf rootTest
 opening s =
-    cond (ltb (length s) minLen) (refused SHORT)
+    cond (eqb (length s) 0) (opened (metaOf []))
+    (cond (ltb (length s) minLen) (refused SHORT)
     (cond (ltb maxLen (length s)) (refused LARGE)
     (cond (versionTest (metaOf s .version))
-    (cond (rootTest (metaOf s .version) (metaOf s .root) (length s)) (opened (metaOf s)) (refused ROOT))
-    (refused VERSION)))
+    (cond (ltb (length s) (leastLen (metaOf s .version))) (refused SHORT)
+    (cond (rootTest (metaOf s .version) (metaOf s .root) (length s)) (opened (metaOf s)) (refused ROOT)))
+    (refused VERSION))))

@@ -15,6 +15,7 @@ pub mod TableLaws
 pub mod LiveLaws
 pub mod ReachedLaws
 pub mod LookupHeld
+pub mod BlankLaws
 pub mod FoundLaws
 pub mod NumberedLaws
 pub mod StringLaws

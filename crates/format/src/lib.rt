@@ -34,8 +34,8 @@ pub const FIRST_NODE: usize = 16;
 pub const MAX_KEY: usize = 255;
 // The most levels of a reading: one for the root, and one for each byte of a key.
 pub const LEVELS: usize = 256;
-// The smallest length of a file: a header of 16 bytes, and a trailer of 20 in version 3.
-pub const MIN_LEN: usize = 36;
+// The smallest length of a file that has bytes: a header of 16, and a trailer of 16 in versions 1 and 2. Version 3 needs 4 more.
+pub const MIN_LEN: usize = 32;
 // The largest F that a node record may ask for, which is the largest length of a file.
 pub const MAX_LEN: usize = 4_294_967_295;
 // The most transitions that a node may have: one for each byte.

@@ -5,12 +5,12 @@ ghost use Prim.Native.Nat.{_+_, _-_, _≤_, _<_};
 ghost use lib.ListN.{length};
 ghost use mathlib.Core.Bool.{cond};
 ghost use mathlib.Core.Option.{some, none};
+ghost use mathlib.Core.List.{[]};
 ghost use lib.Dec.{eqb};
-ghost use Rattle.format.specs.Limits.{minLen};
-ghost use Rattle.format.specs.Opening.{trailerLen, numberAt, rootTest, opening};
+ghost use Rattle.format.specs.Opening.{trailerLen, leastLen, numberAt, metaOf, rootTest, opened, refused, opening};
 ghost use Rattle.format.specs.Node.{nodeAt};
 ghost use Rattle.format.specs.Lookup.{pastSum};
-ghost use Rattle.fst.specs.Open.{openingIs, checksumIs};
+ghost use Rattle.fst.specs.Open.{openingIs, metaIs, checksumIs};
 use format::FIRST_NODE;
 use format::LARGE;
 use format::MAX_LEN;
@@ -56,20 +56,19 @@ fn trailer_len(version: u64) -> usize
 
 // The rule on roots.
 fn root_right(version: u64, root: usize, len: usize) -> bool
-    requires { ⌜ minLen ≤ len ⌝ }
+    requires { ⌜ leastLen version ≤ len ⌝ }
     ensures { λ r. ⌜ r ≡ rootTest version root len ⌝ }
 {
+    let nodes_end = len - trailer_len(version);
     if root == 0 {
-        if version == 3 {
-            return len == MIN_LEN;
-        }
-        return false;
+        // no node stands between header and trailer
+        return nodes_end == FIRST_NODE;
     }
     if root < FIRST_NODE {
         return false;
     }
     // the root's address is the last byte before the trailer
-    root == len - trailer_len(version) - 1
+    root == nodes_end - 1
 }
 
 // The stored checksum, if the version has one.
@@ -85,13 +84,38 @@ fn checksum_of(file: &[u8], version: u64) -> Checksum
     Checksum::Missing
 }
 
-// Opens a file: what it says, or SHORT, LARGE, VERSION or ROOT, judged in this order.
+// What a file without bytes says: version, type, count and root 0, and no checksum.
+fn blank() -> Meta
+    ensures { λ r. ⌜ metaIs r ≡ metaOf [] ⌝ }
+{
+    Meta {
+        version: 0,
+        ty: 0,
+        len: 0,
+        root: 0,
+        checksum: Checksum::Missing,
+    }
+}
+
+// Opens a file of n bytes that has no room for header and trailer.
+fn of_few(n: usize) -> Opened
+    ensures { λ r. ⌜ openingIs r ≡ cond (eqb n 0) (opened (metaOf [])) (refused 1) ⌝ }
+{
+    if n == 0 {
+        Opened::Meta(blank())
+    } else {
+        Opened::Refused(SHORT)
+    }
+}
+
+// Opens a file: what it says, or SHORT, LARGE, VERSION, SHORT for its version, or ROOT, judged in this order.
+// A file without bytes is a blank card, and none of its bytes is read.
 pub fn open(file: &[u8]) -> Opened
     ensures { λ r. ⌜ openingIs r ≡ opening (now (file .entry)) ⌝ }
 {
     let n = file.len();
     if n < MIN_LEN {
-        return Opened::Refused(SHORT);
+        return of_few(n);
     }
     if MAX_LEN < n {
         return Opened::Refused(LARGE);
@@ -103,7 +127,11 @@ pub fn open(file: &[u8]) -> Opened
     if 3 < version {
         return Opened::Refused(VERSION);
     }
-    let len_at = n - trailer_len(version);
+    let trailer = trailer_len(version);
+    if n < FIRST_NODE + trailer {
+        return Opened::Refused(SHORT);
+    }
+    let len_at = n - trailer;
     let root_at = len_at + 8;
     let root = read_u64_le(&file[root_at..]) as usize;
     if root_right(version, root, n) {} else {

@@ -91,7 +91,13 @@ pub fn get(file: &[u8], key: &[u8]) -> Answer
     let opened = fst::open(file);
     match opened {
         Opened::Refused(why) => Answer::Refused(why),
-        Opened::Meta(m) => get_from(file, m.version, m.root, key),
+        Opened::Meta(m) => {
+            // version 0 is a file without bytes, which has no node to enter
+            if m.version == 0 {
+                return Answer::None;
+            }
+            get_from(file, m.version, m.root, key)
+        }
     }
 }
 
@@ -178,6 +184,10 @@ pub fn get_key(file: &[u8], value: u64, key: &mut [u8]) -> KeyAnswer
         Opened::Meta(m) => {
             if key.len() < MAX_KEY {
                 return KeyAnswer::Refused(SPACE);
+            }
+            // version 0 is a file without bytes, which has no node to enter
+            if m.version == 0 {
+                return KeyAnswer::None;
             }
             let mut path = [0u8; MAX_KEY];
             let found = find_key(file, m.version, m.root, value, &mut path);

@@ -2,13 +2,13 @@
 -- Assumes nothing.
 use mathlib.Core.Path.{_≡_, refl, sym, ap, _∙_}
 use mathlib.Core.List.{List, [], _∷_}
-use Prim.Native.Nat.{ℕ, _+_, _-_}
+use Prim.Native.Nat.{ℕ, _+_, _-_, _<_}
 use native.Mathlib.Omega.{arith}
-use lib.ListN.{take, drop}
+use lib.ListN.{length, take, drop}
 use Rattle.format.specs.Bytes.{le}
 use Rattle.format.specs.Node as F
 use Rattle.format.specs.Node.{endLen, shapeOf, outputsAt, inputsAt, inputsIn, shapeInputs, nodeOf, SoundShape, SoundAt, sound}
-use Rattle.format.specs.laws.NodeLaws.{node-at-zero, node-at-sound, node-at-unsound}
+use Rattle.format.specs.laws.NodeLaws.{node-at-zero, node-at-blank, node-at-sound, node-at-unsound}
 use Rattle.node_sound.specs.JudgingLaws.{Parts, parts}
 use Rattle.node.specs.declared.Node.{Node}
 use Rattle.node.specs.declared.Judged.the-variants.{Sound, Unsound}
@@ -35,10 +35,17 @@ judged-unsound s v root a ne not-sound = record {
   readable = λ m e. absurd (let z : _≡_ {A = ℕ} 0 1 = cc in omega arith);
 }
 
-pub judged-empty : (s : List ℕ) (v root : ℕ) → Judges s v root 0 (Sound emptyNode)
+-- no bytes, no node
+pub judged-blank : (s : List ℕ) (v root a : ℕ) → length s ≡ 0 → Judges s v root a Unsound
+judged-blank s v root a z = record {
+  answer = sym (node-at-blank s v root a z);
+  readable = λ m e. absurd (let z : _≡_ {A = ℕ} 0 1 = cc in omega arith);
+}
+
+pub judged-empty : (s : List ℕ) (v root : ℕ) → 0 < length s → Judges s v root 0 (Sound emptyNode)
 unfolding F.transitionsOf F.bytesDown F.downFrom F.numbersDown F.Ascending F.TargetsRight
-judged-empty s v root = record {
-  answer = sym (node-at-zero s v root);
+judged-empty s v root pos = record {
+  answer = sym (node-at-zero s v root pos);
   readable = λ m e. let q : emptyNode ≡ m = cc in rw (← q) (record {
     room = omega arith;
     tsize-le = omega arith;

@@ -148,7 +148,7 @@ fn node_of(file: &[u8], version: u64, root: usize, addr: usize) -> Node
     next_node(file, version, root, addr)
 }
 
-// Address 0: a final node with no transitions, output 0 and no bytes.
+// Address 0 of a file that has bytes: a final node with no transitions, output 0 and no bytes.
 fn empty_final() -> Node
     ensures { λ r. ⌜ r ≡ emptyNode ⌝ }
 {
@@ -171,7 +171,11 @@ pub fn node_at(file: &[u8], version: u64, root: usize, addr: usize) -> Judged
     ensures { λ r. ⌜ Judges (now (file .entry)) version root addr r ⌝ }
 {
     if addr == 0 {
-        return Judged::Sound(empty_final());
+        // a file without bytes has no node
+        if 0 < file.len() {
+            return Judged::Sound(empty_final());
+        }
+        return Judged::Unsound;
     }
     if is_sound(file, version, root, addr) {
         return Judged::Sound(node_of(file, version, root, addr));

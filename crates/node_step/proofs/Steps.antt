@@ -7,7 +7,7 @@ use native.Mathlib.Omega.{arith}
 use lib.ListN.{length, getD}
 use Rattle.format.specs.Node as F
 use Rattle.format.specs.Node.{numbersDown, targetOf, Absent, SoundAt, nodeAt, findInput, Place, at, absent}
-use Rattle.format.specs.laws.NodeLaws.{node-at-unsound}
+use Rattle.format.specs.laws.NodeLaws.{node-at-unsound, node-at-blank}
 use Rattle.node.specs.declared.Node.{Node}
 use Rattle.node.specs.declared.Found.{Found}
 use Rattle.node.specs.declared.Found.the-variants.{At, Absent as Missing}
@@ -69,9 +69,13 @@ module _ (s : List ℕ) (v root a b : ℕ) where
   pub step-yes : (m : Node) (w : Way) → Judges s v root a (Sound m) → w ≡ wayIn (transitionsIn s m) b → Stepped w ≡ stepOf (nodeAt s v root a) b
   step-yes m w j is-w = rw (← j .answer, is-w)
 
+-- no bytes, no node
+pub step-blank : (s : List ℕ) (v root a b : ℕ) → length s ≡ 0 → Stuck ≡ stepOf (nodeAt s v root a) b
+step-blank s v root a b z = rw (node-at-blank s v root a z)
+
 -- address 0 has no transition
-pub step-empty : (s : List ℕ) (v root b : ℕ) → Stepped Nowhere ≡ stepOf (nodeAt s v root 0) b
+pub step-empty : (s : List ℕ) (v root b : ℕ) → ¬ (length s ≡ 0) → Stepped Nowhere ≡ stepOf (nodeAt s v root 0) b
 unfolding F.bytesDown F.downFrom Absent
-step-empty s v root b =
-    let j = judged-empty s v root in
+step-empty s v root b some =
+    let j = judged-empty s v root (omega arith) in
     step-yes s v root 0 b emptyNode Nowhere j (way-absent s emptyNode (j .readable emptyNode refl) b Missing (finds-missing (λ i l. absurd (omega arith))) refl)

@@ -164,6 +164,10 @@ pub fn step_at(file: &[u8], version: u64, root: usize, addr: usize, b: u8) -> St
     ensures { λ r. ⌜ r ≡ stepOf (nodeAt (now (file .entry)) version root addr) b ⌝ }
 {
     if addr == 0 {
+        // a file without bytes has no node
+        if file.len() == 0 {
+            return Step::Unsound;
+        }
         return Step::Sound(Way::Absent);
     }
     // the state byte itself lies from 16 to the root, and in the file

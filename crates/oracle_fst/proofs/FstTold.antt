@@ -1,14 +1,12 @@
 -- What the exported functions tell, from what opening, admission and lookup answered.
 -- Assumes nothing.
 use mathlib.Core.Path.{_≡_, refl, sym, ap, _∙_, subst}
-use mathlib.Core.Bool.{Bool, true, false, cond}
 use mathlib.Core.List.{List, [], _∷_}
 use Prim.Native.Nat.{ℕ, zero, suc, _+_}
 use native.Mathlib.Omega.{arith}
-use lib.Dec.{ltb}
-use lib.ListN.{length}
-use Rattle.format.specs.Limits.{minLen, maxLen, SHORT, LARGE, VERSION, ROOT}
-use Rattle.format.specs.Opening.{Opening, opened, refused, opening, metaOf, versionTest, rootTest}
+use Rattle.format.specs.Opening.{Opening, opened, refused, opening}
+use Rattle.format.specs.OpeningExact.{OpeningCase, no-bytes, under-32, over-limit, other-version, under-36, wrong-root, right-root}
+use Rattle.format.specs.laws.OpeningLaws.{opening-exactly}
 use Rattle.format.specs.Lookup as L
 use Rattle.fst.specs.declared.Meta.{Meta}
 use Rattle.fst.specs.declared.Opened.{Opened}
@@ -38,17 +36,16 @@ module _ {w : Opening} {o : Opened} (e : openingIs o ≡ w) where
 -- ---- admission: no refusal is 0
 
 opening-not-0 : (s : List ℕ) → ¬ (opening s ≡ refused 0)
-unfolding opening
-opening-not-0 s e =
-    go (ltb (length s) minLen) (ltb maxLen (length s)) (versionTest (metaOf s .version)) (rootTest (metaOf s .version) (metaOf s .root) (length s)) e
+opening-not-0 s e = go (refused 0) (opening-exactly s (refused 0) .0 e) refl
   where
-    go : (a b v r : Bool)
-        → ¬ (cond a (refused SHORT) (cond b (refused LARGE) (cond v (cond r (opened (metaOf s)) (refused ROOT)) (refused VERSION))) ≡ refused 0)
-    go true b v r e = let z : _≡_ {A = ℕ} 0 1 = cc in omega arith
-    go false true v r e = let z : _≡_ {A = ℕ} 0 4 = cc in omega arith
-    go false false false r e = let z : _≡_ {A = ℕ} 0 2 = cc in omega arith
-    go false false true false e = let z : _≡_ {A = ℕ} 0 3 = cc in omega arith
-    go false false true true e = let z : _≡_ {A = ℕ} 0 1 = cc in omega arith
+    go : (o : Opening) → OpeningCase s o → ¬ (o ≡ refused 0)
+    go o (no-bytes z) e = let z : _≡_ {A = ℕ} 0 1 = cc in omega arith
+    go o (under-32 pos few) e = let z : _≡_ {A = ℕ} 0 1 = cc in omega arith
+    go o (over-limit h) e = let z : _≡_ {A = ℕ} 0 4 = cc in omega arith
+    go o (other-version low high ne) e = let z : _≡_ {A = ℕ} 0 2 = cc in omega arith
+    go o (under-36 low few three) e = let z : _≡_ {A = ℕ} 0 1 = cc in omega arith
+    go o (wrong-root w ne) e = let z : _≡_ {A = ℕ} 0 3 = cc in omega arith
+    go o (right-root w is) e = let z : _≡_ {A = ℕ} 0 1 = cc in omega arith
 
 refused-not-0 : {s d₀ s₀ d t : List ℕ} → ¬ RefusedFor s d₀ s₀ d t 0
 refused-not-0 {s} (not-opened e p q) = opening-not-0 s e

@@ -9,14 +9,16 @@ use mathlib.Core.Logic.{⊎-elim, _⊎_, inl, inr}
 use mathlib.Core.List.{List, [], _∷_, _++_, map, append-assoc, append-nil, List·Memᴰ, List·Memᴰ·head, List·Memᴰ·tail, List·Memᴰ·not-nil, List·Memᴰ·cases-cons, List·Memᴰ·append-cases, Memᴰ·append-left, Memᴰ·append-right}
 use Prim.Native.Nat.{ℕ, zero, suc, _+_, _-_, _<_, _≤_}
 use native.Mathlib.Nat.{add-zero}
+use native.Mathlib.Decide.{ℕ-discrete}
 use native.Mathlib.Omega.{arith}
-use borrow.Author.Tests.{le-leb}
+use borrow.Author.Tests.{le-leb, eq-eqb, ne-eqb}
 use lib.ListN.{length, length-append, length-map}
 use Rattle.format.specs.Limits.{maxPath, maxSum}
 use Rattle.format.specs.Opening.{Meta, opened, opening}
 use Rattle.format.specs.Node.{Node, Judgement, sound, unsound}
 use Rattle.format.specs.Paths.{Fst, fstOf, nodeIn, Held}
-use Rattle.format.specs.laws.PathLaws.{held-unique}
+use Rattle.format.specs.laws.NodeLaws.{node-at-blank}
+use Rattle.format.specs.laws.PathLaws.{held-unique, held-not-empty, blank-held}
 use Rattle.format.specs.laws.ReachedLaws.{held-from, from-held, held-here, held-nil}
 use Rattle.format.specs.Admitted.{Admitted}
 use Rattle.buffers.specs.Decide.{Decides}
@@ -26,7 +28,7 @@ use Rattle.format.specs.laws.StringLaws.{before-irrefl, before-trans, before-ni
 use Rattle.reading.specs.Reading.{meetsTest, passesTest, boundBytes, isInclusive, Level, View, Started, started, startedAt, boundsTest, pendingAt, seek, start, Answer, key, end, Step, refuse}
 use Rattle.reading.specs.BoundLaws.{decides-meets, decides-passes, passes-up}
 use Rattle.reading.specs.Visits.{Visit, toCome, below, kept, Sane, AllV, RisingV}
-use Rattle.reading.specs.VisitLaws.{before-full, all-mem, kept-mem, mem-kept, kept-rising, below-rising, below-full, fine-root, visit-begins, begins-visit, visit-held, held-visit}
+use Rattle.reading.specs.VisitLaws.{before-full, all-mem, kept-mem, mem-kept, kept-rising, below-rising, below-full, below-blank, fine-root, visit-begins, begins-visit, visit-held, held-visit}
 use Rattle.reading.specs.SeekLaws.{SeekCome, start-come}
 use Rattle.reading.specs.RunLaws.{lt-or, capped-low, capped-high}
 use Rattle.reading.specs.NextLaws.{viewAt, next-pending-on, next-pending-off, Ways, at-end, over-at, handed-at, next-come}
@@ -51,6 +53,30 @@ pub record Facts (f : Fst) (lo : Bound) (W : List Visit) (e₀ : Option ℕ) : T
   pub empty-held : (v : ℕ) → e₀ ≡ some v → Held f [] v × MeetsLower lo []
   pub empty-pending : (v : ℕ) → Held f [] v → MeetsLower lo [] → e₀ ≡ some v
 
+-- a file without bytes has no visit, nothing pending and no held key
+none-facts : (f : Fst) (lo : Bound) → length (f .bytes) ≡ 0 → Facts f lo [] none
+none-facts f lo z =
+    record {
+      rising = tt;
+      begins = λ v on. absurd (List·Memᴰ·not-nil on);
+      meets = λ v on. absurd (List·Memᴰ·not-nil on);
+      whole = λ x b meets. absurd (blank-held z (b .held));
+      held = λ v on fin. absurd (List·Memᴰ·not-nil on);
+      keys = λ k w h ne meets. absurd (blank-held z h);
+      empty-held = λ v e. absurd (none-some e);
+      empty-pending = λ v h meets. absurd (blank-held z h);
+    }
+
+visits-blank : (f : Fst) (lo : Bound) → length (f .bytes) ≡ 0 → kept (meetsTest lo) (below maxPath f (f .root)) ≡ []
+visits-blank f lo z = ap (kept (meetsTest lo)) (below-blank maxPath f (f .root) z)
+
+pending-blank : (f : Fst) (lo : Bound) → length (f .bytes) ≡ 0 → pendingAt lo (nodeIn f (f .root)) ≡ none
+pending-blank f lo z = rw (node-at-blank (f .bytes) (f .version) (f .root) (f .root) z) (same (meetsTest lo []))
+  where
+    same : (b : Bool) → _≡_ {A = Option ℕ} (cond b none none) none
+    same true = refl
+    same false = refl
+
 module _ {s : List ℕ} (A : Admitted s) (lo : Bound) where
   abbrev fst : Fst
   fst = fstOf s (A .meta)
@@ -74,17 +100,17 @@ module _ {s : List ℕ} (A : Admitted s) (lo : Bound) where
   pending-of : (v : ℕ) → Held fst [] v → MeetsLower lo [] → pendingAt lo (nodeIn fst (A .meta .root)) ≡ some v
   pending-of v h meets =
       let t = true-of (meetsTest lo []) (decides-meets lo []) meets in
-      let n = Rattle.format.specs.laws.ReachedLaws.path-reached A (Rattle.format.specs.Paths.here {a = A .meta .root}) in
+      let n = Rattle.format.specs.laws.ReachedLaws.path-reached A (held-not-empty h) (Rattle.format.specs.Paths.here {a = A .meta .root}) in
       let q = held-nil fst (A .meta .root) (n .node) (n .judged) (held-from h) in
       rw (t, n .judged, q .0, ← (q .1))
 
-  pub facts : Facts fst lo (kept (meetsTest lo) root-visits) (pendingAt lo (nodeIn fst (A .meta .root)))
-  facts =
+  some-facts : 0 < length s → Facts fst lo (kept (meetsTest lo) root-visits) (pendingAt lo (nodeIn fst (A .meta .root)))
+  some-facts pos =
       record {
-        rising = kept-rising (meetsTest lo) root-visits (below-rising maxPath fst (A .meta .root) 0 (fine-root A));
+        rising = kept-rising (meetsTest lo) root-visits (below-rising maxPath fst (A .meta .root) 0 (fine-root A pos));
         begins = λ v on.
             let mem = kept-mem (meetsTest lo) root-visits v on .0 in
-            let w = visit-begins A v mem in
+            let w = visit-begins A pos v mem in
             record {
               not-empty = all-mem (λ x. ¬ (x .key ≡ [])) root-visits (below-full maxPath fst (A .meta .root)) v mem;
               whole = w .0;
@@ -94,15 +120,22 @@ module _ {s : List ℕ} (A : Admitted s) (lo : Bound) where
             };
         meets = λ v on. decides-meets lo (v .key) .yes (kept-mem (meetsTest lo) root-visits v on .1);
         whole = λ x b meets.
-            let w = begins-visit A x (b .whole) (b .value) (b .held) (b .begins) (b .not-empty) in
+            let w = begins-visit A pos x (b .whole) (b .value) (b .held) (b .begins) (b .not-empty) in
             (w .0, mem-kept (meetsTest lo) root-visits (w .0) (w .1) (rw (w .2) (true-of (meetsTest lo x) (decides-meets lo x) meets)), w .2);
-        held = λ v on fin. visit-held A v (kept-mem (meetsTest lo) root-visits v on .0) fin;
+        held = λ v on fin. visit-held A pos v (kept-mem (meetsTest lo) root-visits v on .0) fin;
         keys = λ k w h ne meets.
-            mem-kept (meetsTest lo) root-visits (record { key = k; value = w; final = true }) (held-visit A k w h ne)
+            mem-kept (meetsTest lo) root-visits (record { key = k; value = w; final = true }) (held-visit A pos k w h ne)
             (true-of (meetsTest lo k) (decides-meets lo k) meets);
         empty-held = pending;
         empty-pending = pending-of;
       }
+
+  pub facts : Facts fst lo (kept (meetsTest lo) root-visits) (pendingAt lo (nodeIn fst (A .meta .root)))
+  facts =
+      elim (ℕ-discrete (length s) 0) [
+        | yes z ↦ rw (visits-blank fst lo z, pending-blank fst lo z) (none-facts fst lo z)
+        | no z ↦ some-facts (omega arith)
+      ]
 
 -- ---- ascending lists of visits, cut in two
 
@@ -642,24 +675,54 @@ module _ {s : List ℕ} (A : Admitted s) (lo hi : Bound) (short : length (boundB
 -- ---- the claim
 
 module _ {s : List ℕ} (A : Admitted s) (lo hi : Bound) (short-lo : length (boundBytes lo) ≤ maxPath) (short-hi : length (boundBytes hi) ≤ maxPath) where
-  pub sought : SeekCome (fstOf s (A .meta)) (A .meta .root) lo
-  sought = start-come (fstOf s (A .meta)) (A .meta .root) lo (fine-root A)
+  -- the levels that a start gives, and that its visits are those still to come
+  pub record Begun : Type 0 where
+    pub levels : List Level
+    pub gives : start s lo hi ≡ started (view A lo hi short-hi levels (pend A lo hi short-hi) 0)
+    pub sane : Sane (fstOf s (A .meta)) levels
+    pub comes : toCome (fstOf s (A .meta)) levels ≡ visits A lo hi short-hi
+
+  -- on a file without bytes there is no level
+  begun-blank : length s ≡ 0 → Begun
+  unfolding start
+  begun-blank z =
+      let a = le-leb (length (boundBytes lo)) maxPath short-lo in
+      let b = le-leb (length (boundBytes hi)) maxPath short-hi in
+      record {
+        levels = [];
+        gives = rw (A .opens, a, b, eq-eqb (length s) 0 z, pending-blank (fstOf s (A .meta)) lo z);
+        sane = tt;
+        comes = sym (visits-blank (fstOf s (A .meta)) lo z);
+      }
+
+  begun-some : 0 < length s → Begun
+  unfolding start
+  begun-some pos =
+      let a = le-leb (length (boundBytes lo)) maxPath short-lo in
+      let b = le-leb (length (boundBytes hi)) maxPath short-hi in
+      let ne : ¬ (length s ≡ 0) = λ z. omega arith in
+      let q : SeekCome (fstOf s (A .meta)) (A .meta .root) lo = start-come (fstOf s (A .meta)) (A .meta .root) lo (fine-root A pos) in
+      record {
+        levels = q .levels;
+        gives = rw (A .opens, a, b, ne-eqb (length s) 0 ne, q .seeks);
+        sane = q .sane;
+        comes = q .comes;
+      }
+
+  pub begun : Begun
+  begun = elim (ℕ-discrete (length s) 0) [ yes z ↦ begun-blank z | no z ↦ begun-some (omega arith) ]
 
   -- the reading that the start gives
   abbrev pub reading₀ : View
-  reading₀ = view A lo hi short-hi (sought .levels) (pend A lo hi short-hi) 0
+  reading₀ = view A lo hi short-hi (begun .levels) (pend A lo hi short-hi) 0
 
   pub start-given : start s lo hi ≡ started reading₀
-  unfolding start
-  start-given =
-      let a = le-leb (length (boundBytes lo)) maxPath short-lo in
-      let b = le-leb (length (boundBytes hi)) maxPath short-hi in
-      rw (A .opens, a, b, sought .seeks)
+  start-given = begun .gives
 
   run : (cs : List (Call s)) → RanAt A lo hi short-hi reading₀ cs
   run cs =
       progress-run s (A .meta) (A .opens) hi (length (boundBytes hi)) short-hi (visits A lo hi short-hi) (pend A lo hi short-hi) cs [] 0 reading₀
-      (start-comes A lo hi short-hi (sought .levels) (pend A lo hi short-hi) refl (sought .sane) (sought .comes))
+      (start-comes A lo hi short-hi (begun .levels) (pend A lo hi short-hi) refl (begun .sane) (begun .comes))
 
   -- one call after others
   called : (cs : List (Call s)) (c : Call s) → Allowed c → CalledAt A lo hi short-hi (run cs .new) (0 + run cs .more) (readingAfter reading₀ cs) (call (readingAfter reading₀ cs) c)

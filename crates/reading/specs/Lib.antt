@@ -12,4 +12,5 @@ pub mod ProgressLaws
 pub mod DemandLaws
 pub mod WholeLaws
 pub mod EndLaws
+pub mod BlankLaws
 pub mod FollowedLaws

@@ -142,14 +142,15 @@ startedAt s hi empty (halted n) = refused n
 abbrev pub boundsTest : Bound → Bound → Bool
 boundsTest lo hi = leb (length (boundBytes lo)) maxPath && leb (length (boundBytes hi)) maxPath
 
--- opening's refusals, BOUND, then the walk
+-- opening's refusals, BOUND, then a reading at its end on a file without bytes, which has no node to enter, and the walk on any other
 unfoldable pub start : List ℕ → Bound → Bound → Started
 unfolding seek
 start s lo hi =
     onOpened (opening s)
     (λ m.
     cond (boundsTest lo hi)
-    (startedAt s hi (pendingAt lo (nodeIn (fstOf s m) (m .root))) (seek (fstOf s m) (isInclusive lo) (m .root) 0 0 [] (boundBytes lo)))
+    (cond (eqb (length s) 0) (startedAt s hi none (got []))
+    (startedAt s hi (pendingAt lo (nodeIn (fstOf s m) (m .root))) (seek (fstOf s m) (isInclusive lo) (m .root) 0 0 [] (boundBytes lo))))
     (refused BOUND))
     (λ n. refused n)
 

@@ -23,6 +23,7 @@ use Rattle.format.specs.Node.{Node, sound, transitionAt}
 use Rattle.format.specs.Paths.{Fst, fstOf, nodeIn, Path, here, follow, Held}
 use Rattle.format.specs.Admitted.{Admitted}
 use Rattle.format.specs.Strings.{Before, shorter, lower, later, Begins, nothing, byte}
+use Rattle.format.specs.laws.NodeLaws.{node-at-blank}
 use Rattle.format.specs.laws.StringLaws.{begins-append}
 use Rattle.format.specs.laws.TransitionLaws.{member-at}
 use Rattle.format.specs.laws.NodeFacts.{node-ascending}
@@ -289,23 +290,28 @@ begins-rest : {x k : List ℕ} → Begins x k → (r : List ℕ) × (k ≡ x ++ 
 begins-rest (nothing {t = t}) = (t, refl)
 begins-rest (byte {x = x} h) = let r = begins-rest h in (r .0, ap (λ k. x ∷ k) (r .1))
 
-module _ {s : List ℕ} (A : Admitted s) where
+-- a file without bytes has no visit
+pub below-blank : (d : ℕ) (f : Fst) (a : ℕ) → length (f .bytes) ≡ 0 → below d f a ≡ []
+below-blank zero f a z = refl
+below-blank (suc d) f a z = rw (node-at-blank (f .bytes) (f .version) (f .root) a z)
+
+module _ {s : List ℕ} (A : Admitted s) (pos : 0 < length s) where
   abbrev fst : Fst
   fst = fstOf s (A .meta)
 
   -- a node that a path from the root reaches, with so many steps left
   fine-reached : (d : ℕ) (k : List ℕ) (sum b : ℕ) → Path fst (A .meta .root) k sum b → length k + d ≡ maxPath → Fine d fst b sum
   fine-reached zero k sum b p h =
-      let r = path-reached A p in
+      let r = path-reached A pos p in
       (r .node, r .judged, r .light, go (r .node) (r .judged) (r .node .transitions) refl)
     where
       go : (m : Node) → nodeIn fst b ≡ sound m → (ts : List Transition) → m .transitions ≡ ts → ts ≡ []
       go m e [] q = refl
       go m e (t ∷ ts) q =
-          let longer = path-reached A (path-snoc m t p e (rw q (List·Memᴰ·head refl))) .short in
+          let longer = path-reached A pos (path-snoc m t p e (rw q (List·Memᴰ·head refl))) .short in
           absurd (omega (arith, simp length-append at longer))
   fine-reached (suc d) k sum b p h =
-      let r = path-reached A p in (
+      let r = path-reached A pos p in (
         r .node,
         r .judged,
         r .light,
@@ -322,10 +328,10 @@ module _ {s : List ℕ} (A : Admitted s) where
       go (path-stays (A .chained) (elim (ℕ-discrete (A .meta .root) 0) [ yes z ↦ inl z | no z ↦ inr (root-chain-root (A .chained .chain) z) ]) p)
     where
       go : (b ≡ 0) ⊎ List·Memᴰ b (A .nodes) → FinalFrom fst b
-      go (inl z) = final-zero fst b z
+      go (inl z) = final-zero fst b pos z
       go (inr on) =
           let step = path-step p in
-          let r = path-reached A p in
+          let r = path-reached A pos p in
           let low = target-below-root fst (A .meta .root) (step .node) (step .by) (step .judged) (step .member) in
           leads-to-final (A .chained) b on (r .node) (r .judged)
           (live-below-root fst b (r .node) (r .judged) (λ z. omega (arith, root-chain-low (A .chained .chain) b on)) (λ same. omega (arith, low, path-ends-low (step .rest))))
@@ -363,7 +369,7 @@ module _ {s : List ℕ} (A : Admitted s) where
       let r = begins-rest g in
       let p : Path fst (A .meta .root) ((x ∷ y) ++ r .0) (h .sum) (h .to) = rw (r .1) at (h .path) in
       let c = path-split (x ∷ y) (r .0) p in
-      let n = path-reached A (c .to) in (
+      let n = path-reached A pos (c .to) in (
         visitTo (x ∷ y) (c .sum-to) (n .node),
         path-visit maxPath fst (A .meta .root) 0 fine-root x y (c .sum-to) (c .middle) (c .to) (n .node) (n .judged),
         refl,

@@ -28,7 +28,7 @@ use Rattle.reading.specs.RunLaws.{lt-or}
 use Rattle.reading.specs.Demand.{Rising, NumberOf, Within, Extra, EmptyExcluded, Entry, entry, handOut, NoneLeft, capped}
 use Rattle.reading.specs.WholeRun.{Runs, run-end, run-key, Whole}
 use Rattle.reading.specs.ProgressLaws.{left, Called, hands, ended, ask-step}
-use Rattle.reading.specs.DemandLaws.{visits, pend, Comes, keysOut, comes-held, comes-rising, comes-none-left, comes-total-ended, start-comes, sought, reading₀, start-given}
+use Rattle.reading.specs.DemandLaws.{visits, pend, Comes, keysOut, comes-held, comes-rising, comes-none-left, comes-total-ended, start-comes, begun, reading₀, start-given}
 
 answered : (o : Step) (a : Answer) → o .answer ≡ a → o ≡ record { answer = a; reading = o .reading }
 answered o a e = ap (λ (x : Answer). record { answer = x; reading = o .reading }) e
@@ -76,7 +76,7 @@ module _ {s : List ℕ} (A : Admitted s) (lo hi : Bound) (short-lo : length (bou
   pub whole : Whole A lo hi space
   whole =
       let r : View = reading₀ A lo hi short-lo short-hi in
-      let q = sought A lo hi short-lo short-hi in
+      let q = begun A lo hi short-lo short-hi in
       let w = finish (left (fstOf s (A .meta)) r) [] r (omega arith) (start-comes A lo hi short-hi (q .levels) (pend A lo hi short-hi) refl (q .sane) (q .comes)) in
       record {
         reading = r;
@@ -105,7 +105,7 @@ pub data OnWayNext {s : List ℕ} (A : Admitted s) (lo hi : Bound) (r : View) (o
 pub on-way-start : {s : List ℕ} (A : Admitted s) (lo hi : Bound) → length (boundBytes lo) ≤ maxPath → length (boundBytes hi) ≤ maxPath
     → (r : View) → start s lo hi ≡ started r → OnWay A lo hi r
 on-way-start A lo hi a b r is =
-    let q = sought A lo hi a b in
+    let q = begun A lo hi a b in
     let given = start-given A lo hi a b in
     let same : r ≡ reading₀ A lo hi a b = cc in
     record { short = b; handed = []; comes = rw same (start-comes A lo hi b (q .levels) (pend A lo hi b) refl (q .sane) (q .comes)) }

@@ -20,7 +20,7 @@ use stream_start::EmptyOutput;
 use stream_start::Reading;
 
 // The list's length, and one byte more by which a longer list is seen.
-const LIST: usize = 191_639;
+const LIST: usize = 192_241;
 
 // The kinds of record beside the file.
 const START: u64 = 2;

@@ -128,24 +128,28 @@ module _ (f : Fst) (lo hi : S.Bound) where
 
   pub from-upper : maxPath < length (boundBytes hi) → R.Started.refused BOUND ≡ startFrom f lo hi
   unfolding startFrom
-  from-upper h = rw (lt-leb (length (boundBytes hi)) maxPath h) (go (leb (length (boundBytes lo)) maxPath))
+  from-upper h = rw (lt-leb (length (boundBytes hi)) maxPath h) (go (leb (length (boundBytes lo)) maxPath) _)
     where
-      go : (t : Bool) → R.Started.refused BOUND
-          ≡ cond (t && false)
-          (R.startedAt (f .bytes) hi (pendingAt lo (nodeIn f (f .root))) (R.seek f (isInclusive lo) (f .root) 0 0 [] (boundBytes lo)))
-          (R.Started.refused BOUND)
-      go true = refl
-      go false = refl
+      go : (t : Bool) (r : R.Started) → R.Started.refused BOUND ≡ cond (t && false) r (R.Started.refused BOUND)
+      go true r = refl
+      go false r = refl
 
   module _ (short-lo : length (boundBytes lo) ≤ maxPath) (short-hi : length (boundBytes hi) ≤ maxPath) where
-    from-walk : startFrom f lo hi ≡ R.startedAt (f .bytes) hi (pendingAt lo (nodeIn f (f .root))) (R.seek f (isInclusive lo) (f .root) 0 0 [] (boundBytes lo))
+    pub from-blank : (b : S.Bound) (n : ℕ) → length (f .bytes) ≡ 0 → b ≡ hi → n ≡ length (boundBytes hi) → readingAt 0 b n none (got []) ≡ startFrom f lo hi
     unfolding startFrom
-    from-walk = rw (le-leb (length (boundBytes lo)) maxPath short-lo, le-leb (length (boundBytes hi)) maxPath short-hi)
+    from-blank b n z eb en =
+        rw (le-leb (length (boundBytes lo)) maxPath short-lo, le-leb (length (boundBytes hi)) maxPath short-hi, eq-eqb (length (f .bytes)) 0 z, eb, en, z)
 
-    pub from-reading : (b : S.Bound) (n : ℕ) (empty : Option ℕ) (w : R.Sought)
+    from-walk : 0 < length (f .bytes) → startFrom f lo hi ≡ R.startedAt (f .bytes) hi (pendingAt lo (nodeIn f (f .root))) (R.seek f (isInclusive lo) (f .root) 0 0 [] (boundBytes lo))
+    unfolding startFrom
+    from-walk pos =
+        let ne : ¬ (length (f .bytes) ≡ 0) = λ z. omega arith in
+        rw (le-leb (length (boundBytes lo)) maxPath short-lo, le-leb (length (boundBytes hi)) maxPath short-hi, ne-eqb (length (f .bytes)) 0 ne)
+
+    pub from-reading : 0 < length (f .bytes) → (b : S.Bound) (n : ℕ) (empty : Option ℕ) (w : R.Sought)
         → b ≡ hi → n ≡ length (boundBytes hi) → empty ≡ pendingAt lo (nodeIn f (f .root)) → w ≡ R.seek f (isInclusive lo) (f .root) 0 0 [] (boundBytes lo)
         → readingAt (length (f .bytes)) b n empty w ≡ startFrom f lo hi
-    from-reading b n empty w eb en ee ew = rw (eb, en, ee) (reading-at (f .bytes) hi (pendingAt lo (nodeIn f (f .root))) w ∙ sym (from-walk ∙ rw (← ew)))
+    from-reading pos b n empty w eb en ee ew = rw (eb, en, ee) (reading-at (f .bytes) hi (pendingAt lo (nodeIn f (f .root))) w ∙ sym (from-walk pos ∙ rw (← ew)))
 
 module _ (s : List ℕ) (lo hi : S.Bound) where
   pub start-opened : (m : Meta) → opening s ≡ opened m → R.start s lo hi ≡ startFrom (fstOf s m) lo hi

@@ -7,12 +7,14 @@
 --     pendingIf c j                the pending empty key of a file whose root is judged j, where the bound lets it by
 --     readingAt len b n empty w    the reading that the walk w gives
 --     startFrom f lo hi            a start on a file that opens
+--     BlankTold s version          version 0 stands for no bytes
 -- Assumes nothing.
 use mathlib.Core.Path.{_≡_}
 use mathlib.Core.Bool.{Bool, cond}
 use mathlib.Core.Option.{Option, none, some}
 use mathlib.Core.List.{List, [], _∷_}
-use Prim.Native.Nat.{ℕ, _+_, _≤_}
+use Prim.Native.Nat.{ℕ, _+_, _≤_, _<_}
+use lib.Dec.{eqb}
 use lib.ListN.{length, getD, take}
 use Rattle.format.specs.Limits.{BOUND}
 use Rattle.format.specs.Node.{Judgement, findInput, transitionAt}
@@ -72,5 +74,11 @@ readingAt len b n empty (R.Sought.halted k) = R.Started.refused k
 unfoldable pub startFrom : Fst → S.Bound → S.Bound → R.Started
 startFrom f lo hi =
     cond (boundsTest lo hi)
-    (startedAt (f .bytes) hi (pendingAt lo (nodeIn f (f .root))) (R.seek f (isInclusive lo) (f .root) 0 0 [] (boundBytes lo)))
+    (cond (eqb (length (f .bytes)) 0) (startedAt (f .bytes) hi none (got []))
+    (startedAt (f .bytes) hi (pendingAt lo (nodeIn f (f .root))) (R.seek f (isInclusive lo) (f .root) 0 0 [] (boundBytes lo))))
     (R.Started.refused BOUND)
+
+-- the version that opening read of the bytes s is 0 exactly where there are none
+pub record BlankTold (s : List ℕ) (version : ℕ) : Type 0 where
+  pub blank : version ≡ 0 → length s ≡ 0
+  pub some : ¬ (version ≡ 0) → 0 < length s

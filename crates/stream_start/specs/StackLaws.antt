@@ -18,6 +18,10 @@ unfolding stackIs
 stack-length zero xs is ps os = refl
 stack-length (suc k) xs is ps os = ap suc (stack-length k xs is ps os)
 
+pub stack-none : (xs is ps os : List ℕ) → stackIs 0 xs is ps os ≡ []
+unfolding stackIs
+stack-none xs is ps os = refl
+
 pub stack-more : (k : ℕ) (xs is ps os : List ℕ) → stackIs (k + 1) xs is ps os ≡ levelAt k xs is ps os ∷ stackIs k xs is ps os
 unfolding stackIs
 stack-more k xs is ps os = rw add-one

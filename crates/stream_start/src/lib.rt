@@ -2,6 +2,7 @@
 // and gives back (crate stream_next).
 ghost use mathlib.Core.Path.{_≡_};
 ghost use mathlib.Core.List.{List, []};
+ghost use mathlib.Core.Option.{none};
 ghost use Prim.Native.Nat.{ℕ, _-_, _≤_, _<_};
 ghost use lib.ListN.{length, take, getD};
 ghost use Rattle.format.specs.Limits.{maxPath, maxLevels};
@@ -9,7 +10,7 @@ ghost use Rattle.format.specs.Paths.{fstWith, nodeIn};
 ghost use Rattle.node.specs.Read.{transitionsIn, Readable};
 ghost use Rattle.reading.specs.Reading as R;
 ghost use Rattle.stream_start.specs.Views.{Arrays, stackIs, boundIs, emptyIs, startedIs, noReading, refusedStart};
-ghost use Rattle.stream_start.specs.Seeks.{enterOf, placeIn, soughtIs, LevelPut, LevelsEnd, BoundTaken, pendingIf, readingAt, startFrom};
+ghost use Rattle.stream_start.specs.Seeks.{enterOf, placeIn, soughtIs, LevelPut, LevelsEnd, BoundTaken, pendingIf, readingAt, startFrom, BlankTold};
 use format::BOUND;
 use format::LEVELS;
 use format::MAX_KEY;
@@ -360,6 +361,31 @@ fn reading_from(
     }
 }
 
+// The reading of a file without bytes, with this upper bound: nothing pending and no level, since there is no node to enter.
+fn blank_reading(kind: Bound, bound_len: usize, bound: [u8; MAX_KEY]) -> Started
+    ensures { λ r. ⌜ startedIs r ≡ readingAt 0 (boundIs kind (take «bound_len» bound)) «bound_len»
+        none (R.got []) ⌝ }
+{
+    let levels: usize = 0;
+    let reading = Reading {
+        len: 0,
+        kind,
+        bound_len,
+        bound,
+        empty_output: EmptyOutput::Absent,
+        total: 0,
+        levels,
+        addrs: [0; LEVELS],
+        inps: [0; LEVELS],
+        trans: [0; LEVELS],
+        outs: [0; LEVELS],
+    };
+    Started {
+        answer: Begins::Began,
+        reading,
+    }
+}
+
 // A start on a file that opens.
 fn start_from(
     file: &[u8],
@@ -370,7 +396,7 @@ fn start_from(
     upper_kind: Bound,
     upper: &[u8],
 ) -> Started
-    requires { ⌜ root < 4294967296 ⌝ }
+    requires { ⌜ (root < 4294967296) × BlankTold (now file) version ⌝ }
     ensures { λ r. ⌜ startedIs r ≡ startFrom (fstWith (now (file .entry)) version root)
         (boundIs «lower_kind» (now (lower .entry))) (boundIs «upper_kind» (now (upper .entry))) ⌝ }
 {
@@ -384,6 +410,10 @@ fn start_from(
     }
     let mut bound = [0u8; MAX_KEY];
     buffers::copy_front(upper, bound_len, &mut bound);
+    // version 0 is a file without bytes
+    if version == 0 {
+        return blank_reading(upper_kind, bound_len, bound);
+    }
     let meets = meets_empty(lower_kind, n);
     let empty_output = empty_output(file, version, root, meets);
     let inclusive = is_inclusive(lower_kind);
@@ -400,8 +430,9 @@ fn start_from(
     )
 }
 
-// A reading of the keys between two bounds. Opening's refusals, then BOUND for a bound over 255 bytes; then along the lower bound, for
-// each node as it is entered, the last included, NODE for the node and SUM for the running sum up to it.
+// A reading of the keys between two bounds. Opening's refusals, then BOUND for a bound over 255 bytes. A file without bytes gives a
+// reading with no level. On any other the walk goes along the lower bound, and each node, the last included, is judged as it is entered:
+// NODE for the node, then SUM for the running sum up to it.
 pub fn start(
     file: &[u8],
     lower_kind: Bound,

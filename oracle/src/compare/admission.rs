@@ -30,7 +30,7 @@ const ROWS: &[Row] = &[
     Row { name: "root-of-nothing", file: || file_of(3, &[0, 0, 0]), want: 0, entries: &[(18, 1, 0)] },
     Row { name: "D", file: d, want: 0, entries: &[(21, 2, 2), (29, 3, 4)] },
     Row { name: "one-node-version-1", file: || file_of(1, &[7, 1, 0, 0x40]), want: 0, entries: &[(19, 1, 7)] },
-    Row { name: "short", file: || vec![0; 35], want: SHORT, entries: &[] },
+    Row { name: "short", file: || vec![0; 31], want: SHORT, entries: &[] },
     // a/0 at 16 leads to 15
     Row { name: "first-node-next", file: || file_of(3, &[0xc1]), want: NODE, entries: &[] },
     // the root's F - 1 is 17, and the node there begins at 15
@@ -72,10 +72,10 @@ const ROWS: &[Row] = &[
 
 // What admission was given beside the file: the lengths of both tables, and what stands in them.
 #[derive(Clone, Copy)]
-struct Lent {
-    depths: usize,
-    sums: usize,
-    keep: u64,
+pub struct Lent {
+    pub depths: usize,
+    pub sums: usize,
+    pub keep: u64,
 }
 
 fn describe_lent(file: &[u8], lent: Lent) -> String {
@@ -83,7 +83,7 @@ fn describe_lent(file: &[u8], lent: Lent) -> String {
 }
 
 // Admission by the model and by ours. What the model says.
-fn admitted(ours: Option<&dyn FileAnswers>, file: &[u8], lent: Lent) -> Result<Result<Admitted, u64>, Difference> {
+pub fn admitted(ours: Option<&dyn FileAnswers>, file: &[u8], lent: Lent) -> Result<Result<Admitted, u64>, Difference> {
     let input = || describe_lent(file, lent);
     let mut depths = vec![lent.keep as u16; lent.depths];
     let mut sums = vec![lent.keep; lent.sums];
@@ -115,15 +115,18 @@ fn verdict(judged: &Result<Admitted, u64>) -> u64 {
 // are those of the paths themselves.
 fn walked(file: &[u8], admitted: &Admitted) -> Result<bool, Difference> {
     let input = || describe_file(file);
-    let rust = given_file::open(file);
-    same(
-        "what an admitted file says",
-        input,
-        ("the Rust", rust.as_ref().map(|r| r.meta())),
-        ("model", Some(admitted.meta)),
-    )?;
-    let chain: Vec<(usize, Meaning)> = admitted.chain.iter().map(|(addr, node, _)| (*addr, node.clone())).collect();
-    same("the nodes of an admitted file", input, ("the Rust", rust.and_then(|r| r.chain())), ("model", Some(chain)))?;
+    // only the definition takes a shorter file
+    if file.len() >= given_file::LEAST {
+        let rust = given_file::open(file);
+        same(
+            "what an admitted file says",
+            input,
+            ("the Rust", rust.as_ref().map(|r| r.meta())),
+            ("model", Some(admitted.meta)),
+        )?;
+        let chain: Vec<(usize, Meaning)> = admitted.chain.iter().map(|(addr, node, _)| (*addr, node.clone())).collect();
+        same("the nodes of an admitted file", input, ("the Rust", rust.and_then(|r| r.chain())), ("model", Some(chain)))?;
+    }
     let nodes: HashMap<usize, &Meaning> = admitted.chain.iter().map(|(addr, node, _)| (*addr, node)).collect();
     let mut steps = 600;
     for (addr, _, reach) in &admitted.chain {

@@ -91,7 +91,7 @@ const MADE_ROWS: &[MadeRow] = &[
     },
     MadeRow {
         name: "opening-before-state",
-        file: || vec![0; 35],
+        file: || vec![0; 31],
         reading: |r| Reading { file_len: 51, ..r },
         space: 0,
         want: Row::Refused(SHORT),
@@ -382,7 +382,8 @@ impl<'a> Run<'a> {
             (path_to(&[0xc1], 3), 17),
             (sums(1, TOP), 30),
             (unsound_after_sum(), 34),
-            (vec![0; 35], 0),
+            (vec![0; 31], 0),
+            (Vec::new(), 0),
         ];
         for (file, addr) in &files {
             for (i, reading) in at_limits(file, *addr).into_iter().enumerate() {

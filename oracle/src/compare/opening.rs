@@ -4,7 +4,7 @@ use super::{describe_file, same, smallest, Checked, Difference, Run, OPENINGS};
 use crate::answers::{FileAnswers, Meta, LARGE, NO_CHECKSUM, ROOT, SHORT, VERSION};
 use crate::given_file;
 use crate::model::MAX_LEN;
-use crate::model_file::{self, MIN_LEN};
+use crate::model_file;
 use crate::prng::Prng;
 use crate::sparse::Zeros;
 
@@ -43,7 +43,7 @@ struct Row {
 }
 
 const ROWS: &[Row] = &[
-    Row { name: "zeros-35", version: 0, root: 0, len: 35, want: SHORT, rust: Rust::Refuses },
+    Row { name: "zeros-35", version: 0, root: 0, len: 35, want: VERSION, rust: Rust::Refuses },
     Row { name: "zeros-36", version: 0, root: 0, len: 36, want: VERSION, rust: Rust::Refuses },
     Row { name: "version-4", version: 4, root: 0, len: 36, want: VERSION, rust: Rust::Refuses },
     Row { name: "root-0", version: 3, root: 0, len: 36, want: 0, rust: Rust::Answers },
@@ -89,7 +89,9 @@ pub fn opened(ours: Option<&dyn FileAnswers>, file: &[u8], keep: u64) -> Result<
     let want = model_file::open(file);
     if let Ok(meta) = want {
         let rust = given_file::open(file).map(|opened| opened.meta());
-        same("what a file says", input, ("the Rust", rust), ("model", Some(meta)))?;
+        // only the definition takes a shorter file
+        let wanted = if file.len() < given_file::LEAST { None } else { Some(meta) };
+        same("what a file says", input, ("the Rust", rust), ("model", wanted))?;
     }
     if let Some(ours) = ours {
         let places = 5 + (keep % 3) as usize;
@@ -166,7 +168,7 @@ impl<'a> Run<'a> {
             let prng = &mut self.prng;
             let (len, kind) = match i % 4 {
                 0 => (prng.between(0, 60), "lengths from 0 to 60"),
-                1 => (prng.pick(&[MIN_LEN - 1, MIN_LEN, MIN_LEN + 1]), "lengths 35, 36 and 37"),
+                1 => (prng.pick(&[35, 36, 37]), "lengths 35, 36 and 37"),
                 2 => (prng.between(36, 60), "lengths from 36 to 60"),
                 _ => (prng.between(60, 400), "lengths from 60 to 400"),
             };
@@ -199,6 +201,7 @@ impl<'a> Run<'a> {
         match smallest(file, |file| opened(ours, file, keep))? {
             Ok(meta) => {
                 self.count(match meta.version {
+                    0 => "opened: no bytes",
                     1 => "opened: version 1",
                     2 => "opened: version 2",
                     _ => "opened: version 3",

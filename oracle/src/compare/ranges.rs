@@ -418,7 +418,7 @@ const ROWS: &[RangeRow] = &[
     },
     RangeRow {
         name: "bound-after-opening",
-        file: || vec![0; 35],
+        file: || vec![0; 31],
         lower: (Kind::Included, LONG),
         upper: ALL,
         want: Err(SHORT),
@@ -628,8 +628,9 @@ impl<'a> Run<'a> {
                 _ => small(prng).file,
             };
             let found = match model_file::admitted(&file) {
-                Ok(found) => found,
-                Err(_) => continue,
+                // the Rust opens none under 36 bytes
+                Ok(found) if file.len() >= given_file::LEAST => found,
+                _ => continue,
             };
             let asked = if file.len() > 1_000 { 300 } else { 60 };
             self.ranges_in(&file, &found, asked)?;

@@ -23,7 +23,7 @@ use Rattle.format.specs.Admitted.{Admitted}
 use Rattle.format.specs.laws.PathLaws.{path-snoc}
 use Rattle.format.specs.laws.ReachedLaws.{Reached, path-reached}
 use Rattle.format.specs.Lookup.{KeyAnswer, lastFitting, withByte, getKeyFrom, getKey}
-use Rattle.format.specs.laws.LookupLaws.{at-fitting, key-goes-on-value, key-goes-on-final, get-key-from-unsound, get-key-from-end, get-key-from-none, get-key-from-deep, get-key-from-step, get-key-space, get-key-opened}
+use Rattle.format.specs.laws.LookupLaws.{at-fitting, key-goes-on-value, key-goes-on-final, get-key-from-unsound, get-key-from-end, get-key-from-none, get-key-from-deep, get-key-from-step, get-key-space, get-key-opened, get-key-blank}
 
 -- ---- at a node
 
@@ -125,7 +125,13 @@ found-space s v space m k opens is =
 pub found-path : (s : List ℕ) (v space : ℕ) (m : Meta) (k : List ℕ) → opening s ≡ opened m → getKey s v space ≡ KeyAnswer.found k
     → FoundFrom (fstOf s m) (m .root) k v
 found-path s v space m k opens is =
-    found-from (fstOf s m) maxPath (m .root) v k (sym (get-key-opened s v space m opens (found-space s v space m k opens is)) ∙ is)
+    elim (ℕ-discrete (length s) 0) [
+      | yes z ↦
+          let r = get-key-blank s v space m opens (found-space s v space m k opens is) z in
+          absurd (let z : _≡_ {A = ℕ} 0 1 = cc in omega arith)
+      | no z ↦
+          found-from (fstOf s m) maxPath (m .root) v k (sym (get-key-opened s v space m opens (found-space s v space m k opens is) (omega arith)) ∙ is)
+    ]
 
 pub admitted-found-path : {s : List ℕ} (A : Admitted s) (v space : ℕ) (k : List ℕ) → getKey s v space ≡ KeyAnswer.found k
     → FoundFrom (fstOf s (A .meta)) (A .meta .root) k v
@@ -166,7 +172,12 @@ module _ {f : Fst} (reached : (k : List ℕ) (sum b : ℕ) → Path f (f .root) 
 
 pub get-key-not-refused : {s : List ℕ} (A : Admitted s) (v space n : ℕ) → maxPath ≤ space → ¬ (getKey s v space ≡ KeyAnswer.refused n)
 get-key-not-refused {s} A v space n h is =
-    not-refused-from (λ p sum b path. path-reached A path) maxPath v n here (omega arith) (sym (get-key-opened s v space (A .meta) (A .opens) h) ∙ is)
+    elim (ℕ-discrete (length s) 0) [
+      | yes z ↦ let r = get-key-blank s v space (A .meta) (A .opens) h z in let z : _≡_ {A = ℕ} 0 1 = cc in omega arith
+      | no z ↦
+          let pos : 0 < length s = omega arith in
+          not-refused-from (λ p sum b path. path-reached A pos path) maxPath v n here (omega arith) (sym (get-key-opened s v space (A .meta) (A .opens) h pos) ∙ is)
+    ]
 
 pub get-key-refused-space : {s : List ℕ} (A : Admitted s) (v space n : ℕ) → getKey s v space ≡ KeyAnswer.refused n → (space < maxPath) × (n ≡ SPACE)
 get-key-refused-space {s} A v space n is =

@@ -13,7 +13,7 @@ use native.Mathlib.Omega.{arith}
 use lib.ListN.{length}
 use Rattle.format.specs.declared.Transition.{Transition}
 use Rattle.format.specs.Node.{Node, sound, emptyFinal, transitionAt}
-use Rattle.format.specs.laws.NodeLaws.{node-at-zero}
+use Rattle.format.specs.laws.NodeLaws.{node-at-zero, sound-not-empty}
 use Rattle.format.specs.laws.TransitionLaws.{at-member}
 use Rattle.format.specs.Paths.{Fst, nodeIn, Path, here, follow}
 use Rattle.format.specs.Admitted.{Nodes}
@@ -33,8 +33,9 @@ pub record FinalFrom (f : Fst) (a : ℕ) : Type 0 where
 pub final-here : (f : Fst) (a : ℕ) (m : Node) → nodeIn f a ≡ sound m → m .final ≡ true → FinalFrom f a
 final-here f a m e is = record { key = []; sum = 0; to = a; last = m; path = here; ends = e; final = is }
 
-pub final-zero : (f : Fst) (a : ℕ) → a ≡ 0 → FinalFrom f a
-final-zero f a z = final-here f a emptyFinal (rw z (node-at-zero (f .bytes) (f .version) (f .root))) refl
+-- address 0 is final where any node is sound
+pub final-zero : (f : Fst) (a : ℕ) → 0 < length (f .bytes) → a ≡ 0 → FinalFrom f a
+final-zero f a pos z = final-here f a emptyFinal (rw z (node-at-zero (f .bytes) (f .version) (f .root) pos)) refl
 
 pub final-by : (f : Fst) (a : ℕ) (m : Node) (t : Transition) → nodeIn f a ≡ sound m → List·Memᴰ t (m .transitions) → FinalFrom f (t .addr) → FinalFrom f a
 final-by f a m t e mem r =
@@ -78,7 +79,7 @@ module _ {f : Fst} {l : List ℕ} (nodes : Nodes f l) where
       → FinalFrom f (t .addr)
   target-by a on m e t mem below =
       elim (ℕ-discrete (t .addr) 0) [
-        | yes z ↦ final-zero f (t .addr) z
+        | yes z ↦ final-zero f (t .addr) (sound-not-empty (f .bytes) (f .version) (f .root) a m e) z
         | no z ↦
             let on-t = nodes .closed a m t on e mem z in
             let q = root-chain-sound (nodes .chain) (t .addr) on-t in

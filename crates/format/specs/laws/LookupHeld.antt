@@ -5,8 +5,10 @@
 use mathlib.Core.Path.{_≡_, refl, sym, ap, _∙_}
 use mathlib.Core.Bool.{Bool, true, false, true≢false}
 use mathlib.Core.List.{List, [], _∷_, _++_, List·Memᴰ}
-use Prim.Native.Nat.{ℕ, _+_, _≤_}
+use Prim.Native.Nat.{ℕ, _+_, _≤_, _<_}
+use native.Mathlib.Decide.{ℕ-discrete}
 use native.Mathlib.Omega.{arith}
+use lib.ListN.{length}
 use Rattle.format.specs.declared.Transition.{Transition}
 use Rattle.format.specs.Limits.{maxSum}
 use Rattle.format.specs.Node.{Node, sound, Place, at, absent, findInput, transitionAt}
@@ -14,11 +16,11 @@ use Rattle.format.specs.laws.TransitionLaws.{at-member}
 use Rattle.format.specs.Paths.{Fst, fstOf, nodeIn, Path, here, Held}
 use Rattle.format.specs.Admitted.{Admitted}
 use Rattle.format.specs.laws.NodeFacts.{find-member, find-none}
-use Rattle.format.specs.laws.PathLaws.{path-snoc, held-unique}
+use Rattle.format.specs.laws.PathLaws.{path-snoc, held-unique, blank-held}
 use Rattle.format.specs.laws.ReachedLaws.{Reached, path-reached, HeldFrom, held-from, from-held, held-here, held-by, held-nil, held-step, held-input}
 use Rattle.format.specs.Lookup.{Answer, getFrom, get}
 use Rattle.format.specs.Exact.{GetExact}
-use Rattle.format.specs.laws.LookupLaws.{get-from-end-value, get-from-end-none, get-from-absent, get-from-step, get-opened}
+use Rattle.format.specs.laws.LookupLaws.{get-from-end-value, get-from-end-none, get-from-absent, get-from-step, get-opened, get-blank}
 
 -- ---- from a node
 
@@ -94,10 +96,14 @@ exact-unheld s f k none e =
     }
 
 pub get-exact : {s : List ℕ} (A : Admitted s) (k : List ℕ) → GetExact s (fstOf s (A .meta)) k
-get-exact {s} A k = go (get-from-exact (λ p sum b path. path-reached A path) k here)
+get-exact {s} A k =
+    elim (ℕ-discrete (length s) 0) [
+      | yes z ↦ exact-unheld s (fstOf s (A .meta)) k (λ v. blank-held z) (get-blank s k (A .meta) (A .opens) z)
+      | no z ↦ let pos : 0 < length s = omega arith in go pos (get-from-exact (λ p sum b path. path-reached A pos path) k here)
+    ]
   where
-    go : FromExact (fstOf s (A .meta)) (A .meta .root) k 0 → GetExact s (fstOf s (A .meta)) k
-    go (held w h e) =
+    go : 0 < length s → FromExact (fstOf s (A .meta)) (A .meta .root) k 0 → GetExact s (fstOf s (A .meta)) k
+    go pos (held w h e) =
         let add : 0 + w ≡ w = omega arith in
-        exact-held s (fstOf s (A .meta)) k w (from-held h) (get-opened s k (A .meta) (A .opens) ∙ e ∙ ap Answer.value add)
-    go (unheld none e) = exact-unheld s (fstOf s (A .meta)) k (λ v h. none v (held-from h)) (get-opened s k (A .meta) (A .opens) ∙ e)
+        exact-held s (fstOf s (A .meta)) k w (from-held h) (get-opened s k (A .meta) (A .opens) pos ∙ e ∙ ap Answer.value add)
+    go pos (unheld none e) = exact-unheld s (fstOf s (A .meta)) k (λ v h. none v (held-from h)) (get-opened s k (A .meta) (A .opens) pos ∙ e)

@@ -69,9 +69,13 @@ get-from-past f k a sum h = by (nodeIn f a) refl
 
 -- ---- by key
 
-pub get-opened : (s k : List ℕ) (m : Meta) → opening s ≡ opened m → get s k ≡ getFrom (fstOf s m) k (m .root) 0
+pub get-opened : (s k : List ℕ) (m : Meta) → opening s ≡ opened m → 0 < length s → get s k ≡ getFrom (fstOf s m) k (m .root) 0
 unfolding get
-get-opened s k m e = rw e
+get-opened s k m e pos = let ne : ¬ (length s ≡ 0) = λ z. omega arith in rw (e, ne-eqb (length s) 0 ne)
+
+pub get-blank : (s k : List ℕ) (m : Meta) → opening s ≡ opened m → length s ≡ 0 → get s k ≡ Answer.none
+unfolding get
+get-blank s k m e z = rw (e, eq-eqb (length s) 0 z)
 
 pub get-refused : (s k : List ℕ) (n : ℕ) → opening s ≡ Opening.refused n → get s k ≡ Answer.refused n
 unfolding get
@@ -242,18 +246,35 @@ cond-false : (t : Bool) (x y : KeyAnswer) → t ≡ false → cond t x y ≡ y
 cond-false t x y e = rw e
 
 module _ (s : List ℕ) (v space : ℕ) where
+  -- the search once the file has opened and the buffer is long enough
+  unfoldable search : Meta → KeyAnswer
+  search m = cond (eqb (length s) 0) KeyAnswer.none (getKeyFrom maxPath (fstOf s m) (m .root) v)
+
   pub get-key-refused : (n : ℕ) → opening s ≡ Opening.refused n → getKey s v space ≡ KeyAnswer.refused n
-  unfolding getKey
-  get-key-refused n e = key-refused-as (opening s) n (λ m. cond (leb maxPath space) (getKeyFrom maxPath (fstOf s m) (m .root) v) (KeyAnswer.refused SPACE)) e
+  unfolding getKey search
+  get-key-refused n e = key-refused-as (opening s) n (λ m. cond (leb maxPath space) (search m) (KeyAnswer.refused SPACE)) e
 
-  pub get-key-space : (m : Meta) → opening s ≡ opened m → space < maxPath → getKey s v space ≡ KeyAnswer.refused SPACE
-  unfolding getKey
-  get-key-space m e h =
-      key-opened-as (opening s) m (λ m. cond (leb maxPath space) (getKeyFrom maxPath (fstOf s m) (m .root) v) (KeyAnswer.refused SPACE)) e
-      ∙ cond-false (leb maxPath space) (getKeyFrom maxPath (fstOf s m) (m .root) v) (KeyAnswer.refused SPACE) (lt-leb maxPath space h)
+  module _ (m : Meta) (e : opening s ≡ opened m) where
+    pub get-key-space : space < maxPath → getKey s v space ≡ KeyAnswer.refused SPACE
+    unfolding getKey search
+    get-key-space h =
+        key-opened-as (opening s) m (λ m. cond (leb maxPath space) (search m) (KeyAnswer.refused SPACE)) e
+        ∙ cond-false (leb maxPath space) (search m) (KeyAnswer.refused SPACE) (lt-leb maxPath space h)
 
-  pub get-key-opened : (m : Meta) → opening s ≡ opened m → maxPath ≤ space → getKey s v space ≡ getKeyFrom maxPath (fstOf s m) (m .root) v
-  unfolding getKey
-  get-key-opened m e h =
-      key-opened-as (opening s) m (λ m. cond (leb maxPath space) (getKeyFrom maxPath (fstOf s m) (m .root) v) (KeyAnswer.refused SPACE)) e
-      ∙ cond-true (leb maxPath space) (getKeyFrom maxPath (fstOf s m) (m .root) v) (KeyAnswer.refused SPACE) (le-leb maxPath space h)
+    key-search : maxPath ≤ space → getKey s v space ≡ search m
+    unfolding getKey search
+    key-search h =
+        key-opened-as (opening s) m (λ m. cond (leb maxPath space) (search m) (KeyAnswer.refused SPACE)) e
+        ∙ cond-true (leb maxPath space) (search m) (KeyAnswer.refused SPACE) (le-leb maxPath space h)
+
+    pub get-key-opened : maxPath ≤ space → 0 < length s → getKey s v space ≡ getKeyFrom maxPath (fstOf s m) (m .root) v
+    unfolding search
+    get-key-opened h pos =
+        key-search h
+        ∙ cond-false (eqb (length s) 0) KeyAnswer.none (getKeyFrom maxPath (fstOf s m) (m .root) v) (ne-eqb (length s) 0 (λ z. omega arith))
+
+    pub get-key-blank : maxPath ≤ space → length s ≡ 0 → getKey s v space ≡ KeyAnswer.none
+    unfolding search
+    get-key-blank h z =
+        key-search h
+        ∙ cond-true (eqb (length s) 0) KeyAnswer.none (getKeyFrom maxPath (fstOf s m) (m .root) v) (eq-eqb (length s) 0 z)

@@ -5,6 +5,7 @@ use mathlib.Core.Bool.{Bool, true, false, cond, not, _&&_, _||_}
 use mathlib.Core.Logic.{_⊎_, inl, inr}
 use mathlib.Core.List.{List, [], _∷_}
 use Prim.Native.Nat.{ℕ, zero, suc, _+_, _-_, _*_, _≤_, _<_}
+use native.Mathlib.Decide.{ℕ-discrete}
 use native.Mathlib.Omega.{arith}
 use borrow.Author.Tests.{eq-eqb, ne-eqb, eqb-true, eqb-false, lt-ltb, le-ltb, le-leb, lt-leb}
 use lib.Dec.{ltb, leb, eqb}
@@ -97,9 +98,13 @@ decides-sound s v root a = decides-shape s root a (shapeOf s v a) (firstOf s v a
 
 -- ---- the node at an address
 
-pub node-at-zero : (s : List ℕ) (v root : ℕ) → nodeAt s v root 0 ≡ sound emptyFinal
+pub node-at-zero : (s : List ℕ) (v root : ℕ) → 0 < length s → nodeAt s v root 0 ≡ sound emptyFinal
 unfolding nodeAt
-node-at-zero s v root = refl
+node-at-zero s v root pos = let ne : ¬ (length s ≡ 0) = λ z. omega arith in rw (ne-eqb (length s) 0 ne)
+
+pub node-at-zero-blank : (s : List ℕ) (v root : ℕ) → length s ≡ 0 → nodeAt s v root 0 ≡ unsound
+unfolding nodeAt
+node-at-zero-blank s v root z = rw (eq-eqb (length s) 0 z)
 
 pub node-at-sound : (s : List ℕ) (v root a : ℕ) → ¬ (a ≡ 0) → SoundAt s v root a → nodeAt s v root a ≡ sound (nodeOf s v a)
 unfolding nodeAt
@@ -109,18 +114,37 @@ pub node-at-unsound : (s : List ℕ) (v root a : ℕ) → ¬ (a ≡ 0) → ¬ So
 unfolding nodeAt
 node-at-unsound s v root a ne h = rw (ne-eqb a 0 ne, false-of (soundTest s v root a) (decides-sound s v root a) h)
 
--- what an answer `sound` says: address 0, or a sound node
+-- what an answer `sound` says: the file has bytes, and this is address 0 or a sound node
 pub node-at-cases : (s : List ℕ) (v root a : ℕ) (m : Node) → nodeAt s v root a ≡ sound m
     → ((a ≡ 0) × (m ≡ emptyFinal)) ⊎ ((¬ (a ≡ 0)) × SoundAt s v root a × (m ≡ nodeOf s v a))
 unfolding nodeAt
-node-at-cases s v root a m = go (eqb a 0) refl (soundTest s v root a) (decides-sound s v root a)
+node-at-cases s v root a m = go (eqb a 0) refl (eqb (length s) 0) (soundTest s v root a) (decides-sound s v root a)
   where
-    go : (z : Bool) → eqb a 0 ≡ z → (t : Bool) → Decides t (SoundAt s v root a)
-        → cond z (sound emptyFinal) (cond t (sound (nodeOf s v a)) unsound) ≡ sound m
+    go : (z : Bool) → eqb a 0 ≡ z → (n : Bool) → (t : Bool) → Decides t (SoundAt s v root a)
+        → cond z (cond n unsound (sound emptyFinal)) (cond t (sound (nodeOf s v a)) unsound) ≡ sound m
         → ((a ≡ 0) × (m ≡ emptyFinal)) ⊎ ((¬ (a ≡ 0)) × SoundAt s v root a × (m ≡ nodeOf s v a))
-    go true z t d e = inl (eqb-true a 0 z, let q : emptyFinal ≡ m = cc in sym q)
-    go false z true d e = inr (eqb-false a 0 z, d .yes refl, let q : nodeOf s v a ≡ m = cc in sym q)
-    go false z false d e = absurd (let q : _≡_ {A = ℕ} 0 1 = cc in omega arith)
+    go true z true t d e = absurd (let q : _≡_ {A = ℕ} 0 1 = cc in omega arith)
+    go true z false t d e = inl (eqb-true a 0 z, let q : emptyFinal ≡ m = cc in sym q)
+    go false z n true d e = inr (eqb-false a 0 z, d .yes refl, let q : nodeOf s v a ≡ m = cc in sym q)
+    go false z n false d e = absurd (let q : _≡_ {A = ℕ} 0 1 = cc in omega arith)
+
+-- a file without bytes has no node
+pub node-at-blank : (s : List ℕ) (v root a : ℕ) → length s ≡ 0 → nodeAt s v root a ≡ unsound
+node-at-blank s v root a z =
+    elim (ℕ-discrete a 0) [
+      | yes zero-addr ↦ rw zero-addr (node-at-zero-blank s v root z)
+      | no ne ↦ node-at-unsound s v root a ne (λ h. omega (arith, h .inside))
+    ]
+
+pub no-node : (v root a : ℕ) → nodeAt [] v root a ≡ unsound
+no-node v root a = node-at-blank [] v root a refl
+
+pub sound-not-empty : (s : List ℕ) (v root a : ℕ) (m : Node) → nodeAt s v root a ≡ sound m → 0 < length s
+sound-not-empty s v root a m e =
+    elim (ℕ-discrete (length s) 0) [
+      | yes z ↦ absurd (let n = node-at-blank s v root a z in let q : _≡_ {A = ℕ} 0 1 = cc in omega arith)
+      | no ne ↦ omega arith
+    ]
 
 -- ---- the state byte
 

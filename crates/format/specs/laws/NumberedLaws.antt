@@ -23,7 +23,7 @@ use Rattle.format.specs.laws.TransitionLaws.{member-at, at-member}
 use Rattle.format.specs.Paths.{Fst, fstOf, nodeIn, Path, here, Held}
 use Rattle.format.specs.Tables.{largestSum}
 use Rattle.format.specs.laws.TableLaws.{largest-bound}
-use Rattle.format.specs.laws.PathLaws.{path-append, path-snoc}
+use Rattle.format.specs.laws.PathLaws.{path-append, path-snoc, held-not-empty}
 use Rattle.format.specs.laws.ReachedLaws.{Reached, path-reached, HeldFrom, held-from, held-nil, held-step, held-input}
 use Rattle.format.specs.Lookup.{KeyAnswer, withByte, getKeyFrom, getKey, NumberedNode, Numbered}
 use Rattle.format.specs.Exact.{KeyExact}
@@ -136,8 +136,9 @@ module _ {s : List ℕ} (N : Numbered s) (v space : ℕ) where
 
   numbered-held : maxPath ≤ space → (k : List ℕ) → Held (fstOf s (N .admitted .meta)) k v → getKey s v space ≡ KeyAnswer.found k
   numbered-held h k held =
-      get-key-opened s v space (N .admitted .meta) (N .admitted .opens) h
-      ∙ held-found (λ p sum b path. path-reached (N .admitted) path) (N .numbered) k maxPath v here (omega arith) (held-from held)
+      let pos = held-not-empty held in
+      get-key-opened s v space (N .admitted .meta) (N .admitted .opens) h pos
+      ∙ held-found (λ p sum b path. path-reached (N .admitted) pos path) (N .numbered) k maxPath v here (omega arith) (held-from held)
 
   numbered-none : maxPath ≤ space → ((k : List ℕ) → ¬ Held (fstOf s (N .admitted .meta)) k v) → getKey s v space ≡ KeyAnswer.none
   numbered-none h none = go (getKey s v space) refl

@@ -7,12 +7,14 @@
 use mathlib.Core.Path.{_≡_, refl, sym, ap, _∙_, subst}
 use mathlib.Core.Logic.{_⊎_, inl, inr, ⊎-elim}
 use mathlib.Core.List.{List, [], _∷_, _++_, List·Memᴰ}
-use Prim.Native.Nat.{ℕ, _+_, _≤_}
+use Prim.Native.Nat.{ℕ, _+_, _≤_, _<_}
 use native.Mathlib.Nat.{add-assoc, zero-add, add-zero}
 use native.Mathlib.Omega.{arith}
+use lib.ListN.{length}
 use Rattle.format.specs.declared.Transition.{Transition}
 use Rattle.format.specs.Node.{Node, sound}
 use Rattle.format.specs.Paths.{Fst, nodeIn, Path, here, follow, Held}
+use Rattle.format.specs.laws.NodeLaws.{sound-not-empty}
 use Rattle.format.specs.laws.NodeFacts.{node-same, node-target-lt}
 
 -- ---- a path taken apart
@@ -115,3 +117,10 @@ held-unique {f} h g =
 pub path-ends-low : {f : Fst} {a : ℕ} {k : List ℕ} {sum b : ℕ} → Path f a k sum b → b ≤ a
 path-ends-low here = omega arith
 path-ends-low {f} {a} (follow m t e mem p) = omega (arith, path-ends-low p, node-target-lt f a m e t mem)
+
+-- a file without bytes holds no key, whatever its version and its root are taken to be
+pub held-not-empty : {f : Fst} {k : List ℕ} {v : ℕ} → Held f k v → 0 < length (f .bytes)
+held-not-empty {f} h = sound-not-empty (f .bytes) (f .version) (f .root) (h .to) (h .last) (h .ends)
+
+pub blank-held : {f : Fst} {k : List ℕ} {v : ℕ} → length (f .bytes) ≡ 0 → ¬ Held f k v
+blank-held z h = omega (arith, held-not-empty h)

@@ -6,7 +6,7 @@ use mathlib.Core.Path.{_≡_, refl, ap, subst}
 use mathlib.Core.Bool.{true}
 use mathlib.Core.Logic.{_⊎_, inl, inr}
 use mathlib.Core.List.{List, [], _∷_, List·Memᴰ}
-use Prim.Native.Nat.{ℕ, _+_, _≤_}
+use Prim.Native.Nat.{ℕ, _+_, _≤_, _<_}
 use native.Mathlib.Decide.{ℕ-discrete}
 use native.Mathlib.Omega.{arith}
 use lib.ListN.{length}
@@ -30,17 +30,18 @@ pub record Reached (f : Fst) (k : List ℕ) (sum b : ℕ) : Type 0 where
   pub short : length k ≤ maxPath
 
 -- address 0 leads only to itself
-zero-reached : {f : Fst} {a : ℕ} {k : List ℕ} {sum b : ℕ} → a ≡ 0 → Path f a k sum b → Reached f k sum b
-zero-reached {f} {a} z here =
-    record { node = emptyFinal; judged = rw z (node-at-zero (f .bytes) (f .version) (f .root)); light = omega arith; short = omega arith }
-zero-reached {f} {a} z (follow m t e mem p) = absurd (node-zero-none f a m e z t mem)
+zero-reached : {f : Fst} {a : ℕ} {k : List ℕ} {sum b : ℕ} → 0 < length (f .bytes) → a ≡ 0 → Path f a k sum b → Reached f k sum b
+zero-reached {f} {a} pos z here =
+    record { node = emptyFinal; judged = rw z (node-at-zero (f .bytes) (f .version) (f .root) pos); light = omega arith; short = omega arith }
+zero-reached {f} {a} pos z (follow m t e mem p) = absurd (node-zero-none f a m e z t mem)
 
-pub path-reached : {s : List ℕ} (A : Admitted s) {k : List ℕ} {sum b : ℕ} → Path (fstOf s (A .meta)) (A .meta .root) k sum b
+-- a file without bytes has a path of no transitions and no node at its end
+pub path-reached : {s : List ℕ} (A : Admitted s) → 0 < length s → {k : List ℕ} {sum b : ℕ} → Path (fstOf s (A .meta)) (A .meta .root) k sum b
     → Reached (fstOf s (A .meta)) k sum b
 unfolding Shallow Light
-path-reached {s} A {k} {sum} {b} p =
+path-reached {s} A pos {k} {sum} {b} p =
     elim (ℕ-discrete (A .meta .root) 0) [
-      | yes z ↦ zero-reached z p
+      | yes z ↦ zero-reached pos z p
       | no ne ↦
           let on = root-chain-root (A .chained .chain) ne in
           let q = sound-at (path-stays (A .chained) (inr on) p) in
@@ -53,7 +54,7 @@ path-reached {s} A {k} {sum} {b} p =
     ]
   where
     sound-at : (b ≡ 0) ⊎ List·Memᴰ b (A .nodes) → (m : Node) × (nodeIn (fstOf s (A .meta)) b ≡ sound m)
-    sound-at (inl z) = (emptyFinal, rw z (node-at-zero s (A .meta .version) (A .meta .root)))
+    sound-at (inl z) = (emptyFinal, rw z (node-at-zero s (A .meta .version) (A .meta .root) pos))
     sound-at (inr mem) = root-chain-sound (A .chained .chain) b mem
 
 -- ---- held from a node

@@ -14,7 +14,7 @@ use native.Mathlib.Omega.{arith}
 use lib.ListN.{length}
 use Rattle.format.specs.declared.Transition.{Transition}
 use Rattle.format.specs.Node.{Node, Judgement, sound, unsound, emptyFinal}
-use Rattle.format.specs.laws.NodeLaws.{node-at-zero}
+use Rattle.format.specs.laws.NodeLaws.{node-at-zero, node-at-zero-blank, sound-not-empty}
 use Rattle.format.specs.Paths.{Fst, nodeIn, Path, here, follow}
 use Rattle.format.specs.Tables.{maxOf, transitionsOf?, finalOutputOf?, longestTo, longest, largestTo, largestSum}
 use Rattle.format.specs.laws.NodeFacts.{node-target-lt}
@@ -55,8 +55,20 @@ target-below f a t = go (nodeIn f a) refl
     go (sound m) e mem = node-target-lt f a m e t mem
     go unsound e mem = absurd (List·Memᴰ·not-nil mem)
 
+-- address 0 has no transitions and output 0, also where there is no node
 none-at-zero : (f : Fst) (a : ℕ) → a ≡ 0 → transitionsOf? (nodeIn f a) ≡ []
-none-at-zero f a z = rw (z, node-at-zero (f .bytes) (f .version) (f .root))
+none-at-zero f a z =
+    elim (ℕ-discrete (length (f .bytes)) 0) [
+      | yes n ↦ rw (z, node-at-zero-blank (f .bytes) (f .version) (f .root) n)
+      | no n ↦ let pos : 0 < length (f .bytes) = omega arith in rw (z, node-at-zero (f .bytes) (f .version) (f .root) pos)
+    ]
+
+output-at-zero : (f : Fst) → finalOutputOf? (nodeIn f 0) ≡ 0
+output-at-zero f =
+    elim (ℕ-discrete (length (f .bytes)) 0) [
+      | yes n ↦ rw (node-at-zero-blank (f .bytes) (f .version) (f .root) n)
+      | no n ↦ let pos : 0 < length (f .bytes) = omega arith in rw (node-at-zero (f .bytes) (f .version) (f .root) pos)
+    ]
 
 max-at-zero : (f : Fst) (g : Transition → ℕ) (a : ℕ) → a ≡ 0 → maxOf g (transitionsOf? (nodeIn f a)) ≡ 0
 unfolding maxOf
@@ -126,11 +138,11 @@ largest-of f a m e = largest-at f a ∙ rw e
 
 pub longest-zero : (f : Fst) → longest f 0 ≡ 0
 unfolding maxOf
-longest-zero f = longest-of f 0 emptyFinal (node-at-zero (f .bytes) (f .version) (f .root))
+longest-zero f = longest-at f 0 ∙ max-at-zero f (λ t. suc (longest f (t .addr))) 0 refl
 
 pub largest-zero : (f : Fst) → largestSum f 0 ≡ 0
 unfolding maxOf
-largest-zero f = largest-of f 0 emptyFinal (node-at-zero (f .bytes) (f .version) (f .root))
+largest-zero f = omega (arith, largest-at f 0, output-at-zero f, max-at-zero f (λ t. t .out + largestSum f (t .addr)) 0 refl)
 
 -- ---- exceeded by none
 
@@ -184,17 +196,17 @@ module _ (f : Fst) (S : ℕ → Type 0) (sounds : (a : ℕ) → S a → (m : Nod
                   rw by-is (step a m (b .by) (val (b .by .addr)) e (b .member) (below (b .by) (b .member)))
             ]
 
-    attained-zero : (a : ℕ) → a ≡ 0 → W a (val a)
-    attained-zero a z = attained-step a emptyFinal (rw z (node-at-zero (f .bytes) (f .version) (f .root))) (λ t mem. absurd (List·Memᴰ·not-nil mem))
+    attained-zero : (a : ℕ) → 0 < length (f .bytes) → a ≡ 0 → W a (val a)
+    attained-zero a pos z = attained-step a emptyFinal (rw z (node-at-zero (f .bytes) (f .version) (f .root) pos)) (λ t mem. absurd (List·Memᴰ·not-nil mem))
 
     attained-to : (k a : ℕ) → a ≤ k → S a → W a (val a)
-    attained-to zero a h s = attained-zero a (omega arith)
+    attained-to zero a h s = attained-zero a (let q = sounds a s in sound-not-empty (f .bytes) (f .version) (f .root) a (q .0) (q .1)) (omega arith)
     attained-to (suc k) a h s =
         let q = sounds a s in
         attained-step a (q .0) (q .1)
         (λ t mem.
         elim (ℕ-discrete (t .addr) 0) [
-          | yes z ↦ attained-zero (t .addr) z
+          | yes z ↦ attained-zero (t .addr) (sound-not-empty (f .bytes) (f .version) (f .root) a (q .0) (q .1)) z
           | no z ↦ attained-to k (t .addr) (omega (arith, node-target-lt f a (q .0) (q .1) t mem)) (closed a (q .0) t s (q .1) mem z)
         ])
 

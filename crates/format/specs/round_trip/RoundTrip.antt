@@ -8,7 +8,7 @@ use mathlib.Core.Bool.{Bool, true, false}
 use mathlib.Core.List.{List, [], _∷_, _++_, map}
 use Prim.Native.Nat.{ℕ, _+_, _≤_, _<_}
 use native.Mathlib.Omega.{arith}
-use lib.ListN.{length, getD}
+use lib.ListN.{length, getD, length-append}
 use Rattle.format.specs.Bytes.{largest}
 use Rattle.format.specs.Node.{transitionsOf, Useful, sound, emptyFinal, nodeAt}
 use Rattle.format.specs.laws.NodeLaws.{node-at-zero}
@@ -24,7 +24,9 @@ module _ (first : ℕ) (b : BuilderNode) (pre post : List ℕ) (v root : ℕ) (r
   -- the record that packs to nothing
   nothing-read : packsToNothing b ≡ true → nodeAt (pre ++ (packed first b ++ post)) v root 0 ≡ sound (recordNode first b)
   unfolding transitionsOf
-  nothing-read nothing = node-at-zero (pre ++ (packed first b ++ post)) v root ∙ ap sound (sym empty)
+  nothing-read nothing =
+      node-at-zero (pre ++ (packed first b ++ post)) v root (rw length-append (omega (arith, ok .first-low)))
+      ∙ ap sound (sym empty)
     where
       no-transitions : (is os ts : List ℕ) → length is ≡ 0 → transitionsOf is os ts ≡ []
       no-transitions [] os ts e = refl

@@ -6,7 +6,8 @@ use Prim.Native.Nat.{ℕ, _≤_}
 use lib.ListN.{length}
 use Rattle.format.specs.Paths.{fstOf}
 use Rattle.format.specs.Lookup.{KeyAnswer, getKey, getKeyFrom}
-use Rattle.format.specs.laws.LookupLaws.{get-key-opened, get-key-refused, get-key-space}
+use Rattle.format.specs.laws.LookupLaws.{get-key-opened, get-key-blank, get-key-refused, get-key-space}
+use Rattle.format.specs.laws.OpeningLaws.{version-blank, version-some}
 use Rattle.fst.specs.Open.{metaIs, openingIs}
 use Rattle.format.specs.Opening as O
 use Rattle.lookup.specs.Answers.{keyIs}
@@ -24,7 +25,7 @@ opens q = sym (q .before .before .«open» .ensures) ∙ ap openingIs (q .opened
 -- ---- what is known after the search
 
 abbrev told : tie.After-find-key → tie.After-opened2
-told w = w .before .before .before .before
+told w = w .before .before .before .before .before .before
 
 abbrev buf : tie.After-find-key → List ℕ
 buf w = now (told w .before .before .before .before .before .args .key)
@@ -36,7 +37,10 @@ answered : (w : tie.After-find-key)
     → getKey (now (told w .before .before .before .before .before .args .file)) (told w .before .before .before .before .before .args .value) (length (buf w)) ≡ keyIs (w .find-key .result) (path w)
 answered w =
     let a = told w .before .before .before .before .before .args in
-    get-key-opened (now (a .file)) (a .value) (length (buf w)) (metaIs (told w .opened2 .given .0 .0)) (opens (told w)) (w .before .before .if1 .left) ∙ sym (w .find-key .ensures .0)
+    let m = metaIs (told w .opened2 .given .0 .0) in
+    get-key-opened (now (a .file)) (a .value) (length (buf w)) m (opens (told w)) (w .before .before .before .before .if1 .left)
+    (version-some (now (a .file)) m (opens (told w)) (w .before .before .if2 .left))
+    ∙ sym (w .find-key .ensures .0)
 
 open-requires : tie.Need-open-requires
 open-requires c κs = search needs
@@ -53,6 +57,16 @@ returns c = let told = c .before .before in
     let a = told .before .before .before .before .before .args in
     written-refused _ (now (a .key)) 8 (get-key-space (now (a .file)) (a .value) (length (now (a .key))) (metaIs (told .opened2 .given .0 .0)) (opens told) (c .if1 .taken))
 
+-- version 0: the file has no bytes
+returns-2 : tie.Need-returns-2
+returns-2 c =
+    let q = c .before .before .before .before in
+    let a = q .before .before .before .before .before .args in
+    let m = metaIs (q .opened2 .given .0 .0) in
+    written-none _ (now (a .key))
+    (get-key-blank (now (a .file)) (a .value) (length (now (a .key))) m (opens q) (c .before .before .if1 .left)
+    (version-blank (now (a .file)) m (opens q) (c .if2 .taken)))
+
 find-key-requires : tie.Need-find-key-requires
 find-key-requires c κs = search needs
 
@@ -66,7 +80,7 @@ slice-aggregate-copy-front c = search needs
 copy-front-requires : tie.Need-copy-front-requires
 copy-front-requires c κs = let w = c .before .before .before .before .before in
     let fits = key-fits (w .find-key .result) (path w) _ (w .find-key .ensures .1) (c .before .before .before .found .given .1) in
-    (omega (arith, fits, w .find-key .ensures .1 .len), omega (arith, fits, w .before .before .if1 .left))
+    (omega (arith, fits, w .find-key .ensures .1 .len), omega (arith, fits, w .before .before .before .before .if1 .left))
 
 enum-told : tie.Need-enum-told
 enum-told c = search needs
@@ -75,8 +89,8 @@ enum-known-found-2 : tie.Need-enum-known-found-2
 enum-known-found-2 c = search needs
 
 -- the file does not open
-returns-2 : tie.Need-returns-2
-returns-2 c = let call = c .before .before .before in
+returns-3 : tie.Need-returns-3
+returns-3 c = let call = c .before .before .before in
     let a = call .before .before .before .args in
     written-refused _ (now (a .key)) _ (get-key-refused (now (a .file)) (a .value) (length (now (a .key))) _ (sym (call .«open» .ensures) ∙ ap openingIs (c .before .opened .given .1)))
 
@@ -84,17 +98,17 @@ same-length : tie.Need-same-length
 same-length c = search needs
 
 -- a key is found
-returns-3 : tie.Need-returns-3
-returns-3 c = let w = c .before .before .before .before .before .before .before .before in
+returns-4 : tie.Need-returns-4
+returns-4 c = let w = c .before .before .before .before .before .before .before .before in
     written-key _ (path w) (buf w) _ _ (answered w ∙ ap (λ r. keyIs r (path w)) (c .before .before .before .before .before .before .found .given .1)) (omega (arith, w .find-key .ensures .1 .len, key-fits (w .find-key .result) (path w) _ (w .find-key .ensures .1) (c .before .before .before .before .before .before .found .given .1))) (c .before .before .copy-front .ensures)
 
 -- no key is found
-returns-4 : tie.Need-returns-4
-returns-4 c = let w = c .before .before in written-none _ (buf w) (answered w ∙ ap (λ r. keyIs r (path w)) (c .enum-told .given .1))
+returns-5 : tie.Need-returns-5
+returns-5 c = let w = c .before .before in written-none _ (buf w) (answered w ∙ ap (λ r. keyIs r (path w)) (c .enum-told .given .1))
 
 -- the search is refused
-returns-5 : tie.Need-returns-5
-returns-5 c = let w = c .before .before .before in written-refused _ (buf w) _ (answered w ∙ ap (λ r. keyIs r (path w)) (c .before .found2 .given .1))
+returns-6 : tie.Need-returns-6
+returns-6 c = let w = c .before .before .before in written-refused _ (buf w) _ (answered w ∙ ap (λ r. keyIs r (path w)) (c .before .found2 .given .1))
 
 pub get-key-spec : {M : Type 1} → statement M
 get-key-spec =
@@ -104,14 +118,15 @@ get-key-spec =
     enum-known-opened
     enum-known-opened-2
     returns
+    returns-2
     find-key-requires
     enum-known-found
     slice-aggregate-copy-front
     copy-front-requires
     enum-told
     enum-known-found-2
-    returns-2
-    same-length
     returns-3
+    same-length
     returns-4
-    returns-5)
+    returns-5
+    returns-6)

@@ -2,7 +2,7 @@
 -- Assumes nothing.
 use mathlib.Core.Path.{_≡_, refl, sym, ap, _∙_}
 use Rattle.format.specs.Opening as O
-use Rattle.format.specs.laws.OpeningLaws.{root-fits}
+use Rattle.format.specs.laws.OpeningLaws.{root-fits, version-blank, version-some}
 use Rattle.fst.specs.Open.{metaIs, openingIs}
 use Rattle.stream_start.specs.Views.{boundIs}
 use Rattle.stream_start.proofs.StartLaws.{start-opened, start-refused}
@@ -28,10 +28,12 @@ refused-requires c κs = search needs
 enum-known-opened-2 : tie.Need-enum-known-opened-2
 enum-known-opened-2 c = search needs
 
--- the root lies in the file, so it fits in 32 bits
+-- the root lies in the file, so it fits in 32 bits; and version 0 stands for no bytes
 start-from-requires : tie.Need-start-from-requires
 start-from-requires c κs = let q = c .before in
-    root-fits (now (q .before .before .before .before .before .before .args .file)) (metaIs (q .opened2 .given .0 .0)) (opens q)
+    let s = now (q .before .before .before .before .before .before .args .file) in
+    let m = metaIs (q .opened2 .given .0 .0) in
+    (root-fits s m (opens q), record { blank = version-blank s m (opens q); some = version-some s m (opens q) })
 
 -- the file does not open
 returns : tie.Need-returns

@@ -8,7 +8,7 @@ use Rattle.format.specs.Paths.{Fst, fstWith, nodeIn}
 use Rattle.format.specs.Strings as S
 use Rattle.stream_start.specs.Seeks.{BoundTaken, pendingIf}
 use Rattle.stream_start.specs.Views.{boundIs}
-use Rattle.stream_start.proofs.StartLaws.{same-walk, bound-is, from-lower, from-upper, from-reading}
+use Rattle.stream_start.proofs.StartLaws.{same-walk, bound-is, from-lower, from-upper, from-blank, from-reading}
 use denote.Ref.{now}
 use borrow.Author.Needs.{needs}
 use native.Mathlib.Omega.{arith}
@@ -42,7 +42,7 @@ upper-taken : (q : At) → BoundTaken (start q .args .upper-kind) (now (start q 
 upper-taken q = q .len-of2 .ensures
 
 abbrev tests : tie.After-reading-from-arg → tie.Else2
-tests w = w .before .before .before .before .before .before .before
+tests w = w .before .before .before .before .before .before .before .before
 
 len-of-requires : tie.Need-len-of-requires
 len-of-requires c κs = search needs
@@ -73,6 +73,22 @@ slice-aggregate-copy-front c = search needs
 copy-front-requires : tie.Need-copy-front-requires
 copy-front-requires c κs = let q = c .before .before .before in (upper-taken q .inside, c .before .if2 .left)
 
+blank-reading-requires : tie.Need-blank-reading-requires
+blank-reading-requires c κs = search needs
+
+-- version 0: the file has no bytes
+returns-3 : tie.Need-returns-3
+returns-3 c =
+    let copied = c .before .before .before in
+    let bounds = copied .before .before in
+    let q = bounds .before .before in
+    let a = start q .args in
+    c .blank-reading .ensures
+    ∙ from-blank (f q) (lo q) (hi q) (omega (arith, bounds .before .if1 .left, lower-taken q .count)) (omega (arith, bounds .if2 .left, upper-taken q .count)) _ _
+    (start q .pre .1 .blank (c .before .if3 .taken))
+    (bound-is (a .upper-kind) (now (a .upper)) (q .len-of2 .result) (upper-taken q) _ _ (copied .copy-front .ensures))
+    (upper-taken q .count)
+
 meets-empty-requires : tie.Need-meets-empty-requires
 meets-empty-requires c κs = search needs
 
@@ -88,16 +104,17 @@ slice-aggregate-reading-from c = let q = tests c .before .before in sym (lower-l
 
 -- the root fits, and the lower bound has at most 255 bytes
 reading-from-requires : tie.Need-reading-from-requires
-reading-from-requires c κs = let q = tests c .before .before in (start q .pre, omega (arith, tests c .before .if1 .left, lower-len q))
+reading-from-requires c κs = let q = tests c .before .before in (start q .pre .0, omega (arith, tests c .before .if1 .left, lower-len q))
 
--- neither is long
-returns-3 : tie.Need-returns-3
-returns-3 c = let called = c .before in
+-- neither is long, and the file has bytes
+returns-4 : tie.Need-returns-4
+returns-4 c = let called = c .before in
     let q = tests called .before .before in
     let a = start q .args in
     c .reading-from .ensures
-    ∙ from-reading (f q) (lo q) (hi q) (omega (arith, tests called .before .if1 .left, lower-taken q .count)) (omega (arith, tests called .if2 .left, upper-taken q .count)) _ _ _ _
-    (bound-is (a .upper-kind) (now (a .upper)) (q .len-of2 .result) (upper-taken q) _ _ (called .before .before .before .before .before .copy-front .ensures))
+    ∙ from-reading (f q) (lo q) (hi q) (omega (arith, tests called .before .if1 .left, lower-taken q .count)) (omega (arith, tests called .if2 .left, upper-taken q .count))
+    (start q .pre .1 .some (called .before .before .before .before .if3 .left)) _ _ _ _
+    (bound-is (a .upper-kind) (now (a .upper)) (q .len-of2 .result) (upper-taken q) _ _ (called .before .before .before .before .before .before .copy-front .ensures))
     (upper-taken q .count)
     (called .before .before .empty-output .ensures
     ∙ ap (λ t. pendingIf t (nodeIn (f q) (f q .root))) (called .before .before .before .meets-empty .ensures (now (a .lower)) (lower-taken q)))
@@ -115,9 +132,11 @@ start-from-spec =
     returns-2
     slice-aggregate-copy-front
     copy-front-requires
+    blank-reading-requires
+    returns-3
     meets-empty-requires
     empty-output-requires
     is-inclusive-requires
     slice-aggregate-reading-from
     reading-from-requires
-    returns-3)
+    returns-4)
