@@ -685,7 +685,7 @@ fn next_node(file: &[u8], version: u64, root: usize, addr: usize) -> Node
 
 // The numbers of the sound node at addr. They are made once it is judged, so that judging hands out
 // no more than a bool.
-fn node_of(file: &[u8], version: u64, root: usize, addr: usize) -> Node
+pub fn node_of(file: &[u8], version: u64, root: usize, addr: usize) -> Node
     requires { ⌜ SoundAt (now file) version root addr ⌝ }
     ensures { λ r. ⌜ Judges (now (file .entry)) version root addr (Sound r) ⌝ }
 {
