@@ -29,7 +29,9 @@ const DEEPEST: u16 = LEVELS as u16;
 // The marks of the pass down, until the pass up comes to their place: where a node leads that is not reached, where a reached one
 // does, and a node passed that is not reached; 4 is a node passed that is.
 const LED: u16 = 1;
+
 const HIT: u16 = 2;
+
 const UNUSED: u16 = 3;
 
 // What admission answers: the file is admitted, or the number of a refusal.
@@ -162,7 +164,10 @@ fn survey_node(file: &[u8], node: Node, depths: &[u16], sums: &[u64]) -> Survey
         total = raised(total, w, s);
         i += 1;
     }
-    Survey { depth: best + 1, total }
+    Survey {
+        depth: best + 1,
+        total,
+    }
 }
 
 // The same for the address a of the chain, which has this mark. A node that is not reached is not read: its entries are 0.
@@ -180,7 +185,10 @@ fn survey_at(
         (now (sums .entry)) a mark r ⌝ }
 {
     if mark == UNUSED {
-        return Survey { depth: 0, total: Total::Is(0) };
+        return Survey {
+            depth: 0,
+            total: Total::Is(0),
+        };
     }
     let m = node::node_of(file, version, root, a);
     survey_node(file, m, depths, sums)

@@ -93,7 +93,7 @@ module _ {f g : Fst} (root-is : f .root ≡ g .root) (same : (a : ℕ) → Reach
   held-back k v h =
       let from = subst (λ a. Path g a k (h .sum) (h .to)) (sym root-is) (h .path) in
       let p =
-          path-moves {f = g} {g = f} (Reached f) (λ a s. sym (same a s)) (λ a m t s e mem. reached-by s m t (same a s ∙ e) mem) (reached-root f) from in
+      path-moves {f = g} {g = f} (Reached f) (λ a s. sym (same a s)) (λ a m t s e mem. reached-by s m t (same a s ∙ e) mem) (reached-root f) from in
       record {
         sum = h .sum;
         to = h .to;
