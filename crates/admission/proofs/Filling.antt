@@ -16,9 +16,8 @@ use lib.Dec.{ltb}
 use lib.ListN.{length, getD, set}
 use Rattle.format.specs.declared.Transition.{Transition}
 use Rattle.format.specs.Limits.{maxPath, maxSum}
-use Rattle.format.specs.Node.{Node, sound, SoundAt, nodeOf}
+use Rattle.format.specs.Node.{Node, sound}
 use Rattle.format.specs.Paths.{Fst, nodeIn}
-use Rattle.format.specs.laws.NodeLaws.{node-at-sound}
 use Rattle.format.specs.laws.NodeFacts.{node-target-lt, node-final-lt}
 use Rattle.format.specs.Tables.{longest, largestSum}
 use Rattle.admission.specs.declared.Total.{Total}
@@ -28,6 +27,7 @@ use Rattle.admission.specs.declared.Verdict.{Verdict}
 use Rattle.admission.specs.Passes.{Kept, Live, deepest, heaviest, totalAs, entryIs, orOver, Surveyable, SurveyableAt, SurveyedAt, AllPassed, Fillable, LostOne, DeepOne, HeavyOne, GoodAll, HeavyCase, FillCase, Filled}
 use Rattle.admission.proofs.Stores.{kept-none, kept-set}
 use Rattle.admission.proofs.Totals.{total-cases}
+use Rattle.admission.proofs.JudgedNodes.{sound-node}
 use Rattle.admission.proofs.HalfFilled.{Half, half-none, half-skip, half-store, half-map}
 use Rattle.admission.proofs.Children.{child-depth-le, deepest-is, heaviest-is}
 
@@ -72,11 +72,6 @@ deep-up : {X : Type 0} (b deep : Bool) → (deep ≡ true → X) → (deep ≡ f
 deep-up b true f g e = f refl
 deep-up true false f g e = g refl refl
 deep-up false false f g e = no-flag e
-
--- ---- a sound node
-
-sound-node : (f : Fst) (a : ℕ) → SoundAt (f .bytes) (f .version) (f .root) a → (m : Node) × (nodeIn f a ≡ sound m)
-sound-node f a h = (nodeOf (f .bytes) (f .version) a, node-at-sound (f .bytes) (f .version) (f .root) a (λ z. omega (arith, h .above)) h)
 
 -- ---- the pass
 
@@ -132,7 +127,7 @@ module _ {f : Fst} {d₀ s₀ d s : List ℕ} {deep heavy : Bool} {a : ℕ} (h :
 
     pub surveyable-at : ((i : ℕ) → getD (f .bytes) i 0 < 256) → a < length d → a < length s → SurveyableAt f d s a (getD d a 0)
     surveyable-at bytes ld ls =
-        record { sounds = λ ne. ok .sounds a inside (live-here ne); ready = λ ne m q. surveyable m q bytes ld ls }
+        record { sounds = λ ne. ok .sounds a inside (live-here ne); ready = λ ne. record { each = λ m q. surveyable m q bytes ld ls } }
 
     -- the flags of a step, where the number before is kept: both tables, with the entries stored at a
     stored : (x : ℕ) (t : Total) → (cond (ltb 256 x) true deep ≡ false → deep ≡ false) → (orOver heavy t ≡ false → heavy ≡ false)
@@ -235,7 +230,7 @@ module _ {f : Fst} {d₀ s₀ d s : List ℕ} {deep heavy : Bool} {a : ℕ} (h :
           | no ne ↦
               let live = live-here ne in
               let n = sound-node f a (ok .sounds a inside live) in
-              let g = v .found ne (n .0) (n .1) in
+              let g = v .found ne .each (n .0) (n .1) in
               live-store (n .0) (n .1) live (r .depth) (r .total) (g .depth) (g .total)
         ]
 

@@ -9,9 +9,11 @@ use native.Mathlib.Omega.{arith}
 use lib.ListN.{length, getD, set, take}
 use lib.Seq.{take-all}
 use Rattle.format.specs.declared.Transition.{Transition}
-use Rattle.format.specs.Node.{transitionAt}
+use Rattle.format.specs.Node.{Node, sound, SoundAt, transitionAt}
+use Rattle.format.specs.Paths.{Fst, nodeIn}
+use Rattle.format.specs.laws.NodeFacts.{node-target-lt}
 use Rattle.format.specs.laws.TransitionLaws.{at-member}
-use Rattle.admission.specs.Passes.{Kept, TargetIn, Markable, MarksTargets}
+use Rattle.admission.specs.Passes.{Kept, TargetIn, Markable, MarksTargets, MarksAt}
 use Rattle.admission.proofs.Stores.{at-set, kept-none, kept-set}
 use Rattle.admission.proofs.Surveying.{each-more}
 
@@ -65,3 +67,24 @@ pub marked-all : {n mark : ℕ} {ts : List Transition} {d₀ d : List ℕ} {i : 
 marked-all {ts = ts} {i = i} h l =
     let all : take i ts ≡ ts = take-all i ts l in
     record { kept = h .kept; led = h .led; aim = λ t m. h .aim t (subst (λ u. List·Memᴰ t u) (sym all) m) }
+
+-- ---- the node at an address
+
+-- the targets of a sound node lie below it
+pub markable-node : (f : Fst) (a : ℕ) (m : Node) (d : List ℕ) → nodeIn f a ≡ sound m → SoundAt (f .bytes) (f .version) (f .root) a → length (f .bytes) ≤ length d
+    → Markable (length (f .bytes)) d (m .transitions)
+markable-node f a m d e h room = record { room = room; inside = λ t mem. omega (arith, node-target-lt f a m e t mem, h .inside) }
+
+pub one-marked : {n mark : ℕ} {ts : List Transition} {d : List ℕ} → Markable n d ts → length ts ≡ 1 → (a : ℕ) → a ≡ transitionAt ts 0 .addr
+    → (x : ℕ) → x ≡ max (getD d a 0) mark → MarksTargets n mark ts d (set d a x)
+one-marked {n} {mark} {ts} {d} ok one a a-is x x-is = marked-all (marked-step ok 0 (omega arith) a a-is (marked-none n mark ts d) x x-is) (omega arith)
+
+pub marks-at : {f : Fst} {a mark : ℕ} {d₀ d : List ℕ} (m : Node) → nodeIn f a ≡ sound m → MarksTargets (length (f .bytes)) mark (m .transitions) d₀ d
+    → MarksAt f a mark d₀ d (m .first)
+marks-at {f} {a} {mark} {d₀} {d} m e h =
+    record {
+      marks = λ n e′.
+          let same : m ≡ n = cc in
+          subst (λ (x : Node). MarksTargets (length (f .bytes)) mark (x .transitions) d₀ d) same h;
+      first-is = λ n e′. let same : m ≡ n = cc in ap (λ (x : Node). x .first) same;
+    }

@@ -18,7 +18,7 @@ use Rattle.format.specs.Tables.{maxOf}
 use Rattle.admission.specs.declared.Total.{Total}
 use Rattle.admission.specs.declared.Total.the-variants.{Is}
 use Rattle.admission.specs.declared.Survey.{Survey}
-use Rattle.admission.specs.Passes.{childDepth, childSum, deepest, heaviest, totalAs, raisedBy, Surveyable, Surveyed, SurveyedAt}
+use Rattle.admission.specs.Passes.{childDepth, childSum, deepest, heaviest, totalAs, raisedBy, Surveyable, Surveyed, SurveyedNode, SurveyedAt}
 use Rattle.admission.proofs.Totals.{total-of-le, raised-total}
 
 -- ---- the largest over one transition more
@@ -81,6 +81,9 @@ module _ {d s : List ℕ} {out : ℕ} {ts : List Transition} (ok : Surveyable d 
     depth-is : c ≡ childDepth d (transitionAt ts i .addr)
     depth-is = c-is ∙ ap (childDepth d) a-is
 
+    pub target-small : c ≤ maxPath + 2
+    target-small = omega (arith, depth-is, ok .small (transitionAt ts i) (at-member ts i l))
+
     pub surveyed-step : {best : ℕ} {total : Total} (w x best′ : ℕ) (total′ : Total) → SurveyedTo d s out ts i best total
         → x ≡ childSum s a → w ≡ transitionAt ts i .out → best′ ≡ max best c → total′ ≡ raisedBy total (w + x)
         → SurveyedTo d s out ts (i + 1) best′ total′
@@ -108,16 +111,25 @@ surveyed-all {d} {s} {out} {ts} {i} {best} {total} h l =
       total = h .total-is ∙ ap (λ u. totalAs (heaviest s out u)) all;
     }
 
+-- ---- one transition
+
+pub one-surveyed : {d s : List ℕ} {out : ℕ} {ts : List Transition} → Surveyable d s out ts → length ts ≡ 1 → (a : ℕ) → a ≡ transitionAt ts 0 .addr
+    → (c : ℕ) → c ≡ childDepth d a → (w x best : ℕ) (total : Total) → x ≡ childSum s a → w ≡ transitionAt ts 0 .out → best ≡ max 0 c
+    → total ≡ raisedBy (Is out) (w + x) → Surveyed d s out ts (record { depth = best + 1; total = total })
+one-surveyed ok one a a-is c c-is w x best total x-is w-is best-is total-is =
+    surveyed-all (surveyed-step ok 0 (omega arith) a a-is c c-is w x best total (surveyed-none ok) x-is w-is best-is total-is) (omega arith)
+
+-- ---- the node at an address
+
+pub surveyed-node : {f : Fst} {d s : List ℕ} {a : ℕ} {r : Survey} (m : Node) → nodeIn f a ≡ sound m → Surveyed d s (m .finalOutput) (m .transitions) r
+    → SurveyedNode f d s a r
+surveyed-node {f} {d} {s} {r = r} m e h =
+    record { each = λ n e′. let same : m ≡ n = cc in subst (λ (x : Node). Surveyed d s (x .finalOutput) (x .transitions) r) same h }
+
 -- ---- by the mark
 
 pub unused-surveyed : {f : Fst} {d s : List ℕ} {a mark : ℕ} → mark ≡ 3 → SurveyedAt f d s a mark (record { depth = 0; total = Is 0 })
 unused-surveyed is = record { no-depth = λ _. refl; no-total = λ _. refl; found = λ ne. absurd (ne is) }
 
-pub surveyed-at : {f : Fst} {d s : List ℕ} {a mark : ℕ} {r : Survey} → ¬ (mark ≡ 3) → (m : Node) → nodeIn f a ≡ sound m
-    → Surveyed d s (m .finalOutput) (m .transitions) r → SurveyedAt f d s a mark r
-surveyed-at {f} {d} {s} {r = r} ne m e h =
-    record {
-      no-depth = λ is. absurd (ne is);
-      no-total = λ is. absurd (ne is);
-      found = λ _ n e′. let same : m ≡ n = cc in subst (λ (x : Node). Surveyed d s (x .finalOutput) (x .transitions) r) same h;
-    }
+pub surveyed-at : {f : Fst} {d s : List ℕ} {a mark : ℕ} {r : Survey} → ¬ (mark ≡ 3) → SurveyedNode f d s a r → SurveyedAt f d s a mark r
+surveyed-at ne h = record { no-depth = λ is. absurd (ne is); no-total = λ is. absurd (ne is); found = λ _. h }

@@ -17,7 +17,7 @@ use Rattle.format.specs.laws.NodeFacts.{node-first-low, node-first-le, node-ins
 use Rattle.format.specs.Admitted.{Chain, last, next}
 use Rattle.format.specs.laws.ChainLaws.{ChainLast, ChainNext, chain-cases}
 use Rattle.format.specs.laws.ReachedLaws.{reached-root, reached-by}
-use Rattle.admission.specs.Passes.{Hit, Live, TargetIn, Markable, MarksTargets, Source, Entered, Walkable, ChainMarked}
+use Rattle.admission.specs.Passes.{Hit, Live, TargetIn, MarksTargets, Source, Entered, Walkable, ChainMarked}
 use Rattle.admission.proofs.Stores.{at-set}
 
 -- ---- one step of a chain, where the node is known
@@ -98,9 +98,6 @@ module _ {f : Fst} {d : List ℕ} {a : ℕ} {l : List ℕ} (w : Walking f d a l)
 
     pub walked-first-low : 16 ≤ m .first
     walked-first-low = node-first-low f a m e (w .not-zero)
-
-    pub walked-markable : length (f .bytes) ≤ length d → Markable (length (f .bytes)) d (m .transitions)
-    walked-markable room = record { room = room; inside = λ t mem. omega (arith, node-target-lt f a m e t mem, walked-inside) }
 
     module _ (mark : ℕ) (two : getD d a 0 ≡ 2 → mark ≡ 2) (one : ¬ (getD d a 0 ≡ 2) → mark ≡ 1) where
       -- a itself is not passed yet

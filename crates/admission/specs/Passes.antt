@@ -7,7 +7,7 @@
 --     4    a node of the chain, passed, that is reached
 --     Kept n d₀ d             the table d is as long as d₀, and the same from n on
 --     Hit x, Live d a         the mark of a reached address; the mark 4 at a
---     MarksTargets            the marks that one node gives to its targets
+--     MarksTargets, MarksAt   the marks that one node gives to its targets
 --     Entered f d l           the marks once the nodes of l are passed
 --     childDepth, childSum    what the tables say of a target
 --     deepest, heaviest       the largest of these over a node's transitions
@@ -64,6 +64,11 @@ pub record MarksTargets (n mark : ℕ) (ts : List Transition) (d₀ d : List ℕ
   pub kept : Kept n d₀ d
   pub led : (j : ℕ) → (getD d j 0 ≡ getD d₀ j 0) ⊎ (TargetIn ts j × (getD d j 0 ≡ max (getD d₀ j 0) mark))
   pub aim : (t : Transition) → List·Memᴰ t ts → mark ≤ getD d (t .addr) 0
+
+-- the node at a marks its targets, and its first byte is known
+pub record MarksAt (f : Fst) (a mark : ℕ) (d₀ d : List ℕ) (first : ℕ) : Type 0 where
+  pub marks : (m : Node) → nodeIn f a ≡ sound m → MarksTargets (length (f .bytes)) mark (m .transitions) d₀ d
+  pub first-is : (m : Node) → nodeIn f a ≡ sound m → first ≡ m .first
 
 -- a node of l leads to j
 pub record Source (f : Fst) (l : List ℕ) (j : ℕ) : Type 0 where
@@ -128,15 +133,22 @@ pub record Surveyed (d s : List ℕ) (out : ℕ) (ts : List Transition) (r : Sur
   pub depth : r .depth ≡ deepest d ts + 1
   pub total : r .total ≡ totalAs (heaviest s out ts)
 
+-- the same of the node at a
+pub record SurveyReady (f : Fst) (d s : List ℕ) (a : ℕ) : Type 0 where
+  pub each : (m : Node) → nodeIn f a ≡ sound m → Surveyable d s (m .finalOutput) (m .transitions)
+
+pub record SurveyedNode (f : Fst) (d s : List ℕ) (a : ℕ) (r : Survey) : Type 0 where
+  pub each : (m : Node) → nodeIn f a ≡ sound m → Surveyed d s (m .finalOutput) (m .transitions) r
+
 -- the same at the address a of the chain, by its mark: only a reached node is read
 pub record SurveyableAt (f : Fst) (d s : List ℕ) (a mark : ℕ) : Type 0 where
   pub sounds : ¬ (mark ≡ 3) → SoundAt (f .bytes) (f .version) (f .root) a
-  pub ready : ¬ (mark ≡ 3) → (m : Node) → nodeIn f a ≡ sound m → Surveyable d s (m .finalOutput) (m .transitions)
+  pub ready : ¬ (mark ≡ 3) → SurveyReady f d s a
 
 pub record SurveyedAt (f : Fst) (d s : List ℕ) (a mark : ℕ) (r : Survey) : Type 0 where
   pub no-depth : mark ≡ 3 → r .depth ≡ 0
   pub no-total : mark ≡ 3 → r .total ≡ Is 0
-  pub found : ¬ (mark ≡ 3) → (m : Node) → nodeIn f a ≡ sound m → Surveyed d s (m .finalOutput) (m .transitions) r
+  pub found : ¬ (mark ≡ 3) → SurveyedNode f d s a r
 
 -- ---- the walk down the chain
 

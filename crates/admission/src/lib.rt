@@ -8,9 +8,10 @@ ghost use mathlib.Core.Bool.{true, cond};
 ghost use mathlib.Core.List.{_++_};
 ghost use Prim.Native.Nat.{max, min, _+_, _≤_, _<_};
 ghost use lib.Dec.{ltb};
-ghost use lib.ListN.{length, drop, replicate};
+ghost use lib.ListN.{length, getD, drop, replicate};
+ghost use Rattle.format.specs.Node.{SoundAt};
 ghost use Rattle.node.specs.Read.{transitionsIn, Readable};
-ghost use Rattle.admission.specs.Passes.{Kept, Markable, MarksTargets, childDepth, childSum, raisedBy, Surveyable, Surveyed, SurveyableAt, SurveyedAt, entryIs, orOver, Walkable, Walked, Fillable, Filled};
+ghost use Rattle.admission.specs.Passes.{Kept, Markable, MarksTargets, MarksAt, childDepth, childSum, raisedBy, Surveyable, Surveyed, SurveyReady, SurveyedNode, SurveyableAt, SurveyedAt, entryIs, orOver, Walkable, Walked, Fillable, Filled};
 ghost use Rattle.format.specs.Limits.{maxLevels};
 ghost use Rattle.format.specs.Paths.{fstWith};
 ghost use Rattle.admission.specs.Outcome.{Cleared, Judges, Opens, Outcome};
@@ -21,6 +22,7 @@ use format::NODE;
 use format::SPACE;
 use format::SUM;
 use fst::Opened;
+use le_bytes::small;
 use node::Node;
 
 // The largest entry of an admitted file: 1 plus a path of 255.
@@ -170,6 +172,60 @@ fn survey_node(file: &[u8], node: Node, depths: &[u16], sums: &[u64]) -> Survey
     }
 }
 
+// The same of a sound node with one transition: its form is known, so no node is made.
+fn survey_one(
+    file: &[u8],
+    version: u64,
+    root: usize,
+    a: usize,
+    depths: &[u16],
+    sums: &[u64],
+) -> Survey
+    requires { ⌜ SoundAt (now file) version root a × (128 ≤ getD (now file) a 0) × (getD (now file) a 0 < 192)
+        × SurveyReady (fstWith (now file) version root) (now depths) (now sums) a ⌝ }
+    ensures { λ r. ⌜ SurveyedNode (fstWith (now (file .entry)) version root) (now (depths .entry))
+        (now (sums .entry)) a r ⌝ }
+{
+    let m = node::one_node(file, version, root, a);
+    let t = node::transition_addr(file, m, 0);
+    let d = child_depth(depths, t);
+    let s = child_sum(sums, t);
+    let w = node::output(file, m, 0);
+    let best = larger16(0, d);
+    let total = raised(Total::Is(m.final_output), w, s);
+    Survey {
+        depth: best + 1,
+        total,
+    }
+}
+
+// The same of a sound node with one transition to the node just below it: its form is known, so no node is made.
+fn survey_next(
+    file: &[u8],
+    version: u64,
+    root: usize,
+    a: usize,
+    depths: &[u16],
+    sums: &[u64],
+) -> Survey
+    requires { ⌜ SoundAt (now file) version root a × (192 ≤ getD (now file) a 0)
+        × SurveyReady (fstWith (now file) version root) (now depths) (now sums) a ⌝ }
+    ensures { λ r. ⌜ SurveyedNode (fstWith (now (file .entry)) version root) (now (depths .entry))
+        (now (sums .entry)) a r ⌝ }
+{
+    let m = node::next_node(file, version, root, a);
+    let t = node::transition_addr(file, m, 0);
+    let d = child_depth(depths, t);
+    let s = child_sum(sums, t);
+    let w = node::output(file, m, 0);
+    let best = larger16(0, d);
+    let total = raised(Total::Is(m.final_output), w, s);
+    Survey {
+        depth: best + 1,
+        total,
+    }
+}
+
 // The same for the address a of the chain, which has this mark. A node that is not reached is not read: its entries are 0.
 fn survey_at(
     file: &[u8],
@@ -190,8 +246,15 @@ fn survey_at(
             total: Total::Is(0),
         };
     }
-    let m = node::node_of(file, version, root, a);
-    survey_node(file, m, depths, sums)
+    let state = small(file[a]);
+    if state < 128 {
+        let m = node::any_node(file, version, root, a);
+        return survey_node(file, m, depths, sums);
+    }
+    if state < 192 {
+        return survey_one(file, version, root, a, depths, sums);
+    }
+    survey_next(file, version, root, a, depths, sums)
 }
 
 // ---- the flags
@@ -261,6 +324,65 @@ fn mark_targets(file: &[u8], node: Node, mark: u16, depths: &mut [u16])
     }
 }
 
+// The same of a sound node with one transition; answers its first byte.
+fn mark_one(
+    file: &[u8],
+    version: u64,
+    root: usize,
+    a: usize,
+    mark: u16,
+    depths: &mut [u16],
+) -> usize
+    requires { ⌜ SoundAt (now file) version root a × (128 ≤ getD (now file) a 0) × (getD (now file) a 0 < 192)
+        × (length (now file) ≤ length (now depths)) ⌝ }
+    ensures { λ r. ⌜ MarksAt (fstWith (now (file .entry)) version root) a mark
+        (now (depths .entry)) (now (depths .exit)) r ⌝ }
+{
+    let m = node::one_node(file, version, root, a);
+    let t = node::transition_addr(file, m, 0);
+    depths[t] = larger16(depths[t], mark);
+    m.first
+}
+
+// The same of a sound node with one transition to the node just below it; answers its first byte.
+fn mark_next(
+    file: &[u8],
+    version: u64,
+    root: usize,
+    a: usize,
+    mark: u16,
+    depths: &mut [u16],
+) -> usize
+    requires { ⌜ SoundAt (now file) version root a × (192 ≤ getD (now file) a 0)
+        × (length (now file) ≤ length (now depths)) ⌝ }
+    ensures { λ r. ⌜ MarksAt (fstWith (now (file .entry)) version root) a mark
+        (now (depths .entry)) (now (depths .exit)) r ⌝ }
+{
+    let m = node::next_node(file, version, root, a);
+    let t = node::transition_addr(file, m, 0);
+    depths[t] = larger16(depths[t], mark);
+    m.first
+}
+
+// The same of any sound node.
+fn mark_at(file: &[u8], version: u64, root: usize, a: usize, mark: u16, depths: &mut [u16]) -> usize
+    requires { ⌜ SoundAt (now file) version root a
+        × (length (now file) ≤ length (now depths)) ⌝ }
+    ensures { λ r. ⌜ MarksAt (fstWith (now (file .entry)) version root) a mark
+        (now (depths .entry)) (now (depths .exit)) r ⌝ }
+{
+    let state = small(file[a]);
+    if state < 128 {
+        let m = node::any_node(file, version, root, a);
+        mark_targets(file, m, mark, depths);
+        return m.first;
+    }
+    if state < 192 {
+        return mark_one(file, version, root, a, mark, depths);
+    }
+    mark_next(file, version, root, a, mark, depths)
+}
+
 // Judges the chain from the root down, and marks it and what it leads to; false where it breaks.
 fn walk(file: &[u8], version: u64, root: usize, depths: &mut [u16]) -> bool
     requires { ⌜ Walkable (fstWith (now file) version root) (now depths) ⌝ }
@@ -272,14 +394,13 @@ fn walk(file: &[u8], version: u64, root: usize, depths: &mut [u16]) -> bool
     let mut a = root;
     depths[root] = HIT;
     loop {
-        let node::Judged::Sound(m) = node::node_at(file, version, root, a) else {
+        if node::is_sound(file, version, root, a) {} else {
             return false;
-        };
+        }
         let mark = mark_of(depths[a]);
-        mark_targets(file, m, mark, depths);
+        let first = mark_at(file, version, root, a, mark, depths);
         // UNUSED, or 4 for a node that is reached
         depths[a] = mark + 2;
-        let first = m.first;
         if first == FIRST_NODE {
             return true;
         }

@@ -12,7 +12,7 @@ ghost use Rattle.format.specs.Node.{bytesDown, numbersDown, countOf, inputOf, i
 ghost use Rattle.node.specs.Read.{Head, Falls, Probed, below, AtMost, PartsRight, Searchable, shapeIs, AtForm, emptyNode, Judges, transitionsIn, nodeInputs, nodeDeltas, Readable, Finds, LooksUp, placeIs, anyNode, wayIn, stepOf};
 ghost use Rattle.node.specs.declared.Step.the-variants.{Sound as Stepped};
 ghost use Rattle.node.specs.declared.Judged.the-variants.{Sound};
-ghost use Rattle.format.specs.declared.State.the-variants.{AnyTrans};
+ghost use Rattle.format.specs.declared.State.the-variants.{OneTransNext, OneTrans, AnyTrans};
 ghost use mathlib.Core.List.{[], _∷_};
 use common_inputs::common_input;
 use format::FIRST_NODE;
@@ -581,7 +581,7 @@ fn next_sound(file: &[u8], version: u64, root: usize, addr: usize) -> bool
 }
 
 // Whether the node at addr is sound, in a file of this version and root.
-fn is_sound(file: &[u8], version: u64, root: usize, addr: usize) -> bool
+pub fn is_sound(file: &[u8], version: u64, root: usize, addr: usize) -> bool
     ensures { λ r. ⌜ Decides r (SoundAt (now (file .entry)) version root addr) ⌝ }
 {
     // the state byte itself lies from 16 to the root, and in the file
@@ -607,9 +607,10 @@ fn is_sound(file: &[u8], version: u64, root: usize, addr: usize) -> bool
 // ---- the numbers of a sound node
 
 // A node with any number of transitions.
-fn any_node(file: &[u8], version: u64, root: usize, addr: usize) -> Node
+pub fn any_node(file: &[u8], version: u64, root: usize, addr: usize) -> Node
     requires { ⌜ SoundAt (now file) version root addr × (getD (now file) addr 0 < 128) ⌝ }
-    ensures { λ r. ⌜ Judges (now (file .entry)) version root addr (Sound r) ⌝ }
+    ensures { λ r. ⌜ Judges (now (file .entry)) version root addr (Sound r)
+        × (r .state ≡ AnyTrans) ⌝ }
 {
     let shape = shape_of(file, version, addr);
     let size = shape.size;
@@ -637,10 +638,11 @@ fn any_node(file: &[u8], version: u64, root: usize, addr: usize) -> Node
 }
 
 // A node with one transition.
-fn one_node(file: &[u8], version: u64, root: usize, addr: usize) -> Node
+pub fn one_node(file: &[u8], version: u64, root: usize, addr: usize) -> Node
     requires { ⌜ SoundAt (now file) version root addr × (128 ≤ getD (now file) addr 0)
         × (getD (now file) addr 0 < 192) ⌝ }
-    ensures { λ r. ⌜ Judges (now (file .entry)) version root addr (Sound r) ⌝ }
+    ensures { λ r. ⌜ Judges (now (file .entry)) version root addr (Sound r)
+        × (r .state ≡ OneTrans) ⌝ }
 {
     let len = head_len(file, addr);
     let sizes = small(file[addr - len]);
@@ -663,9 +665,10 @@ fn one_node(file: &[u8], version: u64, root: usize, addr: usize) -> Node
 }
 
 // A node with one transition to the node just below it.
-fn next_node(file: &[u8], version: u64, root: usize, addr: usize) -> Node
+pub fn next_node(file: &[u8], version: u64, root: usize, addr: usize) -> Node
     requires { ⌜ SoundAt (now file) version root addr × (192 ≤ getD (now file) addr 0) ⌝ }
-    ensures { λ r. ⌜ Judges (now (file .entry)) version root addr (Sound r) ⌝ }
+    ensures { λ r. ⌜ Judges (now (file .entry)) version root addr (Sound r)
+        × (r .state ≡ OneTransNext) ⌝ }
 {
     let first = addr + 1 - head_len(file, addr);
     let input = input_of(file, addr);
@@ -685,7 +688,7 @@ fn next_node(file: &[u8], version: u64, root: usize, addr: usize) -> Node
 
 // The numbers of the sound node at addr. They are made once it is judged, so that judging hands out
 // no more than a bool.
-pub fn node_of(file: &[u8], version: u64, root: usize, addr: usize) -> Node
+fn node_of(file: &[u8], version: u64, root: usize, addr: usize) -> Node
     requires { ⌜ SoundAt (now file) version root addr ⌝ }
     ensures { λ r. ⌜ Judges (now (file .entry)) version root addr (Sound r) ⌝ }
 {
