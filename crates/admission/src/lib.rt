@@ -318,8 +318,8 @@ fn mark_targets(file: &[u8], node: Node, mark: u16, depths: &mut [u16])
     let n = node.ntrans;
     let mut i = 0;
     while i < n {
-        let t = node::transition_addr(file, node, i);
-        depths[t] = larger16(depths[t], mark);
+        let to = node::transition_addr(file, node, i);
+        depths[to] = larger16(depths[to], mark);
         i += 1;
     }
 }
