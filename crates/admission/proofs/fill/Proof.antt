@@ -67,7 +67,7 @@ returns : tie.Need-returns Inv-loop μ-loop
 returns c =
     let turn = c .before .before .before in
     let h = filling (turn .before) in
-    filling-ends h Lost (filling-lost h (turn .loop-test .taken) (c .before .if1 .taken) (c .if2 .taken))
+    filling-ends h Lost (filling-lost h (turn .loop-test .taken) (c .before .if1 .taken) (omega (arith, c .if2 .taken)))
 
 -- the targets lie below the node, where entries are small
 survey-at-requires : tie.Need-survey-at-requires Inv-loop μ-loop

@@ -38,7 +38,7 @@ file c = fstWith (now (start c .args .file)) (start c .args .version) (start c .
 -- the depths, from what was given on
 kept-at : (q : tie.At-loop Inv-loop μ-loop)
     → Kept (length (now (q .before .before .before .args .file))) (now (q .before .before .before .args .depths)) (q .loop .depths)
-kept-at q = kept-then (kept-set _ 2 (q .before .before .before .pre .inside) (kept-none _ _)) (q .loop .inv .0)
+kept-at q = kept-then (kept-set _ _ (q .before .before .before .pre .inside) (kept-none _ _)) (q .loop .inv .0)
 
 walked : (c : tie.Then1 Inv-loop μ-loop) → Walking (file c) (at-node c .loop .depths) (at-node c .loop .a) (at-node c .loop .inv .1 .0)
 walked c = at-node c .loop .inv .1 .1
@@ -79,12 +79,6 @@ room-marked c = kept-lt (kept-marked c) (start (told c) .pre .room) (inside (tol
 kept-now : (c : tie.After-mark-at Inv-loop μ-loop)
     → Kept (length (file (told c) .bytes)) (now (start (told c) .args .depths)) (set (marked c) (at-node (told c) .loop .a) (c .before .before .mark-of .result + 2))
 kept-now c = kept-set (at-node (told c) .loop .a) _ (inside (told c)) (kept-marked c)
-
--- the same from the loop's start on
-kept-again : (c : tie.After-mark-at Inv-loop μ-loop)
-    → Kept (length (file (told c) .bytes)) (set (now (start (told c) .args .depths)) (start (told c) .args .root) 2)
-    (set (marked c) (at-node (told c) .loop .a) (c .before .before .mark-of .result + 2))
-kept-again c = kept-set (at-node (told c) .loop .a) _ (inside (told c)) (kept-then (at-node (told c) .loop .inv .0) (marks c .kept))
 
 -- the place of the root, in bytes, fits
 mul-depths : tie.Need-mul-depths Inv-loop μ-loop
@@ -174,7 +168,7 @@ loop-again : tie.Need-loop-again Inv-loop μ-loop
 loop-again c =
     let q = c .before .before .before in
     let mark = q .before .before .mark-of .ensures in (
-      kept-again q,
+      kept-set _ _ (inside (told q)) (kept-then (at-node (told q) .loop .inv .0) (marks q .kept)),
       (
         _,
         walking-next (walked (told q)) _ (node (told q) .1) _ (mark .0) (mark .1) _ (marks q) (room-marked q) _ (λ e. c .if2 .left (first-is q ∙ e))
