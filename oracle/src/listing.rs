@@ -330,7 +330,11 @@ fn unused_rows() -> Vec<Row> {
     let b = [0, 0x10, 0x9a];
     vec![
         yes("unused-path-of-256", "a path of 256 bytes that no key takes", unused_path(256, &b)),
-        yes("unused-path-below-a-final-node", "the same below two used nodes", unused_path(256, &[7, 1, 0, 0x40, 0xc5])),
+        yes(
+            "unused-path-below-a-final-node",
+            "the same below two used nodes",
+            unused_path(256, &[7, 1, 0, 0x40, 0xc5]),
+        ),
         yes("unused-sum", "outputs 2^64 - 1 and 1 on a path that no key takes", unused_sum(&b)),
         yes("unused-path-beside-a-key", "a key of 256 bytes put aside", aside(&hand_made::one_key(256))),
         yes("unused-sum-beside-a-key", "two outputs put aside", aside(&hand_made::sums(1, TOP))),

@@ -172,7 +172,9 @@ pub fn entries(file: &[u8]) -> Result<Entries, u64> {
     }
     // from the root down: what leads to a node lies above it
     let place = |target: usize, nodes: &[(u32, u16, u64)]| {
-        nodes.binary_search_by_key(&std::cmp::Reverse(target as u32), |node| std::cmp::Reverse(node.0)).map_err(|_| NODE)
+        nodes
+            .binary_search_by_key(&std::cmp::Reverse(target as u32), |node| std::cmp::Reverse(node.0))
+            .map_err(|_| NODE)
     };
     let mut reached = vec![false; nodes.len()];
     if let Some(root) = reached.first_mut() {

@@ -199,7 +199,9 @@ impl Wrong {
                     Some(there) => *there,
                     None if self.slips("a target may be no address of the chain") => (0, 0),
                     None if self.slips("every file that opens is admitted") => (0, 0),
-                    None if self.slips("targets of nodes that are not reached are not judged") && !used.contains(addr) => {
+                    None if self.slips("targets of nodes that are not reached are not judged")
+                        && !used.contains(addr) =>
+                    {
                         (0, 0)
                     }
                     None => return Err(NODE),

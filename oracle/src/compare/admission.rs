@@ -4,7 +4,9 @@ use std::collections::HashMap;
 use std::time::Instant;
 
 use super::opening::{refusal_name, REFUSALS};
-use super::{describe_file, same, smallest, Checked, Difference, Run, FILES_DAMAGED, LARGE_FILES_DAMAGED, UNUSED_FILES};
+use super::{
+    describe_file, same, smallest, Checked, Difference, Run, FILES_DAMAGED, LARGE_FILES_DAMAGED, UNUSED_FILES,
+};
 use crate::answers::{FileAnswers, Meaning, DEEP, NODE, SHORT, SPACE, SUM};
 use crate::generate_file::{self, damage, file_of, medium, small};
 use crate::given_file;
@@ -61,9 +63,7 @@ const ROWS: &[Row] = &[
     // the node at 19 is shared with the unused one at 23
     Row {
         name: "shared-with-an-unused-node",
-        file: || {
-            file_of(3, &[7, 1, 0, 0x40, 1, 1, 0x11, 0x85, 5, 5, 0x11, 0x9a, 1, 1, 0x11, 0x8a])
-        },
+        file: || file_of(3, &[7, 1, 0, 0x40, 1, 1, 0x11, 0x85, 5, 5, 0x11, 0x9a, 1, 1, 0x11, 0x8a]),
         want: 0,
         entries: &[(19, 1, 7), (27, 2, 12), (31, 3, 13)],
     },
