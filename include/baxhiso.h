@@ -116,14 +116,14 @@ int32_t fst_get_key(const uint8_t *file, size_t file_len, uint64_t value,
  *   sums, sums_len       work table, at least file_len entries
  *
  * What both tables hold afterwards, by result:
- *   FST_OK                       at the address of each node, depths has 1 plus its longest path and sums its largest sum;
- *                                0 at the other entries below file_len
+ *   FST_OK                       at the address of each node that a path from the root reaches, depths has 1 plus its
+ *                                longest path and sums its largest sum; 0 at the other entries below file_len
  *   FST_NODE, FST_DEEP, FST_SUM  0 at all entries below file_len
  *   any other                    what they held before
  * Entries from file_len on are left as they were on every result.
  *
- * Returns FST_SHORT, FST_LARGE, FST_VERSION or FST_ROOT, as fst_open, then FST_SPACE, then FST_NODE, FST_DEEP, FST_SUM, each
- * decided over the whole file before the next, else FST_OK. */
+ * Returns FST_SHORT, FST_LARGE, FST_VERSION or FST_ROOT, as fst_open, then FST_SPACE, then FST_NODE, decided over every node,
+ * then FST_DEEP and FST_SUM, each decided over all nodes that a path from the root reaches, else FST_OK. */
 int32_t fst_admit(const uint8_t *file, size_t file_len,
                   uint16_t *depths, size_t depths_len, uint64_t *sums, size_t sums_len);
 

@@ -1,5 +1,5 @@
-// Times of lookups and readings, ours beside the Rust's, on three sets that are made here (docs/PERFORMANCE.md). Ours opens the
-// file and judges each node in every call; the Rust opens it once and judges nothing.
+// Times of lookups, readings and admission, ours beside the Rust's, on three sets that are made here (docs/PERFORMANCE.md). Ours opens
+// the file and judges each node in every call; the Rust opens it once and judges nothing. Beside admission the Rust walks the nodes.
 
 use std::hint::black_box;
 use std::time::Instant;
@@ -21,6 +21,8 @@ const ROUNDS: usize = 9;
 const READ: usize = 100_000;
 const SHORT: usize = 20;
 const PARTS: usize = 20;
+// A file as long as words fill 16 MiB.
+const DENSE: usize = 16_777_216;
 
 struct Set {
     name: &'static str,
@@ -135,6 +137,20 @@ fn opening(ours: &dyn FileAnswers, file: &[u8], keys: &[&[u8]]) -> (f64, f64) {
             }
         },
     )
+}
+
+// Admission, a byte of the file.
+fn admitting(ours: &dyn FileAnswers, rust: &Opened, file: &[u8]) -> (f64, f64) {
+    let (mut depths, mut sums) = (vec![0; file.len()], vec![0; file.len()]);
+    let all = times_in(
+        &[()],
+        1,
+        |_| assert_eq!(ours.admit(black_box(file), &mut depths, &mut sums), 0),
+        |_| {
+            black_box(rust.walk_timed());
+        },
+    );
+    (all.0 / file.len() as f64, all.1 / file.len() as f64)
 }
 
 fn entering(ours: &dyn Answers, rust: &Opened, file: &[u8], paths: &[Vec<usize>]) -> (f64, f64) {
@@ -262,6 +278,11 @@ pub fn bench(nodes: &dyn Answers, ours: &dyn FileAnswers, readings: &dyn Reading
         say("key of a long reading", reading(readings, &rust, &file, &whole));
         let short: Vec<Part> = (0..READ / SHORT).map(|_| part(&set.keys, prng.below(n - SHORT), SHORT)).collect();
         say("key of a range of 20", reading(readings, &rust, &file, &short));
+        say("admission, a byte", admitting(ours, &rust, &file));
         println!();
     }
+    let file = generate_file::dense(&mut Prng::new(8), DENSE);
+    let rust = given_file::open(&file).expect("it has a root");
+    println!("a file of {} bytes", file.len());
+    say("admission, a byte", admitting(ours, &rust, &file));
 }

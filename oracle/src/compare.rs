@@ -109,6 +109,7 @@ const NUMBERS: usize = 200_000;
 const OPENINGS: usize = 60_000;
 const FILES_DAMAGED: usize = 400_000;
 const LARGE_FILES_DAMAGED: usize = 40_000;
+const UNUSED_FILES: usize = 120_000;
 const LOOKUPS: usize = 2_000_000;
 const LOOKUPS_DAMAGED: usize = 600_000;
 const RANGES: usize = 150_000;
@@ -194,6 +195,11 @@ impl<'a> Run<'a> {
                 ("files of no bytes, and of under 36 bytes", Run::little),
             ],
         )
+    }
+
+    // Those of admission alone.
+    pub fn admissions(&mut self, print: bool) -> Checked {
+        self.sections(print, &[("admission", Run::admission)])
     }
 
     // Those of files and records past 16 MiB alone.

@@ -7,7 +7,7 @@ use crate::builder::{self, trailer_size, whole, Builder};
 use crate::generate::{self, Targets};
 use crate::given;
 use crate::model::FIRST_NODE;
-use crate::model_file::Admitted;
+use crate::model_file::{self, Admitted};
 use crate::prng::Prng;
 
 // A file with keys to ask for: those it was built from, or none where it was not built from keys.
@@ -157,7 +157,21 @@ pub fn built(prng: &mut Prng, most: usize) -> Made {
 // it. Outputs take at most `size` bytes. Where `loose`, a target now and then is any address.
 pub fn chained(prng: &mut Prng, version: u64, nodes: usize, size: usize, loose: bool) -> Made {
     let mut file = header(version, prng.next());
-    let mut addrs = vec![0];
+    grow(prng, version, &mut file, &mut vec![0], nodes, size, loose);
+    let root = file.len() - 1;
+    Made { file: builder::whole(file, prng.next(), root, prng.next() as u32), keys: Vec::new() }
+}
+
+// So many nodes more, each with targets among the addresses and the nodes before it; the last is the root.
+fn grow(
+    prng: &mut Prng,
+    version: u64,
+    file: &mut Vec<u8>,
+    addrs: &mut Vec<usize>,
+    nodes: usize,
+    size: usize,
+    loose: bool,
+) {
     for i in 1..=nodes {
         let first = file.len();
         let is_root = i == nodes;
@@ -178,14 +192,50 @@ pub fn chained(prng: &mut Prng, version: u64, nodes: usize, size: usize, loose: 
             *target = match prng.below(4) {
                 0 => addrs[addrs.len() - 1],
                 1 => 0,
-                _ => prng.pick(&addrs),
+                _ => prng.pick(addrs),
             };
         }
         file.extend(generate::any_layout(prng, &record, version, first).bytes);
         addrs.push(file.len() - 1);
     }
+}
+
+// The nodes of a file, from 16 to its root.
+fn nodes_in(file: &[u8], version: u64) -> &[u8] {
+    &file[FIRST_NODE..file.len() - trailer_size(version)]
+}
+
+// A chain of nodes put on top of one or two others, with few targets among those or none, so that most of what lies below is
+// reached by no path; it may have paths over 255 and sums past 2^64 - 1. A delta is counted from its own node, so nodes mean the
+// same wherever they stand.
+pub fn unused(prng: &mut Prng) -> Vec<u8> {
+    let version = prng.pick(&[1, 2, 3]);
+    let mut below = Vec::new();
+    for _ in 0..prng.between(1, 2) {
+        let loose = prng.one_in(8);
+        let (some, long) = (prng.between(1, 6), prng.between(250, 262));
+        let file = match prng.below(8) {
+            0 => path_over(prng, version, &[0, 0, 0x40], long, 0, false),
+            1 | 2 => path_over(prng, version, &[0, 0, 0x40], some, 8, true),
+            _ => chained(prng, version, some, 8, loose).file,
+        };
+        below.extend(nodes_in(&file, version));
+    }
+    let lower = file_of(version, &below);
+    let mut addrs = vec![0];
+    // alone it may be shorter than a file can be, and its nodes may be unsound
+    let chain = model_file::open(&lower).ok().and_then(|meta| model_file::chain(&lower, &meta));
+    if let Some(chain) = chain {
+        let leads = prng.pick(&[0, 0, 1, 3]);
+        addrs.extend((0..leads).map(|_| chain[prng.below(chain.len())].0));
+    }
+    let mut file = header(version, 0);
+    file.extend(below);
+    let (nodes, size) = (prng.between(1, 4), prng.between(0, 8));
+    let loose = prng.one_in(8);
+    grow(prng, version, &mut file, &mut addrs, nodes, size, loose);
     let root = file.len() - 1;
-    Made { file: builder::whole(file, prng.next(), root, prng.next() as u32), keys: Vec::new() }
+    builder::whole(file, prng.next(), root, prng.next() as u32)
 }
 
 pub fn header(version: u64, ty: u64) -> Vec<u8> {

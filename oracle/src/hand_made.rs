@@ -74,3 +74,18 @@ pub fn path_to(nodes: &[u8], n: usize) -> Vec<u8> {
     nodes.extend(vec![0xc5; n]);
     file_of(3, &nodes)
 }
+
+// A node that leads to address 0, and so many less 1 above it, each to the one below; then these.
+pub fn unused_path(n: usize, above: &[u8]) -> Vec<u8> {
+    let mut nodes = vec![0, 0x10, 0x85];
+    nodes.extend(vec![0xc5; n - 1]);
+    nodes.extend(above);
+    file_of(3, &nodes)
+}
+
+// A path whose outputs are 2^64 - 1 and 1; then these.
+pub fn unused_sum(above: &[u8]) -> Vec<u8> {
+    let mut nodes = vec![1, 0, 0x11, 0x85, 0xff, 0xff, 0xff, 0xff, 0xff, 0xff, 0xff, 0xff, 1, 0x18, 0x85];
+    nodes.extend(above);
+    file_of(3, &nodes)
+}

@@ -9,7 +9,7 @@ use crate::answers::{Bound, Kind, Record, DEEP, LARGE, NODE, ROOT, SHORT, SUM, V
 use crate::builder::{self, Builder};
 use crate::generate_file::{chained, distinct, file_of, header, nodes_of, word};
 use crate::given_file;
-use crate::hand_made::{self, ends};
+use crate::hand_made::{self, ends, unused_path, unused_sum};
 use crate::model;
 use crate::model_file::{self, Admitted};
 use crate::prng::Prng;
@@ -328,6 +328,40 @@ fn unusual_rows() -> Vec<Row> {
     ]
 }
 
+// Nodes that no path from the root reaches: neither their paths nor their sums count.
+fn unused_rows() -> Vec<Row> {
+    let yes = |name, shows, file| row(name, ADMITTED, shows, file);
+    // a final root above another file's nodes, none of which it leads to
+    let aside = |file: &[u8]| file_of(3, &[&file[16..file.len() - 20], &[7, 1, 0, 0x40]].concat());
+    let b = [0, 0x10, 0x9a];
+    vec![
+        yes("unused-path-of-256", "a path of 256 bytes that no key takes", unused_path(256, &b)),
+        yes(
+            "unused-path-below-a-final-node",
+            "the same below two used nodes",
+            unused_path(256, &[7, 1, 0, 0x40, 0xc5]),
+        ),
+        yes("unused-sum", "outputs 2^64 - 1 and 1 on a path that no key takes", unused_sum(&b)),
+        yes("unused-path-beside-a-key", "a key of 256 bytes put aside", aside(&hand_made::one_key(256))),
+        yes("unused-sum-beside-a-key", "two outputs put aside", aside(&hand_made::sums(1, TOP))),
+        yes(
+            "unused-node-shares-a-target",
+            "a final node that a used and an unused node lead to",
+            file_of(3, &[7, 1, 0, 0x40, 1, 1, 0x11, 0x85, 5, 5, 0x11, 0x9a, 1, 1, 0x11, 0x8a]),
+        ),
+        yes(
+            "unused-but-the-root",
+            "every node but the root is unused",
+            file_of(2, &[0, 0x10, 0x85, 0xc5, 0xc5, 0, 0, 0x40, 0, 0x10, 0x9a]),
+        ),
+        yes(
+            "unused-above-a-node-reached-twice",
+            "a node reached in two ways, to which an unused one leads too",
+            file_of(1, &[0, 0x10, 0x85, 0xc5, 0xc6, 3, 2, b'b', b'a', 0x10, 0x02]),
+        ),
+    ]
+}
+
 fn refused_rows() -> Vec<Row> {
     let d_with = |at: usize, b: u8| {
         let mut file = d_in(3);
@@ -390,8 +424,6 @@ fn not_admitted_rows() -> Vec<Row> {
     let mut all_three = vec![0, 0, 0];
     all_three.extend(&hand_made::deep_and_sum()[16..]);
     all_three.truncate(all_three.len() - 20);
-    // a final root above another file's nodes, none of which it leads to
-    let aside = |file: &[u8]| file_of(3, &[&file[16..file.len() - 20], &[7, 1, 0, 0x40]].concat());
     vec![
         row("refused-5-33-bytes", NODE, "a node of one byte at 16, version 2", file_of(2, &[0xc5])),
         row("refused-5-34-bytes", NODE, "two bytes of nodes, version 1", file_of(1, &[0, 0x40])),
@@ -408,6 +440,12 @@ fn not_admitted_rows() -> Vec<Row> {
         no("refused-5-target-below-16", "a target of 15", &[7, 1, 0, 0x40, 5, 0x10, 0x85]),
         no("refused-5-neither-final-nor-transition", "a useless node that is not the root", &[0, 0, 0, 0xc5]),
         no("refused-5-unreached-node", "the same, and no path reaches it", &[0, 0, 0, 7, 1, 0, 0x40]),
+        no("refused-5-unused-node", "an unused node whose target would be 15", &[0xc1, 0, 0x10, 0x9a]),
+        no(
+            "refused-5-unused-target",
+            "an unused node whose target lies inside another",
+            &[0, 0x10, 0x85, 2, 0x10, 0x9a, 0, 0x10, 0x9a],
+        ),
         no("refused-5-broken-chain", "a byte below the nodes of D that no node takes", &[&[0], &d[..]].concat()),
         no(
             "refused-5-target-off-the-chain",
@@ -422,11 +460,11 @@ fn not_admitted_rows() -> Vec<Row> {
         ),
         no("refused-5-and-all-else", "an unsound node, a path of 256 bytes and a sum past 2^64 - 1", &all_three),
         deep("refused-6-key-256-bytes", "one key of 256 bytes", hand_made::one_key(256)),
-        deep("refused-6-unreached-path", "a path of 256 bytes that no key takes", aside(&hand_made::one_key(256))),
+        deep("refused-6-chain-of-256", "the chain of 256 nodes of `unused-path-of-256`, used", unused_path(256, &[])),
         deep("refused-6-and-a-sum", "a path of 256 bytes whose sum passes 2^64 - 1", hand_made::deep_and_sum()),
         sum("refused-7-outputs", "outputs 2^64 - 1 and 1", hand_made::sums(1, TOP)),
+        sum("refused-7-sum-of-two-nodes", "the nodes of `unused-sum`, used", unused_sum(&[])),
         sum("refused-7-final-output", "output 2^64 - 1 and final output 1", hand_made::final_sums(1, TOP)),
-        sum("refused-7-unreached-sum", "the same outputs on a path that no key takes", aside(&hand_made::sums(1, TOP))),
     ]
 }
 
@@ -508,7 +546,7 @@ fn expected(row: &Row) -> Result<String, String> {
 fn made() -> Result<(BTreeMap<String, Vec<u8>>, String), String> {
     let mut files = BTreeMap::new();
     let mut table = String::from("| File | Bytes | Last line | Shows |\n|---|---|---|---|\n");
-    for rows in vec![admitted_rows(), unusual_rows(), refused_rows(), not_admitted_rows()] {
+    for rows in vec![admitted_rows(), unusual_rows(), unused_rows(), refused_rows(), not_admitted_rows()] {
         for row in rows {
             let out = expected(&row)?;
             let last = out.lines().last().unwrap_or("");

@@ -106,6 +106,17 @@ fn compare_readings() -> bool {
     }
 }
 
+// Admission alone.
+fn compare_admission() -> bool {
+    match Run::new(library(), 1).admissions(true) {
+        Ok(()) => true,
+        Err(difference) => {
+            report(&difference);
+            false
+        }
+    }
+}
+
 // Files and records past 16 MiB alone.
 fn compare_long() -> bool {
     match Run::new(library(), 1).long(true) {
@@ -192,12 +203,13 @@ fn main() {
     let right = match args.get(1).map(String::as_str) {
         Some("compare") => compare(&args[2..]),
         Some("readings") => compare_readings(),
+        Some("admission") => compare_admission(),
         Some("long") => compare_long(),
         Some("self-test") => self_test(),
         Some("record") => record(&args[2..]),
         Some("listing") => listing::make(),
         _ => {
-            println!("oracle: compare, readings, long, self-test, record or listing");
+            println!("oracle: compare, readings, admission, long, self-test, record or listing");
             process::exit(2);
         }
     };

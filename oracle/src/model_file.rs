@@ -1,7 +1,7 @@
 // A plain model of document 01 on whole files: "An opened file", "An admitted file", "A value for a key, a key for a value".
 // It is written from the paper; a node is judged by model.rs. It answers for all bytes whatsoever.
 
-use std::collections::HashMap;
+use std::collections::{HashMap, HashSet};
 
 use crate::answers::{
     At, FileAnswers, Meaning, Meta, Transition, DEEP, HELD, KEY_REFUSED, LARGE, NODE, NOT_HELD, NO_CHECKSUM, NO_KEY,
@@ -72,14 +72,24 @@ pub struct Reach {
     pub largest: u128,
 }
 
-// An admitted file: the nodes of its chain, from the root down, with what they reach.
+// An admitted file: the nodes of its chain, from the root down, with what they reach; and the addresses that a path from the
+// root reaches, 0 left out.
 pub struct Admitted {
     pub meta: Meta,
     pub chain: Vec<(usize, Meaning, Reach)>,
+    pub reached: HashSet<usize>,
+}
+
+impl Admitted {
+    // What the tables hold, from the root down: 1 plus the longest path, and the largest sum, of each reached node.
+    pub fn entries(&self) -> Vec<(usize, u16, u64)> {
+        let reached = self.chain.iter().filter(|(addr, _, _)| self.reached.contains(addr));
+        reached.map(|(addr, _, r)| (*addr, 1 + r.longest as u16, r.largest as u64)).collect()
+    }
 }
 
 // The nodes from the root down: each F - 1 is the next one's address, until F is exactly 16. Root 0 has no chain.
-fn chain(file: &[u8], meta: &Meta) -> Option<Vec<(usize, Meaning)>> {
+pub fn chain(file: &[u8], meta: &Meta) -> Option<Vec<(usize, Meaning)>> {
     let mut nodes = Vec::new();
     let mut addr = meta.root;
     if addr == 0 {
@@ -96,7 +106,20 @@ fn chain(file: &[u8], meta: &Meta) -> Option<Vec<(usize, Meaning)>> {
     }
 }
 
-// The file's nodes, or a refusal: opening's, then 5, 6 and 7, each decided over the whole file.
+// The addresses that are met by following every transition from the root, 0 left out.
+pub fn reached(nodes: &HashMap<usize, &Meaning>, root: usize) -> HashSet<usize> {
+    let mut met = HashSet::new();
+    let mut to_meet = vec![root];
+    while let Some(addr) = to_meet.pop() {
+        if addr != 0 && met.insert(addr) {
+            to_meet.extend(nodes[&addr].transitions.iter().map(|t| t.addr));
+        }
+    }
+    met
+}
+
+// The file's nodes, or a refusal: opening's, then 5, decided over the whole file, then 6 and 7, each decided over all nodes that
+// a path from the root reaches.
 pub fn admitted(file: &[u8]) -> Result<Admitted, u64> {
     let meta = open(file)?;
     let nodes = chain(file, &meta).ok_or(NODE)?;
@@ -121,20 +144,25 @@ pub fn admitted(file: &[u8]) -> Result<Admitted, u64> {
     }
     let chain: Vec<_> =
         nodes.into_iter().map(|(addr, node)| (addr, node, reach[&addr].expect("every node was met"))).collect();
-    if chain.iter().any(|(_, _, r)| r.longest > MAX_PATH) {
+    let by_addr: HashMap<usize, &Meaning> = chain.iter().map(|(addr, node, _)| (*addr, node)).collect();
+    let reached = reached(&by_addr, meta.root);
+    let used = || chain.iter().filter(|(addr, _, _)| reached.contains(addr));
+    if used().any(|(_, _, r)| r.longest > MAX_PATH) {
         return Err(DEEP);
     }
-    if chain.iter().any(|(_, _, r)| r.largest > MAX_SUM) {
+    if used().any(|(_, _, r)| r.largest > MAX_SUM) {
         return Err(SUM);
     }
-    Ok(Admitted { meta, chain })
+    Ok(Admitted { meta, chain, reached })
 }
 
-// What admission writes into the tables of a file that it admits: at each node's address 1 plus the longest path, and the
-// largest sum.
+// What admission writes into the tables of a file that it admits: at each reached node's address 1 plus the longest path, and
+// the largest sum.
 pub struct Entries {
     // from the lowest node up
     pub nodes: Vec<(u32, u16, u64)>,
+    // how many nodes there are, reached or not
+    pub all: usize,
     // all that the nodes say, added up
     pub said: u64,
 }
@@ -149,7 +177,26 @@ pub fn entries(file: &[u8]) -> Result<Entries, u64> {
         nodes.push((addr as u32, 0, 0));
         addr = node.first - 1;
     }
+    // from the root down: what leads to a node lies above it
+    let place = |target: usize, nodes: &[(u32, u16, u64)]| {
+        nodes
+            .binary_search_by_key(&std::cmp::Reverse(target as u32), |node| std::cmp::Reverse(node.0))
+            .map_err(|_| NODE)
+    };
+    let mut reached = vec![false; nodes.len()];
+    if let Some(root) = reached.first_mut() {
+        *root = true;
+    }
+    for i in 0..nodes.len() {
+        for t in judge(file, &meta, nodes[i].0 as usize).expect("judged above").transitions {
+            if t.addr != 0 {
+                let target = place(t.addr, &nodes)?;
+                reached[target] = reached[target] || reached[i];
+            }
+        }
+    }
     nodes.reverse();
+    reached.reverse();
     let (mut said, mut deep, mut heavy) = (0u64, false, false);
     for i in 0..nodes.len() {
         let node = judge(file, &meta, nodes[i].0 as usize).expect("judged above");
@@ -164,8 +211,8 @@ pub fn entries(file: &[u8]) -> Result<Entries, u64> {
             here.longest = here.longest.max(usize::from(there.1));
             here.largest = here.largest.max(u128::from(t.out) + u128::from(there.2));
         }
-        deep = deep || here.longest > MAX_PATH;
-        heavy = heavy || here.largest > MAX_SUM;
+        deep = deep || reached[i] && here.longest > MAX_PATH;
+        heavy = heavy || reached[i] && here.largest > MAX_SUM;
         // what does not fit is refused below
         nodes[i] = (nodes[i].0, 1 + here.longest.min(MAX_PATH) as u16, here.largest.min(MAX_SUM) as u64);
     }
@@ -175,20 +222,22 @@ pub fn entries(file: &[u8]) -> Result<Entries, u64> {
     if heavy {
         return Err(SUM);
     }
-    Ok(Entries { nodes, said })
+    let all = nodes.len();
+    let nodes = nodes.into_iter().zip(reached).filter(|(_, reached)| *reached).map(|(node, _)| node).collect();
+    Ok(Entries { nodes, all, said })
 }
 
 // What admission leaves in the tables of a file of n bytes that opens, where they are long enough: 1 plus the longest path, and
-// the largest sum, at each address of the chain; 0 elsewhere, and everywhere after a refusal.
+// the largest sum, at the address of each reached node; 0 elsewhere, and everywhere after a refusal.
 pub fn fill(n: usize, judged: &Result<Admitted, u64>, depths: &mut [u16], sums: &mut [u64]) {
     for i in 0..n {
         depths[i] = 0;
         sums[i] = 0;
     }
     if let Ok(admitted) = judged {
-        for (addr, _, reach) in &admitted.chain {
-            depths[*addr] = 1 + reach.longest as u16;
-            sums[*addr] = reach.largest as u64;
+        for (addr, depth, sum) in admitted.entries() {
+            depths[addr] = depth;
+            sums[addr] = sum;
         }
     }
 }
@@ -217,13 +266,8 @@ pub fn reach_by_paths(nodes: &HashMap<usize, &Meaning>, addr: usize, steps: &mut
 // is at least 1, and each output plus its target's largest sum is below the next output.
 pub fn numbered(admitted: &Admitted) -> bool {
     let nodes: HashMap<usize, (&Meaning, Reach)> = admitted.chain.iter().map(|(a, n, r)| (*a, (n, *r))).collect();
-    let mut met = HashMap::new();
-    let mut to_meet = vec![admitted.meta.root];
-    while let Some(addr) = to_meet.pop() {
-        if addr == 0 || met.insert(addr, ()).is_some() {
-            continue;
-        }
-        let node = nodes[&addr].0;
+    for addr in &admitted.reached {
+        let node = nodes[addr].0;
         if node.final_output != 0 || node.is_final && node.transitions.first().map_or(false, |t| t.out == 0) {
             return false;
         }
@@ -233,7 +277,6 @@ pub fn numbered(admitted: &Admitted) -> bool {
                 return false;
             }
         }
-        to_meet.extend(node.transitions.iter().map(|t| t.addr));
     }
     true
 }

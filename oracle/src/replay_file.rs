@@ -56,13 +56,13 @@ impl List {
         let number = judged.as_ref().err().copied().unwrap_or(0);
         // opening's refusals, which go up to 4, and SPACE leave the tables as they were
         let written = if (1..=4).contains(&number) || number == SPACE { 0 } else { file.len() };
-        let mut nodes: Vec<_> = judged.iter().flat_map(|found| &found.chain).collect();
-        nodes.sort_by_key(|(addr, _, _)| *addr);
+        let mut nodes: Vec<_> = judged.iter().flat_map(|found| found.entries()).collect();
+        nodes.sort();
         let mut rows = Vec::new();
-        for (addr, _, reach) in nodes {
-            rows.extend(&(*addr as u16).to_le_bytes());
-            rows.extend(&(1 + reach.longest as u16).to_le_bytes());
-            rows.extend(&(reach.largest as u64).to_le_bytes());
+        for (addr, depth, sum) in nodes {
+            rows.extend(&(addr as u16).to_le_bytes());
+            rows.extend(&depth.to_le_bytes());
+            rows.extend(&sum.to_le_bytes());
             self.count("nodes");
         }
         self.put(ADMISSION, number, lent as u64, written as u64, &rows);

@@ -1,6 +1,6 @@
 // Wrong answers about whole files, to see that the comparisons notice them: document 01 with one slip each.
 
-use std::collections::HashMap;
+use std::collections::{HashMap, HashSet};
 
 use crate::answers::{
     At, FileAnswers, Meaning, Meta, DEEP, HELD, KEY_REFUSED, LARGE, NODE, NOT_HELD, NO_CHECKSUM, NO_KEY, ROOT, SHORT,
@@ -41,6 +41,10 @@ pub const SLIPS: &[&str] = &[
     "the chain may stop above 16",
     "a target may be no address of the chain",
     "nodes that no path reaches are not judged",
+    "paths from nodes that are not reached count",
+    "sums from nodes that are not reached count",
+    "nodes that are not reached have entries",
+    "targets of nodes that are not reached are not judged",
     "7 is decided before 6",
     "sums leave the final output out",
     "sums wrap",
@@ -181,7 +185,7 @@ impl Wrong {
             }
             addr = first - 1;
         }
-        self.entries_of(nodes)
+        self.entries_of(nodes, meta.root)
     }
 
     // Only the nodes that a path from the root reaches.
@@ -197,10 +201,19 @@ impl Wrong {
         }
         let mut nodes: Vec<_> = nodes.into_iter().collect();
         nodes.sort_by(|one, other| other.0.cmp(&one.0));
-        self.entries_of(nodes)
+        self.entries_of(nodes, meta.root)
     }
 
-    fn entries_of(&self, nodes: Vec<(usize, Meaning)>) -> Result<Vec<(usize, u16, u64)>, u64> {
+    fn entries_of(&self, nodes: Vec<(usize, Meaning)>, root: usize) -> Result<Vec<(usize, u16, u64)>, u64> {
+        let by_addr: HashMap<usize, &Meaning> = nodes.iter().map(|(addr, node)| (*addr, node)).collect();
+        let mut used = HashSet::new();
+        let mut to_meet = vec![root];
+        while let Some(addr) = to_meet.pop() {
+            if addr != 0 && used.insert(addr) {
+                // a target that is no address of the chain is refused below
+                to_meet.extend(by_addr.get(&addr).iter().flat_map(|node| node.transitions.iter().map(|t| t.addr)));
+            }
+        }
         let mut reach: HashMap<usize, (usize, u128)> = HashMap::new();
         reach.insert(0, (0, 0));
         for (addr, node) in nodes.iter().rev() {
@@ -211,6 +224,11 @@ impl Wrong {
                     Some(there) => *there,
                     None if self.slips("a target may be no address of the chain") => (0, 0),
                     None if self.slips("every file that opens is admitted") => (0, 0),
+                    None if self.slips("targets of nodes that are not reached are not judged")
+                        && !used.contains(addr) =>
+                    {
+                        (0, 0)
+                    }
                     None => return Err(NODE),
                 };
                 here = (here.0.max(1 + there.0), here.1.max(u128::from(t.out) + there.1));
@@ -228,8 +246,10 @@ impl Wrong {
             255
         };
         let top = if self.slips("the sum of 2^64 - 1 is too large") { (1u128 << 64) - 2 } else { (1u128 << 64) - 1 };
-        let deep = nodes.iter().any(|(addr, _)| reach[addr].0 > longest);
-        let heavy = nodes.iter().any(|(addr, _)| reach[addr].1 > top);
+        let all_paths = self.slips("paths from nodes that are not reached count");
+        let all_sums = self.slips("sums from nodes that are not reached count");
+        let deep = nodes.iter().any(|(addr, _)| (all_paths || used.contains(addr)) && reach[addr].0 > longest);
+        let heavy = nodes.iter().any(|(addr, _)| (all_sums || used.contains(addr)) && reach[addr].1 > top);
         if !self.slips("every file that opens is admitted") {
             if self.slips("7 is decided before 6") && heavy {
                 return Err(SUM);
@@ -242,10 +262,12 @@ impl Wrong {
             }
         }
         let more = if self.slips("an entry is the longest path, and not 1 more") { 0 } else { 1 };
+        let all = self.slips("nodes that are not reached have entries");
+        let nodes: Vec<_> = nodes.iter().filter(|(addr, _)| all || used.contains(addr)).collect();
         let mut entries: Vec<_> =
             nodes.iter().map(|(addr, _)| (*addr, more + reach[addr].0 as u16, reach[addr].1 as u64)).collect();
         if self.slips("the entries of nodes that are not final have no sum") {
-            for (entry, (_, node)) in entries.iter_mut().zip(&nodes) {
+            for (entry, (_, node)) in entries.iter_mut().zip(nodes) {
                 if !node.is_final {
                     entry.2 = 0;
                 }

@@ -6,10 +6,12 @@ use mathlib.Core.Path.{_≡_, refl, sym, ap, _∙_, subst}
 use mathlib.Core.Logic.{_⊎_}
 use mathlib.Core.List.{List}
 use Prim.Native.Nat.{ℕ, _≤_, _<_}
+use native.Mathlib.Decide.{ℕ-discrete}
 use native.Mathlib.Omega.{arith}
 use lib.ListN.{length}
 use Rattle.format.specs.Limits.{NODE, DEEP, SUM, SPACE}
 use Rattle.format.specs.Opening.{opening}
+use Rattle.format.specs.laws.OpeningLaws.{blank-root, root-inside}
 use Rattle.format.specs.Paths.{Fst, fstOf}
 use Rattle.fst.specs.declared.Meta.{Meta}
 use Rattle.fst.specs.declared.Opened.{Opened}
@@ -38,9 +40,15 @@ module _ {s : List ℕ} {r : Opened} (e : openingIs r ≡ opening s) where
 
 -- ---- refused with tables wiped, or admitted
 
-pub wiped-cleared : {s d t : List ℕ} (d₀ s₀ : List ℕ) → length s ≤ length d₀ → length s ≤ length s₀ → Wiped (length s) d₀ d → Wiped (length s) s₀ t → Cleared s d t
-wiped-cleared {s} {d} {t} d₀ s₀ rd rs wd ws =
+pub wiped-cleared : {s d t : List ℕ} {v root : ℕ} (d₀ s₀ : List ℕ) → Opens s v root → length s ≤ length d₀ → length s ≤ length s₀
+    → Wiped (length s) d₀ d → Wiped (length s) s₀ t → Cleared s d t root
+wiped-cleared {s} {d} {t} d₀ s₀ o rd rs wd ws =
     record {
+      root-inside = λ ne.
+          elim (ℕ-discrete (length s) 0) [
+            | yes z ↦ absurd (ne (omega (arith, o .root-is, blank-root s (o .meta) (o .opens) z)))
+            | no z ↦ omega (arith, o .root-is, root-inside s (o .meta) (o .opens) (omega arith))
+          ];
       room-depths = omega (arith, length-wiped (length s) d₀ d rd wd);
       room-sums = omega (arith, length-wiped (length s) s₀ t rs ws);
       depths = wiped-at (length s) d₀ d wd;
@@ -58,7 +66,7 @@ pub record AllJudged (s : List ℕ) (version root : ℕ) (d₀ s₀ d₁ s₁ d 
 opens-fst : {s : List ℕ} {v root : ℕ} (o : Opens s v root) → fstWith s v root ≡ fstOf s (o .meta)
 opens-fst o = rw (o .version, o .root-is)
 
-holds-after : {g : ℕ → ℕ} {l : List ℕ} {n : ℕ} {d₀ d₁ d : List ℕ} → Kept n d₀ d₁ → Holds g l n d₁ d → Holds g l n d₀ d
+holds-after : {g : ℕ → ℕ} {P : ℕ → Type 0} {n : ℕ} {d₀ d₁ d : List ℕ} → Kept n d₀ d₁ → Holds g P n d₁ d → Holds g P n d₀ d
 holds-after k h = record { on = h .on; off = h .off; kept = kept-then k (h .kept) }
 
 abbrev Wipes : List ℕ → List ℕ → List ℕ → List ℕ → List ℕ → Admission → ℕ → Type 0

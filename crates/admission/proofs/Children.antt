@@ -15,7 +15,7 @@ use Rattle.format.specs.Node.{Node, sound}
 use Rattle.format.specs.Paths.{Fst, nodeIn}
 use Rattle.format.specs.Tables.{longest, largestSum}
 use Rattle.format.specs.laws.TableLaws.{max-same, longest-of, largest-of, longest-zero, largest-zero}
-use Rattle.admission.specs.Passes.{childDepth, childSum, deepest, heaviest, Marked}
+use Rattle.admission.specs.Passes.{childDepth, childSum, deepest, heaviest}
 
 -- ---- one target
 
@@ -25,21 +25,6 @@ child-zero v d t z = rw (eq-eqb t 0 z)
 
 pub child-entry : (v : ℕ) (d : List ℕ) (t : ℕ) → ¬ (t ≡ 0) → cond (eqb t 0) v (getD d t 0) ≡ getD d t 0
 child-entry v d t ne = rw (ne-eqb t 0 ne)
-
--- address 0 counts as marked
-pub child-marked : (d : List ℕ) (t : ℕ) → (¬ (t ≡ 0) → Marked d t) → ¬ (childDepth d t ≡ 0)
-child-marked d t m z =
-    elim (ℕ-discrete t 0) [
-      | yes e ↦ omega (arith, child-zero 1 d t e)
-      | no e ↦ m e (sym (child-entry 1 d t e) ∙ z)
-    ]
-
-pub child-unmarked : (d : List ℕ) (t : ℕ) → childDepth d t ≡ 0 → (¬ (t ≡ 0)) × (getD d t 0 ≡ 0)
-child-unmarked d t z =
-    elim (ℕ-discrete t 0) [
-      | yes e ↦ absurd (omega (arith, child-zero 1 d t e))
-      | no e ↦ (e, sym (child-entry 1 d t e) ∙ z)
-    ]
 
 pub child-depth-le : (d : List ℕ) (t : ℕ) → getD d t 0 ≤ maxPath + 2 → childDepth d t ≤ maxPath + 2
 child-depth-le d t h =

@@ -1,19 +1,38 @@
--- What an answer of `node_at` says of the node at its address.
+-- What judging a node and reading it say of the node at its address.
 -- Assumes nothing.
 use mathlib.Core.Path.{_≡_, sym, ap, _∙_}
 use mathlib.Core.List.{List}
+use mathlib.Core.Bool.{false}
 use Prim.Native.Nat.{ℕ}
-use Rattle.format.specs.Node.{sound, unsound}
-use Rattle.format.specs.Paths.{nodeIn}
+use native.Mathlib.Omega.{arith}
+use lib.ListN.{length}
+use Rattle.format.specs.Node.{sound, unsound, SoundAt, nodeOf}
+use Rattle.format.specs.Node.{Node as Node′}
+use Rattle.format.specs.laws.NodeLaws.{node-at-sound, node-at-unsound}
+use Rattle.format.specs.Paths.{Fst, nodeIn}
 use Rattle.node.specs.declared.Node.{Node}
 use Rattle.node.specs.declared.Judged.{Judged}
-use Rattle.node.specs.declared.Judged.the-variants.{Sound, Unsound}
-use Rattle.node.specs.Read.{meaning, judgedIs, Judges}
+use Rattle.node.specs.declared.Judged.the-variants.{Sound}
+use Rattle.node.specs.Read.{meaning, judgedIs, Judges, Readable, transitionsIn}
+use Rattle.node_sound.specs.Shapes.{isAny}
+use Rattle.node.specs.ReadLaws.{length-node-transitions}
 use Rattle.format.specs.Paths.{fstWith}
 
 module _ {s : List ℕ} {v root a : ℕ} {r : Judged} (j : Judges s v root a r) where
   pub judged-sound : (m : Node) → r ≡ Sound m → nodeIn (fstWith s v root) a ≡ sound (meaning s m)
   judged-sound m e = sym (j .answer) ∙ ap (judgedIs s) e
 
-  pub judged-unsound : r ≡ Unsound → nodeIn (fstWith s v root) a ≡ unsound
-  judged-unsound e = sym (j .answer) ∙ ap (judgedIs s) e
+-- a sound node has a meaning, and any other has none
+pub sound-node : (f : Fst) (a : ℕ) → SoundAt (f .bytes) (f .version) (f .root) a → (m : Node′) × (nodeIn f a ≡ sound m)
+sound-node f a h = (nodeOf (f .bytes) (f .version) a, node-at-sound (f .bytes) (f .version) (f .root) a (λ z. omega (arith, h .above)) h)
+
+pub unsound-node : (f : Fst) (a : ℕ) → ¬ (a ≡ 0) → ¬ SoundAt (f .bytes) (f .version) (f .root) a → nodeIn f a ≡ unsound
+unsound-node f a ne h = node-at-unsound (f .bytes) (f .version) (f .root) a ne h
+
+-- a node of one transition
+module _ {s : List ℕ} {m : Node} (ok : Readable s m) (form : isAny (m .state) ≡ false) where
+  pub one-counted : m .ntrans ≡ 1
+  one-counted = ok .single form
+
+  pub one-listed : length (transitionsIn s m) ≡ 1
+  one-listed = length-node-transitions s m ok ∙ one-counted

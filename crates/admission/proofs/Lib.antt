@@ -2,6 +2,7 @@
 mod Stores
 mod Totals
 mod Surveying
+mod Marking
 mod JudgedNodes
 mod Walking
 mod HalfFilled

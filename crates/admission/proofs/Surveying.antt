@@ -1,5 +1,5 @@
 -- One node, by the entries of its targets: what is known after the first i of its transitions.
---     SurveyedTo ..       none of them lacks an entry; their largest depth and their largest sum
+--     SurveyedTo ..       their largest depth and their largest sum
 -- Assumes nothing.
 use mathlib.Core.Path.{_≡_, refl, sym, ap, _∙_, subst}
 use mathlib.Core.Logic.{⊎-elim}
@@ -11,14 +11,14 @@ use lib.ListN.{length, take}
 use lib.Seq.{take-suc, take-all}
 use Rattle.format.specs.declared.Transition.{Transition}
 use Rattle.format.specs.Limits.{maxPath}
-use Rattle.format.specs.Node.{transitionAt}
+use Rattle.format.specs.Node.{Node, sound, transitionAt}
+use Rattle.format.specs.Paths.{Fst, nodeIn}
 use Rattle.format.specs.laws.TransitionLaws.{at-member}
 use Rattle.format.specs.Tables.{maxOf}
 use Rattle.admission.specs.declared.Total.{Total}
 use Rattle.admission.specs.declared.Total.the-variants.{Is}
 use Rattle.admission.specs.declared.Survey.{Survey}
-use Rattle.admission.specs.declared.Survey.the-variants.{Lost as NoEntry, Found}
-use Rattle.admission.specs.Passes.{childDepth, childSum, deepest, heaviest, totalAs, raisedBy, Surveyable, MarkedTargets, Surveyed}
+use Rattle.admission.specs.Passes.{childDepth, childSum, deepest, heaviest, totalAs, raisedBy, Surveyable, Surveyed, SurveyedNode, SurveyedAt}
 use Rattle.admission.proofs.Totals.{total-of-le, raised-total}
 
 -- ---- the largest over one transition more
@@ -45,7 +45,7 @@ heaviest-more : (s : List ℕ) (out : ℕ) (ts : List Transition) (i : ℕ) → 
 unfolding heaviest
 heaviest-more s out ts i l = omega (arith, max-more (λ t. t .out + childSum s (t .addr)) ts i l)
 
-each-more : (P : Transition → Type 0) (ts : List Transition) (i : ℕ) → i < length ts → ((t : Transition) → List·Memᴰ t (take i ts) → P t)
+pub each-more : (P : Transition → Type 0) (ts : List Transition) (i : ℕ) → i < length ts → ((t : Transition) → List·Memᴰ t (take i ts) → P t)
     → P (transitionAt ts i) → (t : Transition) → List·Memᴰ t (take (i + 1) ts) → P t
 each-more P ts i l before this t m =
     ⊎-elim (λ k. before t k) (λ k. subst P (sym (List·Memᴰ·eq-of-singleton k)) this)
@@ -56,7 +56,6 @@ each-more P ts i l before this t m =
 pub record SurveyedTo (d s : List ℕ) (out : ℕ) (ts : List Transition) (i best : ℕ) (total : Total) : Type 0 where
   pub within : i ≤ length ts
   pub low : best ≤ maxPath + 2
-  pub marked : MarkedTargets d (take i ts)
   pub best-is : best ≡ deepest d (take i ts)
   pub total-is : total ≡ totalAs (heaviest s out (take i ts))
 
@@ -67,7 +66,6 @@ surveyed-none {out = out} ok =
     record {
       within = omega arith;
       low = omega arith;
-      marked = λ t m. absurd (List·Memᴰ·not-nil m);
       best-is = refl;
       total-is = total-of-le out (ok .out-le) ∙ ap totalAs same;
     }
@@ -83,25 +81,18 @@ module _ {d s : List ℕ} {out : ℕ} {ts : List Transition} (ok : Surveyable d 
     depth-is : c ≡ childDepth d (transitionAt ts i .addr)
     depth-is = c-is ∙ ap (childDepth d) a-is
 
-    pub surveyed-lost : c ≡ 0 → Surveyed d s out ts NoEntry
-    surveyed-lost z =
-        record {
-          lost = λ _. record { by = transitionAt ts i; one = at-member ts i l; unmarked = sym depth-is ∙ z };
-          marked = λ x t e. absurd (let z : _≡_ {A = ℕ} 0 1 = cc in omega arith);
-          depth = λ x t e. absurd (let z : _≡_ {A = ℕ} 0 1 = cc in omega arith);
-          total = λ x t e. absurd (let z : _≡_ {A = ℕ} 0 1 = cc in omega arith);
-        }
+    pub target-small : c ≤ maxPath + 2
+    target-small = omega (arith, depth-is, ok .small (transitionAt ts i) (at-member ts i l))
 
-    pub surveyed-step : {best : ℕ} {total : Total} (w x best′ : ℕ) (total′ : Total) → SurveyedTo d s out ts i best total → ¬ (c ≡ 0)
+    pub surveyed-step : {best : ℕ} {total : Total} (w x best′ : ℕ) (total′ : Total) → SurveyedTo d s out ts i best total
         → x ≡ childSum s a → w ≡ transitionAt ts i .out → best′ ≡ max best c → total′ ≡ raisedBy total (w + x)
         → SurveyedTo d s out ts (i + 1) best′ total′
-    surveyed-step {best} {total} w x best′ total′ before nz x-is w-is best-now total-now =
+    surveyed-step {best} {total} w x best′ total′ before x-is w-is best-now total-now =
         let small = ok .small (transitionAt ts i) (at-member ts i l) in
         let sum-is : w + x ≡ transitionAt ts i .out + childSum s (transitionAt ts i .addr) = rw (w-is, x-is, a-is) in
         record {
           within = omega arith;
           low = omega (arith, before .low, depth-is);
-          marked = each-more (λ t. ¬ (childDepth d (t .addr) ≡ 0)) ts i l (before .marked) (λ z. nz (depth-is ∙ z));
           best-is = omega (arith, before .best-is, depth-is, deepest-more d ts i l);
           total-is =
               total-now
@@ -112,20 +103,33 @@ module _ {d s : List ℕ} {out : ℕ} {ts : List Transition} (ok : Surveyable d 
         }
 
 pub surveyed-all : {d s : List ℕ} {out : ℕ} {ts : List Transition} {i best : ℕ} {total : Total} → SurveyedTo d s out ts i best total → length ts ≤ i
-    → Surveyed d s out ts (Found (best + 1) total)
+    → Surveyed d s out ts (record { depth = best + 1; total = total })
 surveyed-all {d} {s} {out} {ts} {i} {best} {total} h l =
     let all : take i ts ≡ ts = take-all i ts l in
     record {
-      lost = λ e. absurd (let z : _≡_ {A = ℕ} 0 1 = cc in omega arith);
-      marked = λ x t e. subst (λ u. MarkedTargets d u) all (h .marked);
-      depth = λ x t e.
-          let x-is : best + 1 ≡ x = cc in
-          sym x-is ∙ ap (λ u. u + 1) (h .best-is ∙ ap (deepest d) all);
-      total = λ x t e.
-          let t-is : total ≡ t = cc in
-          sym t-is ∙ h .total-is ∙ ap (λ u. totalAs (heaviest s out u)) all;
+      depth = ap (λ u. u + 1) (h .best-is ∙ ap (deepest d) all);
+      total = h .total-is ∙ ap (λ u. totalAs (heaviest s out u)) all;
     }
 
--- the answer by another name
-pub surveyed-as : {d s : List ℕ} {out : ℕ} {ts : List Transition} {r r′ : Survey} → r ≡ r′ → Surveyed d s out ts r → Surveyed d s out ts r′
-surveyed-as {d} {s} {out} {ts} e h = subst (λ r. Surveyed d s out ts r) e h
+-- ---- one transition
+
+pub one-surveyed : {d s : List ℕ} {out : ℕ} {ts : List Transition} → Surveyable d s out ts → length ts ≡ 1 → (a : ℕ) → a ≡ transitionAt ts 0 .addr
+    → (c : ℕ) → c ≡ childDepth d a → (w x best : ℕ) (total : Total) → x ≡ childSum s a → w ≡ transitionAt ts 0 .out → best ≡ max 0 c
+    → total ≡ raisedBy (Is out) (w + x) → Surveyed d s out ts (record { depth = best + 1; total = total })
+one-surveyed ok one a a-is c c-is w x best total x-is w-is best-is total-is =
+    surveyed-all (surveyed-step ok 0 (omega arith) a a-is c c-is w x best total (surveyed-none ok) x-is w-is best-is total-is) (omega arith)
+
+-- ---- the node at an address
+
+pub surveyed-node : {f : Fst} {d s : List ℕ} {a : ℕ} {r : Survey} (m : Node) → nodeIn f a ≡ sound m → Surveyed d s (m .finalOutput) (m .transitions) r
+    → SurveyedNode f d s a r
+surveyed-node {f} {d} {s} {r = r} m e h =
+    record { each = λ n e′. let same : m ≡ n = cc in subst (λ (x : Node). Surveyed d s (x .finalOutput) (x .transitions) r) same h }
+
+-- ---- by the mark
+
+pub unused-surveyed : {f : Fst} {d s : List ℕ} {a mark : ℕ} → mark ≡ 3 → SurveyedAt f d s a mark (record { depth = 0; total = Is 0 })
+unused-surveyed is = record { no-depth = λ _. refl; no-total = λ _. refl; found = λ ne. absurd (ne is) }
+
+pub surveyed-at : {f : Fst} {d s : List ℕ} {a mark : ℕ} {r : Survey} → ¬ (mark ≡ 3) → SurveyedNode f d s a r → SurveyedAt f d s a mark r
+surveyed-at ne h = record { no-depth = λ is. absurd (ne is); no-total = λ is. absurd (ne is); found = λ _. h }

@@ -6,31 +6,26 @@
 -- Assumes nothing.
 use mathlib.Core.Path.{_≡_, refl, subst}
 use mathlib.Core.Logic.{_⊎_, ⊎-elim}
-use mathlib.Core.List.{List, List·Memᴰ}
+use mathlib.Core.List.{List}
 use Prim.Native.Nat.{ℕ, _≤_}
 use native.Mathlib.Omega.{arith}
 use lib.ListN.{length}
 use Rattle.format.specs.Opening.{Meta, opened, opening}
 use Rattle.format.specs.Paths.{Fst, fstOf}
 use Rattle.format.specs.Admitted.{Nodes, Shallow, Light, Admitted}
-use Rattle.format.specs.laws.ChainLaws.{root-chain-unique}
 use Rattle.admission.specs.declared.Admission.{Admission}
 use Rattle.admission.specs.declared.Admission.the-variants.{Admitted as Yes, Refused}
 use Rattle.admission.specs.Outcome.{LongPath, LargeSum, RefusedFor, not-opened, no-space, no-nodes, too-deep, too-heavy, Outcome}
 
--- ---- a file has one chain, so what holds of its nodes holds of any list of them
+-- ---- what is too long or too large from one reached node is so for the file
 
-shallow-not-long : {f : Fst} {k l : List ℕ} → Nodes f k → Nodes f l → Shallow f l → ¬ LongPath f k
+shallow-not-long : {f : Fst} → Shallow f → ¬ LongPath f
 unfolding Shallow
-shallow-not-long n n′ shallow p =
-    let same = root-chain-unique (n .chain) (n′ .chain) in
-    omega (arith, p .long, shallow (p .from) (p .key) (p .sum) (p .to) (subst (λ z. List·Memᴰ (p .from) z) same (p .node)) (p .path))
+shallow-not-long shallow p = omega (arith, p .long, shallow (p .from) (p .key) (p .sum) (p .to) (p .reached) (p .path))
 
-light-not-large : {f : Fst} {k l : List ℕ} → Nodes f k → Nodes f l → Light f l → ¬ LargeSum f k
+light-not-large : {f : Fst} → Light f → ¬ LargeSum f
 unfolding Light
-light-not-large n n′ light p =
-    let same = root-chain-unique (n .chain) (n′ .chain) in
-    omega (arith, p .large, light (p .from) (p .key) (p .sum) (p .to) (p .last) (subst (λ z. List·Memᴰ (p .from) z) same (p .node)) (p .path) (p .ends))
+light-not-large light p = omega (arith, p .large, light (p .from) (p .key) (p .sum) (p .to) (p .last) (p .reached) (p .path) (p .ends))
 
 -- ---- what opens, opens in one way
 
@@ -45,11 +40,9 @@ not-refused h g a (no-space m o e short p q) = ⊎-elim (λ x. omega arith) (λ 
 not-refused {s} h g a (no-nodes m o rd rs e none p q) =
     none (a .nodes) (subst (λ x. Nodes (fstOf s x) (a .nodes)) (same-meta s (a .opens) o) (a .chained))
 not-refused {s} h g a (too-deep m l o rd rs e n long p q) =
-    let same = same-meta s (a .opens) o in
-    shallow-not-long n (subst (λ x. Nodes (fstOf s x) (a .nodes)) same (a .chained)) (subst (λ x. Shallow (fstOf s x) (a .nodes)) same (a .shallow)) long
+    shallow-not-long (subst (λ x. Shallow (fstOf s x)) (same-meta s (a .opens) o) (a .shallow)) long
 not-refused {s} h g a (too-heavy m l o rd rs e n shallow large p q) =
-    let same = same-meta s (a .opens) o in
-    light-not-large n (subst (λ x. Nodes (fstOf s x) (a .nodes)) same (a .chained)) (subst (λ x. Light (fstOf s x) (a .nodes)) same (a .light)) large
+    light-not-large (subst (λ x. Light (fstOf s x)) (same-meta s (a .opens) o) (a .light)) large
 
 pub is-admitted : {s d₀ s₀ d t : List ℕ} → Outcome s d₀ s₀ d t Yes → Admitted s
 is-admitted o = o .admitted

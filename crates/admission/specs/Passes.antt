@@ -1,6 +1,14 @@
--- What each pass over the tables ensures; what admission itself promises is in `Outcome`.
+-- What each pass over the tables ensures; what admission itself promises is in `Outcome`. No definition of `Outcome` says how the reached
+-- nodes are found; here it is by marks in the depths, until the pass up comes to their place:
+--     0    nothing leads here
+--     1    a node of the chain leads here, and no reached node that is passed
+--     2    a reached node leads here, or this is the root
+--     3    a node of the chain, passed, that is not reached
+--     4    a node of the chain, passed, that is reached
 --     Kept n d₀ d             the table d is as long as d₀, and the same from n on
---     Marked d a              the table d has an entry for a
+--     Hit x, Live d a         the mark of a reached address; the mark 4 at a
+--     MarksTargets, MarksAt   the marks that one node gives to its targets
+--     Entered f d l           the marks once the nodes of l are passed
 --     childDepth, childSum    what the tables say of a target
 --     deepest, heaviest       the largest of these over a node's transitions
 --     totalAs, raisedBy, entryIs, orOver     sums that may pass the limit
@@ -8,20 +16,20 @@
 -- Assumes nothing.
 use mathlib.Core.Path.{_≡_}
 use mathlib.Core.Bool.{Bool, true, false, cond}
+use mathlib.Core.Logic.{_⊎_}
 use mathlib.Core.List.{List, List·Memᴰ}
 use Prim.Native.Nat.{ℕ, _+_, _≤_, _<_, max}
 use lib.Dec.{leb, eqb}
 use lib.ListN.{length, getD, drop}
 use Rattle.format.specs.declared.Transition.{Transition}
 use Rattle.format.specs.Limits.{maxPath, maxSum}
-use Rattle.format.specs.Node.{Node, sound}
-use Rattle.format.specs.Paths.{Fst, nodeIn}
+use Rattle.format.specs.Node.{Node, sound, SoundAt}
+use Rattle.format.specs.Paths.{Fst, nodeIn, Reached}
 use Rattle.format.specs.Admitted.{Chain}
 use Rattle.format.specs.Tables.{maxOf, longest, largestSum}
 use Rattle.admission.specs.declared.Total.{Total}
 use Rattle.admission.specs.declared.Total.the-variants.{Is, Over}
 use Rattle.admission.specs.declared.Survey.{Survey}
-use Rattle.admission.specs.declared.Survey.the-variants.{Lost as NoEntry, Found}
 use Rattle.admission.specs.declared.Verdict.{Verdict}
 use Rattle.admission.specs.declared.Verdict.the-variants.{Good, Lost, Deep, Heavy}
 
@@ -29,8 +37,56 @@ pub record Kept (n : ℕ) (d₀ d : List ℕ) : Type 0 where
   pub long : length d ≡ length d₀
   pub beyond : drop n d ≡ drop n d₀
 
-abbrev pub Marked : List ℕ → ℕ → Type 0
-Marked d a = ¬ (getD d a 0 ≡ 0)
+-- ---- the marks
+
+-- of a reached address, passed or not
+pub record Hit (x : ℕ) : Type 0 where
+  pub low : 2 ≤ x
+  pub used : ¬ (x ≡ 3)
+
+-- of a node of the chain that is passed and reached
+abbrev pub Live : List ℕ → ℕ → Type 0
+Live d a = getD d a 0 ≡ 4
+
+-- one of the transitions leads to j
+pub record TargetIn (ts : List Transition) (j : ℕ) : Type 0 where
+  pub by : Transition
+  pub one : List·Memᴰ by ts
+  pub addr-is : by .addr ≡ j
+
+-- the targets lie within the first n entries
+pub record Markable (n : ℕ) (d : List ℕ) (ts : List Transition) : Type 0 where
+  pub room : n ≤ length d
+  pub inside : (t : Transition) → List·Memᴰ t ts → t .addr < n
+
+-- each target has at least the mark, and no entry is lowered or raised otherwise
+pub record MarksTargets (n mark : ℕ) (ts : List Transition) (d₀ d : List ℕ) : Type 0 where
+  pub kept : Kept n d₀ d
+  pub led : (j : ℕ) → (getD d j 0 ≡ getD d₀ j 0) ⊎ (TargetIn ts j × (getD d j 0 ≡ max (getD d₀ j 0) mark))
+  pub aim : (t : Transition) → List·Memᴰ t ts → mark ≤ getD d (t .addr) 0
+
+-- the node at a marks its targets, and its first byte is known
+pub record MarksAt (f : Fst) (a mark : ℕ) (d₀ d : List ℕ) (first : ℕ) : Type 0 where
+  pub marks : (m : Node) → nodeIn f a ≡ sound m → MarksTargets (length (f .bytes)) mark (m .transitions) d₀ d
+  pub first-is : (m : Node) → nodeIn f a ≡ sound m → first ≡ m .first
+
+-- a node of l leads to j
+pub record Source (f : Fst) (l : List ℕ) (j : ℕ) : Type 0 where
+  pub at : ℕ
+  pub node : Node
+  pub on : List·Memᴰ at l
+  pub judged : nodeIn f at ≡ sound node
+  pub leads : TargetIn (node .transitions) j
+
+pub record Entered (f : Fst) (d l : List ℕ) : Type 0 where
+  pub on : (j : ℕ) → List·Memᴰ j l → 3 ≤ getD d j 0
+  pub off : (j : ℕ) → j < length (f .bytes) → ¬ List·Memᴰ j l → getD d j 0 ≤ 2
+  pub high : (j : ℕ) → j < length (f .bytes) → getD d j 0 ≤ 4
+  pub reached : (j : ℕ) → j < length (f .bytes) → Hit (getD d j 0) → Reached f j
+  pub source : (j : ℕ) → j < length (f .bytes) → ¬ List·Memᴰ j l → 1 ≤ getD d j 0 → (j ≡ f .root) ⊎ Source f l j
+  pub targets : (j : ℕ) (m : Node) (t : Transition) → List·Memᴰ j l → nodeIn f j ≡ sound m → List·Memᴰ t (m .transitions) → 1 ≤ getD d (t .addr) 0
+  pub hits : (j : ℕ) (m : Node) (t : Transition) → List·Memᴰ j l → Live d j → nodeIn f j ≡ sound m → List·Memᴰ t (m .transitions) → Hit (getD d (t .addr) 0)
+  pub top : Hit (getD d (f .root) 0)
 
 -- ---- one node, by the entries of its targets
 
@@ -73,93 +129,103 @@ pub record Surveyable (d s : List ℕ) (out : ℕ) (ts : List Transition) : Type
   pub small : (t : Transition) → List·Memᴰ t ts → childDepth d (t .addr) ≤ maxPath + 2
   pub out-le : out ≤ maxSum
 
--- a target without an entry
-pub record LostTarget (d : List ℕ) (ts : List Transition) : Type 0 where
-  pub by : Transition
-  pub one : List·Memᴰ by ts
-  pub unmarked : childDepth d (by .addr) ≡ 0
-
-abbrev pub MarkedTargets : List ℕ → List Transition → Type 0
-MarkedTargets d ts = (t : Transition) → List·Memᴰ t ts → ¬ (childDepth d (t .addr) ≡ 0)
-
 pub record Surveyed (d s : List ℕ) (out : ℕ) (ts : List Transition) (r : Survey) : Type 0 where
-  pub lost : r ≡ NoEntry → LostTarget d ts
-  pub marked : (x : ℕ) (t : Total) → r ≡ Found x t → MarkedTargets d ts
-  pub depth : (x : ℕ) (t : Total) → r ≡ Found x t → x ≡ deepest d ts + 1
-  pub total : (x : ℕ) (t : Total) → r ≡ Found x t → t ≡ totalAs (heaviest s out ts)
+  pub depth : r .depth ≡ deepest d ts + 1
+  pub total : r .total ≡ totalAs (heaviest s out ts)
+
+-- the same of the node at a
+pub record SurveyReady (f : Fst) (d s : List ℕ) (a : ℕ) : Type 0 where
+  pub each : (m : Node) → nodeIn f a ≡ sound m → Surveyable d s (m .finalOutput) (m .transitions)
+
+pub record SurveyedNode (f : Fst) (d s : List ℕ) (a : ℕ) (r : Survey) : Type 0 where
+  pub each : (m : Node) → nodeIn f a ≡ sound m → Surveyed d s (m .finalOutput) (m .transitions) r
+
+-- the same at the address a of the chain, by its mark: only a reached node is read
+pub record SurveyableAt (f : Fst) (d s : List ℕ) (a mark : ℕ) : Type 0 where
+  pub sounds : ¬ (mark ≡ 3) → SoundAt (f .bytes) (f .version) (f .root) a
+  pub ready : ¬ (mark ≡ 3) → SurveyReady f d s a
+
+pub record SurveyedAt (f : Fst) (d s : List ℕ) (a mark : ℕ) (r : Survey) : Type 0 where
+  pub no-depth : mark ≡ 3 → r .depth ≡ 0
+  pub no-total : mark ≡ 3 → r .total ≡ Is 0
+  pub found : ¬ (mark ≡ 3) → SurveyedNode f d s a r
 
 -- ---- the walk down the chain
 
-pub record ChainMarked (f : Fst) (d₀ d : List ℕ) (l : List ℕ) : Type 0 where
-  pub chain : Chain f (f .root) l
-  pub on : (j : ℕ) → List·Memᴰ j l → getD d j 0 ≡ 1
-  pub off : (j : ℕ) → ¬ List·Memᴰ j l → getD d j 0 ≡ getD d₀ j 0
+pub record Walkable (f : Fst) (d : List ℕ) : Type 0 where
+  pub room : length (f .bytes) ≤ length d
+  pub not-zero : ¬ (f .root ≡ 0)
+  pub inside : f .root < length (f .bytes)
+  pub zeros : (j : ℕ) → j < length (f .bytes) → getD d j 0 ≡ 0
 
-abbrev pub Walked : Fst → List ℕ → List ℕ → Bool → Type 0
-Walked f d₀ d true = (l : List ℕ) × ChainMarked f d₀ d l
-Walked f d₀ d false = (l : List ℕ) → ¬ Chain f (f .root) l
+pub record ChainMarked (f : Fst) (d l : List ℕ) : Type 0 where
+  pub chain : Chain f (f .root) l
+  pub marks : Entered f d l
+
+abbrev pub Walked : Fst → List ℕ → Bool → Type 0
+Walked f d true = (l : List ℕ) × ChainMarked f d l
+Walked f d false = (l : List ℕ) → ¬ Chain f (f .root) l
 
 -- ---- the pass up the file
 
--- the addresses that d marks within the file have sound nodes
-abbrev pub SoundMarks : Fst → List ℕ → Type 0
-SoundMarks f d = (j : ℕ) → j < length (f .bytes) → Marked d j → (m : Node) × (nodeIn f j ≡ sound m)
-
--- each target of a marked node is 0 or marked
-abbrev pub ClosedMarks : Fst → List ℕ → Type 0
-ClosedMarks f d = (j : ℕ) (m : Node) → j < length (f .bytes) → Marked d j → nodeIn f j ≡ sound m → MarkedTargets d (m .transitions)
+-- no mark 1 or 2 stands below a: every address that a node leads to is passed
+pub record AllPassed (d : List ℕ) (a : ℕ) : Type 0 where
+  pub each : (j : ℕ) → j < a → 1 ≤ getD d j 0 → 3 ≤ getD d j 0
 
 -- the entries for j, once they are filled in at the marks of d₀
 pub record DepthEntry (f : Fst) (d₀ : List ℕ) (j x : ℕ) : Type 0 where
-  pub off : getD d₀ j 0 ≡ 0 → x ≡ 0
-  pub on : Marked d₀ j → x ≡ longest f j + 1
-  pub low : Marked d₀ j → longest f j ≤ maxPath
+  pub off : ¬ Live d₀ j → x ≡ 0
+  pub on : Live d₀ j → x ≡ longest f j + 1
+  pub low : Live d₀ j → longest f j ≤ maxPath
 
 pub record SumEntry (f : Fst) (d₀ : List ℕ) (j x : ℕ) : Type 0 where
-  pub off : getD d₀ j 0 ≡ 0 → x ≡ 0
-  pub on : Marked d₀ j → x ≡ largestSum f j
-  pub low : Marked d₀ j → largestSum f j ≤ maxSum
+  pub off : ¬ Live d₀ j → x ≡ 0
+  pub on : Live d₀ j → x ≡ largestSum f j
+  pub low : Live d₀ j → largestSum f j ≤ maxSum
 
+-- a target of a reached node is 0 or has a reached mark
 pub record Fillable (f : Fst) (d s : List ℕ) : Type 0 where
   pub room-depths : length (f .bytes) ≤ length d
   pub room-sums : length (f .bytes) ≤ length s
-  pub sounds : SoundMarks f d
+  pub high : (j : ℕ) → j < length (f .bytes) → getD d j 0 ≤ 4
+  pub sounds : (j : ℕ) → j < length (f .bytes) → Live d j → SoundAt (f .bytes) (f .version) (f .root) j
+  pub hits : (j : ℕ) (m : Node) (t : Transition) → j < length (f .bytes) → Live d j → nodeIn f j ≡ sound m → List·Memᴰ t (m .transitions) → ¬ (t .addr ≡ 0)
+      → Hit (getD d (t .addr) 0)
   pub zeros : (j : ℕ) → j < length (f .bytes) → getD s j 0 ≡ 0
 
+-- an address that a node leads to, and that is none of the chain
 pub record LostOne (f : Fst) (d₀ : List ℕ) : Type 0 where
   pub at : ℕ
-  pub node : Node
   pub inside : at < length (f .bytes)
-  pub marked : Marked d₀ at
-  pub judged : nodeIn f at ≡ sound node
-  pub lost : LostTarget d₀ (node .transitions)
+  pub led : 1 ≤ getD d₀ at 0
+  pub lost : getD d₀ at 0 < 3
 
 pub record DeepOne (f : Fst) (d₀ : List ℕ) : Type 0 where
   pub at : ℕ
   pub inside : at < length (f .bytes)
-  pub marked : Marked d₀ at
+  pub live : Live d₀ at
   pub deep : maxPath < longest f at
 
 pub record HeavyOne (f : Fst) (d₀ : List ℕ) : Type 0 where
   pub at : ℕ
   pub inside : at < length (f .bytes)
-  pub marked : Marked d₀ at
+  pub live : Live d₀ at
   pub heavy : maxSum < largestSum f at
 
 pub record GoodAll (f : Fst) (d₀ d s : List ℕ) : Type 0 where
-  pub closed : ClosedMarks f d₀
+  pub passed : AllPassed d₀ (length (f .bytes))
   pub depths : (j : ℕ) → j < length (f .bytes) → DepthEntry f d₀ j (getD d j 0)
   pub sums : (j : ℕ) → j < length (f .bytes) → SumEntry f d₀ j (getD s j 0)
 
 pub record HeavyCase (f : Fst) (d₀ : List ℕ) : Type 0 where
-  pub closed : ClosedMarks f d₀
-  pub low : (j : ℕ) → j < length (f .bytes) → Marked d₀ j → longest f j ≤ maxPath
+  pub passed : AllPassed d₀ (length (f .bytes))
+  pub low : (j : ℕ) → j < length (f .bytes) → Live d₀ j → longest f j ≤ maxPath
   pub one : HeavyOne f d₀
 
 abbrev pub FillCase : Fst → List ℕ → List ℕ → List ℕ → Verdict → Type 0
 FillCase f d₀ d s Good = GoodAll f d₀ d s
 FillCase f d₀ d s Lost = LostOne f d₀
-FillCase f d₀ d s Deep = ClosedMarks f d₀ × DeepOne f d₀
+FillCase f d₀ d s Deep = AllPassed d₀ (length (f .bytes)) × DeepOne f d₀
 FillCase f d₀ d s Heavy = HeavyCase f d₀
 
 pub record Filled (f : Fst) (d₀ s₀ d s : List ℕ) (v : Verdict) : Type 0 where

@@ -1,15 +1,17 @@
 // Admission (document 01, "An admitted file"): the whole file is judged once, so that lookups and readings of it refuse nothing.
-// The chain of nodes is marked from the root down; then one pass in ascending order of addresses works out each node's
-// longest path and largest sum from those of its targets, which lie below it. There is no recursion, and no memory but the two lent
-// tables.
+// A pass from the root down judges each node of the chain, once, and marks what it leads to: by 2 where a path from the root reaches
+// the node, else by 1. All that leads to a node lies above it, so its own mark is there before the pass is. Then a pass in ascending
+// order of addresses works out the longest path and the largest sum of each reached node from those of its targets, which lie below
+// it. There is no recursion, and no memory but the two lent tables.
 ghost use mathlib.Core.Path.{_≡_};
 ghost use mathlib.Core.Bool.{true, cond};
 ghost use mathlib.Core.List.{_++_};
 ghost use Prim.Native.Nat.{max, min, _+_, _≤_, _<_};
 ghost use lib.Dec.{ltb};
-ghost use lib.ListN.{length, drop, replicate};
+ghost use lib.ListN.{length, getD, drop, replicate};
+ghost use Rattle.format.specs.Node.{SoundAt};
 ghost use Rattle.node.specs.Read.{transitionsIn, Readable};
-ghost use Rattle.admission.specs.Passes.{Kept, childDepth, childSum, raisedBy, Surveyable, Surveyed, entryIs, orOver, Walked, Fillable, Filled};
+ghost use Rattle.admission.specs.Passes.{Kept, Markable, MarksTargets, MarksAt, childDepth, childSum, raisedBy, Surveyable, Surveyed, SurveyReady, SurveyedNode, SurveyableAt, SurveyedAt, entryIs, orOver, Walkable, Walked, Fillable, Filled};
 ghost use Rattle.format.specs.Limits.{maxLevels};
 ghost use Rattle.format.specs.Paths.{fstWith};
 ghost use Rattle.admission.specs.Outcome.{Cleared, Judges, Opens, Outcome};
@@ -20,10 +22,19 @@ use format::NODE;
 use format::SPACE;
 use format::SUM;
 use fst::Opened;
+use le_bytes::small;
 use node::Node;
 
 // The largest entry of an admitted file: 1 plus a path of 255.
 const DEEPEST: u16 = LEVELS as u16;
+
+// The marks of the pass down, until the pass up comes to their place: where a node leads that is not reached, where a reached one
+// does, and a node passed that is not reached; 4 is a node passed that is.
+const LED: u16 = 1;
+
+const HIT: u16 = 2;
+
+const UNUSED: u16 = 3;
 
 // What admission answers: the file is admitted, or the number of a refusal.
 pub enum Admission {
@@ -36,9 +47,9 @@ enum Verdict {
     Good,
     // an unsound node, a broken chain, or a target that is no chain address
     Lost,
-    // a path over 255
+    // a path over 255 from a reached node
     Deep,
-    // a sum past 2^64 - 1
+    // a sum past 2^64 - 1 from a reached node
     Heavy,
 }
 
@@ -48,11 +59,10 @@ enum Total {
     Over,
 }
 
-// What the transitions of a node say by the entries of their targets: one of them has no entry, or 1 plus the longest path and the
-// largest sum.
-enum Survey {
-    Lost,
-    Found(u16, Total),
+// What the entries of a node's targets say: 1 plus the longest path, and the largest sum.
+struct Survey {
+    depth: u16,
+    total: Total,
 }
 
 // ---- the tables
@@ -150,16 +160,101 @@ fn survey_node(file: &[u8], node: Node, depths: &[u16], sums: &[u64]) -> Survey
     while i < n {
         let t = node::transition_addr(file, node, i);
         let d = child_depth(depths, t);
-        if d == 0 {
-            return Survey::Lost;
-        }
         let s = child_sum(sums, t);
         let w = node::output(file, node, i);
         best = larger16(best, d);
         total = raised(total, w, s);
         i += 1;
     }
-    Survey::Found(best + 1, total)
+    Survey {
+        depth: best + 1,
+        total,
+    }
+}
+
+// The same of a sound node with one transition: its form is known, so no node is made.
+fn survey_one(
+    file: &[u8],
+    version: u64,
+    root: usize,
+    a: usize,
+    depths: &[u16],
+    sums: &[u64],
+) -> Survey
+    requires { ⌜ SoundAt (now file) version root a × (128 ≤ getD (now file) a 0) × (getD (now file) a 0 < 192)
+        × SurveyReady (fstWith (now file) version root) (now depths) (now sums) a ⌝ }
+    ensures { λ r. ⌜ SurveyedNode (fstWith (now (file .entry)) version root) (now (depths .entry))
+        (now (sums .entry)) a r ⌝ }
+{
+    let m = node::one_node(file, version, root, a);
+    let t = node::transition_addr(file, m, 0);
+    let d = child_depth(depths, t);
+    let s = child_sum(sums, t);
+    let w = node::output(file, m, 0);
+    let best = larger16(0, d);
+    let total = raised(Total::Is(m.final_output), w, s);
+    Survey {
+        depth: best + 1,
+        total,
+    }
+}
+
+// The same of a sound node with one transition to the node just below it: its form is known, so no node is made.
+fn survey_next(
+    file: &[u8],
+    version: u64,
+    root: usize,
+    a: usize,
+    depths: &[u16],
+    sums: &[u64],
+) -> Survey
+    requires { ⌜ SoundAt (now file) version root a × (192 ≤ getD (now file) a 0)
+        × SurveyReady (fstWith (now file) version root) (now depths) (now sums) a ⌝ }
+    ensures { λ r. ⌜ SurveyedNode (fstWith (now (file .entry)) version root) (now (depths .entry))
+        (now (sums .entry)) a r ⌝ }
+{
+    let m = node::next_node(file, version, root, a);
+    let t = node::transition_addr(file, m, 0);
+    let d = child_depth(depths, t);
+    let s = child_sum(sums, t);
+    let w = node::output(file, m, 0);
+    let best = larger16(0, d);
+    let total = raised(Total::Is(m.final_output), w, s);
+    Survey {
+        depth: best + 1,
+        total,
+    }
+}
+
+// The same for the address a of the chain, which has this mark. A node that is not reached is not read: its entries are 0.
+fn survey_at(
+    file: &[u8],
+    version: u64,
+    root: usize,
+    a: usize,
+    mark: u16,
+    depths: &[u16],
+    sums: &[u64],
+) -> Survey
+    requires { ⌜ SurveyableAt (fstWith (now file) version root) (now depths) (now sums) a mark ⌝ }
+    ensures { λ r. ⌜ SurveyedAt (fstWith (now (file .entry)) version root) (now (depths .entry))
+        (now (sums .entry)) a mark r ⌝ }
+{
+    if mark == UNUSED {
+        return Survey {
+            depth: 0,
+            total: Total::Is(0),
+        };
+    }
+    let state = small(file[a]);
+    if state < 128 {
+        let m = node::any_node(file, version, root, a);
+        return survey_node(file, m, depths, sums);
+    }
+    if state < 192 {
+        return survey_one(file, version, root, a, depths, sums);
+    }
+    survey_next(file, version, root, a, depths, sums)
 }
 
 // ---- the flags
@@ -206,21 +301,106 @@ fn or_over(heavy: bool, t: Total) -> bool
 
 // ---- the two passes
 
-// Marks the chain from the root down; false where it breaks.
+// What a node gives to its targets, by its own mark.
+fn mark_of(x: u16) -> u16
+    ensures { λ r. ⌜ (x ≡ 2 → r ≡ 2) × (¬ (x ≡ 2) → r ≡ 1) ⌝ }
+{
+    if x == HIT { HIT } else { LED }
+}
+
+// Raises the entries of a node's targets to the mark, address 0 included.
+fn mark_targets(file: &[u8], node: Node, mark: u16, depths: &mut [u16])
+    requires { ⌜ Readable (now file) node × Markable (length (now file)) (now depths)
+        (transitionsIn (now file) node) ⌝ }
+    ensures { λ _. ⌜ MarksTargets (length (now (file .entry))) mark
+        (transitionsIn (now (file .entry)) node) (now (depths .entry)) (now (depths .exit)) ⌝ }
+{
+    let n = node.ntrans;
+    let mut i = 0;
+    while i < n {
+        let to = node::transition_addr(file, node, i);
+        depths[to] = larger16(depths[to], mark);
+        i += 1;
+    }
+}
+
+// The same of a sound node with one transition; answers its first byte.
+fn mark_one(
+    file: &[u8],
+    version: u64,
+    root: usize,
+    a: usize,
+    mark: u16,
+    depths: &mut [u16],
+) -> usize
+    requires { ⌜ SoundAt (now file) version root a × (128 ≤ getD (now file) a 0) × (getD (now file) a 0 < 192)
+        × (length (now file) ≤ length (now depths)) ⌝ }
+    ensures { λ r. ⌜ MarksAt (fstWith (now (file .entry)) version root) a mark
+        (now (depths .entry)) (now (depths .exit)) r ⌝ }
+{
+    let m = node::one_node(file, version, root, a);
+    let t = node::transition_addr(file, m, 0);
+    depths[t] = larger16(depths[t], mark);
+    m.first
+}
+
+// The same of a sound node with one transition to the node just below it; answers its first byte.
+fn mark_next(
+    file: &[u8],
+    version: u64,
+    root: usize,
+    a: usize,
+    mark: u16,
+    depths: &mut [u16],
+) -> usize
+    requires { ⌜ SoundAt (now file) version root a × (192 ≤ getD (now file) a 0)
+        × (length (now file) ≤ length (now depths)) ⌝ }
+    ensures { λ r. ⌜ MarksAt (fstWith (now (file .entry)) version root) a mark
+        (now (depths .entry)) (now (depths .exit)) r ⌝ }
+{
+    let m = node::next_node(file, version, root, a);
+    let t = node::transition_addr(file, m, 0);
+    depths[t] = larger16(depths[t], mark);
+    m.first
+}
+
+// The same of any sound node.
+fn mark_at(file: &[u8], version: u64, root: usize, a: usize, mark: u16, depths: &mut [u16]) -> usize
+    requires { ⌜ SoundAt (now file) version root a
+        × (length (now file) ≤ length (now depths)) ⌝ }
+    ensures { λ r. ⌜ MarksAt (fstWith (now (file .entry)) version root) a mark
+        (now (depths .entry)) (now (depths .exit)) r ⌝ }
+{
+    let state = small(file[a]);
+    if state < 128 {
+        let m = node::any_node(file, version, root, a);
+        mark_targets(file, m, mark, depths);
+        return m.first;
+    }
+    if state < 192 {
+        return mark_one(file, version, root, a, mark, depths);
+    }
+    mark_next(file, version, root, a, mark, depths)
+}
+
+// Judges the chain from the root down, and marks it and what it leads to; false where it breaks.
 fn walk(file: &[u8], version: u64, root: usize, depths: &mut [u16]) -> bool
-    requires { ⌜ (length (now file) ≤ length (now depths)) × (¬ (root ≡ 0)) ⌝ }
+    requires { ⌜ Walkable (fstWith (now file) version root) (now depths) ⌝ }
     ensures kept { λ r. ⌜ Kept (length (now (file .entry))) (now (depths .entry))
         (now (depths .exit)) ⌝ }
     ensures walked { λ r. ⌜ Walked (fstWith (now (file .entry)) version root)
-        (now (depths .entry)) (now (depths .exit)) r ⌝ }
+        (now (depths .exit)) r ⌝ }
 {
     let mut a = root;
+    depths[root] = HIT;
     loop {
-        let node::Judged::Sound(m) = node::node_at(file, version, root, a) else {
+        if node_sound::is_sound(file, version, root, a) {} else {
             return false;
-        };
-        depths[a] = 1;
-        let first = m.first;
+        }
+        let mark = mark_of(depths[a]);
+        let first = mark_at(file, version, root, a, mark, depths);
+        // UNUSED, or 4 for a node that is reached
+        depths[a] = mark + 2;
         if first == FIRST_NODE {
             return true;
         }
@@ -238,13 +418,15 @@ fn fill(file: &[u8], version: u64, root: usize, depths: &mut [u16], sums: &mut [
     let mut heavy = false;
     let mut a = 0;
     while a < file.len() {
-        if depths[a] != 0 {
-            let node::Judged::Sound(m) = node::node_at(file, version, root, a) else {
+        let mark = depths[a];
+        if mark != 0 {
+            // a node leads here, and here is none of the chain
+            if mark < UNUSED {
                 return Verdict::Lost;
-            };
-            let Survey::Found(d, t) = survey_node(file, m, depths, sums) else {
-                return Verdict::Lost;
-            };
+            }
+            let s = survey_at(file, version, root, a, mark, depths, sums);
+            let d = s.depth;
+            let t = s.total;
             deep = or_deep(deep, d);
             heavy = or_over(heavy, t);
             depths[a] = clamped(d);
@@ -252,7 +434,7 @@ fn fill(file: &[u8], version: u64, root: usize, depths: &mut [u16], sums: &mut [
         }
         a += 1;
     }
-    // DEEP is decided over the whole file, and SUM after it
+    // DEEP is decided over all reached nodes, and SUM after it
     if deep {
         return Verdict::Deep;
     }
@@ -264,7 +446,7 @@ fn fill(file: &[u8], version: u64, root: usize, depths: &mut [u16], sums: &mut [
 
 // Judges all nodes, with both tables at zero over the file; root 0 has no chain.
 fn judge(file: &[u8], version: u64, root: usize, depths: &mut [u16], sums: &mut [u64]) -> Verdict
-    requires { ⌜ Cleared (now file) (now depths) (now sums) ⌝ }
+    requires { ⌜ Cleared (now file) (now depths) (now sums) root ⌝ }
     ensures { λ r. ⌜ Judges (fstWith (now (file .entry)) version root) (now (depths .entry))
         (now (sums .entry)) (now (depths .exit)) (now (sums .exit)) r ⌝ }
 {
@@ -274,6 +456,8 @@ fn judge(file: &[u8], version: u64, root: usize, depths: &mut [u16], sums: &mut 
     if walk(file, version, root, depths) {} else {
         return Verdict::Lost;
     }
+    // address 0 may have a mark, and is no node of the chain
+    depths[0] = 0;
     fill(file, version, root, depths, sums)
 }
 
@@ -319,8 +503,8 @@ fn admit_opened(
     }
 }
 
-// Admits a file and fills the two tables, or refuses it: opening's refusals, then SPACE, then NODE, DEEP and SUM, each decided over the
-// whole file.
+// Admits a file and fills the two tables, or refuses it: opening's refusals, then SPACE, then NODE, decided over the whole file, then
+// DEEP and SUM, each decided over all nodes that a path from the root reaches.
 pub fn admit(file: &[u8], depths: &mut [u16], sums: &mut [u64]) -> Admission
     ensures { λ r. ⌜ Outcome (now (file .entry)) (now (depths .entry)) (now (sums .entry))
         (now (depths .exit)) (now (sums .exit)) r ⌝ }

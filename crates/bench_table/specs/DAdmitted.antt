@@ -23,6 +23,7 @@ use Rattle.format.specs.Admitted.{Chain, last, next, RootChain, rooted, Nodes, 
 use Rattle.format.specs.Tables.{maxOf, longest, largestSum}
 use Rattle.format.specs.laws.TableLaws.{longest-of, longest-zero, longest-bound, largest-of, largest-zero, largest-bound}
 use Rattle.format.specs.laws.LiveLaws.{path-stays}
+use Rattle.format.specs.laws.ReachedLaws.{reached-stays}
 use Rattle.format.specs.Lookup.{NumberedNode, Numbered}
 use Rattle.bench_table.specs.BenchTable.{D}
 
@@ -98,17 +99,25 @@ module _ (f : Fst) (root-is : f .root ≡ 29) (at-root : nodeIn f 29 ≡ sound r
   unfolding maxOf
   sum-root = omega (arith, largest-of f 29 rootNode at-root, largest-zero f, sum-t)
 
-  shallow-two : Shallow f addrs
+  shallow-two : Shallow f
   unfolding Shallow
-  shallow-two a k sum b on p =
+  shallow-two a k sum b r p =
+      ⊎-elim
+      (λ (z : a ≡ 0). omega (arith, longest-bound p, ap (longest f) z, longest-zero f))
+      (λ (on : List·Memᴰ a addrs).
       ⊎-elim (λ (q : a ≡ 29). omega (arith, longest-bound p, ap (longest f) q, long-root))
-      (λ (q : a ≡ 21). omega (arith, longest-bound p, ap (longest f) q, long-t)) (in-two on)
+      (λ (q : a ≡ 21). omega (arith, longest-bound p, ap (longest f) q, long-t)) (in-two on))
+      (reached-stays nodes-two r)
 
-  light-two : Light f addrs
+  light-two : Light f
   unfolding Light
-  light-two a k sum b m on p e =
+  light-two a k sum b m r p e =
+      ⊎-elim
+      (λ (z : a ≡ 0). omega (arith, largest-bound p e, ap (largestSum f) z, largest-zero f))
+      (λ (on : List·Memᴰ a addrs).
       ⊎-elim (λ (q : a ≡ 29). omega (arith, largest-bound p e, ap (largestSum f) q, sum-root))
-      (λ (q : a ≡ 21). omega (arith, largest-bound p e, ap (largestSum f) q, sum-t)) (in-two on)
+      (λ (q : a ≡ 21). omega (arith, largest-bound p e, ap (largestSum f) q, sum-t)) (in-two on))
+      (reached-stays nodes-two r)
 
   -- ---- numbered
 

@@ -2,6 +2,7 @@
 --     Fst, fstWith, fstOf    a file's bytes with its version and its root
 --     nodeIn f a           the node at the address a of f, where it is sound
 --     Path f a k sum b     the transitions with the inputs k lead from a to b, through sound nodes; their outputs add up to sum
+--     Reached f a          a path from the root leads to the address a; the root is reached
 --     Held f k v           the key k is held, with the value v (document 01's word)
 -- Assumes nothing.
 use mathlib.Core.Path.{_≡_}
@@ -32,6 +33,11 @@ pub data Path (f : Fst) : ℕ → List ℕ → ℕ → ℕ → Type 0 where
   here : {a : ℕ} → Path f a [] 0 a
   follow : {a : ℕ} {k : List ℕ} {sum b : ℕ} (m : Node) (t : Transition) → nodeIn f a ≡ sound m → List·Memᴰ t (m .transitions) → Path f (t .addr) k sum b
       → Path f a (t .inp ∷ k) (t .out + sum) b
+
+pub record Reached (f : Fst) (a : ℕ) : Type 0 where
+  pub key : List ℕ
+  pub sum : ℕ
+  pub path : Path f (f .root) key sum a
 
 -- a path from the root to a final node; the value is the sum of its outputs plus that node's final output
 pub record Held (f : Fst) (k : List ℕ) (v : ℕ) : Type 0 where

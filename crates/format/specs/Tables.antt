@@ -3,14 +3,16 @@
 --     maxOf g ts           the largest g over ts, 0 of none
 --     longest f a          the longest path from the node at a
 --     largestSum f a       the largest path sum from the node at a, final output included
+--     InTable f a          the tables have entries at a: a node with bytes that a path from the root reaches
 -- Assumes nothing.
+use mathlib.Core.Path.{_≡_}
 use mathlib.Core.Bool.{cond}
 use mathlib.Core.List.{List, [], _∷_}
 use Prim.Native.Nat.{ℕ, zero, suc, _+_, max}
 use lib.Dec.{eqb}
 use Rattle.format.specs.declared.Transition.{Transition}
 use Rattle.format.specs.Node.{Node, Judgement, sound, unsound}
-use Rattle.format.specs.Paths.{Fst, nodeIn}
+use Rattle.format.specs.Paths.{Fst, nodeIn, Reached}
 
 unfoldable pub maxOf : (Transition → ℕ) → List Transition → ℕ
 maxOf g [] = 0
@@ -43,3 +45,8 @@ largestTo (suc k) f a = max (finalOutputOf? (nodeIn f a)) (maxOf (λ t. t .out +
 unfoldable pub largestSum : Fst → ℕ → ℕ
 unfolding largestTo
 largestSum f a = largestTo a f a
+
+-- address 0 has no bytes, and so no entry
+pub record InTable (f : Fst) (a : ℕ) : Type 0 where
+  pub not-zero : ¬ (a ≡ 0)
+  pub reached : Reached f a

@@ -7,7 +7,7 @@ ghost use lib.ListN.{length, getD, take, drop};
 ghost use Rattle.format.specs.Node.{bytesDown, Ascending, SoundAt, transitionAt, findInput};
 ghost use Rattle.node.specs.Read.{Searchable, emptyNode, Judges, transitionsIn, nodeInputs, nodeDeltas, Readable, Finds, LooksUp, placeIs};
 ghost use Rattle.node.specs.declared.Judged.the-variants.{Sound};
-ghost use Rattle.format.specs.declared.State.the-variants.{AnyTrans};
+ghost use Rattle.format.specs.declared.State.the-variants.{OneTransNext, OneTrans, AnyTrans};
 ghost use mathlib.Core.List.{[], _∷_};
 use format::State;
 use format::Transition;
@@ -56,9 +56,10 @@ pub enum Found {
 // ---- the numbers of a sound node
 
 // A node with any number of transitions.
-fn any_node(file: &[u8], version: u64, root: usize, addr: usize) -> Node
+pub fn any_node(file: &[u8], version: u64, root: usize, addr: usize) -> Node
     requires { ⌜ SoundAt (now file) version root addr × (getD (now file) addr 0 < 128) ⌝ }
-    ensures { λ r. ⌜ Judges (now (file .entry)) version root addr (Sound r) ⌝ }
+    ensures { λ r. ⌜ Judges (now (file .entry)) version root addr (Sound r)
+        × (r .state ≡ AnyTrans) ⌝ }
 {
     let shape = shape_of(file, version, addr);
     let size = shape.size;
@@ -86,10 +87,11 @@ fn any_node(file: &[u8], version: u64, root: usize, addr: usize) -> Node
 }
 
 // A node with one transition.
-fn one_node(file: &[u8], version: u64, root: usize, addr: usize) -> Node
+pub fn one_node(file: &[u8], version: u64, root: usize, addr: usize) -> Node
     requires { ⌜ SoundAt (now file) version root addr × (128 ≤ getD (now file) addr 0)
         × (getD (now file) addr 0 < 192) ⌝ }
-    ensures { λ r. ⌜ Judges (now (file .entry)) version root addr (Sound r) ⌝ }
+    ensures { λ r. ⌜ Judges (now (file .entry)) version root addr (Sound r)
+        × (r .state ≡ OneTrans) ⌝ }
 {
     let len = head_len(file, addr);
     let sizes = small(file[addr - len]);
@@ -112,9 +114,10 @@ fn one_node(file: &[u8], version: u64, root: usize, addr: usize) -> Node
 }
 
 // A node with one transition to the node just below it.
-fn next_node(file: &[u8], version: u64, root: usize, addr: usize) -> Node
+pub fn next_node(file: &[u8], version: u64, root: usize, addr: usize) -> Node
     requires { ⌜ SoundAt (now file) version root addr × (192 ≤ getD (now file) addr 0) ⌝ }
-    ensures { λ r. ⌜ Judges (now (file .entry)) version root addr (Sound r) ⌝ }
+    ensures { λ r. ⌜ Judges (now (file .entry)) version root addr (Sound r)
+        × (r .state ≡ OneTransNext) ⌝ }
 {
     let first = addr + 1 - head_len(file, addr);
     let input = input_of(file, addr);

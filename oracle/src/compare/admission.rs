@@ -4,17 +4,19 @@ use std::collections::HashMap;
 use std::time::Instant;
 
 use super::opening::{refusal_name, REFUSALS};
-use super::{describe_file, same, smallest, Checked, Difference, Run, FILES_DAMAGED, LARGE_FILES_DAMAGED};
+use super::{
+    describe_file, same, smallest, Checked, Difference, Run, FILES_DAMAGED, LARGE_FILES_DAMAGED, UNUSED_FILES,
+};
 use crate::answers::{FileAnswers, Meaning, DEEP, NODE, SHORT, SPACE, SUM};
 use crate::generate_file::{self, damage, file_of, medium, small};
 use crate::given_file;
-use crate::hand_made::{d, deep_and_sum, final_sums, one_key, root_0, sums};
+use crate::hand_made::{d, deep_and_sum, final_sums, one_key, root_0, sums, unused_path, unused_sum};
 use crate::model::{INDEX_ABOVE, MAX_LEN};
-use crate::model_file::{self, Admitted};
+use crate::model_file::{self, Admitted, MAX_PATH, MAX_SUM};
 use crate::prng::Prng;
 use crate::sparse::Zeros;
 
-// A file by hand with its verdict; where it is admitted, the address of each node with 1 plus its longest path and its
+// A file by hand with its verdict; where it is admitted, the address of each reached node with 1 plus its longest path and its
 // largest sum.
 struct Row {
     name: &'static str,
@@ -49,7 +51,42 @@ const ROWS: &[Row] = &[
         name: "unreached-node",
         file: || file_of(3, &[9, 1, 0, 0x40, 0, 0x10, 0x85]),
         want: 0,
-        entries: &[(19, 1, 9), (22, 2, 0)],
+        entries: &[(22, 2, 0)],
+    },
+    // paths over 255 and sums past 2^64 - 1 count only from reached nodes
+    Row { name: "unused-path-of-256", file: || unused_path(256, &B_TO_0), want: 0, entries: &[(276, 2, 0)] },
+    Row { name: "path-of-256", file: || unused_path(256, &[]), want: DEEP, entries: &[] },
+    Row { name: "unused-path-of-65536", file: || unused_path(65_536, &B_TO_0), want: 0, entries: &[(65_556, 2, 0)] },
+    Row { name: "unused-path-of-65792", file: || unused_path(65_792, &B_TO_0), want: 0, entries: &[(65_812, 2, 0)] },
+    Row { name: "unused-sum", file: || unused_sum(&B_TO_0), want: 0, entries: &[(33, 2, 0)] },
+    Row { name: "sum", file: || unused_sum(&[]), want: SUM, entries: &[] },
+    // the node at 19 is shared with the unused one at 23
+    Row {
+        name: "shared-with-an-unused-node",
+        file: || file_of(3, &[7, 1, 0, 0x40, 1, 1, 0x11, 0x85, 5, 5, 0x11, 0x9a, 1, 1, 0x11, 0x8a]),
+        want: 0,
+        entries: &[(19, 1, 7), (27, 2, 12), (31, 3, 13)],
+    },
+    Row { name: "unused-and-unsound", file: || file_of(3, &[0xc1, 0, 0x10, 0x9a]), want: NODE, entries: &[] },
+    Row {
+        name: "unused-target-in-a-node",
+        file: || file_of(3, &[0, 0x10, 0x85, 2, 0x10, 0x9a, 0, 0x10, 0x9a]),
+        want: NODE,
+        entries: &[],
+    },
+    // the root alone is reached
+    Row {
+        name: "all-unused-but-the-root",
+        file: || file_of(2, &[0, 0x10, 0x85, 0xc5, 0xc5, 0, 0, 0x40, 0, 0x10, 0x9a]),
+        want: 0,
+        entries: &[(26, 2, 0)],
+    },
+    // 18 is reached from 19 and from the root, and 20 is unused
+    Row {
+        name: "reached-twice-and-from-an-unused-node",
+        file: || file_of(1, &[0, 0x10, 0x85, 0xc5, 0xc6, 3, 2, b'b', b'a', 0x10, 0x02]),
+        want: 0,
+        entries: &[(18, 2, 0), (19, 3, 0), (26, 4, 0)],
     },
     Row {
         name: "unreached-node-unsound",
@@ -67,6 +104,9 @@ const ROWS: &[Row] = &[
     // 6 is decided before 7
     Row { name: "deep-and-sum", file: deep_and_sum, want: DEEP, entries: &[] },
 ];
+
+// "b" to address 0, alone.
+const B_TO_0: [u8; 3] = [0, 0x10, 0x9a];
 
 // ---- one file
 
@@ -191,8 +231,22 @@ impl<'a> Run<'a> {
                 self.admission_of(&file)?;
             }
         }
+        // chains put on top of others, each damaged at random too
+        for _ in 0..UNUSED_FILES / 5 / self.one_in {
+            let whole = generate_file::unused(&mut self.prng);
+            self.count("chains on top of others");
+            self.admission_of(&whole)?;
+            for _ in 0..4 {
+                let mut file = whole.clone();
+                let i = self.prng.below(file.len());
+                file[i] = damage(&mut self.prng, file[i]);
+                self.count("chains on top of others, one byte damaged");
+                self.admission_of(&file)?;
+            }
+        }
         self.require(&["files"], 200_000)?;
-        self.require(&["admitted"], 20_000)?;
+        self.require(&["admitted", "admitted: unused nodes"], 20_000)?;
+        self.require(&["chains on top of others, one byte damaged"], 80_000)?;
         self.require(&REFUSALS, 100)?;
         self.require(
             &[
@@ -206,6 +260,9 @@ impl<'a> Run<'a> {
                 "admitted: 256 transitions",
                 "admitted: numbered",
                 "admitted: every path followed",
+                "admitted: an unused path over 255",
+                "admitted: an unused sum past 2^64 - 1",
+                "admitted: unused nodes that lead to reached ones",
             ],
             100,
         )
@@ -257,6 +314,9 @@ impl<'a> Run<'a> {
         targets.sort();
         let nothing = |(_, node, _): &(usize, Meaning, _)| !node.is_final && node.transitions.is_empty();
         let indexed = |(_, node, _): &(usize, Meaning, _)| node.transitions.len() > INDEX_ABOVE;
+        let unused = || found.chain.iter().filter(|(addr, _, _)| !found.reached.contains(addr));
+        let leads_in =
+            |(_, node, _): &(usize, Meaning, _)| node.transitions.iter().any(|t| found.reached.contains(&t.addr));
         for &(there, what) in &[
             (found.meta.root == 0, "admitted: root 0"),
             (found.chain.first().map_or(false, nothing), "admitted: a root of nothing"),
@@ -264,6 +324,10 @@ impl<'a> Run<'a> {
             (found.meta.version > 1 && found.chain.iter().any(indexed), "admitted: a node with an index"),
             (found.chain.iter().any(|(_, node, _)| node.transitions.len() == 256), "admitted: 256 transitions"),
             (model_file::numbered(found), "admitted: numbered"),
+            (unused().next().is_some(), "admitted: unused nodes"),
+            (unused().any(|(_, _, r)| r.longest > MAX_PATH), "admitted: an unused path over 255"),
+            (unused().any(|(_, _, r)| r.largest > MAX_SUM), "admitted: an unused sum past 2^64 - 1"),
+            (unused().any(leads_in), "admitted: unused nodes that lead to reached ones"),
         ] {
             if there {
                 self.count(what);
@@ -278,8 +342,8 @@ impl<'a> Run<'a> {
             let judged = model_file::admitted(&file);
             same("a row", input, ("row", row.want), ("model", verdict(&judged)))?;
             if let Ok(found) = &judged {
-                let entries: Vec<_> =
-                    found.chain.iter().rev().map(|(a, _, r)| (*a, 1 + r.longest as u16, r.largest as u64)).collect();
+                let mut entries = found.entries();
+                entries.reverse();
                 same("a row's entries", input, ("row", row.entries), ("model", &entries[..]))?;
             }
             self.count("rows by hand");
@@ -364,8 +428,7 @@ impl<'a> Run<'a> {
         let found = judged.ok().expect("its verdict is 0");
         walked(&file, &found)?;
         // the model that keeps no node says the same
-        let kept: Vec<_> =
-            found.chain.iter().rev().map(|(a, _, r)| (*a as u32, 1 + r.longest as u16, r.largest as u64)).collect();
+        let kept: Vec<_> = found.entries().into_iter().rev().map(|(a, d, s)| (a as u32, d, s)).collect();
         drop(found);
         let entries = model_file::entries(&file).map(|entries| entries.nodes);
         same(
@@ -400,7 +463,7 @@ impl<'a> Run<'a> {
         let rust = given_file::open(file).expect("the Rust opens an admitted file");
         same("all that the nodes say", input, ("the Rust", rust.walk_timed()), ("model", want.said))?;
         let walk = best(Box::new(|| rust.walk_timed()));
-        println!("dense file: {} bytes, {} nodes", file.len(), want.nodes.len());
+        println!("dense file: {} bytes, {} nodes", file.len(), want.all);
         println!("    the Rust walks its nodes:  {:.3} s, {:.2} ns a byte", walk, per_byte(walk));
         if let Some(ours) = self.ours_file {
             let (mut depths, mut sums) = (Zeros::<u16>::new(file.len()), Zeros::<u64>::new(file.len()));

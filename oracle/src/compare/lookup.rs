@@ -6,7 +6,7 @@ use super::{describe_file, hex, same, smallest, Checked, Difference, Run, LOOKUP
 use crate::answers::{
     FileAnswers, Meaning, DEEP, HELD, KEY_REFUSED, LARGE, NODE, NOT_HELD, NO_KEY, ROOT, SHORT, SPACE, SUM, VERSION,
 };
-use crate::generate_file::{self, damage, file_of, medium, nodes_of, path, small, variant, Keys, Values, KINDS};
+use crate::generate_file::{self, damage, file_of, medium, nodes_of, path, small, variant, Keys, Made, Values, KINDS};
 use crate::given_file::{self, Opened};
 use crate::hand_made::{d, final_sums, path_to, root_0, sums, two_outputs, unsound_after_sum};
 use crate::model::{INDEX_ABOVE, MAX_LEN};
@@ -352,6 +352,7 @@ impl<'a> Run<'a> {
                     generate_file::built_from(prng, version, keys, &values)
                 }
                 1 | 2 => medium(prng),
+                3 => Made { file: generate_file::unused(prng), keys: Vec::new() },
                 _ => small(prng),
             };
             let found = match model_file::admitted(&made.file) {
@@ -380,6 +381,7 @@ impl<'a> Run<'a> {
                 "files: numbered",
                 "files: not numbered",
                 "files: with a final output",
+                "files: unused nodes",
             ],
             50,
         )
@@ -479,6 +481,7 @@ impl<'a> Run<'a> {
             ),
             (found.chain.iter().any(|(_, node, _)| node.transitions.len() == 256), "files: 256 transitions"),
             (found.chain.iter().any(|(_, node, _)| node.final_output != 0), "files: with a final output"),
+            (found.reached.len() < found.chain.len(), "files: unused nodes"),
             (numbered, "files: numbered"),
             (!numbered, "files: not numbered"),
         ] {

@@ -625,6 +625,7 @@ impl<'a> Run<'a> {
                     let version = prng.pick(&[1, 2, 3]);
                     generate_file::built_from(prng, version, keys, &values).file
                 }
+                4 => generate_file::unused(prng),
                 _ => small(prng).file,
             };
             let found = match model_file::admitted(&file) {
@@ -654,6 +655,7 @@ impl<'a> Run<'a> {
                 "files: 256 transitions",
                 "files: with a final output",
                 "files: a path of 255 bytes",
+                "files: unused nodes",
             ],
             20,
         )

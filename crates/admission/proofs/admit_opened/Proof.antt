@@ -57,7 +57,7 @@ clear64-requires c κs = search needs
 judge-requires : tie.Need-judge-requires
 judge-requires c κs =
     let q = c .before .before .before .before in
-    wiped-cleared (now (start q .args .depths)) (now (start q .args .sums)) (room-depths q) (room-sums q) (q .before .before .before .before .clear16 .ensures)
+    wiped-cleared (now (start q .args .depths)) (now (start q .args .sums)) (start q .pre) (room-depths q) (room-sums q) (q .before .before .before .before .clear16 .ensures)
     (q .clear64 .ensures)
 
 enum-told : tie.Need-enum-told

@@ -1,5 +1,5 @@
--- `admission::survey_node` meets its contract. The loop's invariant: the transitions passed have entries, and `best` and `total` are
--- their largest depth and sum, the final output included. The measure is the number of transitions left. Assumes nothing.
+-- `admission::survey_node` meets its contract. The loop's invariant: `best` and `total` are the largest depth and sum of the
+-- transitions passed, the final output included. The measure is the number of transitions left. Assumes nothing.
 use mathlib.Core.Path.{_≡_}
 use Prim.Native.Nat.{_-_, _<_}
 use Rattle.admission.specs.Passes.{Surveyable}
@@ -9,7 +9,7 @@ use lib.ListN.{length}
 use Rattle.format.specs.declared.Transition.{Transition}
 use Rattle.node.specs.Read.{transitionsIn}
 use Rattle.node.specs.ReadLaws.{length-node-transitions}
-use Rattle.admission.proofs.Surveying.{SurveyedTo, surveyed-none, target-in-depths, target-in-sums, surveyed-lost, surveyed-step, surveyed-all}
+use Rattle.admission.proofs.Surveying.{SurveyedTo, surveyed-none, target-in-depths, target-in-sums, surveyed-step, surveyed-all}
 use borrow.Author.Needs.{needs}
 use native.Mathlib.Omega.{arith}
 use Rattle.admission.proofs.survey_node.Statement.{statement}
@@ -50,18 +50,10 @@ child-depth-requires : tie.Need-child-depth-requires Inv-loop μ-loop
 child-depth-requires c κs =
     target-in-depths (ready (c .before .before)) (c .before .before .loop .i) (in-list (c .before)) _ (c .transition-addr .ensures)
 
--- a target without an entry
-returns : tie.Need-returns Inv-loop μ-loop
-returns c =
-    let targeted = c .before .before in
-    let turn = targeted .before in
-    surveyed-lost (ready (turn .before)) (turn .before .loop .i) (in-list turn) _ (targeted .transition-addr .ensures) _ (c .before .child-depth .ensures)
-    (c .if1 .taken)
-
 -- the target lies within the sums
 child-sum-requires : tie.Need-child-sum-requires Inv-loop μ-loop
 child-sum-requires c κs =
-    let targeted = c .before .before in
+    let targeted = c .before in
     let turn = targeted .before in
     target-in-sums (ready (turn .before)) (turn .before .loop .i) (in-list turn) _ (targeted .transition-addr .ensures)
 
@@ -84,18 +76,18 @@ loop-less c = search needs
 loop-again : tie.Need-loop-again Inv-loop μ-loop
 loop-again c =
     let summed = c .before .before .before in
-    let targeted = summed .before .before .before in
+    let targeted = summed .before .before in
     let turn = targeted .before in
-    surveyed-step (ready (turn .before)) (turn .before .loop .i) (in-list turn) _ (targeted .transition-addr .ensures) _ (summed .before .before .child-depth .ensures)
-    _ _ _ _ (turn .before .loop .inv) (summed .before .if1 .left) (summed .child-sum .ensures) (c .before .before .output .ensures)
+    surveyed-step (ready (turn .before)) (turn .before .loop .i) (in-list turn) _ (targeted .transition-addr .ensures) _ (summed .before .child-depth .ensures)
+    _ _ _ _ (turn .before .loop .inv) (summed .child-sum .ensures) (c .before .before .output .ensures)
     (c .before .larger16 .ensures) (c .raised .ensures)
 
 add-t14 : tie.Need-add-t14 Inv-loop μ-loop
 add-t14 c = search needs
 
--- all transitions have entries
-returns-2 : tie.Need-returns-2 Inv-loop μ-loop
-returns-2 c = surveyed-all (c .before .loop .inv) (omega (arith, count (c .before)))
+-- all transitions are passed
+returns : tie.Need-returns Inv-loop μ-loop
+returns c = surveyed-all (c .before .loop .inv) (omega (arith, count (c .before)))
 
 pub survey-node-spec : {M : Type 1} → statement M
 survey-node-spec =
@@ -106,7 +98,6 @@ survey-node-spec =
     loop-holds
     transition-addr-requires
     child-depth-requires
-    returns
     child-sum-requires
     output-requires
     larger16-requires
@@ -115,4 +106,4 @@ survey-node-spec =
     loop-less
     loop-again
     add-t14
-    returns-2)
+    returns)

@@ -15,12 +15,17 @@ use Rattle.format.specs.Opening.{Meta, metaOf, opened, opening}
 use Rattle.format.specs.OpeningExact.{RootRight, right-root}
 use Rattle.format.specs.Paths.{Fst, fstOf, nodeIn, Path, here, follow, Held}
 use Rattle.format.specs.Admitted.{empty, Shallow, Light, Admitted}
-use Rattle.format.specs.laws.NodeLaws.{node-at-zero}
+use Rattle.format.specs.laws.NodeLaws.{node-at-zero, sound-not-empty}
 use Rattle.format.specs.laws.NodeFacts.{node-zero, node-zero-none}
 use Rattle.format.specs.laws.OpeningLaws.{blank-meta, opening-blank, opening-exactly, least-of-other}
 use Rattle.format.specs.laws.PathLaws.{blank-held}
 
 -- ---- a blank card
+
+-- no transition leads anywhere
+blank-path : {f : Fst} {a : ℕ} {k : List ℕ} {sum b : ℕ} → length (f .bytes) ≡ 0 → Path f a k sum b → k ≡ []
+blank-path z here = refl
+blank-path {f} {a} z (follow m t e mem p) = absurd (omega (arith, sound-not-empty (f .bytes) (f .version) (f .root) a m e))
 
 pub blank-admitted : Admitted []
 unfolding Shallow Light
@@ -30,8 +35,8 @@ blank-admitted =
       nodes = [];
       opens = opening-blank [] refl;
       chained = record { chain = empty (ap (λ (m : Meta). m .root) blank-meta); closed = λ a m t on e mem ne. absurd (List·Memᴰ·not-nil on) };
-      shallow = λ a k sum b on p. absurd (List·Memᴰ·not-nil on);
-      light = λ a k sum b m on p e. absurd (List·Memᴰ·not-nil on);
+      shallow = λ a k sum b on p. omega (arith, ap length (blank-path refl p));
+      light = λ a k sum b m on p e. absurd (omega (arith, sound-not-empty [] (metaOf [] .version) (metaOf [] .root) b m e));
     }
 
 pub blank-holds-nothing : (m : Meta) (k : List ℕ) (v : ℕ) → ¬ Held (fstOf [] m) k v

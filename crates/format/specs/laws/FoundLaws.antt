@@ -21,7 +21,7 @@ use Rattle.format.specs.Opening.{Meta, opened, opening}
 use Rattle.format.specs.Paths.{Fst, fstOf, nodeIn, Path, here, follow}
 use Rattle.format.specs.Admitted.{Admitted}
 use Rattle.format.specs.laws.PathLaws.{path-snoc}
-use Rattle.format.specs.laws.ReachedLaws.{Reached, path-reached}
+use Rattle.format.specs.laws.ReachedLaws.{PathEnd, path-reached}
 use Rattle.format.specs.Lookup.{KeyAnswer, lastFitting, withByte, getKeyFrom, getKey}
 use Rattle.format.specs.laws.LookupLaws.{at-fitting, key-goes-on-value, key-goes-on-final, get-key-from-unsound, get-key-from-end, get-key-from-none, get-key-from-deep, get-key-from-step, get-key-space, get-key-opened, get-key-blank}
 
@@ -142,7 +142,7 @@ admitted-found-path {s} A v space k is = found-path s v space (A .meta) k (A .op
 length-snoc : (p : List ℕ) (b : ℕ) → length (p ++ (b ∷ [])) ≡ length p + 1
 length-snoc p b = length-append p (b ∷ [])
 
-module _ {f : Fst} (reached : (k : List ℕ) (sum b : ℕ) → Path f (f .root) k sum b → Reached f k sum b) where
+module _ {f : Fst} (reached : (k : List ℕ) (sum b : ℕ) → Path f (f .root) k sum b → PathEnd f k sum b) where
   -- every node on the way is sound, and no path has a 256th byte
   not-refused-from : (room v n : ℕ) {p : List ℕ} {sum a : ℕ} → Path f (f .root) p sum a → length p + room ≡ maxPath → ¬ (getKeyFrom room f a v ≡ KeyAnswer.refused n)
   not-refused-from zero v n {p} {sum} {a} path full is = let r = reached p sum a path in go (r .node) (r .judged) (key-step (r .node) v)

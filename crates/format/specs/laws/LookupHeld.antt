@@ -17,7 +17,7 @@ use Rattle.format.specs.Paths.{Fst, fstOf, nodeIn, Path, here, Held}
 use Rattle.format.specs.Admitted.{Admitted}
 use Rattle.format.specs.laws.NodeFacts.{find-member, find-none}
 use Rattle.format.specs.laws.PathLaws.{path-snoc, held-unique, blank-held}
-use Rattle.format.specs.laws.ReachedLaws.{Reached, path-reached, HeldFrom, held-from, from-held, held-here, held-by, held-nil, held-step, held-input}
+use Rattle.format.specs.laws.ReachedLaws.{PathEnd, path-reached, HeldFrom, held-from, from-held, held-here, held-by, held-nil, held-step, held-input}
 use Rattle.format.specs.Lookup.{Answer, getFrom, get}
 use Rattle.format.specs.Exact.{GetExact}
 use Rattle.format.specs.laws.LookupLaws.{get-from-end-value, get-from-end-none, get-from-absent, get-from-step, get-opened, get-blank}
@@ -57,12 +57,12 @@ module _ (f : Fst) (a sum : ℕ) (m : Node) (e : nodeIn f a ≡ sound m) (fits :
       go inp mem goes (unheld none val) =
           unheld (λ w h. let r = held-step f a m e t mem {k = k} {v = w} (rw inp h) in none (r .0) (r .1)) (goes ∙ val)
 
-module _ {f : Fst} (reached : (k : List ℕ) (sum b : ℕ) → Path f (f .root) k sum b → Reached f k sum b) where
+module _ {f : Fst} (reached : (k : List ℕ) (sum b : ℕ) → Path f (f .root) k sum b → PathEnd f k sum b) where
   pub get-from-exact : (k : List ℕ) {p : List ℕ} {sum a : ℕ} → Path f (f .root) p sum a → FromExact f a k sum
   get-from-exact [] {p} {sum} {a} path = let r = reached p sum a path in end-exact f a sum (r .node) (r .judged) (r .light)
   get-from-exact (b ∷ k) {p} {sum} {a} path = go (reached p sum a path) (λ q n c. get-from-exact k {p = q} {sum = n} {a = c})
     where
-      go : Reached f p sum a → ((q : List ℕ) (n c : ℕ) → Path f (f .root) q n c → FromExact f c k n) → FromExact f a (b ∷ k) sum
+      go : PathEnd f p sum a → ((q : List ℕ) (n c : ℕ) → Path f (f .root) q n c → FromExact f c k n) → FromExact f a (b ∷ k) sum
       go r rest = by (findInput (r .node .transitions) b) refl
         where
           by : (q : Place) → findInput (r .node .transitions) b ≡ q → FromExact f a (b ∷ k) sum

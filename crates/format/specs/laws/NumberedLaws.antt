@@ -24,7 +24,7 @@ use Rattle.format.specs.Paths.{Fst, fstOf, nodeIn, Path, here, Held}
 use Rattle.format.specs.Tables.{largestSum}
 use Rattle.format.specs.laws.TableLaws.{largest-bound}
 use Rattle.format.specs.laws.PathLaws.{path-append, path-snoc, held-not-empty}
-use Rattle.format.specs.laws.ReachedLaws.{Reached, path-reached, HeldFrom, held-from, held-nil, held-step, held-input}
+use Rattle.format.specs.laws.ReachedLaws.{PathEnd, path-reached, HeldFrom, held-from, held-nil, held-step, held-input}
 use Rattle.format.specs.Lookup.{KeyAnswer, withByte, getKeyFrom, getKey, NumberedNode, Numbered}
 use Rattle.format.specs.Exact.{KeyExact}
 use Rattle.format.specs.laws.LookupLaws.{Fitting, fitting-at, key-goes-on-value, key-goes-on-final, get-key-from-end, get-key-from-step, get-key-opened}
@@ -87,7 +87,7 @@ held-place f a m e {b} {k} {v} h =
 held-from-bound : {f : Fst} {a : ℕ} {k : List ℕ} {v : ℕ} → HeldFrom f a k v → v ≤ largestSum f a
 held-from-bound h = omega (arith, h .value, largest-bound (h .path) (h .ends))
 
-module _ {f : Fst} (reached : (k : List ℕ) (sum b : ℕ) → Path f (f .root) k sum b → Reached f k sum b)
+module _ {f : Fst} (reached : (k : List ℕ) (sum b : ℕ) → Path f (f .root) k sum b → PathEnd f k sum b)
     (numbered : (k : List ℕ) (sum a : ℕ) (m : Node) → Path f (f .root) k sum a → nodeIn f a ≡ sound m → NumberedNode f m) where
   -- a held key takes at most as many bytes as there is room for
   held-room : (room : ℕ) {p : List ℕ} {sum a : ℕ} → Path f (f .root) p sum a → length p + room ≡ maxPath → {k : List ℕ} {v : ℕ} → HeldFrom f a k v → length k ≤ room

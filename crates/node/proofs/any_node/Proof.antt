@@ -93,9 +93,11 @@ returns c =
     let q = c .before .before in
     let fo : c .unpack-uint .result ≡ le (take (endLen (h q .«is_final») (h q .osize)) (drop (first q) (file q))) =
     c .unpack-uint .ensures ∙ ap (λ (l : List ℕ). le (take (h q .«end_len») l)) (part-rest (file q) (first q))
-    ∙ ap (λ (k : ℕ). le (take k (drop (first q) (file q)))) (is-end q) in
-    judged-yes (file q) (start q .args .version) (start q .args .root) (addr q) (h-at q) (is-h q) (λ z. omega (arith, low (start q)))
-    (c .unpack-uint .result) 0 (first q + h q .«end_len») (sound-at q) fo refl (ap (λ (k : ℕ). first q + k) (is-end q))
+    ∙ ap (λ (k : ℕ). le (take k (drop (first q) (file q)))) (is-end q) in (
+      judged-yes (file q) (start q .args .version) (start q .args .root) (addr q) (h-at q) (is-h q) (λ z. omega (arith, low (start q)))
+          (c .unpack-uint .result) 0 (first q + h q .«end_len») (sound-at q) fo refl (ap (λ (k : ℕ). first q + k) (is-end q)),
+      refl,
+    )
 
 pub any-node-spec : {M : Type 1} → statement M
 any-node-spec =

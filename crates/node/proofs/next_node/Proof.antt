@@ -43,9 +43,11 @@ returns c =
     let s = now (a .file) in
     let len = call .head-len .result in
     let is-h = shape-next s (a .version) (a .addr) len (start .pre .1) (call .head-len .ensures .is) in
-    let ne : ¬ (a .addr ≡ 0) = λ z. omega (arith, low start) in
-    judged-yes s (a .version) (a .root) (a .addr) (nextShape len) is-h ne 0 (c .input-of .result) (a .addr + 1 - len)
-    (shape-sound s (a .version) (a .root) (a .addr) (nextShape len) is-h ne (start .pre .0)) refl (rw (c .input-of .ensures)) (sym (add-zero (a .addr + 1 - len)))
+    let ne : ¬ (a .addr ≡ 0) = λ z. omega (arith, low start) in (
+      judged-yes s (a .version) (a .root) (a .addr) (nextShape len) is-h ne 0 (c .input-of .result) (a .addr + 1 - len)
+          (shape-sound s (a .version) (a .root) (a .addr) (nextShape len) is-h ne (start .pre .0)) refl (rw (c .input-of .ensures)) (sym (add-zero (a .addr + 1 - len))),
+      refl,
+    )
 
 pub next-node-spec : {M : Type 1} → statement M
 next-node-spec =

@@ -87,9 +87,11 @@ input-of-requires c κs = (omega (arith, low (start c)), start c .pre .0 .inside
 returns : tie.Need-returns
 unfolding le
 returns c =
-    let q = c .before in
-    judged-yes (file q) (start q .args .version) (start q .args .root) (addr q) (h-at q) (is-h q) (λ z. omega (arith, low (start q))) 0 (c .input-of .result)
-    (addr q + 1 - size q) (sound-at q) refl (rw (c .input-of .ensures)) (sym (add-zero (addr q + 1 - size q)))
+    let q = c .before in (
+      judged-yes (file q) (start q .args .version) (start q .args .root) (addr q) (h-at q) (is-h q) (λ z. omega (arith, low (start q))) 0 (c .input-of .result)
+          (addr q + 1 - size q) (sound-at q) refl (rw (c .input-of .ensures)) (sym (add-zero (addr q + 1 - size q))),
+      refl,
+    )
 
 pub one-node-spec : {M : Type 1} → statement M
 one-node-spec =
