@@ -19,7 +19,7 @@ use Rattle.format.specs.declared.State.the-variants.{OneTransNext, OneTrans, An
 use Rattle.format.specs.declared.Transition.{Transition}
 use Rattle.format.specs.Bytes.{le}
 use Rattle.format.specs.Node as F
-use Rattle.format.specs.Node.{headLen, inputsLen, endLen, inputsIn, deltasIn, inputsAt, deltasAt, storedTransitions, Absent, Indexed, SizesRight, TargetsRight, Judgement, sound, unsound, nodeAt, Place, at, absent}
+use Rattle.format.specs.Node.{headLen, inputsLen, endLen, inputsIn, deltasIn, inputsAt, deltasAt, storedTransitions, Absent, Indexed, SizesRight, TargetsRight, Judgement, sound, unsound, nodeAt, Search, Gap}
 use Rattle.node.specs.declared.Node.{Node}
 use Rattle.node.specs.declared.Shape.{Shape}
 use Rattle.node.specs.declared.Judged.{Judged}
@@ -48,14 +48,14 @@ abbrev pub judgedIs : List ℕ → Judged → Judgement
 judgedIs s (Sound m) = sound (meaning s m)
 judgedIs s Unsound = unsound
 
-abbrev pub placeIs : Found → Place
-placeIs (At i) = at i
-placeIs Missing = absent
+abbrev pub searchIs : Found → Search
+searchIs (At i) = Search.at i
+searchIs (Missing p) = Search.absent p
 
 -- where b leads among these transitions
-abbrev pub wayAs : List Transition → Place → Way
-wayAs ts (at i) = To (F.transitionAt ts i .out) (F.transitionAt ts i .addr)
-wayAs ts absent = Nowhere
+abbrev pub wayAs : List Transition → Search → Way
+wayAs ts (Search.at i) = To (F.transitionAt ts i .out) (F.transitionAt ts i .addr)
+wayAs ts (Search.absent p) = Nowhere p
 
 abbrev pub wayIn : List Transition → ℕ → Way
 wayIn ts b = wayAs ts (F.findInput ts b)
@@ -181,12 +181,7 @@ pub record Searchable (s : List ℕ) (at n entries : ℕ) : Type 0 where
   pub entries-len : ¬ (entries ≡ 0) → entries ≡ 256
   pub index : ¬ (entries ≡ 0) → Indexed (F.bytesDown s at n) (take 256 (drop (at + n) s))
 
--- a place of b in bs, or b is absent
+-- a place of b in bs, or the place of the first that is above it
 pub record Finds (bs : List ℕ) (b : ℕ) (r : Found) : Type 0 where
   pub found : (i : ℕ) → r ≡ At i → (i < length bs) × (getD bs i 0 ≡ b)
-  pub missing : r ≡ Missing → Absent b bs
-
--- the entry of b where it is below n
-pub record LooksUp (es : List ℕ) (n b : ℕ) (r : Found) : Type 0 where
-  pub found : (i : ℕ) → r ≡ At i → (i < n) × (getD es b 0 ≡ i)
-  pub missing : r ≡ Missing → n ≤ getD es b 0
+  pub missing : (p : ℕ) → r ≡ Missing p → Gap (length bs) (λ i. getD bs i 0) b p

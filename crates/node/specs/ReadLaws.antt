@@ -14,7 +14,7 @@ use Rattle.format.specs.declared.State.{State}
 use Rattle.format.specs.declared.State.the-variants.{OneTransNext, OneTrans, AnyTrans}
 use Rattle.format.specs.Node as F
 use Rattle.format.specs.declared.Transition.{Transition}
-use Rattle.format.specs.Node.{bytesDown, numbersDown, inputsAt, deltasAt, inputsIn, deltasIn, targetOf, Absent, Indexed, transitionAt, findInput, Place, at, absent, Judgement, sound, unsound, nodeAt}
+use Rattle.format.specs.Node.{bytesDown, numbersDown, inputsAt, deltasAt, inputsIn, deltasIn, targetOf, Absent, Indexed, transitionAt, findInput, Search, Gap, Judgement, sound, unsound, nodeAt}
 use Rattle.format.specs.laws.StoredLaws.{length-bytes-down, length-numbers-down}
 use Rattle.format.specs.laws.TransitionLaws.{length-transitions-of, transition-at-of, find-input-at, find-input-absent, find-input-member}
 use Rattle.node.specs.declared.Node.{Node}
@@ -26,27 +26,21 @@ use Rattle.node.specs.declared.Step.{Step}
 use Rattle.node.specs.declared.Step.the-variants.{Sound as Stepped, Unsound as Stuck}
 use Rattle.node.specs.declared.Way.{Way}
 use Rattle.node.specs.declared.Way.the-variants.{To, Absent as Nowhere}
-use Rattle.node.specs.Read.{wayAs, wayIn, stepOf, meaning, judgedIs, Judges, transitionsIn, nodeInputs, nodeDeltas, isAny, Readable, placeIs, Finds, LooksUp}
+use Rattle.node.specs.Read.{wayAs, wayIn, stepOf, meaning, judgedIs, Judges, transitionsIn, nodeInputs, nodeDeltas, isAny, Readable, searchIs, Finds}
 
 -- ---- a place or none
 
 pub finds-at : {bs : List ℕ} {b : ℕ} (i : ℕ) → i < length bs → getD bs i 0 ≡ b → Finds bs b (At i)
 finds-at {bs} {b} i l is = record {
   found = λ j e. let q : i ≡ j = cc in (rw (← q) l, rw (← q) is);
-  missing = λ e. absurd (let z : _≡_ {A = ℕ} 0 1 = cc in omega arith);
+  missing = λ p e. absurd (let z : _≡_ {A = ℕ} 0 1 = cc in omega arith);
 }
 
-pub finds-missing : {bs : List ℕ} {b : ℕ} → Absent b bs → Finds bs b Missing
-finds-missing away = record { found = λ j e. absurd (let z : _≡_ {A = ℕ} 0 1 = cc in omega arith); missing = λ _. away }
-
-pub looks-up-at : {es : List ℕ} {n b : ℕ} (i : ℕ) → i < n → getD es b 0 ≡ i → LooksUp es n b (At i)
-looks-up-at {es} {n} {b} i l is = record {
-  found = λ j e. let q : i ≡ j = cc in (rw (← q) l, is ∙ q);
-  missing = λ e. absurd (let z : _≡_ {A = ℕ} 0 1 = cc in omega arith);
+pub finds-missing : {bs : List ℕ} {b : ℕ} (p : ℕ) → Gap (length bs) (λ i. getD bs i 0) b p → Finds bs b (Missing p)
+finds-missing {bs} {b} p gap = record {
+  found = λ j e. absurd (let z : _≡_ {A = ℕ} 0 1 = cc in omega arith);
+  missing = λ q e. let same : p ≡ q = cc in rw (← same) gap;
 }
-
-pub looks-up-missing : {es : List ℕ} {n b : ℕ} → n ≤ getD es b 0 → LooksUp es n b Missing
-looks-up-missing past = record { found = λ j e. absurd (let z : _≡_ {A = ℕ} 0 1 = cc in omega arith); missing = λ _. past }
 
 -- a byte is at some place below k, or at none of them
 pub find-or : (bs : List ℕ) (b k : ℕ) → ((j : ℕ) × (j < k) × (getD bs j 0 ≡ b)) ⊎ ((j : ℕ) → j < k → ¬ (getD bs j 0 ≡ b))
@@ -59,25 +53,19 @@ find-or bs b (suc k) = go (eqb (getD bs k 0) b) refl (find-or bs b k)
     go false e (inl (j, l, is)) = inl (j, omega arith, is)
     go false e (inr none) = inr (λ j l. ⊎-elim (λ q is. eqb-false (getD bs k 0) b e (rw (← q) is)) (λ m. none j m) (eq-or-lt-of-le (le-of-suc-le-suc l)))
 
--- a right index: an entry below the count is the place of its byte, and a byte with any other entry is absent
-pub looks-up-finds : (bs es : List ℕ) (b : ℕ) (r : Found) → Indexed bs es → b < 256 → LooksUp es (length bs) b r → Finds bs b r
+-- a right index: an entry below the count is the place of its byte
+pub entry-finds : (bs es : List ℕ) (b i : ℕ) → Indexed bs es → b < 256 → i < length bs → i ≡ getD es b 0 → Finds bs b (At i)
 unfolding Absent
-looks-up-finds bs es b r right byte l = record { found = λ i e. place i (l .found i e); missing = λ e j m is. away (l .missing e) j m is }
+entry-finds bs es b i right byte lt is-i = finds-at i lt (⊎-elim here gone (find-or bs b (length bs)))
   where
-    place : (i : ℕ) → (i < length bs) × (getD es b 0 ≡ i) → (i < length bs) × (getD bs i 0 ≡ b)
-    place i (lt, is-i) = (lt, ⊎-elim here gone (find-or bs b (length bs)))
-      where
-        here : (j : ℕ) × (j < length bs) × (getD bs j 0 ≡ b) → getD bs i 0 ≡ b
-        here (j, m, is) =
-            let at : getD es (getD bs j 0) 0 ≡ j = right .present j m in
-            let same : i ≡ j = sym is-i ∙ (rw is at at) in
-            rw same is
+    here : (j : ℕ) × (j < length bs) × (getD bs j 0 ≡ b) → getD bs i 0 ≡ b
+    here (j, m, is) =
+        let at : getD es (getD bs j 0) 0 ≡ j = right .present j m in
+        let same : i ≡ j = is-i ∙ (rw is at at) in
+        rw same is
 
-        gone : ((j : ℕ) → j < length bs → ¬ (getD bs j 0 ≡ b)) → getD bs i 0 ≡ b
-        gone none = absurd (not-le-of-lt lt (rw is-i at (right .absent b byte none)))
-
-    away : length bs ≤ getD es b 0 → (j : ℕ) → j < length bs → ¬ (getD bs j 0 ≡ b)
-    away past j m is = let at : getD es (getD bs j 0) 0 ≡ j = right .present j m in let e : getD es b 0 ≡ j = rw is at at in omega arith
+    gone : ((j : ℕ) → j < length bs → ¬ (getD bs j 0 ≡ b)) → getD bs i 0 ≡ b
+    gone none = absurd (not-le-of-lt lt (rw (← is-i) at (right .absent b byte none)))
 
 -- ---- the transitions of a judged node
 
@@ -123,13 +111,13 @@ module _ (s : List ℕ) (m : Node) (r : Readable s m) where
       (omega (arith, length-node-inputs))
       ∙ rw (List·getD-map (targetOf (m .first)) (nodeDeltas s m) i 0)
 
-  pub node-find : (b : ℕ) (f : Found) → Finds (nodeInputs s m) b f → placeIs f ≡ findInput (transitionsIn s m) b
+  pub node-find : (b : ℕ) (f : Found) → Finds (nodeInputs s m) b f → searchIs f ≡ findInput (transitionsIn s m) b
   node-find b (At i) h =
-      sym (find-input-at (nodeInputs s m) (numbersDown s (m .outputs) (m .osize) (m .ntrans)) (map (targetOf (m .first)) (nodeDeltas s m)) b i outputs-len targets-len
-      (r .ascending) (h .found i refl .0) (h .found i refl .1))
-  node-find b Missing h =
+      sym (find-input-at (nodeInputs s m) (numbersDown s (m .outputs) (m .osize) (m .ntrans)) (map (targetOf (m .first)) (nodeDeltas s m)) b outputs-len targets-len
+      (r .ascending) i (h .found i refl .0) (h .found i refl .1))
+  node-find b (Missing p) h =
       sym (find-input-absent (nodeInputs s m) (numbersDown s (m .outputs) (m .osize) (m .ntrans)) (map (targetOf (m .first)) (nodeDeltas s m)) b outputs-len targets-len
-      (h .missing refl))
+      (r .ascending) p (h .missing p refl))
 
 -- ---- what an answer says to a caller
 
@@ -140,14 +128,14 @@ module _ {s : List ℕ} {v root a : ℕ} {r : Judged} (j : Judges s v root a r) 
   pub answer-unsound : r ≡ Unsound → nodeAt s v root a ≡ unsound
   answer-unsound e = sym (j .answer) ∙ ap (judgedIs s) e
 
--- the place that `find_input` and the like answered
-pub place-is : (p : Place) (f : Found) → placeIs f ≡ p → (i : ℕ) → f ≡ At i → p ≡ at i
-place-is p f e i is = sym e ∙ ap placeIs is
+-- the place that `find_input` answered
+pub search-is : (q : Search) (f : Found) → searchIs f ≡ q → (i : ℕ) → f ≡ At i → q ≡ Search.at i
+search-is q f e i is = sym e ∙ ap searchIs is
 
-pub place-none : (p : Place) (f : Found) → placeIs f ≡ p → f ≡ Missing → p ≡ absent
-place-none p f e is = sym e ∙ ap placeIs is
+pub search-gone : (q : Search) (f : Found) → searchIs f ≡ q → (p : ℕ) → f ≡ Missing p → q ≡ Search.absent p
+search-gone q f e p is = sym e ∙ ap searchIs is
 
-pub place-lt : (s : List ℕ) (m : Node) (r : Readable s m) (b i : ℕ) → findInput (transitionsIn s m) b ≡ at i → i < m .ntrans
+pub place-lt : (s : List ℕ) (m : Node) (r : Readable s m) (b i : ℕ) → findInput (transitionsIn s m) b ≡ Search.at i → i < m .ntrans
 place-lt s m r b i e = omega (arith, find-input-member (transitionsIn s m) b i e .0, length-node-transitions s m r)
 
 -- ---- what a step says to a caller
@@ -162,17 +150,17 @@ step-stuck unsound b e = refl
 
 -- the transition that an input leads along
 pub way-found : (ts : List Transition) (b out target : ℕ) → To out target ≡ wayIn ts b
-    → (i : ℕ) × ((findInput ts b ≡ at i) × (out ≡ transitionAt ts i .out) × (target ≡ transitionAt ts i .addr))
+    → (i : ℕ) × ((findInput ts b ≡ Search.at i) × (out ≡ transitionAt ts i .out) × (target ≡ transitionAt ts i .addr))
 way-found ts b out target e = go (findInput ts b) refl e
   where
-    go : (p : Place) → findInput ts b ≡ p → To out target ≡ wayAs ts p
-        → (i : ℕ) × ((findInput ts b ≡ at i) × (out ≡ transitionAt ts i .out) × (target ≡ transitionAt ts i .addr))
-    go (at i) is-p e = (i, (is-p, cc, cc))
-    go absent is-p e = absurd (let z : _≡_ {A = ℕ} 0 1 = cc in omega arith)
+    go : (p : Search) → findInput ts b ≡ p → To out target ≡ wayAs ts p
+        → (i : ℕ) × ((findInput ts b ≡ Search.at i) × (out ≡ transitionAt ts i .out) × (target ≡ transitionAt ts i .addr))
+    go (Search.at i) is-p e = (i, (is-p, cc, cc))
+    go (Search.absent q) is-p e = absurd (let z : _≡_ {A = ℕ} 0 1 = cc in omega arith)
 
-pub way-none : (ts : List Transition) (b : ℕ) → Nowhere ≡ wayIn ts b → findInput ts b ≡ absent
-way-none ts b e = go (findInput ts b) refl e
+pub way-none : (ts : List Transition) (b p : ℕ) → Nowhere p ≡ wayIn ts b → findInput ts b ≡ Search.absent p
+way-none ts b p e = go (findInput ts b) refl e
   where
-    go : (p : Place) → findInput ts b ≡ p → Nowhere ≡ wayAs ts p → findInput ts b ≡ absent
-    go (at i) is-p e = absurd (let z : _≡_ {A = ℕ} 0 1 = cc in omega arith)
-    go absent is-p e = is-p
+    go : (r : Search) → findInput ts b ≡ r → Nowhere p ≡ wayAs ts r → findInput ts b ≡ Search.absent p
+    go (Search.at i) is-p e = absurd (let z : _≡_ {A = ℕ} 0 1 = cc in omega arith)
+    go (Search.absent q) is-p e = let same : q ≡ p = cc in is-p ∙ ap Search.absent same

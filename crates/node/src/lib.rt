@@ -9,7 +9,8 @@ ghost use Rattle.format.specs.Bytes.{le};
 ghost use Rattle.buffers.specs.Decide.{Decides};
 ghost use Rattle.format.specs.Limits.{firstNode, maxTrans};
 ghost use Rattle.format.specs.Node.{bytesDown, numbersDown, countOf, inputOf, indexLen, endLen, Ascending, Indexed, TargetRight, TargetsRight, Useful, SoundAt, shapeOf, transitionAt, nodeAt, targetOf, findInput};
-ghost use Rattle.node.specs.Read.{Head, Falls, Probed, below, AtMost, PartsRight, Searchable, shapeIs, AtForm, emptyNode, Judges, transitionsIn, nodeInputs, nodeDeltas, Readable, Finds, LooksUp, placeIs, anyNode, wayIn, stepOf};
+ghost use Rattle.node.specs.declared.Found.the-variants.{Absent as Missing};
+ghost use Rattle.node.specs.Read.{Head, Falls, Probed, below, AtMost, PartsRight, Searchable, shapeIs, AtForm, emptyNode, Judges, transitionsIn, nodeInputs, nodeDeltas, Readable, Finds, searchIs, anyNode, wayIn, stepOf};
 ghost use Rattle.node.specs.declared.Step.the-variants.{Sound as Stepped};
 ghost use Rattle.node.specs.declared.Judged.the-variants.{Sound};
 ghost use Rattle.format.specs.declared.State.the-variants.{AnyTrans};
@@ -52,16 +53,17 @@ pub enum Judged {
     Unsound,
 }
 
-// The place of an input among a node's transitions.
+// The place of an input among a node's transitions, or the place of the first greater one.
 pub enum Found {
     At(usize),
-    Absent,
+    Absent(usize),
 }
 
-// Where an input leads from a sound node: the output and the target of its transition, or nowhere.
+// Where an input leads from a sound node: the output and the target of its transition, or nowhere, and
+// then the place of the first greater input.
 pub enum Way {
     To(u64, usize),
-    Absent,
+    Absent(usize),
 }
 
 // One step of a lookup by key: what a node that is judged as it is entered says of an input.
@@ -819,27 +821,23 @@ fn seek(file: &[u8], at: usize, n: usize, b: u8) -> Found
             return Found::At(n - 1 - p);
         }
     }
-    Found::Absent
+    Found::Absent(n - p)
 }
 
-// The place of b by the index: an entry below the count is the place of its byte.
-fn look_up(file: &[u8], index: usize, n: usize, b: u8) -> Found
-    requires { ⌜ index + 256 ≤ length (now file) ⌝ }
-    ensures { λ r. ⌜ LooksUp (take 256 (drop index (now (file .entry)))) n b r ⌝ }
-{
-    let e = small(file[index + (b as usize)]);
-    if e < n { Found::At(e) } else { Found::Absent }
-}
-
-// The place of b among n inputs from place at on, by the index that follows them if there is one.
+// The place of b among n inputs from place at on, or of the first above it. An entry of the index, if
+// there is one, is the place of its byte where it is below the count, and otherwise says only that
+// the byte is absent.
 fn find_in(file: &[u8], at: usize, n: usize, index_len: usize, b: u8) -> Found
     requires { ⌜ Searchable (now file) at n «index_len» ⌝ }
     ensures { λ r. ⌜ Finds (bytesDown (now (file .entry)) at n) b r ⌝ }
 {
-    if index_len == 0 {
-        return seek(file, at, n, b);
+    if index_len != 0 {
+        let e = small(file[at + n + (b as usize)]);
+        if e < n {
+            return Found::At(e);
+        }
     }
-    look_up(file, at + n, n, b)
+    seek(file, at, n, b)
 }
 
 // The place of b in a node with any number of transitions.
@@ -852,21 +850,28 @@ fn find_any(file: &[u8], node: Node, b: u8) -> Found
     find_in(file, inputs, n, node.index_len, b)
 }
 
+// The place of the first input above b where there is one, and it is another.
+fn place_beside(input: u8, b: u8) -> usize
+    requires { ⌜ ¬ (input ≡ b) ⌝ }
+    ensures { λ r. ⌜ Finds (input ∷ []) b (Missing r) ⌝ }
+{
+    if input < b { 1 } else { 0 }
+}
+
 // The place of b where there is one transition.
 fn find_one(input: u8, b: u8) -> Found
     ensures { λ r. ⌜ Finds (input ∷ []) b r ⌝ }
 {
     if input == b {
-        Found::At(0)
-    } else {
-        Found::Absent
+        return Found::At(0);
     }
+    Found::Absent(place_beside(input, b))
 }
 
-// The place of the input b, or its absence.
+// The place of the input b, or of the first greater one.
 pub fn find_input(file: &[u8], node: Node, b: u8) -> Found
     requires { ⌜ Readable (now file) node ⌝ }
-    ensures { λ r. ⌜ placeIs r ≡ findInput (transitionsIn (now (file .entry)) node) b ⌝ }
+    ensures { λ r. ⌜ searchIs r ≡ findInput (transitionsIn (now (file .entry)) node) b ⌝ }
 {
     let state = node.state;
     match state {
@@ -905,12 +910,15 @@ fn any_way(
 {
     let deltas = outputs + n * osize;
     let inputs = deltas + n * tsize;
-    let Found::At(i) = find_in(file, inputs, n, index_len, b) else {
-        return Way::Absent;
-    };
-    let out = number_of(file, outputs, osize, n, i);
-    let delta = number_of(file, deltas, tsize, n, i);
-    Way::To(out, target_of(first, delta))
+    let found = find_in(file, inputs, n, index_len, b);
+    match found {
+        Found::Absent(p) => Way::Absent(p),
+        Found::At(i) => {
+            let out = number_of(file, outputs, osize, n, i);
+            let delta = number_of(file, deltas, tsize, n, i);
+            Way::To(out, target_of(first, delta))
+        }
+    }
 }
 
 // A node with any number of transitions, judged as by `any_sound`. Its numbers go on to `any_way` one by
@@ -958,8 +966,9 @@ fn one_way(file: &[u8], version: u64, root: usize, addr: usize, b: u8) -> Way
     let tsize = sizes / 16;
     let osize = sizes % 16;
     let first = addr + 1 - (osize + tsize + 1 + len);
-    if input_of(file, addr) != b {
-        return Way::Absent;
+    let input = input_of(file, addr);
+    if input != b {
+        return Way::Absent(place_beside(input, b));
     }
     let out = number_of(file, first, osize, 1, 0);
     let delta = number_of(file, first + osize, tsize, 1, 0);
@@ -972,8 +981,9 @@ fn next_way(file: &[u8], version: u64, root: usize, addr: usize, b: u8) -> Way
     ensures { λ r. ⌜ Stepped r ≡ stepOf (nodeAt (now (file .entry)) version root addr) b ⌝ }
 {
     let len = head_len(file, addr);
-    if input_of(file, addr) != b {
-        return Way::Absent;
+    let input = input_of(file, addr);
+    if input != b {
+        return Way::Absent(place_beside(input, b));
     }
     Way::To(0, addr - len)
 }
@@ -1007,7 +1017,7 @@ pub fn step_at(file: &[u8], version: u64, root: usize, addr: usize, b: u8) -> St
     ensures { λ r. ⌜ r ≡ stepOf (nodeAt (now (file .entry)) version root addr) b ⌝ }
 {
     if addr == 0 {
-        return Step::Sound(Way::Absent);
+        return Step::Sound(Way::Absent(0));
     }
     // the state byte itself lies from 16 to the root, and in the file
     if addr < FIRST_NODE {

@@ -9,7 +9,7 @@ use Rattle.format.specs.Node as F
 use Rattle.format.specs.Node.{shapeOf, SoundShape}
 use Rattle.node.proofs.Judging.{codeNode, sound-low, shape-sound, judged-yes}
 use Rattle.node.proofs.Accessors.{delta-le}
-use Rattle.node.proofs.Steps.{single-here, single-missing, way-absent, way-to, step-yes}
+use Rattle.node.proofs.Steps.{single-here, way-absent, way-to, step-yes}
 use Rattle.node.specs.declared.Node.{Node}
 use Rattle.node.specs.declared.Judged.the-variants.{Sound}
 use Rattle.node.specs.declared.Found.the-variants.{At, Absent as Missing}
@@ -112,13 +112,17 @@ delta-at w d is-d =
     let one : 1 * (sizes (w .before) % 16) ≡ sizes (w .before) % 16 = omega arith in
     rw one is-d
 
+place-beside-requires : tie.Need-place-beside-requires
+place-beside-requires c κs = search needs
+
 -- the one input is another
 returns : tie.Need-returns
 returns c =
-    let w = c .before in
+    let w = c .before .before in
     let q = w .before in
-    step-yes (file q) (start q .args .version) (start q .args .root) (addr q) (start q .args .b) (m w) Nowhere (judged w)
-    (way-absent (file q) (m w) (readable w) (start q .args .b) Missing (single-missing (c .if1 .taken)) refl)
+    let p = c .place-beside .result in
+    step-yes (file q) (start q .args .version) (start q .args .root) (addr q) (start q .args .b) (m w) (Nowhere p) (judged w)
+    (way-absent (file q) (m w) (readable w) (start q .args .b) (Missing p) (c .place-beside .ensures) p refl)
 
 -- the output lies within the node
 number-of-requires : tie.Need-number-of-requires
@@ -163,6 +167,7 @@ one-way-spec =
     add-first-4
     sub-first
     input-of-requires
+    place-beside-requires
     returns
     number-of-requires
     add-number-of
