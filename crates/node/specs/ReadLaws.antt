@@ -16,7 +16,7 @@ use Rattle.format.specs.Node as F
 use Rattle.format.specs.declared.Transition.{Transition}
 use Rattle.format.specs.Node.{bytesDown, numbersDown, inputsAt, deltasAt, inputsIn, deltasIn, targetOf, Absent, Indexed, transitionAt, findInput, Search, Gap, Judgement, sound, unsound, nodeAt}
 use Rattle.format.specs.laws.StoredLaws.{length-bytes-down, length-numbers-down}
-use Rattle.format.specs.laws.TransitionLaws.{length-transitions-of, transition-at-of, find-input-at, find-input-absent, find-input-member}
+use Rattle.format.specs.laws.TransitionLaws.{length-transitions-of, transition-at-of, find-input-at, find-input-absent, find-input-member, find-input-le}
 use Rattle.node.specs.declared.Node.{Node}
 use Rattle.node.specs.declared.Judged.{Judged}
 use Rattle.node.specs.declared.Judged.the-variants.{Sound, Unsound}
@@ -137,6 +137,9 @@ search-gone q f e p is = sym e ∙ ap searchIs is
 
 pub place-lt : (s : List ℕ) (m : Node) (r : Readable s m) (b i : ℕ) → findInput (transitionsIn s m) b ≡ Search.at i → i < m .ntrans
 place-lt s m r b i e = omega (arith, find-input-member (transitionsIn s m) b i e .0, length-node-transitions s m r)
+
+pub gone-le : (s : List ℕ) (m : Node) (r : Readable s m) (b p : ℕ) → findInput (transitionsIn s m) b ≡ Search.absent p → p ≤ m .ntrans
+gone-le s m r b p e = omega (arith, find-input-le (transitionsIn s m) b p e, length-node-transitions s m r)
 
 -- ---- what a step says to a caller
 

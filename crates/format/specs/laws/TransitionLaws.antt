@@ -10,7 +10,7 @@ use native.Mathlib.Nat.{zero-add}
 use native.Mathlib.Decide.{decLt}
 use native.Mathlib.Omega.{arith}
 use borrow.Author.Tests.{eq-eqb, ne-eqb, eqb-true, eqb-false, lt-ltb, le-ltb}
-use lib.Dec.{eqb}
+use lib.Dec.{ltb, eqb}
 use lib.ListN.{length, getD}
 use Rattle.format.specs.declared.Transition.{Transition}
 use Rattle.format.specs.Node.{transitionsOf, Ascending, Absent, Place, at, absent, findFrom, firstAbove, Search, searchOf, findInput, Gap, transitionAt}
@@ -118,6 +118,18 @@ find-input-member ts b i e =
 
 pub find-input-none : (ts : List Transition) (b : ℕ) {p : ℕ} → findInput ts b ≡ Search.absent p → (t : Transition) → List·Memᴰ t ts → ¬ (t .inp ≡ b)
 find-input-none ts b {p} e t m = find-from-none 0 ts b (search-absent-from (findFrom 0 ts b) (firstAbove ts b) p e .0) t m
+
+first-le : (ts : List Transition) (b : ℕ) → firstAbove ts b ≤ length ts
+unfolding firstAbove
+first-le [] b = omega arith
+first-le (t ∷ ts) b = go (ltb b (t .inp)) (first-le ts b)
+  where
+    go : (z : Bool) → firstAbove ts b ≤ length ts → cond z 0 (suc (firstAbove ts b)) ≤ suc (length ts)
+    go true h = omega arith
+    go false h = omega arith
+
+pub find-input-le : (ts : List Transition) (b p : ℕ) → findInput ts b ≡ Search.absent p → p ≤ length ts
+find-input-le ts b p e = omega (arith, search-absent-from (findFrom 0 ts b) (firstAbove ts b) p e .1, first-le ts b)
 
 -- ---- transitions whose inputs ascend
 
