@@ -20,7 +20,7 @@ use lib.ListN.{length, getD, take, drop, length-take}
 use lib.Seq.{getD-take, getD-drop}
 use Rattle.format.specs.Limits.{minLen, maxLen, maxSum, maxPath}
 use Rattle.format.specs.laws.BytesLaws.{le-lt, pow-256-le}
-use Rattle.format.specs.Node.{Node, Judgement, sound, unsound, Place, at, absent, findInput, transitionAt}
+use Rattle.format.specs.Node.{Node, Judgement, sound, unsound, Place, at, absent, Search, findInput, transitionAt}
 use Rattle.format.specs.Opening as O
 use Rattle.format.specs.Opening.{Meta, Opening, opened, numberAt, versionTest, rootTest, metaOf, opening}
 use Rattle.format.specs.Paths.{Fst, fstOf, nodeIn, Held}
@@ -72,9 +72,9 @@ entered-nonzero : (j : Judgement) {go : Node → L.Answer} → ((m : Node) → G
 entered-nonzero (sound m) h = h m
 entered-nonzero unsound h = refuses 4
 
-followed-nonzero : (p : Place) {go : ℕ → L.Answer} → ((i : ℕ) → GetNonzero (go i)) → GetNonzero (followed p go)
-followed-nonzero (at i) h = h i
-followed-nonzero absent h = nones
+followed-nonzero : (p : Search) {go : ℕ → L.Answer} → ((i : ℕ) → GetNonzero (go i)) → GetNonzero (followed p go)
+followed-nonzero (Search.at i) h = h i
+followed-nonzero (Search.absent p) h = nones
 
 from-nonzero : (f : Fst) (k : List ℕ) (a sum : ℕ) → GetNonzero (getFrom f k a sum)
 unfolding getFrom
@@ -106,7 +106,7 @@ key-entered-nonzero : (j : Judgement) {go : Node → L.KeyAnswer} → ((m : Node
 key-entered-nonzero (sound m) h = h m
 key-entered-nonzero unsound h = KeyNonzero.refuses 4
 
-key-followed-nonzero : (p : Place) {go : ℕ → L.KeyAnswer} → ((i : ℕ) → KeyNonzero (go i)) → KeyNonzero (keyFollowed p go)
+key-followed-nonzero : (p : Search) {go : ℕ → L.KeyAnswer} → ((i : ℕ) → KeyNonzero (go i)) → KeyNonzero (keyFollowed p go)
 key-followed-nonzero (at i) h = h i
 key-followed-nonzero absent h = KeyNonzero.nones
 

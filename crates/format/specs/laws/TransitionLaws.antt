@@ -208,8 +208,8 @@ pub search-at : (ts : List Transition) → Ascend ts → (b i : ℕ)
 search-at ts asc b i = (
   λ e. find-input-member ts b i e,
   λ l is.
-  let found : findFrom 0 ts b ≡ at i = find-from-at 0 ts b i l is (λ j m e. omega (arith, asc j i m l)) ∙ ap Place.at (zero-add i) in
-  rw found,
+      let found : findFrom 0 ts b ≡ at i = find-from-at 0 ts b i l is (λ j m e. omega (arith, asc j i m l)) ∙ ap Place.at (zero-add i) in
+      rw found,
 )
 
 -- a byte that is none, exactly: where it would stand
@@ -217,8 +217,8 @@ pub search-absent : (ts : List Transition) → Ascend ts → (b p : ℕ)
     → (findInput ts b ≡ Search.absent p → GapIn ts b p) × (GapIn ts b p → findInput ts b ≡ Search.absent p)
 search-absent ts asc b p = (
   λ e.
-  let r = search-absent-from (findFrom 0 ts b) (firstAbove ts b) p e in
-  rw (r .1) at (first-gap ts b asc (λ i l. find-input-none ts b e (transitionAt ts i) (at-member ts i l))),
+      let r = search-absent-from (findFrom 0 ts b) (firstAbove ts b) p e in
+      rw (r .1) at (first-gap ts b asc (λ i l. find-input-none ts b e (transitionAt ts i) (at-member ts i l))),
   λ g. rw (find-from-absent 0 ts b (gap-none g), gap-first ts b p g),
 )
 
