@@ -106,7 +106,7 @@ key-entered-nonzero : (j : Judgement) {go : Node → L.KeyAnswer} → ((m : Node
 key-entered-nonzero (sound m) h = h m
 key-entered-nonzero unsound h = KeyNonzero.refuses 4
 
-key-followed-nonzero : (p : Search) {go : ℕ → L.KeyAnswer} → ((i : ℕ) → KeyNonzero (go i)) → KeyNonzero (keyFollowed p go)
+key-followed-nonzero : (p : Place) {go : ℕ → L.KeyAnswer} → ((i : ℕ) → KeyNonzero (go i)) → KeyNonzero (keyFollowed p go)
 key-followed-nonzero (at i) h = h i
 key-followed-nonzero absent h = KeyNonzero.nones
 
