@@ -20,8 +20,8 @@ use format::SUM;
 use fst::Opened;
 use node::Judged;
 use node::Node;
-use node::Step;
-use node::Way;
+use node_step::Step;
+use node_step::Way;
 
 // What a lookup by key answers: the key's value, that the key is not held, or the number of a refusal.
 pub enum Answer {
@@ -66,7 +66,7 @@ fn get_from(file: &[u8], version: u64, root: usize, key: &[u8]) -> Answer
     let mut i = 0;
     while i < key.len() {
         let b = key[i];
-        let Step::Sound(way) = node::step_at(file, version, root, addr, b) else {
+        let Step::Sound(way) = node_step::step_at(file, version, root, addr, b) else {
             return Answer::Refused(NODE);
         };
         let Way::To(out, target) = way else {

@@ -14,7 +14,7 @@ use Rattle.format.specs.laws.StoredLaws.{length-bytes-down, getD-bytes-down}
 use Rattle.node.specs.declared.Found.the-variants.{At, Absent as Missing}
 use Rattle.node.specs.Read.{Finds}
 use Rattle.node.specs.ReadLaws.{finds-at, finds-missing}
-use Rattle.node.proofs.Ascent.{lt-or, falls-ascending, falls-by}
+use Rattle.node_inputs.specs.AscentLaws.{lt-or, falls-ascending, falls-by}
 
 -- of the first j bytes from at on, `over` are above b, and they stand first
 pub record Over (s : List ℕ) (at n b over j : ℕ) : Type 0 where

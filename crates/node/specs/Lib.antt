@@ -1,2 +1,4 @@
 pub mod Read
 pub mod ReadLaws
+pub mod AccessorLaws
+pub mod JudgedLaws

@@ -22,11 +22,8 @@ use Rattle.node.specs.declared.Judged.{Judged}
 use Rattle.node.specs.declared.Judged.the-variants.{Sound, Unsound}
 use Rattle.node.specs.declared.Found.{Found}
 use Rattle.node.specs.declared.Found.the-variants.{At, Absent as Missing}
-use Rattle.node.specs.declared.Step.{Step}
-use Rattle.node.specs.declared.Step.the-variants.{Sound as Stepped, Unsound as Stuck}
-use Rattle.node.specs.declared.Way.{Way}
-use Rattle.node.specs.declared.Way.the-variants.{To, Absent as Nowhere}
-use Rattle.node.specs.Read.{wayAs, wayIn, stepOf, meaning, judgedIs, Judges, transitionsIn, nodeInputs, nodeDeltas, isAny, Readable, searchIs, Finds}
+use Rattle.node.specs.Read.{meaning, judgedIs, Judges, transitionsIn, nodeInputs, nodeDeltas, Readable, searchIs, Finds}
+use Rattle.node_sound.specs.Shapes.{isAny}
 
 -- ---- a place or none
 
@@ -41,6 +38,26 @@ finds-missing {bs} {b} p gap = record {
   found = λ j e. absurd (let z : _≡_ {A = ℕ} 0 1 = cc in omega arith);
   missing = λ q e. let same : p ≡ q = cc in rw (← same) gap;
 }
+
+-- the one input is b, below it, or above it
+pub single-here : {inp b : ℕ} → inp ≡ b → Finds (inp ∷ []) b (At 0)
+single-here e = finds-at 0 (omega arith) e
+
+pub single-below : {inp b : ℕ} → inp < b → Finds (inp ∷ []) b (Missing 1)
+single-below h =
+    finds-missing 1 (record {
+      within = omega arith;
+      below = λ i l. let z : i ≡ 0 = omega arith in rw z h;
+      above = λ i l m. absurd (omega arith);
+    })
+
+pub single-above : {inp b : ℕ} → b < inp → Finds (inp ∷ []) b (Missing 0)
+single-above h =
+    finds-missing 0 (record {
+      within = omega arith;
+      below = λ i l. absurd (omega arith);
+      above = λ i l m. let z : i ≡ 0 = omega arith in rw z h;
+    })
 
 -- a byte is at some place below k, or at none of them
 pub find-or : (bs : List ℕ) (b k : ℕ) → ((j : ℕ) × (j < k) × (getD bs j 0 ≡ b)) ⊎ ((j : ℕ) → j < k → ¬ (getD bs j 0 ≡ b))
@@ -140,30 +157,3 @@ place-lt s m r b i e = omega (arith, find-input-member (transitionsIn s m) b i e
 
 pub gone-le : (s : List ℕ) (m : Node) (r : Readable s m) (b p : ℕ) → findInput (transitionsIn s m) b ≡ Search.absent p → p ≤ m .ntrans
 gone-le s m r b p e = omega (arith, find-input-le (transitionsIn s m) b p e, length-node-transitions s m r)
-
--- ---- what a step says to a caller
-
-pub step-sound : (j : Judgement) (b : ℕ) (w : Way) → Stepped w ≡ stepOf j b → (m : F.Node) × ((j ≡ sound m) × (w ≡ wayIn (m .transitions) b))
-step-sound (sound m) b w e = (m, (refl, cc))
-step-sound unsound b w e = absurd (let z : _≡_ {A = ℕ} 0 1 = cc in omega arith)
-
-pub step-stuck : (j : Judgement) (b : ℕ) → Stuck ≡ stepOf j b → j ≡ unsound
-step-stuck (sound m) b e = absurd (let z : _≡_ {A = ℕ} 0 1 = cc in omega arith)
-step-stuck unsound b e = refl
-
--- the transition that an input leads along
-pub way-found : (ts : List Transition) (b out target : ℕ) → To out target ≡ wayIn ts b
-    → (i : ℕ) × ((findInput ts b ≡ Search.at i) × (out ≡ transitionAt ts i .out) × (target ≡ transitionAt ts i .addr))
-way-found ts b out target e = go (findInput ts b) refl e
-  where
-    go : (p : Search) → findInput ts b ≡ p → To out target ≡ wayAs ts p
-        → (i : ℕ) × ((findInput ts b ≡ Search.at i) × (out ≡ transitionAt ts i .out) × (target ≡ transitionAt ts i .addr))
-    go (Search.at i) is-p e = (i, (is-p, cc, cc))
-    go (Search.absent q) is-p e = absurd (let z : _≡_ {A = ℕ} 0 1 = cc in omega arith)
-
-pub way-none : (ts : List Transition) (b p : ℕ) → Nowhere p ≡ wayIn ts b → findInput ts b ≡ Search.absent p
-way-none ts b p e = go (findInput ts b) refl e
-  where
-    go : (r : Search) → findInput ts b ≡ r → Nowhere p ≡ wayAs ts r → findInput ts b ≡ Search.absent p
-    go (Search.at i) is-p e = absurd (let z : _≡_ {A = ℕ} 0 1 = cc in omega arith)
-    go (Search.absent q) is-p e = let same : q ≡ p = cc in is-p ∙ ap Search.absent same

@@ -8,9 +8,10 @@ use Rattle.format.specs.Bytes.{le}
 use Rattle.format.specs.Node as F
 use Rattle.format.specs.Node.{shapeOf, endLen, SoundShape}
 use Rattle.format.specs.laws.StoredLaws.{part-rest}
-use Rattle.node.specs.declared.Shape.{Shape}
-use Rattle.node.specs.Read.{shapeIs}
-use Rattle.node.proofs.Judging.{Parts, parts, end-len-le, sound-low, shape-sound, judged-yes}
+use Rattle.node_sound.specs.declared.Shape.{Shape}
+use Rattle.node_sound.specs.Shapes.{shapeIs}
+use Rattle.node_sound.specs.JudgingLaws.{Parts, parts, end-len-le, sound-low, shape-sound}
+use Rattle.node.specs.JudgedLaws.{judged-yes}
 use borrow.Author.Needs.{needs}
 use native.Mathlib.Omega.{arith}
 use denote.Ref.{now}

@@ -1,7 +1,7 @@
 -- `node::delta` meets its contract: by the state, the delta is stored or is 1.
 -- Assumes nothing.
 use mathlib.Core.Path.{_≡_, refl, sym, ap, _∙_}
-use Rattle.node.proofs.Accessors.{delta-next}
+use Rattle.node.specs.AccessorLaws.{delta-next}
 use borrow.Author.Needs.{needs}
 use native.Mathlib.Omega.{arith}
 use denote.Ref.{now}

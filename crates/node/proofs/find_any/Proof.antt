@@ -1,7 +1,7 @@
 -- `node::find_any` meets its contract: its inputs and its index can be searched.
 -- Assumes nothing.
 use mathlib.Core.Path.{refl}
-use Rattle.node.proofs.Accessors.{any-searchable, any-finds}
+use Rattle.node.specs.AccessorLaws.{any-searchable, any-finds}
 use borrow.Author.Needs.{needs}
 use native.Mathlib.Omega.{arith}
 use denote.Ref.{now}

@@ -1,14 +1,13 @@
 -- `node::find_one` meets its contract.
 -- Assumes nothing.
-use Rattle.node.specs.ReadLaws.{finds-at}
+use Rattle.node.specs.ReadLaws.{single-here}
 use borrow.Author.Needs.{needs}
-use native.Mathlib.Omega.{arith}
 use Rattle.node.proofs.find_one.Statement.{statement}
 use Rattle.node.proofs.find_one.Tie as tie
 
 -- the one input is b
 returns : tie.Need-returns
-returns c = finds-at 0 (omega arith) (c .if1 .taken)
+returns c = single-here (c .if1 .taken)
 
 place-beside-requires : tie.Need-place-beside-requires
 place-beside-requires c κs = search needs

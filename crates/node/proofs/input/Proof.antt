@@ -1,7 +1,7 @@
 -- `node::input` meets its contract: by the state, the input is stored or was read when the node was judged.
 -- Assumes nothing.
 use mathlib.Core.Path.{_≡_, refl, sym, ap, _∙_}
-use Rattle.node.proofs.Accessors.{any-searchable, input-any, input-one}
+use Rattle.node.specs.AccessorLaws.{any-searchable, input-any, input-one}
 use borrow.Author.Needs.{needs}
 use native.Mathlib.Omega.{arith}
 use denote.Ref.{now}

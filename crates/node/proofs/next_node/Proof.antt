@@ -5,8 +5,9 @@ use Prim.Native.Nat.{_+_, _-_, _≤_}
 use native.Mathlib.Nat.{add-zero}
 use denote.Ref.{now}
 use Rattle.format.specs.Bytes.{le}
-use Rattle.node.proofs.Judging.{sound-low, shape-sound, judged-yes}
-use Rattle.node.proofs.Shapes.{nextShape, shape-next}
+use Rattle.node_sound.specs.JudgingLaws.{sound-low, shape-sound}
+use Rattle.node.specs.JudgedLaws.{judged-yes}
+use Rattle.node_sound.specs.ShapesLaws.{nextShape, shape-next}
 use borrow.Author.Needs.{needs}
 use native.Mathlib.Omega.{arith}
 use Rattle.node.proofs.next_node.Statement.{statement}

@@ -1,7 +1,7 @@
 -- `node::node_at` meets its contract: address 0, or a node whose numbers are read once it is sound.
 -- Assumes nothing.
 use denote.Ref.{now}
-use Rattle.node.proofs.Judging.{judged-unsound, judged-empty}
+use Rattle.node.specs.JudgedLaws.{judged-unsound, judged-empty}
 use borrow.Author.Needs.{needs}
 use native.Mathlib.Omega.{arith}
 use Rattle.node.proofs.node_at.Statement.{statement}

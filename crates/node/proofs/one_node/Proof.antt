@@ -7,8 +7,9 @@ use mathlib.Core.List.{List}
 use Rattle.format.specs.Bytes.{le}
 use Rattle.format.specs.Node as F
 use Rattle.format.specs.Node.{shapeOf, SoundShape}
-use Rattle.node.proofs.Judging.{sound-low, shape-sound, judged-yes}
-use Rattle.node.proofs.Shapes.{oneShape, shape-one}
+use Rattle.node_sound.specs.JudgingLaws.{sound-low, shape-sound}
+use Rattle.node.specs.JudgedLaws.{judged-yes}
+use Rattle.node_sound.specs.ShapesLaws.{oneShape, shape-one}
 use borrow.Author.Needs.{needs}
 use native.Mathlib.Omega.{arith}
 use denote.Ref.{now}

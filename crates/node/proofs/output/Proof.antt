@@ -1,7 +1,7 @@
 -- `node::output` meets its contract.
 -- Assumes nothing.
 use mathlib.Core.Path.{_≡_, refl, sym, ap, _∙_}
-use Rattle.node.proofs.Accessors.{output-is}
+use Rattle.node.specs.AccessorLaws.{output-is}
 use borrow.Author.Needs.{needs}
 use native.Mathlib.Omega.{arith}
 use denote.Ref.{now}

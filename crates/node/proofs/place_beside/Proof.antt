@@ -1,6 +1,6 @@
 -- `node::place_beside` meets its contract: the one input is below b, or above it.
 -- Assumes nothing.
-use Rattle.node.proofs.Steps.{single-below, single-above}
+use Rattle.node.specs.ReadLaws.{single-below, single-above}
 use native.Mathlib.Omega.{arith}
 use Rattle.node.proofs.place_beside.Statement.{statement}
 use Rattle.node.proofs.place_beside.Tie as tie

@@ -1,7 +1,7 @@
 -- `node::transition` meets its contract: its three parts are those of the definition's transition.
 -- Assumes nothing.
 use mathlib.Core.Path.{_≡_, refl, sym, ap, _∙_}
-use Rattle.node.proofs.Accessors.{transition-is}
+use Rattle.node.specs.AccessorLaws.{transition-is}
 use borrow.Author.Needs.{needs}
 use native.Mathlib.Omega.{arith}
 use denote.Ref.{now}

@@ -1,7 +1,7 @@
 -- `node::transition_addr` meets its contract.
 -- Assumes nothing.
 use mathlib.Core.Path.{_≡_, refl, sym, ap, _∙_}
-use Rattle.node.proofs.Accessors.{delta-le, target-none, target-some}
+use Rattle.node.specs.AccessorLaws.{delta-le, target-none, target-some}
 use borrow.Author.Needs.{needs}
 use native.Mathlib.Omega.{arith}
 use denote.Ref.{now}

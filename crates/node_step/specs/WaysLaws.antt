@@ -1,0 +1,40 @@
+-- Laws of `Ways`: what a step says to a caller.
+-- Assumes nothing.
+use mathlib.Core.Path.{_≡_, refl, ap, _∙_}
+use mathlib.Core.List.{List}
+use Prim.Native.Nat.{ℕ}
+use native.Mathlib.Omega.{arith}
+use Rattle.format.specs.declared.Transition.{Transition}
+use Rattle.format.specs.Node as F
+use Rattle.format.specs.Node.{transitionAt, findInput, Search, Judgement, sound, unsound}
+use Rattle.node_step.specs.declared.Step.the-variants.{Sound as Stepped, Unsound as Stuck}
+use Rattle.node_step.specs.declared.Way.{Way}
+use Rattle.node_step.specs.declared.Way.the-variants.{To, Absent as Nowhere}
+use Rattle.node_step.specs.Ways.{wayAs, wayIn, stepOf}
+
+-- ---- what a step says to a caller
+
+pub step-sound : (j : Judgement) (b : ℕ) (w : Way) → Stepped w ≡ stepOf j b → (m : F.Node) × ((j ≡ sound m) × (w ≡ wayIn (m .transitions) b))
+step-sound (sound m) b w e = (m, (refl, cc))
+step-sound unsound b w e = absurd (let z : _≡_ {A = ℕ} 0 1 = cc in omega arith)
+
+pub step-stuck : (j : Judgement) (b : ℕ) → Stuck ≡ stepOf j b → j ≡ unsound
+step-stuck (sound m) b e = absurd (let z : _≡_ {A = ℕ} 0 1 = cc in omega arith)
+step-stuck unsound b e = refl
+
+-- the transition that an input leads along
+pub way-found : (ts : List Transition) (b out target : ℕ) → To out target ≡ wayIn ts b
+    → (i : ℕ) × ((findInput ts b ≡ Search.at i) × (out ≡ transitionAt ts i .out) × (target ≡ transitionAt ts i .addr))
+way-found ts b out target e = go (findInput ts b) refl e
+  where
+    go : (p : Search) → findInput ts b ≡ p → To out target ≡ wayAs ts p
+        → (i : ℕ) × ((findInput ts b ≡ Search.at i) × (out ≡ transitionAt ts i .out) × (target ≡ transitionAt ts i .addr))
+    go (Search.at i) is-p e = (i, (is-p, cc, cc))
+    go (Search.absent q) is-p e = absurd (let z : _≡_ {A = ℕ} 0 1 = cc in omega arith)
+
+pub way-none : (ts : List Transition) (b p : ℕ) → Nowhere p ≡ wayIn ts b → findInput ts b ≡ Search.absent p
+way-none ts b p e = go (findInput ts b) refl e
+  where
+    go : (r : Search) → findInput ts b ≡ r → Nowhere p ≡ wayAs ts r → findInput ts b ≡ Search.absent p
+    go (Search.at i) is-r e = absurd (let z : _≡_ {A = ℕ} 0 1 = cc in omega arith)
+    go (Search.absent q) is-r e = let same : q ≡ p = cc in is-r ∙ ap Search.absent same
