@@ -69,9 +69,19 @@ pub const RECORD: u64 = 10;
 pub const UNSOUND: u64 = 0;
 pub const SOUND: u64 = 1;
 
-// What finding an input answers beside a place.
+// The place of a byte among a node's inputs, or, where it is absent, that of the first greater input.
+pub type Place = Result<usize, usize>;
+
+// What finding an input answers beside a place: the first with the place of the first greater input added.
 pub const INPUT_ABSENT: u64 = 256;
-pub const NODE_UNSOUND: u64 = 257;
+pub const NODE_UNSOUND: u64 = 513;
+
+pub fn place_number(place: Place) -> u64 {
+    match place {
+        Ok(place) => place as u64,
+        Err(place) => INPUT_ABSENT + place as u64,
+    }
+}
 
 // One who answers: our library, or in the self-test the model in its place.
 pub trait Answers {
@@ -97,7 +107,7 @@ pub trait Answers {
     // else 0. Every other place of `out` stays as given.
     fn transition(&self, at: At, i: usize, out: &mut [u64]) -> u64;
 
-    // The place of b among the node's inputs, INPUT_ABSENT or NODE_UNSOUND.
+    // The place of b among the node's inputs, INPUT_ABSENT and the place of the first greater input, or NODE_UNSOUND.
     fn find_input(&self, at: At, b: u8) -> u64;
 }
 

@@ -4,7 +4,7 @@
 use std::panic;
 use std::sync::atomic::{AtomicBool, Ordering};
 
-use crate::answers::{At, Meaning, Record, Transition};
+use crate::answers::{At, Meaning, Place, Record, Transition};
 use crate::bytes;
 use crate::raw::{Builder, Node};
 
@@ -72,7 +72,7 @@ pub fn state(at: At) -> &'static str {
 }
 
 // What the node means, and the place of each byte among its inputs; nothing where the Rust panics.
-pub fn read(at: At) -> Option<(Meaning, [Option<usize>; 256])> {
+pub fn read(at: At) -> Option<(Meaning, [Place; 256])> {
     caught(|| {
         let node = Node::new(at.version, at.addr, at.file);
         // `end`, the Rust's name for F, is private; the node's bytes run from there to its address.
@@ -83,9 +83,12 @@ pub fn read(at: At) -> Option<(Meaning, [Option<usize>; 256])> {
         for (i, t) in transitions.iter().enumerate() {
             assert_eq!(node.transition_addr(i), t.addr);
         }
-        let mut places = [None; 256];
-        for b in 0..=255 {
-            places[b as usize] = node.find_input(b);
+        // where a byte is absent, what `seek_min` looks for
+        let mut places = [Err(0); 256];
+        for b in 0..=255u8 {
+            places[usize::from(b)] = node
+                .find_input(b)
+                .ok_or_else(|| node.transitions().position(|t| t.inp > b).unwrap_or(node.len()));
         }
         let meaning =
             Meaning { first, is_final: node.is_final(), final_output: node.final_output().value(), transitions };

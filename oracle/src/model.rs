@@ -3,7 +3,7 @@
 // It answers for every argument whatsoever, so it is what our library is held to where the Rust panics.
 
 use crate::answers::{
-    Answers, At, Meaning, Record, Transition, INPUT_ABSENT, NODE_UNSOUND, RECORD, REFUSED, SOUND, SPACE, UNSOUND,
+    place_number, Answers, At, Meaning, Place, Record, Transition, NODE_UNSOUND, RECORD, REFUSED, SOUND, SPACE, UNSOUND,
 };
 use crate::given;
 
@@ -296,9 +296,10 @@ pub fn judge(at: At) -> Result<Meaning, Unsound> {
     Ok(Meaning { first, is_final: shape.is_final, final_output, transitions })
 }
 
-// The place of b among the inputs.
-pub fn find_input(node: &Meaning, b: u8) -> Option<usize> {
-    node.transitions.iter().position(|t| t.inp == b)
+// The place of b among the inputs, or how many of them are smaller.
+pub fn find_input(node: &Meaning, b: u8) -> Place {
+    let smaller = node.transitions.iter().filter(|t| t.inp < b).count();
+    node.transitions.iter().position(|t| t.inp == b).ok_or(smaller)
 }
 
 // ---- packing
@@ -493,7 +494,7 @@ impl Answers for Model {
 
     fn find_input(&self, at: At, b: u8) -> u64 {
         match judge(at) {
-            Ok(node) => find_input(&node, b).map_or(INPUT_ABSENT, |place| place as u64),
+            Ok(node) => place_number(find_input(&node, b)),
             Err(_) => NODE_UNSOUND,
         }
     }

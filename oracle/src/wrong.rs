@@ -2,7 +2,7 @@
 // those that document 01 asks to shut out.
 
 use crate::answers::{
-    Answers, At, Meaning, Record, INPUT_ABSENT, NODE_UNSOUND, RECORD, REFUSED, SOUND, SPACE, UNSOUND,
+    place_number, Answers, At, Meaning, Record, INPUT_ABSENT, NODE_UNSOUND, RECORD, REFUSED, SOUND, SPACE, UNSOUND,
 };
 use crate::model::{self, Model, Rule, Unsound};
 
@@ -40,6 +40,8 @@ pub const SLIPS: &[&str] = &[
     // reading
     "count byte 1 is one transition",
     "index entry 255 is absent among 256 transitions",
+    "an absent byte stands after all inputs",
+    "an absent byte stands one place low",
     "deltas are measured from the state byte",
     "the common table is used past entry 62",
     "transitions stand last first",
@@ -260,9 +262,14 @@ impl Answers for Wrong {
     fn find_input(&self, at: At, b: u8) -> u64 {
         match self.judge(at) {
             Some(node) => match model::find_input(&node, b) {
-                Some(255) if self.slips("index entry 255 is absent among 256 transitions") => INPUT_ABSENT,
-                Some(place) => place as u64,
-                None => INPUT_ABSENT,
+                Ok(255) if self.slips("index entry 255 is absent among 256 transitions") => INPUT_ABSENT,
+                Err(_) if self.slips("an absent byte stands after all inputs") => {
+                    INPUT_ABSENT + node.transitions.len() as u64
+                }
+                Err(place) if self.slips("an absent byte stands one place low") && place > 0 => {
+                    INPUT_ABSENT + place as u64 - 1
+                }
+                place => place_number(place),
             },
             None if self.slips("an unsound node lacks the input") => INPUT_ABSENT,
             None => NODE_UNSOUND,

@@ -10,10 +10,10 @@ use lib.ListN.{replicate}
 use Rattle.format.specs.Bytes.{le, bytesOf, sizeUpTo, packSize, largest}
 use Rattle.format.specs.CommonInputs.{commonInputs, commonInputsInv, commonIdx, commonInput}
 use Rattle.format.specs.Packed.{BuilderNode, recordTest, storedNumbers, storedBytes, placeFrom, upFrom, indexOf, indexBytes, outputSize, deltaSize, inputBytes, packedNext, packedOne, headOf, packedAny, packed, written, packing}
-use Rattle.format.specs.Node.{headLen, inputOf, ntransOf, sizesByte, indexLen, sizeOf, downFrom, bytesDown, numbersDown, transitionsOf, nodeOf, soundTest, nodeAt, findFrom}
+use Rattle.format.specs.Node.{headLen, inputOf, ntransOf, sizesByte, indexLen, sizeOf, downFrom, bytesDown, numbersDown, transitionsOf, nodeOf, soundTest, nodeAt, findFrom, firstAbove}
 use Rattle.format.specs.Opening.{metaOf, rootTest, opening}
 use Rattle.format.specs.Strings.{Bound, unbounded, included, excluded, beforeTest}
-use Rattle.reading.specs.Reading.{pathOf, firstAbove, seek, View, started, start, pop, descend, next}
+use Rattle.reading.specs.Reading.{pathOf, seek, View, started, start, pop, descend, next}
 use Rattle.reading.specs.Demand.{Entry, entry}
 use Rattle.reading.specs.WholeRun.{Runs, run-end, run-key}
 use Rattle.format.specs.Lookup.{value, getFrom, get, found, fittingFrom, lastFitting, getKeyFrom, getKey, KeyAnswer}

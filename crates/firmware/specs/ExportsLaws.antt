@@ -20,7 +20,7 @@ use lib.ListN.{length, getD, take, drop, length-take}
 use lib.Seq.{getD-take, getD-drop}
 use Rattle.format.specs.Limits.{maxSum, maxPath}
 use Rattle.format.specs.laws.BytesLaws.{le-lt, pow-256-le}
-use Rattle.format.specs.Node.{Node, Judgement, sound, unsound, Place, at, absent, findInput, transitionAt}
+use Rattle.format.specs.Node.{Node, Judgement, sound, unsound, Place, at, absent, Search, findInput, transitionAt}
 use Rattle.format.specs.Opening as O
 use Rattle.format.specs.Opening.{Meta, Opening, opened, numberAt, metaOf, opening}
 use Rattle.format.specs.OpeningExact.{OpeningCase, no-bytes, under-32, over-limit, other-version, under-36, wrong-root, right-root}
@@ -77,9 +77,9 @@ entered-nonzero : (j : Judgement) {go : Node → L.Answer} → ((m : Node) → G
 entered-nonzero (sound m) h = h m
 entered-nonzero unsound h = refuses 4
 
-followed-nonzero : (p : Place) {go : ℕ → L.Answer} → ((i : ℕ) → GetNonzero (go i)) → GetNonzero (followed p go)
-followed-nonzero (at i) h = h i
-followed-nonzero absent h = nones
+followed-nonzero : (p : Search) {go : ℕ → L.Answer} → ((i : ℕ) → GetNonzero (go i)) → GetNonzero (followed p go)
+followed-nonzero (Search.at i) h = h i
+followed-nonzero (Search.absent p) h = nones
 
 from-nonzero : (f : Fst) (k : List ℕ) (a sum : ℕ) → GetNonzero (getFrom f k a sum)
 unfolding getFrom

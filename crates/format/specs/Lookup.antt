@@ -13,7 +13,7 @@ use lib.Dec.{leb, eqb}
 use lib.ListN.{length}
 use Rattle.format.specs.declared.Transition.{Transition}
 use Rattle.format.specs.Limits.{maxPath, maxSum, NODE, DEEP, SUM, SPACE}
-use Rattle.format.specs.Node.{Node, Judgement, sound, unsound, Place, at, absent, findInput, transitionAt}
+use Rattle.format.specs.Node.{Node, Judgement, sound, unsound, Place, at, absent, Search, findInput, transitionAt}
 use Rattle.format.specs.Opening.{Meta, Opening, opened, opening}
 use Rattle.format.specs.Opening as Opening
 use Rattle.format.specs.Paths.{Fst, fstOf, nodeIn, Path}
@@ -37,9 +37,9 @@ abbrev pub entered : Judgement → (Node → Answer) → Answer
 entered (sound m) go = go m
 entered unsound go = refused NODE
 
-abbrev pub followed : Place → (ℕ → Answer) → Answer
-followed (at i) go = go i
-followed absent go = none
+abbrev pub followed : Search → (ℕ → Answer) → Answer
+followed (Search.at i) go = go i
+followed (Search.absent p) go = none
 
 -- at the key's end: none where the node is not final, 7 with the final output
 abbrev pub ended : Node → ℕ → Answer

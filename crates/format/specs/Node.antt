@@ -9,7 +9,8 @@
 --     Node, nodeOf s v a       what it means: final, final output, transitions in ascending order
 --     SoundAt s v root a       the node is sound (document 01's word), each of its conditions named
 --     nodeAt s v root a        the node's meaning where it is sound, and `unsound` where it is not; address 0 has no bytes
---     findInput ts b           the place of the byte b among the inputs of the transitions ts
+--     findInput ts b           the place of the byte b among the inputs of the transitions ts, or the place where it would stand
+--     Gap n x b p              b is none of the n inputs x 0, x 1, ..: those before place p are smaller, the others greater
 -- Assumes nothing.
 use mathlib.Core.Path.{_≡_}
 use mathlib.Core.Bool.{Bool, true, false, cond, not, _&&_, _||_}
@@ -322,8 +323,27 @@ unfoldable pub findFrom : ℕ → List Transition → ℕ → Place
 findFrom i [] b = absent
 findFrom i (t ∷ ts) b = cond (eqb (t .inp) b) (at i) (findFrom (i + 1) ts b)
 
-abbrev pub findInput : List Transition → ℕ → Place
-findInput ts b = findFrom 0 ts b
+-- how many transitions come before the first whose input is above b
+unfoldable pub firstAbove : List Transition → ℕ → ℕ
+firstAbove [] b = 0
+firstAbove (t ∷ ts) b = cond (ltb b (t .inp)) 0 (suc (firstAbove ts b))
+
+-- the place of a byte, or, where it is absent, the place of the first greater input
+pub data Search : Type 0 where
+  at : ℕ → Search
+  absent : ℕ → Search
+
+abbrev pub searchOf : Place → ℕ → Search
+searchOf (Place.at i) p = Search.at i
+searchOf Place.absent p = Search.absent p
+
+abbrev pub findInput : List Transition → ℕ → Search
+findInput ts b = searchOf (findFrom 0 ts b) (firstAbove ts b)
+
+pub record Gap (n : ℕ) (x : ℕ → ℕ) (b p : ℕ) : Type 0 where
+  pub within : p ≤ n
+  pub below : (i : ℕ) → i < p → x i < b
+  pub above : (i : ℕ) → p ≤ i → i < n → b < x i
 
 -- the transition at a place; a default that no place of ts reaches
 abbrev pub transitionAt : List Transition → ℕ → Transition

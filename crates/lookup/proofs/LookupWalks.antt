@@ -13,7 +13,7 @@ use lib.Dec.{eqb}
 use lib.ListN.{length, getD, drop, length-append, drop-of-length-le}
 use lib.Seq.{drop-cons}
 use Rattle.format.specs.Limits.{maxPath, maxSum, NODE, DEEP, SUM}
-use Rattle.format.specs.Node.{Node, sound, unsound, at, absent, findInput, transitionAt}
+use Rattle.format.specs.Node.{Node, sound, unsound, at, absent, Search, findInput, transitionAt}
 use Rattle.format.specs.Paths.{Fst, nodeIn}
 use Rattle.format.specs.Lookup.{Answer, getFrom, KeyAnswer, lastFitting, withByte, getKeyFrom}
 use Rattle.format.specs.laws.LookupLaws.{get-from-unsound, get-from-sum, get-from-end-value, get-from-end-sum, get-from-end-none, get-from-absent, get-from-step, get-key-from-unsound, get-key-from-end, get-key-from-none, get-key-from-deep, get-key-from-step}
@@ -40,10 +40,10 @@ module _ {f : Fst} {key : List ℕ} {i a sum : ℕ} (h : Looking f key i a sum) 
       next-byte : getFrom f key (f .root) 0 ≡ getFrom f (getD key i 0 ∷ drop (i + 1) key) a sum
       next-byte = h .same ∙ ap (λ k. getFrom f k a sum) (rw (add-one, drop-cons key i 0))
 
-      pub looking-absent : findInput (m .transitions) (getD key i 0) ≡ absent → getFrom f key (f .root) 0 ≡ Answer.none
+      pub looking-absent : {p : ℕ} → findInput (m .transitions) (getD key i 0) ≡ Search.absent p → getFrom f key (f .root) 0 ≡ Answer.none
       looking-absent none = next-byte ∙ get-from-absent f a sum m e fits (getD key i 0) (drop (i + 1) key) none
 
-      pub looking-step : (j : ℕ) → findInput (m .transitions) (getD key i 0) ≡ at j
+      pub looking-step : (j : ℕ) → findInput (m .transitions) (getD key i 0) ≡ Search.at j
           → Looking f key (i + 1) (transitionAt (m .transitions) j .addr) (sum + transitionAt (m .transitions) j .out)
       looking-step j found =
           record { within = omega arith; same = next-byte ∙ get-from-step f a sum m e fits (getD key i 0) (drop (i + 1) key) j found }

@@ -9,8 +9,8 @@ ghost use mathlib.Core.List.{List, [], _++_};
 ghost use Rattle.format.specs.Limits.{maxPath};
 ghost use Rattle.format.specs.Lookup as L;
 ghost use Rattle.format.specs.Lookup.{getFrom, getKeyFrom, lastFitting};
-ghost use Rattle.node.specs.Read.{transitionsIn, Readable, placeIs};
-ghost use Rattle.lookup.specs.Answers.{answerIs, keyIs, KeyFits, KeyWritten};
+ghost use Rattle.node.specs.Read.{transitionsIn, Readable};
+ghost use Rattle.lookup.specs.Answers.{answerIs, fittingIs, keyIs, KeyFits, KeyWritten};
 ghost use Rattle.format.specs.Paths.{fstWith};
 use format::DEEP;
 use format::MAX_KEY;
@@ -18,7 +18,6 @@ use format::NODE;
 use format::SPACE;
 use format::SUM;
 use fst::Opened;
-use node::Found;
 use node::Judged;
 use node::Node;
 use node_step::Step;
@@ -103,26 +102,32 @@ pub fn get(file: &[u8], key: &[u8]) -> Answer
 
 // ---- by value
 
+// The place of a transition whose output fits, or none.
+enum Fitting {
+    Last(usize),
+    None,
+}
+
 // The last of the leading transitions whose output is not above what is left.
-fn last_fitting(file: &[u8], node: Node, left: u64) -> Found
+fn last_fitting(file: &[u8], node: Node, left: u64) -> Fitting
     requires { ⌜ Readable (now file) node ⌝ }
-    ensures { λ r. ⌜ placeIs r ≡ lastFitting (transitionsIn (now (file .entry)) node) left ⌝ }
+    ensures { λ r. ⌜ fittingIs r ≡ lastFitting (transitionsIn (now (file .entry)) node) left ⌝ }
 {
     let n = node.ntrans;
     let mut i = 0;
     while i < n {
         if left < node::output(file, node, i) {
             if i == 0 {
-                return Found::Absent;
+                return Fitting::None;
             }
-            return Found::At(i - 1);
+            return Fitting::Last(i - 1);
         }
         i += 1;
     }
     if n == 0 {
-        Found::Absent
+        Fitting::None
     } else {
-        Found::At(n - 1)
+        Fitting::Last(n - 1)
     }
 }
 
@@ -149,7 +154,7 @@ fn find_key(
         if ends(left, m.is_final) {
             return KeyAnswer::Key(n);
         }
-        let Found::At(i) = last_fitting(file, m, left) else {
+        let Fitting::Last(i) = last_fitting(file, m, left) else {
             return KeyAnswer::None;
         };
         // a key has at most 255 bytes

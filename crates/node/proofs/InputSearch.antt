@@ -75,27 +75,30 @@ over-found s at n b p l e =
     let back : n - 1 - (n - 1 - p) ≡ p = omega arith in
     found-at s at n b (n - 1 - p) (omega arith) (rw back e)
 
+-- b is none of the inputs: those that are not above it are below it
 pub over-missing : {s : List ℕ} {at n b over j : ℕ} (p : ℕ) → p ≡ over → Ascending (bytesDown s at n) → n ≤ j → Over s at n b over j
-    → (p < n → ¬ (getD s (at + p) 0 ≡ b)) → Finds (bytesDown s at n) b Missing
-unfolding Absent
-over-missing {s} {at} {n} {b} {over} {j} p is-p asc past o ne = finds-missing (λ i l e. away i (omega (arith, length-bytes-down s at n)) e)
+    → (p < n → ¬ (getD s (at + p) 0 ≡ b)) → Finds (bytesDown s at n) b (Missing (n - p))
+over-missing {s} {at} {n} {b} {over} {j} p is-p asc past o ne =
+    finds-missing (n - p) (record {
+      within = omega (arith, length-bytes-down s at n);
+      below = λ i l. rw (getD-bytes-down s at n i (omega arith)) (low (n - 1 - i) (omega arith) (omega arith));
+      above = λ i l h.
+          let m : i < n = omega (arith, length-bytes-down s at n) in
+          rw (getD-bytes-down s at n i m) (o .above (n - 1 - i) (omega (arith, o .few)));
+    })
   where
-    away : (i : ℕ) → i < n → ¬ (getD (bytesDown s at n) i 0 ≡ b)
-    away i l e = go (lt-or (n - 1 - i) over)
+    low : (k : ℕ) → p ≤ k → k < n → getD s (at + k) 0 < b
+    low k h l = go (eq-or-lt-of-le h)
       where
-        is : getD s (at + (n - 1 - i)) 0 ≡ b
-        is = sym (getD-bytes-down s at n i l) ∙ e
+        at-p : p < n → getD s (at + p) 0 < b
+        at-p m = omega (arith, o .rest p (omega arith) (omega arith), ne m)
 
-        go : (n - 1 - i < over) ⊎ (over ≤ n - 1 - i) → ⊥
-        go (inl before) = omega (arith, o .above (n - 1 - i) before, is)
-        go (inr after) = at-or (eq-or-lt-of-le after)
-          where
-            at-or : (over ≡ n - 1 - i) ⊎ (over < n - 1 - i) → ⊥
-            at-or (inl q) = let here : p ≡ n - 1 - i = is-p ∙ q in ne (omega arith) (rw here is)
-            at-or (inr m) =
-                let f : over + (n - 1 - i - over) ≡ n - 1 - i = omega arith in
-                let by = falls-by over (n - 1 - i - over) (omega arith) (falls-ascending s at n asc) in
-                omega (arith, rw f at by, is, o .rest over (le-refl over) (omega arith))
+        go : (p ≡ k) ⊎ (p < k) → getD s (at + k) 0 < b
+        go (inl e) = rw (← e) (at-p (omega arith))
+        go (inr m) =
+            let f : p + (k - p) ≡ k = omega arith in
+            let by = falls-by p (k - p) (omega arith) (falls-ascending s at n asc) in
+            omega (arith, rw f at by, at-p (omega arith))
 
 -- the entry of b, as the code reads it
 pub entry-is : (s : List ℕ) (index b e : ℕ) → b < 256 → e ≡ getD s (index + b) 0 → e ≡ getD (take 256 (drop index s)) b 0

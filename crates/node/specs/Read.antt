@@ -3,8 +3,8 @@
 --     judgedIs s r            what an answer says: the node's meaning, or that it is not sound
 --     Readable s m            what reading the judged node m leans on
 --     Judges s v root a r     the answer r is `nodeAt`, and a node that it hands out can be read
---     placeIs r               what an answer says of the place of an input
---     Searchable, Finds, LooksUp     what finding an input asks and answers
+--     searchIs r              what an answer says of the place of an input
+--     Searchable, Finds       what finding an input asks and answers
 -- Assumes nothing.
 use mathlib.Core.Path.{_≡_}
 use mathlib.Core.Bool.{true, false}
@@ -14,7 +14,7 @@ use lib.ListN.{length, getD, take, drop}
 use Rattle.format.specs.declared.State.the-variants.{AnyTrans}
 use Rattle.format.specs.declared.Transition.{Transition}
 use Rattle.format.specs.Node as F
-use Rattle.format.specs.Node.{inputsLen, inputsIn, deltasIn, inputsAt, deltasAt, storedTransitions, Absent, Indexed, TargetsRight, Judgement, sound, unsound, nodeAt, Place, at, absent}
+use Rattle.format.specs.Node.{inputsLen, inputsIn, deltasIn, inputsAt, deltasAt, storedTransitions, Absent, Indexed, TargetsRight, Judgement, sound, unsound, nodeAt, Search, Gap}
 use Rattle.node_sound.specs.Shapes.{isAny}
 use Rattle.node.specs.declared.Node.{Node}
 use Rattle.node.specs.declared.Judged.{Judged}
@@ -39,9 +39,9 @@ abbrev pub judgedIs : List ℕ → Judged → Judgement
 judgedIs s (Sound m) = sound (meaning s m)
 judgedIs s Unsound = unsound
 
-abbrev pub placeIs : Found → Place
-placeIs (At i) = at i
-placeIs Missing = absent
+abbrev pub searchIs : Found → Search
+searchIs (At i) = Search.at i
+searchIs (Missing p) = Search.absent p
 
 -- ---- what reading a judged node leans on
 
@@ -92,12 +92,7 @@ pub record Searchable (s : List ℕ) (at n entries : ℕ) : Type 0 where
   pub entries-len : ¬ (entries ≡ 0) → entries ≡ 256
   pub index : ¬ (entries ≡ 0) → Indexed (F.bytesDown s at n) (take 256 (drop (at + n) s))
 
--- a place of b in bs, or b is absent
+-- a place of b in bs, or the place of the first that is above it
 pub record Finds (bs : List ℕ) (b : ℕ) (r : Found) : Type 0 where
   pub found : (i : ℕ) → r ≡ At i → (i < length bs) × (getD bs i 0 ≡ b)
-  pub missing : r ≡ Missing → Absent b bs
-
--- the entry of b where it is below n
-pub record LooksUp (es : List ℕ) (n b : ℕ) (r : Found) : Type 0 where
-  pub found : (i : ℕ) → r ≡ At i → (i < n) × (getD es b 0 ≡ i)
-  pub missing : r ≡ Missing → n ≤ getD es b 0
+  pub missing : (p : ℕ) → r ≡ Missing p → Gap (length bs) (λ i. getD bs i 0) b p

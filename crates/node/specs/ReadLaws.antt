@@ -14,15 +14,15 @@ use Rattle.format.specs.declared.State.{State}
 use Rattle.format.specs.declared.State.the-variants.{OneTransNext, OneTrans, AnyTrans}
 use Rattle.format.specs.Node as F
 use Rattle.format.specs.declared.Transition.{Transition}
-use Rattle.format.specs.Node.{bytesDown, numbersDown, inputsAt, deltasAt, inputsIn, deltasIn, targetOf, Absent, Indexed, transitionAt, findInput, Place, at, absent, Judgement, sound, unsound, nodeAt}
+use Rattle.format.specs.Node.{bytesDown, numbersDown, inputsAt, deltasAt, inputsIn, deltasIn, targetOf, Absent, Indexed, transitionAt, findInput, Search, Gap, Judgement, sound, unsound, nodeAt}
 use Rattle.format.specs.laws.StoredLaws.{length-bytes-down, length-numbers-down}
-use Rattle.format.specs.laws.TransitionLaws.{length-transitions-of, transition-at-of, find-input-at, find-input-absent, find-input-member}
+use Rattle.format.specs.laws.TransitionLaws.{length-transitions-of, transition-at-of, find-input-at, find-input-absent, find-input-member, find-input-le}
 use Rattle.node.specs.declared.Node.{Node}
 use Rattle.node.specs.declared.Judged.{Judged}
 use Rattle.node.specs.declared.Judged.the-variants.{Sound, Unsound}
 use Rattle.node.specs.declared.Found.{Found}
 use Rattle.node.specs.declared.Found.the-variants.{At, Absent as Missing}
-use Rattle.node.specs.Read.{meaning, judgedIs, Judges, transitionsIn, nodeInputs, nodeDeltas, Readable, placeIs, Finds, LooksUp}
+use Rattle.node.specs.Read.{meaning, judgedIs, Judges, transitionsIn, nodeInputs, nodeDeltas, Readable, searchIs, Finds}
 use Rattle.node_sound.specs.Shapes.{isAny}
 
 -- ---- a place or none
@@ -30,20 +30,34 @@ use Rattle.node_sound.specs.Shapes.{isAny}
 pub finds-at : {bs : List ℕ} {b : ℕ} (i : ℕ) → i < length bs → getD bs i 0 ≡ b → Finds bs b (At i)
 finds-at {bs} {b} i l is = record {
   found = λ j e. let q : i ≡ j = cc in (rw (← q) l, rw (← q) is);
-  missing = λ e. absurd (let z : _≡_ {A = ℕ} 0 1 = cc in omega arith);
+  missing = λ p e. absurd (let z : _≡_ {A = ℕ} 0 1 = cc in omega arith);
 }
 
-pub finds-missing : {bs : List ℕ} {b : ℕ} → Absent b bs → Finds bs b Missing
-finds-missing away = record { found = λ j e. absurd (let z : _≡_ {A = ℕ} 0 1 = cc in omega arith); missing = λ _. away }
-
-pub looks-up-at : {es : List ℕ} {n b : ℕ} (i : ℕ) → i < n → getD es b 0 ≡ i → LooksUp es n b (At i)
-looks-up-at {es} {n} {b} i l is = record {
-  found = λ j e. let q : i ≡ j = cc in (rw (← q) l, is ∙ q);
-  missing = λ e. absurd (let z : _≡_ {A = ℕ} 0 1 = cc in omega arith);
+pub finds-missing : {bs : List ℕ} {b : ℕ} (p : ℕ) → Gap (length bs) (λ i. getD bs i 0) b p → Finds bs b (Missing p)
+finds-missing {bs} {b} p gap = record {
+  found = λ j e. absurd (let z : _≡_ {A = ℕ} 0 1 = cc in omega arith);
+  missing = λ q e. let same : p ≡ q = cc in rw (← same) gap;
 }
 
-pub looks-up-missing : {es : List ℕ} {n b : ℕ} → n ≤ getD es b 0 → LooksUp es n b Missing
-looks-up-missing past = record { found = λ j e. absurd (let z : _≡_ {A = ℕ} 0 1 = cc in omega arith); missing = λ _. past }
+-- the one input is b, below it, or above it
+pub single-here : {inp b : ℕ} → inp ≡ b → Finds (inp ∷ []) b (At 0)
+single-here e = finds-at 0 (omega arith) e
+
+pub single-below : {inp b : ℕ} → inp < b → Finds (inp ∷ []) b (Missing 1)
+single-below h =
+    finds-missing 1 (record {
+      within = omega arith;
+      below = λ i l. let z : i ≡ 0 = omega arith in rw z h;
+      above = λ i l m. absurd (omega arith);
+    })
+
+pub single-above : {inp b : ℕ} → b < inp → Finds (inp ∷ []) b (Missing 0)
+single-above h =
+    finds-missing 0 (record {
+      within = omega arith;
+      below = λ i l. absurd (omega arith);
+      above = λ i l m. let z : i ≡ 0 = omega arith in rw z h;
+    })
 
 -- a byte is at some place below k, or at none of them
 pub find-or : (bs : List ℕ) (b k : ℕ) → ((j : ℕ) × (j < k) × (getD bs j 0 ≡ b)) ⊎ ((j : ℕ) → j < k → ¬ (getD bs j 0 ≡ b))
@@ -56,25 +70,19 @@ find-or bs b (suc k) = go (eqb (getD bs k 0) b) refl (find-or bs b k)
     go false e (inl (j, l, is)) = inl (j, omega arith, is)
     go false e (inr none) = inr (λ j l. ⊎-elim (λ q is. eqb-false (getD bs k 0) b e (rw (← q) is)) (λ m. none j m) (eq-or-lt-of-le (le-of-suc-le-suc l)))
 
--- a right index: an entry below the count is the place of its byte, and a byte with any other entry is absent
-pub looks-up-finds : (bs es : List ℕ) (b : ℕ) (r : Found) → Indexed bs es → b < 256 → LooksUp es (length bs) b r → Finds bs b r
+-- a right index: an entry below the count is the place of its byte
+pub entry-finds : (bs es : List ℕ) (b i : ℕ) → Indexed bs es → b < 256 → i < length bs → i ≡ getD es b 0 → Finds bs b (At i)
 unfolding Absent
-looks-up-finds bs es b r right byte l = record { found = λ i e. place i (l .found i e); missing = λ e j m is. away (l .missing e) j m is }
+entry-finds bs es b i right byte lt is-i = finds-at i lt (⊎-elim here gone (find-or bs b (length bs)))
   where
-    place : (i : ℕ) → (i < length bs) × (getD es b 0 ≡ i) → (i < length bs) × (getD bs i 0 ≡ b)
-    place i (lt, is-i) = (lt, ⊎-elim here gone (find-or bs b (length bs)))
-      where
-        here : (j : ℕ) × (j < length bs) × (getD bs j 0 ≡ b) → getD bs i 0 ≡ b
-        here (j, m, is) =
-            let at : getD es (getD bs j 0) 0 ≡ j = right .present j m in
-            let same : i ≡ j = sym is-i ∙ (rw is at at) in
-            rw same is
+    here : (j : ℕ) × (j < length bs) × (getD bs j 0 ≡ b) → getD bs i 0 ≡ b
+    here (j, m, is) =
+        let at : getD es (getD bs j 0) 0 ≡ j = right .present j m in
+        let same : i ≡ j = is-i ∙ (rw is at at) in
+        rw same is
 
-        gone : ((j : ℕ) → j < length bs → ¬ (getD bs j 0 ≡ b)) → getD bs i 0 ≡ b
-        gone none = absurd (not-le-of-lt lt (rw is-i at (right .absent b byte none)))
-
-    away : length bs ≤ getD es b 0 → (j : ℕ) → j < length bs → ¬ (getD bs j 0 ≡ b)
-    away past j m is = let at : getD es (getD bs j 0) 0 ≡ j = right .present j m in let e : getD es b 0 ≡ j = rw is at at in omega arith
+    gone : ((j : ℕ) → j < length bs → ¬ (getD bs j 0 ≡ b)) → getD bs i 0 ≡ b
+    gone none = absurd (not-le-of-lt lt (rw (← is-i) at (right .absent b byte none)))
 
 -- ---- the transitions of a judged node
 
@@ -120,13 +128,13 @@ module _ (s : List ℕ) (m : Node) (r : Readable s m) where
       (omega (arith, length-node-inputs))
       ∙ rw (List·getD-map (targetOf (m .first)) (nodeDeltas s m) i 0)
 
-  pub node-find : (b : ℕ) (f : Found) → Finds (nodeInputs s m) b f → placeIs f ≡ findInput (transitionsIn s m) b
+  pub node-find : (b : ℕ) (f : Found) → Finds (nodeInputs s m) b f → searchIs f ≡ findInput (transitionsIn s m) b
   node-find b (At i) h =
-      sym (find-input-at (nodeInputs s m) (numbersDown s (m .outputs) (m .osize) (m .ntrans)) (map (targetOf (m .first)) (nodeDeltas s m)) b i outputs-len targets-len
-      (r .ascending) (h .found i refl .0) (h .found i refl .1))
-  node-find b Missing h =
+      sym (find-input-at (nodeInputs s m) (numbersDown s (m .outputs) (m .osize) (m .ntrans)) (map (targetOf (m .first)) (nodeDeltas s m)) b outputs-len targets-len
+      (r .ascending) i (h .found i refl .0) (h .found i refl .1))
+  node-find b (Missing p) h =
       sym (find-input-absent (nodeInputs s m) (numbersDown s (m .outputs) (m .osize) (m .ntrans)) (map (targetOf (m .first)) (nodeDeltas s m)) b outputs-len targets-len
-      (h .missing refl))
+      (r .ascending) p (h .missing p refl))
 
 -- ---- what an answer says to a caller
 
@@ -137,12 +145,15 @@ module _ {s : List ℕ} {v root a : ℕ} {r : Judged} (j : Judges s v root a r) 
   pub answer-unsound : r ≡ Unsound → nodeAt s v root a ≡ unsound
   answer-unsound e = sym (j .answer) ∙ ap (judgedIs s) e
 
--- the place that `find_input` and the like answered
-pub place-is : (p : Place) (f : Found) → placeIs f ≡ p → (i : ℕ) → f ≡ At i → p ≡ at i
-place-is p f e i is = sym e ∙ ap placeIs is
+-- the place that `find_input` answered
+pub search-is : (q : Search) (f : Found) → searchIs f ≡ q → (i : ℕ) → f ≡ At i → q ≡ Search.at i
+search-is q f e i is = sym e ∙ ap searchIs is
 
-pub place-none : (p : Place) (f : Found) → placeIs f ≡ p → f ≡ Missing → p ≡ absent
-place-none p f e is = sym e ∙ ap placeIs is
+pub search-gone : (q : Search) (f : Found) → searchIs f ≡ q → (p : ℕ) → f ≡ Missing p → q ≡ Search.absent p
+search-gone q f e p is = sym e ∙ ap searchIs is
 
-pub place-lt : (s : List ℕ) (m : Node) (r : Readable s m) (b i : ℕ) → findInput (transitionsIn s m) b ≡ at i → i < m .ntrans
+pub place-lt : (s : List ℕ) (m : Node) (r : Readable s m) (b i : ℕ) → findInput (transitionsIn s m) b ≡ Search.at i → i < m .ntrans
 place-lt s m r b i e = omega (arith, find-input-member (transitionsIn s m) b i e .0, length-node-transitions s m r)
+
+pub gone-le : (s : List ℕ) (m : Node) (r : Readable s m) (b p : ℕ) → findInput (transitionsIn s m) b ≡ Search.absent p → p ≤ m .ntrans
+gone-le s m r b p e = omega (arith, find-input-le (transitionsIn s m) b p e, length-node-transitions s m r)

@@ -5,7 +5,8 @@ ghost use mathlib.Core.Path.{_≡_};
 ghost use Prim.Native.Nat.{_+_, _≤_, _<_};
 ghost use lib.ListN.{length, getD, take, drop};
 ghost use Rattle.format.specs.Node.{bytesDown, Ascending, SoundAt, transitionAt, findInput};
-ghost use Rattle.node.specs.Read.{Searchable, emptyNode, Judges, transitionsIn, nodeInputs, nodeDeltas, Readable, Finds, LooksUp, placeIs};
+ghost use Rattle.node.specs.Read.{Searchable, emptyNode, Judges, transitionsIn, nodeInputs, nodeDeltas, Readable, Finds, searchIs};
+ghost use Rattle.node.specs.declared.Found.the-variants.{Absent as Missing};
 ghost use Rattle.node.specs.declared.Judged.the-variants.{Sound};
 ghost use Rattle.format.specs.declared.State.the-variants.{OneTransNext, OneTrans, AnyTrans};
 ghost use mathlib.Core.List.{[], _∷_};
@@ -47,10 +48,10 @@ pub enum Judged {
     Unsound,
 }
 
-// The place of an input among a node's transitions.
+// The place of an input among a node's transitions, or the place of the first greater one.
 pub enum Found {
     At(usize),
-    Absent,
+    Absent(usize),
 }
 
 // ---- the numbers of a sound node
@@ -275,27 +276,23 @@ fn seek(file: &[u8], at: usize, n: usize, b: u8) -> Found
             return Found::At(n - 1 - p);
         }
     }
-    Found::Absent
+    Found::Absent(n - p)
 }
 
-// The place of b by the index: an entry below the count is the place of its byte.
-fn look_up(file: &[u8], index: usize, n: usize, b: u8) -> Found
-    requires { ⌜ index + 256 ≤ length (now file) ⌝ }
-    ensures { λ r. ⌜ LooksUp (take 256 (drop index (now (file .entry)))) n b r ⌝ }
-{
-    let e = small(file[index + (b as usize)]);
-    if e < n { Found::At(e) } else { Found::Absent }
-}
-
-// The place of b among n inputs from place at on, by the index that follows them if there is one.
+// The place of b among n inputs from place at on, or of the first above it. An entry of the index, if
+// there is one, is the place of its byte where it is below the count, and otherwise says only that
+// the byte is absent.
 pub fn find_in(file: &[u8], at: usize, n: usize, index_len: usize, b: u8) -> Found
     requires { ⌜ Searchable (now file) at n «index_len» ⌝ }
     ensures { λ r. ⌜ Finds (bytesDown (now (file .entry)) at n) b r ⌝ }
 {
-    if index_len == 0 {
-        return seek(file, at, n, b);
+    if index_len != 0 {
+        let e = small(file[at + n + (b as usize)]);
+        if e < n {
+            return Found::At(e);
+        }
     }
-    look_up(file, at + n, n, b)
+    seek(file, at, n, b)
 }
 
 // The place of b in a node with any number of transitions.
@@ -308,21 +305,28 @@ fn find_any(file: &[u8], node: Node, b: u8) -> Found
     find_in(file, inputs, n, node.index_len, b)
 }
 
+// The place of the first input above b where there is one, and it is another.
+pub fn place_beside(input: u8, b: u8) -> usize
+    requires { ⌜ ¬ (input ≡ b) ⌝ }
+    ensures { λ r. ⌜ Finds (input ∷ []) b (Missing r) ⌝ }
+{
+    if input < b { 1 } else { 0 }
+}
+
 // The place of b where there is one transition.
 fn find_one(input: u8, b: u8) -> Found
     ensures { λ r. ⌜ Finds (input ∷ []) b r ⌝ }
 {
     if input == b {
-        Found::At(0)
-    } else {
-        Found::Absent
+        return Found::At(0);
     }
+    Found::Absent(place_beside(input, b))
 }
 
-// The place of the input b, or its absence.
+// The place of the input b, or of the first greater one.
 pub fn find_input(file: &[u8], node: Node, b: u8) -> Found
     requires { ⌜ Readable (now file) node ⌝ }
-    ensures { λ r. ⌜ placeIs r ≡ findInput (transitionsIn (now (file .entry)) node) b ⌝ }
+    ensures { λ r. ⌜ searchIs r ≡ findInput (transitionsIn (now (file .entry)) node) b ⌝ }
 {
     let state = node.state;
     match state {

@@ -6,7 +6,7 @@ use Prim.Native.Nat.{ℕ, _+_, _-_, _≤_, _<_}
 use native.Mathlib.Omega.{arith}
 use lib.ListN.{length, getD}
 use Rattle.format.specs.Node as F
-use Rattle.format.specs.Node.{numbersDown, targetOf, Absent, SoundAt, nodeAt, findInput, Place, at, absent}
+use Rattle.format.specs.Node.{numbersDown, targetOf, Absent, SoundAt, nodeAt, findInput, Search}
 use Rattle.format.specs.laws.NodeLaws.{node-at-unsound, node-at-blank}
 use Rattle.node.specs.declared.Node.{Node}
 use Rattle.node.specs.declared.Found.{Found}
@@ -16,7 +16,7 @@ use Rattle.node_step.specs.declared.Step.{Step}
 use Rattle.node_step.specs.declared.Step.the-variants.{Sound as Stepped, Unsound as Stuck}
 use Rattle.node_step.specs.declared.Way.{Way}
 use Rattle.node_step.specs.declared.Way.the-variants.{To, Absent as Nowhere}
-use Rattle.node.specs.Read.{Readable, Judges, transitionsIn, nodeInputs, nodeDeltas, placeIs, Finds, emptyNode}
+use Rattle.node.specs.Read.{Readable, Judges, transitionsIn, nodeInputs, nodeDeltas, searchIs, Finds, emptyNode}
 use Rattle.node_step.specs.Ways.{anyNode, wayIn, stepOf}
 use Rattle.node.specs.ReadLaws.{finds-at, finds-missing, node-find, node-transition, length-node-inputs}
 use Rattle.node.specs.JudgedLaws.{codeNode, judged-empty}
@@ -24,9 +24,9 @@ use Rattle.node.specs.JudgedLaws.{codeNode, judged-empty}
 -- ---- where an input leads from a node that can be read
 
 module _ (s : List ℕ) (m : Node) (r : Readable s m) (b : ℕ) (f : Found) (h : Finds (nodeInputs s m) b f) where
-  pub way-absent : f ≡ Missing → Nowhere ≡ wayIn (transitionsIn s m) b
-  way-absent e =
-      let place : absent ≡ findInput (transitionsIn s m) b = sym (ap placeIs e) ∙ node-find s m r b f h in
+  pub way-absent : (p : ℕ) → f ≡ Missing p → Nowhere p ≡ wayIn (transitionsIn s m) b
+  way-absent p e =
+      let place : Search.absent p ≡ findInput (transitionsIn s m) b = sym (ap searchIs e) ∙ node-find s m r b f h in
       rw (← place)
 
   pub place-lt : (i : ℕ) → f ≡ At i → i < m .ntrans
@@ -35,16 +35,8 @@ module _ (s : List ℕ) (m : Node) (r : Readable s m) (b : ℕ) (f : Found) (h :
   pub way-to : (i out target : ℕ) → f ≡ At i → out ≡ getD (numbersDown s (m .outputs) (m .osize) (m .ntrans)) i 0
       → target ≡ targetOf (m .first) (getD (nodeDeltas s m) i 0) → To out target ≡ wayIn (transitionsIn s m) b
   way-to i out target e is-out is-target =
-      let place : at i ≡ findInput (transitionsIn s m) b = sym (ap placeIs e) ∙ node-find s m r b f h in
+      let place : Search.at i ≡ findInput (transitionsIn s m) b = sym (ap searchIs e) ∙ node-find s m r b f h in
       rw (← place, node-transition s m r i (place-lt i e), is-out, is-target)
-
--- the one input is b, or it is not
-pub single-here : {inp b : ℕ} → inp ≡ b → Finds (inp ∷ []) b (At 0)
-single-here e = finds-at 0 (omega arith) e
-
-pub single-missing : {inp b : ℕ} → ¬ (inp ≡ b) → Finds (inp ∷ []) b Missing
-unfolding Absent
-single-missing ne = finds-missing (λ i l. let z : i ≡ 0 = omega arith in rw z ne)
 
 -- a node that is read for its transitions alone
 pub readable-any : (s : List ℕ) (first outs n tsize osize entries fo : ℕ) (h : F.Shape) → codeNode h first fo 0 outs .state ≡ anyNode first outs n tsize osize entries .state
@@ -74,8 +66,10 @@ pub step-blank : (s : List ℕ) (v root a b : ℕ) → length s ≡ 0 → Stuck 
 step-blank s v root a b z = rw (node-at-blank s v root a z)
 
 -- address 0 has no transition
-pub step-empty : (s : List ℕ) (v root b : ℕ) → ¬ (length s ≡ 0) → Stepped Nowhere ≡ stepOf (nodeAt s v root 0) b
+pub step-empty : (s : List ℕ) (v root b : ℕ) → ¬ (length s ≡ 0) → Stepped (Nowhere 0) ≡ stepOf (nodeAt s v root 0) b
 unfolding F.bytesDown F.downFrom Absent
 step-empty s v root b some =
     let j = judged-empty s v root (omega arith) in
-    step-yes s v root 0 b emptyNode Nowhere j (way-absent s emptyNode (j .readable emptyNode refl) b Missing (finds-missing (λ i l. absurd (omega arith))) refl)
+    step-yes s v root 0 b emptyNode (Nowhere 0) j
+    (way-absent s emptyNode (j .readable emptyNode refl) b (Missing 0)
+    (finds-missing 0 (record { within = omega arith; below = λ i l. absurd (omega arith); above = λ i l m. absurd (omega arith) })) 0 refl)

@@ -8,7 +8,7 @@ use Prim.Native.Nat.{ℕ}
 use Rattle.format.specs.declared.State.the-variants.{AnyTrans}
 use Rattle.format.specs.declared.Transition.{Transition}
 use Rattle.format.specs.Node as F
-use Rattle.format.specs.Node.{Judgement, sound, unsound, Place, at, absent}
+use Rattle.format.specs.Node.{Judgement, sound, unsound, Search}
 use Rattle.node.specs.declared.Node.{Node}
 use Rattle.node_step.specs.declared.Step.{Step}
 use Rattle.node_step.specs.declared.Step.the-variants.{Sound as Stepped, Unsound as Stuck}
@@ -18,9 +18,9 @@ use Rattle.node_step.specs.declared.Way.the-variants.{To, Absent as Nowh
 -- ---- by key
 
 -- where b leads among these transitions
-abbrev pub wayAs : List Transition → Place → Way
-wayAs ts (at i) = To (F.transitionAt ts i .out) (F.transitionAt ts i .addr)
-wayAs ts absent = Nowhere
+abbrev pub wayAs : List Transition → Search → Way
+wayAs ts (Search.at i) = To (F.transitionAt ts i .out) (F.transitionAt ts i .addr)
+wayAs ts (Search.absent p) = Nowhere p
 
 abbrev pub wayIn : List Transition → ℕ → Way
 wayIn ts b = wayAs ts (F.findInput ts b)

@@ -12,6 +12,7 @@ use le_bytes::number_of;
 use le_bytes::small;
 use node::Found;
 use node::find_in;
+use node::place_beside;
 use node_sound::head_len;
 use node_sound::input_of;
 use node_sound::next_sound;
@@ -21,10 +22,11 @@ use node_sound::shape_of;
 use node_sound::sizes_right;
 use node_sound::useful;
 
-// Where an input leads from a sound node: the output and the target of its transition, or nowhere.
+// Where an input leads from a sound node: the output and the target of its transition, or nowhere, and
+// then the place of the first greater input.
 pub enum Way {
     To(u64, usize),
-    Absent,
+    Absent(usize),
 }
 
 // One step of a lookup by key: what a node that is judged as it is entered says of an input.
@@ -62,12 +64,15 @@ fn any_way(
 {
     let deltas = outputs + n * osize;
     let inputs = deltas + n * tsize;
-    let Found::At(i) = find_in(file, inputs, n, index_len, b) else {
-        return Way::Absent;
-    };
-    let out = number_of(file, outputs, osize, n, i);
-    let delta = number_of(file, deltas, tsize, n, i);
-    Way::To(out, target_of(first, delta))
+    let found = find_in(file, inputs, n, index_len, b);
+    match found {
+        Found::Absent(p) => Way::Absent(p),
+        Found::At(i) => {
+            let out = number_of(file, outputs, osize, n, i);
+            let delta = number_of(file, deltas, tsize, n, i);
+            Way::To(out, target_of(first, delta))
+        }
+    }
 }
 
 // A node with any number of transitions, judged as by `any_sound`. Its numbers go on to `any_way` one by
@@ -115,8 +120,9 @@ fn one_way(file: &[u8], version: u64, root: usize, addr: usize, b: u8) -> Way
     let tsize = sizes / 16;
     let osize = sizes % 16;
     let first = addr + 1 - (osize + tsize + 1 + len);
-    if input_of(file, addr) != b {
-        return Way::Absent;
+    let input = input_of(file, addr);
+    if input != b {
+        return Way::Absent(place_beside(input, b));
     }
     let out = number_of(file, first, osize, 1, 0);
     let delta = number_of(file, first + osize, tsize, 1, 0);
@@ -129,8 +135,9 @@ fn next_way(file: &[u8], version: u64, root: usize, addr: usize, b: u8) -> Way
     ensures { λ r. ⌜ Stepped r ≡ stepOf (nodeAt (now (file .entry)) version root addr) b ⌝ }
 {
     let len = head_len(file, addr);
-    if input_of(file, addr) != b {
-        return Way::Absent;
+    let input = input_of(file, addr);
+    if input != b {
+        return Way::Absent(place_beside(input, b));
     }
     Way::To(0, addr - len)
 }
@@ -168,7 +175,7 @@ pub fn step_at(file: &[u8], version: u64, root: usize, addr: usize, b: u8) -> St
         if file.len() == 0 {
             return Step::Unsound;
         }
-        return Step::Sound(Way::Absent);
+        return Step::Sound(Way::Absent(0));
     }
     // the state byte itself lies from 16 to the root, and in the file
     if addr < FIRST_NODE {

@@ -4,7 +4,7 @@
 // (In contracts the field is «data»: the word alone is a keyword there.)
 ghost use mathlib.Core.Path.{_≡_};
 ghost use Rattle.format.specs.Node.{nodeAt};
-ghost use Rattle.node.specs.Read.{Judges, placeIs};
+ghost use Rattle.node.specs.Read.{Judges};
 ghost use Rattle.node_view.specs.View.{viewWith, transitionIn, placeIn};
 use format::Transition;
 use node::Found;
@@ -25,6 +25,14 @@ pub enum TransitionAnswer {
     None,
 }
 
+// What asking a node for the input b says: its place, or the place of the first greater input.
+pub enum SearchAnswer {
+    At(usize),
+    Absent(usize),
+    // the node is not sound, and a place in it would mean nothing
+    Unsound,
+}
+
 // ---- the plain functions
 
 // Transition i of the node at addr.
@@ -41,14 +49,18 @@ fn transition_in(file: &[u8], version: u64, root: usize, addr: usize, i: usize) 
     TransitionAnswer::None
 }
 
-// The place of the input b in the node at addr; absent too where the node is not sound.
-fn place_in(file: &[u8], version: u64, root: usize, addr: usize, b: u8) -> Found
-    ensures { λ r. ⌜ placeIs r ≡ placeIn (nodeAt (now (file .entry)) version root addr) b ⌝ }
+// The place of the input b in the node at addr.
+fn place_in(file: &[u8], version: u64, root: usize, addr: usize, b: u8) -> SearchAnswer
+    ensures { λ r. ⌜ r ≡ placeIn (nodeAt (now (file .entry)) version root addr) b ⌝ }
 {
     let Judged::Sound(m) = node::node_at(file, version, root, addr) else {
-        return Found::Absent;
+        return SearchAnswer::Unsound;
     };
-    node::find_input(file, m, b)
+    let found = node::find_input(file, m, b);
+    match found {
+        Found::At(i) => SearchAnswer::At(i),
+        Found::Absent(p) => SearchAnswer::Absent(p),
+    }
 }
 
 // ---- the view
@@ -82,9 +94,9 @@ pub fn transition<'f>(v: Node<'f>, i: usize) -> TransitionAnswer
     transition_in(v.data, v.version, v.root, v.addr, i)
 }
 
-// The place of the input b in the node; absent too where the node is not sound.
-pub fn find_input<'f>(v: Node<'f>, b: u8) -> Found
-    ensures { λ r. ⌜ placeIs r ≡ placeIn
+// The place of the input b in the node.
+pub fn find_input<'f>(v: Node<'f>, b: u8) -> SearchAnswer
+    ensures { λ r. ⌜ r ≡ placeIn
         (nodeAt (now (v .entry .«data»)) (v .entry .version) (v .entry .root) (v .entry .addr))
         b ⌝ }
 {

@@ -10,14 +10,14 @@ use lib.Dec.{ltb, leb}
 use lib.ListN.{length, take}
 use Rattle.format.specs.declared.Transition.{Transition}
 use Rattle.format.specs.Bytes.{le}
-use Rattle.format.specs.Node.{Judgement, sound, unsound, nodeAt, transitionAt, findInput, at, absent}
+use Rattle.format.specs.Node.{Judgement, sound, unsound, nodeAt, transitionAt, findInput, Search}
 use Rattle.format.specs.Packed.{BuilderNode, Packing, written, refused, packing}
 use Rattle.node.specs.declared.Node.{Node}
 use Rattle.node.specs.declared.Judged.{Judged}
 use Rattle.node.specs.declared.Judged.the-variants.{Sound, Unsound}
 use Rattle.node.specs.declared.Found.{Found}
 use Rattle.node.specs.declared.Found.the-variants.{At, Absent as Missing}
-use Rattle.node.specs.Read.{transitionsIn, meaning, judgedIs, placeIs, Readable, Judges}
+use Rattle.node.specs.Read.{transitionsIn, meaning, judgedIs, searchIs, Readable, Judges}
 use Rattle.node.specs.ReadLaws.{length-node-transitions}
 use Rattle.node_compile.specs.declared.Compiled.{Compiled}
 use Rattle.node_compile.specs.declared.Compiled.the-variants.{Len, Refused}
@@ -108,11 +108,12 @@ module _ {s : List ℕ} {v root a : ℕ} {j : Judged} (judged : Judges s v root 
       let is-one = lt-ltb i (length (transitionsIn s m)) (omega arith) in
       rw (is-sound m e) (record { answer = rw (is-one, le-leb 3 (length out₀) room); buffer = rw is-one (is ∙ rw is-t) })
 
-  pub found-unsound : (b : ℕ) → j ≡ Unsound → 257 ≡ foundAs (nodeAt s v root a) b
+  pub found-unsound : (b : ℕ) → j ≡ Unsound → 513 ≡ foundAs (nodeAt s v root a) b
   found-unsound b e = rw (is-unsound e)
 
-  pub found-absent : (m : Node) (b : ℕ) (f : Found) → j ≡ Sound m → f ≡ Missing → placeIs f ≡ findInput (transitionsIn s m) b → 256 ≡ foundAs (nodeAt s v root a) b
-  found-absent m b f e none is = rw (is-sound m e) (ap placeNumber ((rw none at is)))
+  pub found-absent : (m : Node) (b : ℕ) (f : Found) (p : ℕ) → j ≡ Sound m → f ≡ Missing p → searchIs f ≡ findInput (transitionsIn s m) b
+      → 256 + p ≡ foundAs (nodeAt s v root a) b
+  found-absent m b f p e none is = rw (is-sound m e) (ap placeNumber ((rw none at is)))
 
-  pub found-at : (m : Node) (b : ℕ) (f : Found) (i : ℕ) → j ≡ Sound m → f ≡ At i → placeIs f ≡ findInput (transitionsIn s m) b → i ≡ foundAs (nodeAt s v root a) b
+  pub found-at : (m : Node) (b : ℕ) (f : Found) (i : ℕ) → j ≡ Sound m → f ≡ At i → searchIs f ≡ findInput (transitionsIn s m) b → i ≡ foundAs (nodeAt s v root a) b
   found-at m b f i e one is = rw (is-sound m e) (ap placeNumber ((rw one at is)))

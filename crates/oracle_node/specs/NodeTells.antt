@@ -5,7 +5,7 @@
 --     NodeTold j out₀ out r    what is told of the judgement j of a node
 --     TransitionTold j i out₀ out r     what is told of transition i of that node
 --     PackingTold p out₀ out r          what is told of the packing p of a node record
---     foundAs j b              the place of the input b in that node, 256 for an absent one, 257 for an unsound node
+--     foundAs j b              the place of the input b in that node, 256 and the place of the first greater one where it is absent, 513 for an unsound node
 -- Assumes nothing.
 use mathlib.Core.Path.{_≡_}
 use mathlib.Core.Bool.{Bool, cond, not, _&&_}
@@ -15,7 +15,7 @@ use lib.Dec.{ltb, leb, eqb}
 use lib.ListN.{length, take, drop}
 use Rattle.format.specs.declared.Transition.{Transition}
 use Rattle.format.specs.Bytes.{le}
-use Rattle.format.specs.Node.{Node, Judgement, sound, unsound, Place, at, absent, findInput, transitionAt}
+use Rattle.format.specs.Node.{Node, Judgement, sound, unsound, Search, findInput, transitionAt}
 use Rattle.format.specs.Packed.{Packing, written, refused}
 
 unfoldable pub unpacked : List ℕ → ℕ → ℕ
@@ -84,10 +84,10 @@ pub record TransitionTold (j : Judgement) (i : ℕ) (out₀ out : List ℕ) (r :
 
 -- ---- the place of an input
 
-abbrev pub placeNumber : Place → ℕ
-placeNumber (at i) = i
-placeNumber absent = 256
+abbrev pub placeNumber : Search → ℕ
+placeNumber (Search.at i) = i
+placeNumber (Search.absent p) = 256 + p
 
 abbrev pub foundAs : Judgement → ℕ → ℕ
 foundAs (sound m) b = placeNumber (findInput (m .transitions) b)
-foundAs unsound b = 257
+foundAs unsound b = 513

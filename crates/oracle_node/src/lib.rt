@@ -184,7 +184,8 @@ pub extern "C" fn baxhiso_transition(
     1
 }
 
-// The place of the input b among the node's transitions, 256 where it is absent, 257 for an unsound node.
+// The place of the input b among the node's transitions; 256 and the place of the first greater input where it is absent;
+// 513 for an unsound node.
 #[no_mangle]
 pub extern "C" fn baxhiso_find_input(
     file: &[u8],
@@ -196,10 +197,11 @@ pub extern "C" fn baxhiso_find_input(
     ensures { λ r. ⌜ r ≡ foundAs (nodeAt (now (file .entry)) version root addr) b ⌝ }
 {
     let Judged::Sound(n) = node::node_at(file, version, root, addr) else {
-        return 257;
+        return 513;
     };
-    let Found::At(i) = node::find_input(file, n, b) else {
-        return 256;
-    };
-    i as u64
+    let found = node::find_input(file, n, b);
+    match found {
+        Found::At(i) => i as u64,
+        Found::Absent(p) => 256 + (p as u64),
+    }
 }

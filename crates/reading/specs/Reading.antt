@@ -16,7 +16,7 @@ use lib.Dec.{ltb, leb, eqb}
 use lib.ListN.{length, drop}
 use Rattle.format.specs.declared.Transition.{Transition}
 use Rattle.format.specs.Limits.{maxPath, maxLevels, maxSum, NODE, DEEP, SUM, SPACE, BOUND, STATE}
-use Rattle.format.specs.Node.{Node, Judgement, sound, unsound, Place, at, absent, findInput, transitionAt}
+use Rattle.format.specs.Node.{Node, Judgement, sound, unsound, Search, findInput, transitionAt}
 use Rattle.format.specs.Opening.{Meta, Opening, opened, opening}
 use Rattle.format.specs.Opening as Opening
 use Rattle.format.specs.Paths.{Fst, fstOf, nodeIn}
@@ -83,9 +83,9 @@ abbrev pub onNode : {A : Type 0} → Judgement → (Node → A) → A → A
 onNode (sound m) go stop = go m
 onNode unsound go stop = stop
 
-abbrev pub onPlace : {A : Type 0} → Place → (ℕ → A) → A → A
-onPlace (at i) go stop = go i
-onPlace absent go stop = stop
+abbrev pub onSearch : {A : Type 0} → Search → (ℕ → A) → (ℕ → A) → A
+onSearch (Search.at i) go miss = go i
+onSearch (Search.absent p) go miss = miss p
 
 abbrev pub onOpened : {A : Type 0} → Opening → (Meta → A) → (ℕ → A) → A
 onOpened (opened m) go stop = go m
@@ -97,11 +97,6 @@ pub data Sought : Type 0 where
   got : List Level → Sought
   halted : ℕ → Sought
 
--- how many transitions come before the first whose input is above b
-unfoldable pub firstAbove : List Transition → ℕ → ℕ
-firstAbove [] b = 0
-firstAbove (t ∷ ts) b = cond (ltb b (t .inp)) 0 (suc (firstAbove ts b))
-
 -- where the bound ends: below its node, or at the transition that led there, so that the bound's own key comes next; an empty bound
 -- ends at the root
 abbrev pub lastLevels : Bool → Level → List Level → List Level
@@ -112,7 +107,6 @@ lastLevels false l s = l ∷ s
 -- the rest of the lower bound from the node at a, to which the byte i led, over the levels s: 5 for the node as it is entered, then 7
 -- for the running sum up to it
 unfoldable pub seek : Fst → Bool → ℕ → ℕ → ℕ → List Level → List ℕ → Sought
-unfolding firstAbove
 seek f inclusive a i sum s [] =
     onNode (nodeIn f a)
     (λ m. cond (leb sum maxSum) (got (lastLevels inclusive (levelWith a i 0 sum) s)) (halted SUM))
@@ -120,9 +114,9 @@ seek f inclusive a i sum s [] =
 seek f inclusive a i sum s (b ∷ lo) =
     onNode (nodeIn f a)
     (λ m. cond (leb sum maxSum)
-    (onPlace (findInput (m .transitions) b)
+    (onSearch (findInput (m .transitions) b)
     (λ p. seek f inclusive (transitionAt (m .transitions) p .addr) b (sum + transitionAt (m .transitions) p .out) (levelWith a i (p + 1) sum ∷ s) lo)
-    (got (levelWith a i (firstAbove (m .transitions) b) sum ∷ s)))
+    (λ p. got (levelWith a i p sum ∷ s)))
     (halted SUM))
     (halted NODE)
 

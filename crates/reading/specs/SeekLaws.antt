@@ -22,12 +22,12 @@ use lib.ListN.{length, drop}
 use lib.Seq.{drop-cons}
 use Rattle.format.specs.declared.Transition.{Transition}
 use Rattle.format.specs.Limits.{maxPath, maxSum}
-use Rattle.format.specs.Node.{Node, sound, at, absent, findFrom, findInput, transitionAt}
+use Rattle.format.specs.Node.{Node, sound, Place, at, absent, findFrom, firstAbove, Search, findInput, transitionAt}
 use Rattle.format.specs.laws.NodeFacts.{node-ascending}
 use Rattle.format.specs.Paths.{Fst, nodeIn}
 use Rattle.format.specs.Strings.{Bound, unbounded, included, excluded, beforeTest}
-use Rattle.format.specs.laws.TransitionLaws.{at-member, find-input-member}
-use Rattle.reading.specs.Reading.{meetsTest, boundBytes, isInclusive, Level, levelWith, pathOf, keyOf, got, firstAbove, lastLevels, seek}
+use Rattle.format.specs.laws.TransitionLaws.{Ascend, AllAbove, ascend-tail, ascend-head, above-tail, above-all, search-none, at-member, find-input-member}
+use Rattle.reading.specs.Reading.{meetsTest, boundBytes, isInclusive, Level, levelWith, pathOf, keyOf, got, lastLevels, seek}
 use Rattle.reading.specs.Visits.{Visit, under, visitBy, row, transitionsAt, below, rest, toCome, Fine, Sane, AllV, kept}
 use Rattle.reading.specs.VisitLaws.{below-full}
 use Rattle.reading.specs.VisitLists.{all-append, all-imp, all-under, map-append, map-under, map-nil, key-push, below-rest, fine-node}
@@ -38,26 +38,6 @@ abbrev pub Over : ℕ → Visit → Type 0
 Over x v = (y : ℕ) × (ys : List ℕ) × (v .key ≡ y ∷ ys) × (x < y)
 
 -- ---- transitions by their inputs
-
-abbrev pub Ascend : List Transition → Type 0
-Ascend ts = (i j : ℕ) → i < j → j < length ts → transitionAt ts i .inp < transitionAt ts j .inp
-
-abbrev pub AllAbove : ℕ → List Transition → Type 0
-AllAbove x ts = (i : ℕ) → i < length ts → x < transitionAt ts i .inp
-
-module _ (t : Transition) (ts : List Transition) where
-  pub ascend-tail : Ascend (t ∷ ts) → Ascend ts
-  ascend-tail asc i j h l = asc (suc i) (suc j) (omega arith) (omega arith)
-
-  pub ascend-head : Ascend (t ∷ ts) → AllAbove (t .inp) ts
-  ascend-head asc i l = asc 0 (suc i) (omega arith) (omega arith)
-
-  pub above-tail : (x : ℕ) → AllAbove x (t ∷ ts) → AllAbove x ts
-  above-tail x h i l = h (suc i) (omega arith)
-
-  above-all : (x : ℕ) → x < t .inp → Ascend (t ∷ ts) → AllAbove x (t ∷ ts)
-  above-all x h asc zero l = h
-  above-all x h asc (suc i) l = omega (arith, ascend-head asc i (omega arith))
 
 find-above : (k : ℕ) (ts : List Transition) (b : ℕ) → AllAbove b ts → findFrom k ts b ≡ absent
 unfolding findFrom
@@ -208,7 +188,7 @@ module _ (sub : ℕ → List Visit) (f : Fst) (c : Bool) (b : ℕ) (lo : List �
           inl (record {
             place = suc (w .place);
             within = omega (arith, w .within);
-            found = rw (ne-eqb (t .inp) b (λ z. omega arith)) (w .found ∙ ap at e);
+            found = rw (ne-eqb (t .inp) b (λ z. omega arith)) (w .found ∙ ap Place.at e);
             keeps = row-low t ts h ∙ w .keeps;
           })
       go (inr w) (yes h) q =
@@ -227,7 +207,7 @@ module _ (sub : ℕ → List Visit) (f : Fst) (c : Bool) (b : ℕ) (lo : List �
           inl (record {
             place = 0;
             within = omega arith;
-            found = rw (eq-eqb (t .inp) b z) (ap at e);
+            found = rw (eq-eqb (t .inp) b z) (ap Place.at e);
             keeps = row-same t ts z (λ i l. omega (arith, ascend-head t ts asc i l));
           })
 
@@ -333,7 +313,7 @@ module _ (f : Fst) (a i sum : ℕ) (s : List Level) (d : ℕ) (deep : maxPath - 
             ∙ rw deeper;
       }
 
-  comes-on : (c : Bool) (lo : List ℕ) (own : List Visit) → sum ≤ maxSum → findInput (m .transitions) b ≡ at p
+  comes-on : (c : Bool) (lo : List ℕ) (own : List Visit) → sum ≤ maxSum → findInput (m .transitions) b ≡ Search.at p
       → kept (meets c (b ∷ lo)) (row (below d f) f (m .transitions)) ≡ onward (below d f) f c b lo by-p (drop (suc p) (m .transitions))
       → Comes f c (by-p .addr) b (sum + by-p .out) left lo own-p
       → Comes f c a i sum s (b ∷ lo) own
@@ -358,14 +338,14 @@ module _ (f : Fst) (a i sum : ℕ) (s : List Level) (d : ℕ) (deep : maxPath - 
       }
 
 -- no transition takes the bound's next byte
-comes-away : (f : Fst) (c : Bool) (a i sum : ℕ) (s : List Level) (m : Node) (b : ℕ) (lo : List ℕ) (own : List Visit)
-    → Sane f (levelWith a i 0 sum ∷ s) → nodeIn f a ≡ sound m → sum ≤ maxSum → findInput (m .transitions) b ≡ absent
-    → kept (meets c (b ∷ lo)) (below (maxPath - length s) f a) ≡ rest (maxPath - length s) f a (firstAbove (m .transitions) b)
+comes-away : (f : Fst) (c : Bool) (a i sum : ℕ) (s : List Level) (m : Node) (b p : ℕ) (lo : List ℕ) (own : List Visit)
+    → Sane f (levelWith a i 0 sum ∷ s) → nodeIn f a ≡ sound m → sum ≤ maxSum → findInput (m .transitions) b ≡ Search.absent p
+    → kept (meets c (b ∷ lo)) (below (maxPath - length s) f a) ≡ rest (maxPath - length s) f a p
     → Comes f c a i sum s (b ∷ lo) own
 unfolding seek pathOf
-comes-away f c a i sum s m b lo own sane e fits none keeps =
+comes-away f c a i sum s m b p lo own sane e fits none keeps =
     record {
-      levels = levelWith a i (firstAbove (m .transitions) b) sum ∷ s;
+      levels = levelWith a i p sum ∷ s;
       seeks = rw (e, le-leb sum maxSum fits, none);
       sane = sane;
       comes = sym (rw (meets-nil c b lo, keeps));
@@ -383,7 +363,7 @@ seek-step f c a i sum s b lo own st next = by (maxPath - length s) refl
     by : (d : ℕ) → maxPath - length s ≡ d → Comes f c a i sum s (b ∷ lo) own
     by zero deep =
         let m : Fine 0 f a sum = rw deep at (st .fine) in
-        comes-away f c a i sum s (m .0) b lo own sane (m .1) (omega (arith, m .2)) (rw (m .3) (find-above 0 [] b (λ i l. absurd (omega arith)))) (rw deep)
+        comes-away f c a i sum s (m .0) b 0 lo own sane (m .1) (omega (arith, m .2)) (rw (m .3) (search-none b)) (rw deep)
     by (suc d) deep =
         let m : Fine (suc d) f a sum = rw deep at (st .fine) in
         let fits : sum ≤ maxSum = omega (arith, m .2) in
@@ -391,12 +371,12 @@ seek-step f c a i sum s b lo own st next = by (maxPath - length s) refl
         ⊎-elim
         (λ (w : Here (below d f) f c b lo 0 ts).
         let p : ℕ = w .place in
-        let found : findInput ts b ≡ at p = w .found ∙ ap at (zero-add p) in
+        let found : findInput ts b ≡ Search.at p = let here : findFrom 0 ts b ≡ at p = w .found ∙ ap Place.at (zero-add p) in rw here in
         let is : transitionAt ts p .inp ≡ b = find-input-member ts b p found .1 in
         let t : Transition = transitionAt ts p in
         comes-on f a i sum s d deep (m .0) (m .1) b p (w .within) is c lo own fits found (w .keeps)
         (next (t .addr) (sum + t .out) _ _ (stands-on f a i sum s d deep (m .0) (m .1) b p (w .within) is (m .3 t (at-member ts p (w .within))) sane)))
-        (λ (w : Away (below d f) f c b lo 0 ts). comes-away f c a i sum s (m .0) b lo own sane (m .1) fits (w .none) (rw (deep, m .1) (w .keeps)))
+        (λ (w : Away (below d f) f c b lo 0 ts). comes-away f c a i sum s (m .0) b (firstAbove ts b) lo own sane (m .1) fits (rw (w .none)) (rw (deep, m .1) (w .keeps)))
         (kept-row (below d f) f c b lo 0 ts (node-ascending f a (m .0) (m .1)))
 
 seek-come : (lo : List ℕ) (f : Fst) (c : Bool) (a i sum : ℕ) (s : List Level) (own : List Visit) → Stands f a i sum s own → Comes f c a i sum s lo own

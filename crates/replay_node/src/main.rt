@@ -141,7 +141,7 @@ fn transition_alike(node: &[u8], n: usize, file: &[u8], read: Node, i: usize) ->
     }
     match node::find_input(file, read, t.inp) {
         Found::At(k) => k == i,
-        Found::Absent => false,
+        Found::Absent(_) => false,
     }
 }
 
@@ -160,25 +160,30 @@ fn transitions_alike(node: &[u8], n: usize, file: &[u8], read: Node) -> bool
     true
 }
 
-// 1 for a byte that is found among the inputs, else 0.
-fn found(file: &[u8], read: Node, b: u8) -> usize
+// How many inputs are passed with b, where n stand below it: n and one more where b is found at place n, n where it is absent and the
+// first greater input stands there, and 300, which is no count, where the search says another place.
+fn passed(file: &[u8], read: Node, b: u8, n: usize) -> usize
     requires { ⌜ Readable (now file) read ⌝ }
-    ensures { λ r. ⌜ r ≤ 1 ⌝ }
+    requires { ⌜ n ≤ 300 ⌝ }
+    ensures { λ r. ⌜ r ≤ 301 ⌝ }
 {
     match node::find_input(file, read, b) {
-        Found::At(_) => 1,
-        Found::Absent => 0,
+        Found::At(k) => if k == n { n + 1 } else { 300 },
+        Found::Absent(p) => if p == n { n } else { 300 },
     }
 }
 
-// How many bytes are found among the inputs.
+// How many bytes are found among the inputs, each at its place, and each absent one before the first greater.
 fn all_found(file: &[u8], read: Node) -> usize
     requires { ⌜ Readable (now file) read ⌝ }
 {
     let mut n = 0;
     let mut b: usize = 0;
     while b < 256 {
-        n += found(file, read, b as u8);
+        if 300 <= n {
+            return n;
+        }
+        n = passed(file, read, b as u8, n);
         b += 1;
     }
     n

@@ -1,5 +1,4 @@
 -- Laws of a start's walk along the lower bound, one for each way out of a turn of the code.
---     above-here, above-on, above-end        the first input that is above a byte
 --     enter-unsound, enter-miss, enter-hit   a byte looked for at a node
 --     seek-unsound, seek-past, seek-done     the ways out of `R.seek`, whatever is left of the bound
 --     bound-done, bound-bad, bound-miss, bound-on     the same with k bytes of the bound passed
@@ -15,32 +14,13 @@ use lib.ListN.{length, getD, drop, drop-of-length-le}
 use lib.Seq.{drop-cons}
 use Rattle.format.specs.declared.Transition.{Transition}
 use Rattle.format.specs.Limits.{maxSum, NODE, SUM}
-use Rattle.format.specs.Node.{Node, Judgement, sound, unsound, Place, at, absent, findInput, transitionAt}
+use Rattle.format.specs.Node.{Node, Judgement, sound, unsound, Search, findInput, transitionAt}
 use Rattle.format.specs.Paths.{Fst, nodeIn}
 use Rattle.format.specs.Lookup.{pastSum}
-use Rattle.reading.specs.Reading.{Level, levelWith, onNode, onPlace, Sought, got, halted, firstAbove, lastLevels, seek}
+use Rattle.reading.specs.Reading.{Level, levelWith, onNode, onSearch, Sought, got, halted, lastLevels, seek}
 use Rattle.stream_start.specs.declared.Entered.{Entered}
 use Rattle.stream_start.specs.declared.Entered.the-variants.{Hit, Miss, Unsound}
 use Rattle.stream_start.specs.Seeks.{enterOf}
-
--- ---- the first input above a byte
-
-module _ (ts : List Transition) (b i : ℕ) where
-  pub above-end : length ts ≤ i → firstAbove (drop i ts) b ≡ 0
-  unfolding firstAbove
-  above-end h = rw (drop-of-length-le ts {i = i} h)
-
-  module _ (h : i < length ts) where
-    cut-at : drop i ts ≡ transitionAt ts i ∷ drop (i + 1) ts
-    cut-at = drop-cons ts i (record { inp = 0; out = 0; addr = 0 }) h ∙ sym (rw (add-one i))
-
-    pub above-here : b < transitionAt ts i .inp → firstAbove (drop i ts) b ≡ 0
-    unfolding firstAbove
-    above-here l = rw cut-at (simp (lt-ltb b (transitionAt ts i .inp) l))
-
-    pub above-on : transitionAt ts i .inp ≤ b → firstAbove (drop i ts) b ≡ suc (firstAbove (drop (i + 1) ts) b)
-    unfolding firstAbove
-    above-on l = rw cut-at (simp (le-ltb b (transitionAt ts i .inp) l))
 
 -- ---- a byte looked for at a node
 
@@ -50,11 +30,11 @@ module _ (f : Fst) (a b : ℕ) where
   enter-unsound e = simp e
 
   module _ (m : Node) (e : nodeIn f a ≡ sound m) where
-    pub enter-miss : findInput (m .transitions) b ≡ absent → enterOf f a b ≡ Miss (firstAbove (m .transitions) b)
+    pub enter-miss : (p : ℕ) → findInput (m .transitions) b ≡ Search.absent p → enterOf f a b ≡ Miss p
     unfolding enterOf
-    enter-miss none = simp (e, none)
+    enter-miss p none = simp (e, none)
 
-    pub enter-hit : (p : ℕ) → findInput (m .transitions) b ≡ at p → enterOf f a b ≡ Hit p (transitionAt (m .transitions) p .addr) (transitionAt (m .transitions) p .out)
+    pub enter-hit : (p : ℕ) → findInput (m .transitions) b ≡ Search.at p → enterOf f a b ≡ Hit p (transitionAt (m .transitions) p .addr) (transitionAt (m .transitions) p .out)
     unfolding enterOf
     enter-hit p found = simp (e, found)
 
@@ -98,28 +78,28 @@ module _ (f : Fst) (c : Bool) (a i sum : ℕ) (s : List Level) where
     unfolding seek enterOf
     seek-turn b lo = simp (le-leb sum maxSum fits) (judged (nodeIn f a))
       where
-        placed : (m : Node) (p : Place)
-            → onPlace p
+        placed : (m : Node) (q : Search)
+            → onSearch q
             (λ p. seek f c (transitionAt (m .transitions) p .addr) b (sum + transitionAt (m .transitions) p .out) (levelWith a i (p + 1) sum ∷ s) lo)
-            (got (levelWith a i (firstAbove (m .transitions) b) sum ∷ s))
+            (λ p. got (levelWith a i p sum ∷ s))
             ≡ onEntered
-            (onPlace p (λ p. Hit p (transitionAt (m .transitions) p .addr) (transitionAt (m .transitions) p .out)) (Miss (firstAbove (m .transitions) b)))
+            (onSearch q (λ p. Hit p (transitionAt (m .transitions) p .addr) (transitionAt (m .transitions) p .out)) (λ p. Miss p))
             (λ p t o. seek f c t b (sum + o) (levelWith a i (p + 1) sum ∷ s) lo)
             (λ p. got (levelWith a i p sum ∷ s))
             (halted NODE)
-        placed m (at p) = refl
-        placed m absent = refl
+        placed m (Search.at p) = refl
+        placed m (Search.absent p) = refl
 
         judged : (j : Judgement)
             → onNode j
             (λ m.
-            onPlace (findInput (m .transitions) b)
+            onSearch (findInput (m .transitions) b)
             (λ p. seek f c (transitionAt (m .transitions) p .addr) b (sum + transitionAt (m .transitions) p .out) (levelWith a i (p + 1) sum ∷ s) lo)
-            (got (levelWith a i (firstAbove (m .transitions) b) sum ∷ s)))
+            (λ p. got (levelWith a i p sum ∷ s)))
             (halted NODE)
             ≡ onEntered
             (onNode j
-            (λ m. onPlace (findInput (m .transitions) b) (λ p. Hit p (transitionAt (m .transitions) p .addr) (transitionAt (m .transitions) p .out)) (Miss (firstAbove (m .transitions) b)))
+            (λ m. onSearch (findInput (m .transitions) b) (λ p. Hit p (transitionAt (m .transitions) p .addr) (transitionAt (m .transitions) p .out)) (λ p. Miss p))
             Unsound)
             (λ p t o. seek f c t b (sum + o) (levelWith a i (p + 1) sum ∷ s) lo)
             (λ p. got (levelWith a i p sum ∷ s))

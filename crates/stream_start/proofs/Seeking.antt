@@ -10,7 +10,7 @@ use Prim.Native.Nat.{ℕ, zero, suc, _+_, _-_, _<_, _≤_}
 use native.Mathlib.Omega.{arith}
 use lib.ListN.{length, getD, drop}
 use Rattle.format.specs.Limits.{maxSum, NODE}
-use Rattle.format.specs.Node.{Node, sound, unsound, at, findInput, transitionAt}
+use Rattle.format.specs.Node.{Node, sound, unsound, Search, findInput, transitionAt}
 use Rattle.format.specs.Paths.{Fst, nodeIn}
 use Rattle.format.specs.laws.NodeFacts.{find-member, node-count}
 use Rattle.format.specs.laws.LiveLaws.{target-below-root}
@@ -23,7 +23,7 @@ use Rattle.stream_start.proofs.SeekCases.{seek-unsound, bound-done, bou
 
 -- ---- the place and the target that a byte leads to
 
-module _ (f : Fst) (a : ℕ) (m : Node) (e : nodeIn f a ≡ sound m) (b p : ℕ) (found : findInput (m .transitions) b ≡ at p) where
+module _ (f : Fst) (a : ℕ) (m : Node) (e : nodeIn f a ≡ sound m) (b p : ℕ) (found : findInput (m .transitions) b ≡ Search.at p) where
   pub place-fits : ((j : ℕ) → getD (f .bytes) j 0 < 256) → p < 256
   place-fits bytes = omega (arith, find-member f a m e b p found .0, node-count f a m e bytes)
 

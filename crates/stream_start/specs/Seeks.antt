@@ -21,7 +21,7 @@ use Rattle.format.specs.Node.{Judgement, findInput, transitionAt}
 use Rattle.format.specs.Paths.{Fst, nodeIn}
 use Rattle.format.specs.Strings as S
 use Rattle.reading.specs.Reading as R
-use Rattle.reading.specs.Reading.{Level, onNode, onPlace, firstAbove, got, boundsTest, startedAt, pendingAt, isInclusive, boundBytes}
+use Rattle.reading.specs.Reading.{Level, onNode, onSearch, got, boundsTest, startedAt, pendingAt, isInclusive, boundBytes}
 use Rattle.stream_start.specs.declared.Entered.{Entered}
 use Rattle.stream_start.specs.declared.Entered.the-variants.{Hit, Miss, Unsound}
 use Rattle.stream_start.specs.declared.Sought.{Sought}
@@ -33,9 +33,9 @@ unfoldable pub enterOf : Fst → ℕ → ℕ → Entered
 enterOf f a b =
     onNode (nodeIn f a)
     (λ m.
-    onPlace (findInput (m .transitions) b)
+    onSearch (findInput (m .transitions) b)
     (λ p. Hit p (transitionAt (m .transitions) p .addr) (transitionAt (m .transitions) p .out))
-    (Miss (firstAbove (m .transitions) b)))
+    (λ p. Miss p))
     Unsound
 
 abbrev pub placeIn : Entered → ℕ

@@ -81,23 +81,6 @@ enum Sought {
     Halted(u8),
 }
 
-// How many inputs of a judged node are not above b.
-fn first_above(file: &[u8], node: Node, b: u8) -> usize
-    requires { ⌜ Readable (now file) node ⌝ }
-    ensures { λ r. ⌜ (r ≡ R.firstAbove (transitionsIn (now (file .entry)) node) b)
-        × (r ≤ node .ntrans) ⌝ }
-{
-    let n = node.ntrans;
-    let mut i = 0;
-    while i < n {
-        if b < node::input(file, node, i) {
-            return i;
-        }
-        i += 1;
-    }
-    i
-}
-
 // The byte b looked for at the node at addr, which is judged first.
 fn enter(file: &[u8], version: u64, root: usize, addr: usize, b: u8) -> Entered
     requires { ⌜ root < 4294967296 ⌝ }
@@ -107,14 +90,17 @@ fn enter(file: &[u8], version: u64, root: usize, addr: usize, b: u8) -> Entered
     let Judged::Sound(m) = node::node_at(file, version, root, addr) else {
         return Entered::Unsound;
     };
-    let Found::At(p) = node::find_input(file, m, b) else {
-        return Entered::Miss(first_above(file, m, b) as u16);
-    };
-    let target = node::transition_addr(file, m, p);
-    let out = node::output(file, m, p);
-    let place = p as u16;
-    let to = target as u32;
-    Entered::Hit(place, to, out)
+    let found = node::find_input(file, m, b);
+    match found {
+        Found::Absent(p) => Entered::Miss(p as u16),
+        Found::At(p) => {
+            let target = node::transition_addr(file, m, p);
+            let out = node::output(file, m, p);
+            let place = p as u16;
+            let to = target as u32;
+            Entered::Hit(place, to, out)
+        }
+    }
 }
 
 // Writes level k.

@@ -1,7 +1,7 @@
 // One node, read by each: what every comparison of stored nodes comes down to.
 
 use super::{describe_at, same, Checked, Difference, Run};
-use crate::answers::{At, Meaning, INPUT_ABSENT, NODE_UNSOUND, SOUND, UNSOUND};
+use crate::answers::{place_number, At, Meaning, Place, NODE_UNSOUND, SOUND, UNSOUND};
 use crate::given;
 use crate::model::{self, Unsound};
 
@@ -64,7 +64,7 @@ impl<'a> Run<'a> {
         }
     }
 
-    fn read_sound(&mut self, at: At, node: &Meaning, places: &[Option<usize>; 256], every_byte: bool) -> Checked {
+    fn read_sound(&mut self, at: At, node: &Meaning, places: &[Place; 256], every_byte: bool) -> Checked {
         let ours = match self.ours {
             Some(ours) => ours,
             None => return Ok(()),
@@ -103,11 +103,11 @@ impl<'a> Run<'a> {
         same("two places for a transition", input, ("as given", [keep; 2]), ("ours", out))?;
 
         for b in 0..=255u8 {
-            if !every_byte && places[usize::from(b)].is_none() && u64::from(b % 16) != keep % 16 {
+            if !every_byte && places[usize::from(b)].is_err() && u64::from(b % 16) != keep % 16 {
                 continue;
             }
             let input = || format!("byte {:02x}, {}", b, describe_at(at));
-            let want = places[usize::from(b)].map_or(INPUT_ABSENT, |place| place as u64);
+            let want = place_number(places[usize::from(b)]);
             same("find_input", input, ("the Rust", want), ("ours", ours.find_input(at, b)))?;
         }
         self.count(if every_byte {

@@ -11,7 +11,7 @@ use native.Mathlib.Omega.{arith}
 use lib.ListN.{length}
 use Rattle.format.specs.declared.Transition.{Transition}
 use Rattle.format.specs.Limits.{maxSum}
-use Rattle.format.specs.Node.{Node, sound, Place, at, absent, findInput, transitionAt}
+use Rattle.format.specs.Node.{Node, sound, Search, findInput, transitionAt}
 use Rattle.format.specs.laws.TransitionLaws.{at-member}
 use Rattle.format.specs.Paths.{Fst, fstOf, nodeIn, Path, here, Held}
 use Rattle.format.specs.Admitted.{Admitted}
@@ -39,11 +39,11 @@ end-exact f a sum m e light = go (m .final) refl
         (get-from-end-none f a sum m e (omega arith) is)
 
 module _ (f : Fst) (a sum : ℕ) (m : Node) (e : nodeIn f a ≡ sound m) (fits : sum ≤ maxSum) (b : ℕ) (k : List ℕ) where
-  absent-exact : findInput (m .transitions) b ≡ absent → FromExact f a (b ∷ k) sum
+  absent-exact : {p : ℕ} → findInput (m .transitions) b ≡ Search.absent p → FromExact f a (b ∷ k) sum
   absent-exact none =
       unheld (λ w h. let q = held-input f a m e h in find-none f a m e b none (q .0) (q .1) (q .2)) (get-from-absent f a sum m e fits b k none)
 
-  step-exact : (i : ℕ) → findInput (m .transitions) b ≡ at i → (t : Transition) → transitionAt (m .transitions) i ≡ t
+  step-exact : (i : ℕ) → findInput (m .transitions) b ≡ Search.at i → (t : Transition) → transitionAt (m .transitions) i ≡ t
       → FromExact f (t .addr) k (sum + t .out) → FromExact f a (b ∷ k) sum
   step-exact i found t is rest =
       let q = find-member f a m e b i found in
@@ -65,9 +65,9 @@ module _ {f : Fst} (reached : (k : List ℕ) (sum b : ℕ) → Path f (f .root) 
       go : PathEnd f p sum a → ((q : List ℕ) (n c : ℕ) → Path f (f .root) q n c → FromExact f c k n) → FromExact f a (b ∷ k) sum
       go r rest = by (findInput (r .node .transitions) b) refl
         where
-          by : (q : Place) → findInput (r .node .transitions) b ≡ q → FromExact f a (b ∷ k) sum
-          by absent none = absent-exact f a sum (r .node) (r .judged) (omega (arith, r .light)) b k none
-          by (at i) found =
+          by : (q : Search) → findInput (r .node .transitions) b ≡ q → FromExact f a (b ∷ k) sum
+          by (Search.absent p) none = absent-exact f a sum (r .node) (r .judged) (omega (arith, r .light)) b k none
+          by (Search.at i) found =
               let t = transitionAt (r .node .transitions) i in
               let mem = at-member (r .node .transitions) i (find-member f a (r .node) (r .judged) b i found .0) in
               step-exact f a sum (r .node) (r .judged) (omega (arith, r .light)) b k i found t refl

@@ -19,7 +19,7 @@ use lib.Dec.{leb, eqb}
 use lib.ListN.{length}
 use Rattle.format.specs.declared.Transition.{Transition}
 use Rattle.format.specs.Limits.{maxPath, maxSum, NODE, DEEP, SUM, SPACE}
-use Rattle.format.specs.Node.{Node, Judgement, sound, unsound, Place, at, absent, findInput, transitionAt}
+use Rattle.format.specs.Node.{Node, Judgement, sound, unsound, Place, at, absent, Search, findInput, transitionAt}
 use Rattle.format.specs.Opening.{Meta, Opening, opened, opening}
 use Rattle.format.specs.Opening as Opening
 use Rattle.format.specs.Paths.{Fst, fstOf, nodeIn}
@@ -51,11 +51,11 @@ module _ (f : Fst) (a sum : ℕ) (m : Node) (e : nodeIn f a ≡ sound m) where
     unfolding getFrom
     get-from-end-none is = rw (e, le-leb sum maxSum fits, is)
 
-    pub get-from-absent : (b : ℕ) (k : List ℕ) → findInput (m .transitions) b ≡ absent → getFrom f (b ∷ k) a sum ≡ Answer.none
+    pub get-from-absent : (b : ℕ) (k : List ℕ) {p : ℕ} → findInput (m .transitions) b ≡ Search.absent p → getFrom f (b ∷ k) a sum ≡ Answer.none
     unfolding getFrom
     get-from-absent b k none = rw (e, le-leb sum maxSum fits, none)
 
-    pub get-from-step : (b : ℕ) (k : List ℕ) (i : ℕ) → findInput (m .transitions) b ≡ at i
+    pub get-from-step : (b : ℕ) (k : List ℕ) (i : ℕ) → findInput (m .transitions) b ≡ Search.at i
         → getFrom f (b ∷ k) a sum ≡ getFrom f k (transitionAt (m .transitions) i .addr) (sum + transitionAt (m .transitions) i .out)
     unfolding getFrom
     get-from-step b k i is = rw (e, le-leb sum maxSum fits, is)

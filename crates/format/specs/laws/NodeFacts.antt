@@ -24,7 +24,7 @@ use Rattle.format.specs.declared.Transition.{Transition}
 use Rattle.format.specs.Bytes.{le}
 use Rattle.format.specs.laws.BytesLaws.{le-lt, pow-256-le}
 use Rattle.format.specs.laws.CommonInputsLaws.{common-input-lt}
-use Rattle.format.specs.Node.{stateForm, isFinal, lowBits, headLen, inputOf, ntransOf, sizesByte, endLen, sizeOf, shapeOf, firstOf, outputsAt, deltasAt, inputsAt, numbersDown, inputsIn, deltasIn, shapeInputs, shapeDeltas, targetOf, Node, transitionsOf, nodeOf, Ascending, TargetsRight, Useful, SoundAt, sound, emptyFinal, Place, at, absent, findInput, transitionAt}
+use Rattle.format.specs.Node.{stateForm, isFinal, lowBits, headLen, inputOf, ntransOf, sizesByte, endLen, sizeOf, shapeOf, firstOf, outputsAt, deltasAt, inputsAt, numbersDown, inputsIn, deltasIn, shapeInputs, shapeDeltas, targetOf, Node, transitionsOf, nodeOf, Ascending, TargetsRight, Useful, SoundAt, sound, emptyFinal, Search, findInput, transitionAt}
 use Rattle.format.specs.laws.NodeLaws.{node-at-cases}
 use Rattle.format.specs.laws.StoredLaws.{length-bytes-down, getD-bytes-down, length-numbers-down, getD-numbers-down}
 use Rattle.format.specs.laws.HeadLaws.{input-of-byte, input-of-common, ntrans-next, ntrans-one}
@@ -299,19 +299,19 @@ module _ (f : Fst) (a : ℕ) (m : Node) (e : nodeIn f a ≡ sound m) where
 
   -- ---- the place of an input
 
-  pub find-member : (b i : ℕ) → findInput (m .transitions) b ≡ at i → (i < length (m .transitions)) × (transitionAt (m .transitions) i .inp ≡ b)
+  pub find-member : (b i : ℕ) → findInput (m .transitions) b ≡ Search.at i → (i < length (m .transitions)) × (transitionAt (m .transitions) i .inp ≡ b)
   find-member b i found = find-input-member (m .transitions) b i found
 
-  pub find-none : (b : ℕ) → findInput (m .transitions) b ≡ absent → (t : Transition) → List·Memᴰ t (m .transitions) → ¬ (t .inp ≡ b)
+  pub find-none : (b : ℕ) {p : ℕ} → findInput (m .transitions) b ≡ Search.absent p → (t : Transition) → List·Memᴰ t (m .transitions) → ¬ (t .inp ≡ b)
   find-none b none t mem = find-input-none (m .transitions) b none t mem
 
   pub find-some : (b : ℕ) (t : Transition) → List·Memᴰ t (m .transitions) → t .inp ≡ b
-      → (i : ℕ) × (i < length (m .transitions)) × (findInput (m .transitions) b ≡ at i) × (transitionAt (m .transitions) i ≡ t)
+      → (i : ℕ) × (i < length (m .transitions)) × (findInput (m .transitions) b ≡ Search.at i) × (transitionAt (m .transitions) i ≡ t)
   find-some b t mem is = go (findInput (m .transitions) b) refl
     where
-      go : (p : Place) → findInput (m .transitions) b ≡ p
-          → (i : ℕ) × (i < length (m .transitions)) × (findInput (m .transitions) b ≡ at i) × (transitionAt (m .transitions) i ≡ t)
-      go (at i) found =
+      go : (p : Search) → findInput (m .transitions) b ≡ p
+          → (i : ℕ) × (i < length (m .transitions)) × (findInput (m .transitions) b ≡ Search.at i) × (transitionAt (m .transitions) i ≡ t)
+      go (Search.at i) found =
           let q = find-member b i found in
           (i, q .0, found, node-same (transitionAt (m .transitions) i) t (at-member (m .transitions) i (q .0)) mem (q .1 ∙ sym is))
-      go absent none = absurd (find-none b none t mem is)
+      go (Search.absent p) none = absurd (find-none b none t mem is)

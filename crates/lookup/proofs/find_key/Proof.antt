@@ -12,7 +12,8 @@ use Rattle.format.specs.Paths.{Fst, nodeIn}
 use Rattle.format.specs.Lookup.{lastFitting}
 use Rattle.format.specs.laws.LookupLaws.{Fitting, at-fitting}
 use Rattle.lookup.proofs.LookupWalks.{searching-unsound, searching-found, searching-stuck, searching-deep}
-use Rattle.node.specs.ReadLaws.{answer-sound, answer-unsound, place-is, place-none, length-node-transitions}
+use Rattle.lookup.specs.Answers.{fittingIs}
+use Rattle.node.specs.ReadLaws.{answer-sound, answer-unsound, length-node-transitions}
 use Rattle.node.specs.declared.Node.{Node}
 use Rattle.node.specs.Read.{meaning, transitionsIn, Readable}
 use Rattle.format.specs.Paths.{fstWith}
@@ -68,7 +69,7 @@ abbrev i : Fits-at → ℕ
 i w = w .before .i .given .0 .0
 
 place : (w : Fits-at) → lastFitting (transitionsIn (file (q-of w)) (m (q-of w))) (at-loop (q-of w) .loop .left) ≡ at (i w)
-place w = place-is _ (w .before .before .before .last-fitting .result) (w .before .before .before .last-fitting .ensures) (i w) (w .before .i .given .1)
+place w = sym (w .before .before .before .last-fitting .ensures) ∙ ap fittingIs (w .before .i .given .1)
 
 fits : (w : Fits-at) → Fitting (transitionsIn (file (q-of w)) (m (q-of w))) (at-loop (q-of w) .loop .left) (i w)
 fits w = at-fitting (transitionsIn (file (q-of w)) (m (q-of w))) (at-loop (q-of w) .loop .left) (i w) (place w)
@@ -117,7 +118,7 @@ enum-told-2 c = search needs
 returns-3 : tie.Need-returns-3 Inv-loop μ-loop
 returns-3 c = let call = c .before .before in
     let q = call .before .before .before in
-    (sym (searching-stuck (at-loop q .loop .inv .rest) (meaning (file q) (m q)) (node-is q) (goes-on (call .before)) (place-none _ (call .last-fitting .result) (call .last-fitting .ensures) (c .enum-told2 .given .1))), record { len = at-loop q .loop .inv .len; fits = omega arith })
+    (sym (searching-stuck (at-loop q .loop .inv .rest) (meaning (file q) (m q)) (node-is q) (goes-on (call .before)) (sym (call .last-fitting .ensures) ∙ ap fittingIs (c .enum-told2 .given .1))), record { len = at-loop q .loop .inv .len; fits = omega arith })
 
 -- a transition fits, but the key has 255 bytes
 returns-4 : tie.Need-returns-4 Inv-loop μ-loop

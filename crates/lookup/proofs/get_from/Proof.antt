@@ -7,7 +7,7 @@ use Prim.Native.Nat.{ℕ, _+_, _-_, _≤_, _<_}
 use lib.ListN.{length, getD, drop, drop-of-length-le}
 use Rattle.format.specs.Limits.{maxSum}
 use Rattle.format.specs.Node as F
-use Rattle.format.specs.Node.{sound, at, findInput, transitionAt}
+use Rattle.format.specs.Node.{sound, Search, findInput, transitionAt}
 use Rattle.format.specs.Paths.{Fst, fstWith, nodeIn}
 use Rattle.format.specs.Lookup.{getFrom}
 use Rattle.format.specs.laws.LookupLaws.{get-from-past}
@@ -31,7 +31,7 @@ abbrev μ-loop : tie.MeasureT-loop
 -- one byte more, along the way that it leads
 module _ {f : Fst} {key : List ℕ} {i a sum : ℕ} (h : Looking f key i a sum) (m : F.Node) (e : nodeIn f a ≡ sound m) (fits : sum ≤ maxSum) (more : i < length key)
     (out target : ℕ) where
-  looking-along : (j : ℕ) → findInput (m .transitions) (getD key i 0) ≡ at j → out ≡ transitionAt (m .transitions) j .out
+  looking-along : (j : ℕ) → findInput (m .transitions) (getD key i 0) ≡ Search.at j → out ≡ transitionAt (m .transitions) j .out
       → target ≡ transitionAt (m .transitions) j .addr → Looking f key (i + 1) target (sum + out)
   looking-along j found is-out is-target = rw (is-out, is-target) (looking-step h m e fits more j found)
 
@@ -127,7 +127,7 @@ returns-2 c =
     let q = c .before .before in
     let n = node-is q in
     sym (looking-absent (at-loop q .loop .inv .1) (n .0) (n .1 .0) (fits q) (q .before .before .before .before .before .loop-test .taken)
-    (way-none (n .0 .transitions) (byte q) (sym (c .enum-told2 .given .1) ∙ n .1 .1)))
+    (way-none (n .0 .transitions) (byte q) (c .enum-told2 .given .0 .0) (sym (c .enum-told2 .given .1) ∙ n .1 .1)))
 
 -- the running sum is at most the largest
 sub-if1 : tie.Need-sub-if1 Inv-loop μ-loop

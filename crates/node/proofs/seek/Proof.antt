@@ -72,20 +72,18 @@ returns c =
     let a = test .before .before .before .before .before .args in
     over-found (now (a .file)) (a .at) (a .n) (a .b) (test .before .small .result) (test .if2 .taken) (c .if3 .taken)
 
--- the input after those above b is another
+-- no more inputs are above b than there are
+sub-t19 : tie.Need-sub-t19 Inv-loop μ-loop
+sub-t19 c =
+    let end = c .before .before in
+    omega (arith, c .before .small .ensures, end .before .loop .inv .few, end .before .loop .inv .within)
+
+-- the input after those above b is another, or all are above b
 returns-2 : tie.Need-returns-2 Inv-loop μ-loop
 returns-2 c =
-    let test = c .before .before in
-    let end = test .before .before in
-    over-missing (test .before .small .result) (test .before .small .ensures) (end .before .before .before .pre .1) (end .loop-test .left)
-    (end .before .loop .inv) (λ _. c .if3 .left)
-
--- all inputs are above b
-returns-3 : tie.Need-returns-3 Inv-loop μ-loop
-returns-3 c =
     let end = c .before .before in
-    over-missing (c .before .small .result) (c .before .small .ensures) (end .before .before .before .pre .1) (end .loop-test .left)
-    (end .before .loop .inv) (λ l. absurd (omega (arith, c .if2 .left)))
+    over-missing (c .before .small .result) (c .before .small .ensures) (end .before .before .before .pre .1) (end .loop-test .left) (end .before .loop .inv)
+    (⊎-elim (λ w _. w .2 .left) (λ w l. absurd (omega (arith, w .left))) (c .if2 .came))
 
 pub seek-spec : {M : Type 1} → statement M
 seek-spec =
@@ -106,5 +104,5 @@ seek-spec =
     sub-t17
     sub-t18
     returns
-    returns-2
-    returns-3)
+    sub-t19
+    returns-2)

@@ -22,18 +22,18 @@ s b = now (b .args .file)
 
 -- what is known where the input's place is found
 abbrev At : Type 0
-At = tie.After-known-told
+At = tie.After-known-told2
 
 abbrev start : At → tie.Start
 start q = q .before .before .before .before .before
 
 abbrev i : At → ℕ
-i q = q .before .i .given .0 .0
+i q = q .before .found2 .given .0 .0
 
 low : (q : At) → i q < start q .args .n
 low q =
     let f = q .before .before .before .find-in in
-    place-lt (s (start q)) (m (start q)) (start q .pre) (start q .args .b) (f .result) (f .ensures) (i q) (q .before .i .given .1)
+    place-lt (s (start q)) (m (start q)) (start q .pre) (start q .args .b) (f .result) (f .ensures) (i q) (q .before .found2 .given .1)
 
 -- the outputs are no longer than the file
 mul-deltas : tie.Need-mul-deltas
@@ -55,18 +55,18 @@ add-inputs c = omega (arith, c .before .pre .room)
 find-in-requires : tie.Need-find-in-requires
 find-in-requires c κs = let b = c .before in any-searchable (s b) (m b) (b .pre) refl
 
-enum-known-i : tie.Need-enum-known-i
-enum-known-i c = search needs
+enum-known-found : tie.Need-enum-known-found
+enum-known-found c = search needs
 
-enum-told : tie.Need-enum-told
-enum-told c = search needs
+enum-known-found-2 : tie.Need-enum-known-found-2
+enum-known-found-2 c = search needs
 
 -- no transition has the input
 returns : tie.Need-returns
 returns c =
-    let call = c .before .before in
+    let call = c .before .before .before in
     let b = call .before .before in
-    way-absent (s b) (m b) (b .pre) (b .args .b) (call .find-in .result) (call .find-in .ensures) (c .enum-told .given .1)
+    way-absent (s b) (m b) (b .pre) (b .args .b) (call .find-in .result) (call .find-in .ensures) (c .before .found .given .0 .0) (c .before .found .given .1)
 
 -- the outputs lie within the file
 number-of-requires : tie.Need-number-of-requires
@@ -90,7 +90,7 @@ returns-2 c =
     let q = out .before in
     let f = q .before .before .before .find-in in
     let b = start q in
-    way-to (s b) (m b) (b .pre) (b .args .b) (f .result) (f .ensures) (i q) (out .number-of .result) (c .target-of .result) (q .before .i .given .1)
+    way-to (s b) (m b) (b .pre) (b .args .b) (f .result) (f .ensures) (i q) (out .number-of .result) (c .target-of .result) (q .before .found2 .given .1)
     (out .number-of .ensures) (rw (← delta .number-of2 .ensures) (c .target-of .ensures))
 
 pub any-way-spec : {M : Type 1} → statement M
@@ -102,10 +102,10 @@ any-way-spec =
     mul-inputs
     add-inputs
     find-in-requires
-    enum-known-i
-    enum-told
-    returns
+    enum-known-found
+    enum-known-found-2
     number-of-requires
     number-of-requires-2
     target-of-requires
+    returns
     returns-2)

@@ -7,11 +7,12 @@ use denote.Ref.{now}
 use Rattle.format.specs.Bytes.{le}
 use Rattle.node.specs.JudgedLaws.{codeNode, judged-yes}
 use Rattle.node_sound.specs.JudgingLaws.{sound-low, shape-sound}
-use Rattle.node_step.proofs.Steps.{single-here, single-missing, way-absent, way-to, step-yes}
+use Rattle.node_step.proofs.Steps.{way-absent, way-to, step-yes}
 use Rattle.node.specs.declared.Node.{Node}
 use Rattle.node.specs.declared.Judged.the-variants.{Sound}
 use Rattle.node.specs.declared.Found.the-variants.{At, Absent as Missing}
 use Rattle.node_step.specs.declared.Way.the-variants.{To, Absent as Nowhere}
+use Rattle.node.specs.ReadLaws.{single-here}
 use Rattle.node.specs.Read.{Readable, Judges}
 use Rattle.format.specs.laws.StoredLaws.{getD-numbers-down}
 use mathlib.Core.List.{List, [], _∷_}
@@ -59,16 +60,20 @@ head-len-requires c κs = c .before .pre .0 .inside
 input-of-requires : tie.Need-input-of-requires
 input-of-requires c κs = let b = c .before .before in (omega (arith, low b), b .pre .0 .inside)
 
+place-beside-requires : tie.Need-place-beside-requires
+place-beside-requires c κs = search needs
+
 -- the one input is another
 returns : tie.Need-returns
 returns c =
-    let w = c .before in
-    step-yes (file w) (start w .args .version) (start w .args .root) (start w .args .addr) (start w .args .b) (m w) Nowhere (judged w)
-    (way-absent (file w) (m w) (readable w) (start w .args .b) Missing (single-missing (c .if1 .taken)) refl)
+    let w = c .before .before in
+    let p = c .place-beside .result in
+    step-yes (file w) (start w .args .version) (start w .args .root) (start w .args .addr) (start w .args .b) (m w) (Nowhere p) (judged w)
+    (way-absent (file w) (m w) (readable w) (start w .args .b) (Missing p) (c .place-beside .ensures) p refl)
 
 -- a sound node's address is 16 at least
-sub-t9 : tie.Need-sub-t9
-sub-t9 c = omega (arith, low (start (c .before)))
+sub-t10 : tie.Need-sub-t10
+sub-t10 c = omega (arith, low (start (c .before)))
 
 -- the one input is b: there is no output, and the target is the byte before the first
 returns-2 : tie.Need-returns-2
@@ -82,4 +87,4 @@ returns-2 c =
     (omega (arith, low (start w))))
 
 pub next-way-spec : {M : Type 1} → statement M
-next-way-spec = tie.close (tie.spec head-len-requires input-of-requires returns sub-t9 returns-2)
+next-way-spec = tie.close (tie.spec head-len-requires input-of-requires place-beside-requires returns sub-t10 returns-2)

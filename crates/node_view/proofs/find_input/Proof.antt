@@ -38,10 +38,9 @@ use denote.Triple.Walked.{says, Stays, stay-none, walkOf, goes-none, Walks, ends
 use denote.Exit.{yes}
 use denote.Triple.Clauses.{ensured, lasts}
 use Rattle.format.specs.Node.{nodeAt}
-use Rattle.node.specs.Read.{placeIs}
-use Rattle.node.specs.declared.Found.{Found}
-use Rattle.node.proofs.Found as S
-use Rattle.node.proofs.Found.Laws as S′
+use Rattle.node_view.specs.declared.SearchAnswer.{SearchAnswer}
+use Rattle.node_view.proofs.SearchAnswer as S
+use Rattle.node_view.proofs.SearchAnswer.Laws as S′
 use Rattle.node_view.specs.View.{placeIn}
 use Rattle.node_view.specs.declared.Node.{Node}
 use Rattle.node_view.proofs.Node.Laws as T′
@@ -68,8 +67,8 @@ module _ {M : Type 1} (𝓤 : URA M) (H : Heap 𝓤) (A : Atoms 𝓤) (W : Given
   mach = T′.lowered d
 
   -- what the contract says of the result
-  abbrev Says : Found → Type 0
-  Says r = placeIs r ≡ placeIn (nodeAt (now (d .«data»)) (d .version) (d .root) (d .addr)) b
+  abbrev Says : SearchAnswer → Type 0
+  Says r = r ≡ placeIn (nodeAt (now (d .«data»)) (d .version) (d .root) (d .addr)) b
 
   -- what is passed, and the machine values of it
   abbrev args : Args viewed.signature (κ, tt)
@@ -97,7 +96,7 @@ module _ {M : Type 1} (𝓤 : URA M) (H : Heap 𝓤) (A : Atoms 𝓤) (W : Given
   abbrev Asks : SProp 𝓤
   Asks = Plain 𝓤 H A mem run .pre to
 
-  abbrev Ensured : Found → SProp 𝓤
+  abbrev Ensured : SearchAnswer → SProp 𝓤
   Ensured r = ensured 𝓤 H A plain.ended (plain.clauses 𝓤 H A mem run) (κ, tt) passed tt r
 
   asked : ent 𝓤 (onEntry 𝓤 H A plain.signature (κ, tt) (q, tt) passed passed-at) Asks
@@ -114,10 +113,10 @@ module _ {M : Type 1} (𝓤 : URA M) (H : Heap 𝓤) (A : Atoms 𝓤) (W : Given
       move ! (2 ∷ 0 ∷ []) $ use2 W (raw Asks) asked $ frame ! $ done !
 
   -- of the callee's `ensured`, the clause alone: it has no `&mut`, so what is said of last values is dropped
-  said : (r : Found) → ent 𝓤 (Ensured r) (fact 𝓤 (Says r))
+  said : (r : SearchAnswer) → ent 𝓤 (Ensured r) (fact 𝓤 (Says r))
   said r = exE 𝓤 _ (λ ws. snd∗ 𝓤 (sem 𝓤 H A (lasts plain.ended (κ, tt) passed ws)) (fact 𝓤 (Says r)))
 
-  exits : (r : Found) (u : Val) → b < 2 ^ 8 → Says r
+  exits : (r : SearchAnswer) (u : Val) → b < 2 ^ 8 → Says r
       → ent 𝓤 (⋆ 𝓤 H A (‵ (S.the-row .own r (u ∷ [])) ∷ (‵ (flft κ q) ⊛ ‵ ftrue) ∷ ‵ (Own κ d) ∷ [])) (Post u)
   exits r u fits e =
       qed W (‵ (S.the-row .own r (u ∷ [])) ∷ (‵ (flft κ q) ⊛ ‵ ftrue) ∷ ‵ (Own κ d) ∷ []) ∵
@@ -150,7 +149,7 @@ module _ {M : Type 1} (𝓤 : URA M) (H : Heap 𝓤) (A : Atoms 𝓤) (W : Given
         (and-then ! (load ! (from ! (stop !)) (look ! 4 refl))
         (and-then ! (load ! (from ! (stop !)) (look ! 2 refl))
         (and-then ! (load ! (from ! (stop !)) (look ! 10 refl)) (no-more !)))))) (λ u.
-        use1 W (later (some (λ (r : Found). ((‵ (flft κ q) ⊛ ‵ ftrue) ⊛ ‵ (S.the-row .own r (u ∷ []))) ⊛ raw (Ensured r)))) (id⊢ 𝓤 _) $
+        use1 W (later (some (λ (r : SearchAnswer). ((‵ (flft κ q) ⊛ ‵ ftrue) ⊛ ‵ (S.the-row .own r (u ∷ []))) ⊛ raw (Ensured r)))) (id⊢ 𝓤 _) $
         await ! tt $ pick ! (λ r. split ! $ move ! (1 ∷ []) $ use1 W (raw (fact 𝓤 (Says r))) (said r) $ heard ! (Says r) (λ e. split ! $ move ! (1 ∷ []) $
         -- [the result; the token; what the view owns; _6; …; _5; …; _4; …; _3; …; _2; …; _1; …; room for _0; …]
         peeks ! S.the-row (Is S.the-row) (shows 𝓤 H A S.the-row) r (u ∷ []) (λ is.

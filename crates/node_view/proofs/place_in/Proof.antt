@@ -24,11 +24,26 @@ find-input-requires : tie.Need-find-input-requires
 find-input-requires c κs = let call = c .before .before .before in
     call .node-at .ensures .readable _ (c .before .m .given .1)
 
--- the node is sound: the place is what find_input finds
+enum-known-found : tie.Need-enum-known-found
+enum-known-found c = search needs
+
+enum-known-found-2 : tie.Need-enum-known-found-2
+enum-known-found-2 c = search needs
+
+-- the node is sound, and the input is found
 returns-2 : tie.Need-returns-2
-returns-2 c = let told = c .before .before in
-    let call = told .before .before in
-    place-in-sound (call .node-at .ensures) _ (told .m .given .1) _ (c .find-input .result) (c .find-input .ensures)
+returns-2 c =
+    let found = c .before .before .before in
+    let told = found .before .before in
+    place-in-sound (told .before .before .node-at .ensures) _ (told .m .given .1) _ (found .find-input .result) _ (c .before .found .given .1) (found .find-input .ensures)
+
+-- the node is sound, and the input is absent
+returns-3 : tie.Need-returns-3
+returns-3 c =
+    let found = c .before .before .before in
+    let told = found .before .before in
+    place-in-sound (told .before .before .node-at .ensures) _ (told .m .given .1) _ (found .find-input .result) _ (c .before .found2 .given .1) (found .find-input .ensures)
 
 pub place-in-spec : {M : Type 1} → statement M
-place-in-spec = tie.close (tie.spec node-at-requires enum-known-m enum-told returns find-input-requires returns-2)
+place-in-spec =
+    tie.close (tie.spec node-at-requires enum-known-m enum-told returns find-input-requires enum-known-found enum-known-found-2 returns-2 returns-3)

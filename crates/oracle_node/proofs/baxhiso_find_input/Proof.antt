@@ -2,6 +2,13 @@
 -- Assumes nothing.
 use borrow.Author.Needs.{needs}
 use denote.Ref.{now}
+use native.Mathlib.Omega.{arith}
+use mathlib.Core.Path.{_≡_}
+use Rattle.format.specs.Node.{sound}
+use Rattle.format.specs.Paths.{fstWith, nodeIn}
+use Rattle.format.specs.laws.NodeFacts.{node-count}
+use Rattle.node.specs.Read.{meaning}
+use Rattle.node.specs.ReadLaws.{answer-sound, search-gone, gone-le, length-node-transitions}
 use Rattle.oracle_node.proofs.NodeTold.{found-unsound, found-absent, found-at}
 use Rattle.oracle_node.proofs.baxhiso_find_input.Statement.{statement}
 use Rattle.oracle_node.proofs.baxhiso_find_input.Tie as tie
@@ -28,30 +35,50 @@ find-input-requires c κs =
     let bound = c .before in
     bound .before .before .node-at .ensures .readable (bound .n .given .0 .0) (bound .n .given .1)
 
-enum-known-i : tie.Need-enum-known-i
-enum-known-i c = search needs
+enum-known-found : tie.Need-enum-known-found
+enum-known-found c = search needs
 
-enum-told-2 : tie.Need-enum-told-2
-enum-told-2 c = search needs
+enum-known-found-2 : tie.Need-enum-known-found-2
+enum-known-found-2 c = search needs
 
--- an absent input
-returns-2 : tie.Need-returns-2
-returns-2 c =
-    let found = c .before .before in
+-- a place is at most the count, and a node has at most 256 transitions
+add-result : tie.Need-add-result
+add-result c =
+    let found = c .before .before .before in
     let bound = found .before .before in
     let called = bound .before .before in
     let start = called .before .before in
-    found-absent (called .node-at .ensures) (bound .n .given .0 .0) (start .args .b) (found .find-input .result) (bound .n .given .1) (c .enum-told2 .given .1) (found .find-input .ensures)
+    let m = bound .n .given .0 .0 in
+    let r = called .node-at .ensures .readable m (bound .n .given .1) in
+    let p = c .before .found2 .given .0 .0 in
+    let s = now (start .args .file) in
+    let f = fstWith s (start .args .version) (start .args .root) in
+    let is-m : nodeIn f (start .args .addr) ≡ sound (meaning s m) = answer-sound (called .node-at .ensures) m (bound .n .given .1) in
+    let few = node-count f (start .args .addr) (meaning s m) is-m (λ j. called .before .shared-slice-known .given j .fits) in
+    omega (
+      arith,
+      gone-le s m r (start .args .b) p (search-gone _ (found .find-input .result) (found .find-input .ensures) p (c .before .found2 .given .1)),
+      few,
+      length-node-transitions s m r,
+    )
 
 -- the input is found
-returns-3 : tie.Need-returns-3
-returns-3 c =
-    let placed = c .before in
-    let found = placed .before .before in
+returns-2 : tie.Need-returns-2
+returns-2 c =
+    let found = c .before .before .before in
     let bound = found .before .before in
     let called = bound .before .before in
     let start = called .before .before in
-    found-at (called .node-at .ensures) (bound .n .given .0 .0) (start .args .b) (found .find-input .result) (placed .i .given .0 .0) (bound .n .given .1) (placed .i .given .1) (found .find-input .ensures)
+    found-at (called .node-at .ensures) (bound .n .given .0 .0) (start .args .b) (found .find-input .result) (c .before .found .given .0 .0) (bound .n .given .1) (c .before .found .given .1) (found .find-input .ensures)
+
+-- an absent input
+returns-3 : tie.Need-returns-3
+returns-3 c =
+    let found = c .before .before .before in
+    let bound = found .before .before in
+    let called = bound .before .before in
+    let start = called .before .before in
+    found-absent (called .node-at .ensures) (bound .n .given .0 .0) (start .args .b) (found .find-input .result) (c .before .found2 .given .0 .0) (bound .n .given .1) (c .before .found2 .given .1) (found .find-input .ensures)
 
 pub baxhiso-find-input-spec : {M : Type 1} → statement M
 baxhiso-find-input-spec =
@@ -62,7 +89,8 @@ baxhiso-find-input-spec =
     enum-told
     returns
     find-input-requires
-    enum-known-i
-    enum-told-2
+    enum-known-found
+    enum-known-found-2
+    add-result
     returns-2
     returns-3)

@@ -5,12 +5,12 @@ use mathlib.Core.Path.{_≡_, refl, sym, ap, _∙_}
 use mathlib.Core.List.{List}
 use Prim.Native.Nat.{ℕ, _<_, _≤_}
 use lib.ListN.{length, getD}
-use Rattle.format.specs.Node.{sound, at, absent, findInput, transitionAt}
+use Rattle.format.specs.Node.{sound, Search, findInput, transitionAt}
 use Rattle.format.specs.laws.NodeFacts.{node-count}
 use Rattle.format.specs.Paths.{Fst, fstWith, nodeIn}
 use Rattle.node.specs.declared.Node.{Node}
 use Rattle.node.specs.Read.{meaning, transitionsIn, Readable}
-use Rattle.node.specs.ReadLaws.{answer-sound, answer-unsound, place-is, place-none, place-lt, length-node-transitions}
+use Rattle.node.specs.ReadLaws.{answer-sound, answer-unsound, search-is, search-gone, place-lt, gone-le, length-node-transitions}
 use Rattle.stream_start.specs.declared.Entered.the-variants.{Miss}
 use Rattle.stream_start.proofs.SeekCases.{enter-unsound, enter-miss, enter-hit}
 use Rattle.stream_start.proofs.Seeking.{place-fits, target-fits}
@@ -56,16 +56,16 @@ count : (q : At) → m q .ntrans ≤ 256
 count q = omega (arith, node-count (f q) (addr q) (meaning (file q) (m q)) (node-is q) (bytes q), length-node-transitions (file q) (m q) (readable q))
 
 abbrev Found-at : Type 0
-Found-at = tie.After-known-told2
+Found-at = tie.After-known-told3
 
 abbrev q-of : Found-at → At
 q-of w = w .before .before .before .before
 
 abbrev p : Found-at → ℕ
-p w = w .before .p .given .0 .0
+p w = w .before .found2 .given .0 .0
 
-place : (w : Found-at) → findInput (transitionsIn (file (q-of w)) (m (q-of w))) (b (q-of w)) ≡ at (p w)
-place w = place-is _ (w .before .before .before .find-input .result) (w .before .before .before .find-input .ensures) (p w) (w .before .p .given .1)
+place : (w : Found-at) → findInput (transitionsIn (file (q-of w)) (m (q-of w))) (b (q-of w)) ≡ Search.at (p w)
+place w = search-is _ (w .before .before .before .find-input .result) (w .before .before .before .find-input .ensures) (p w) (w .before .found2 .given .1)
 
 place-low : (w : Found-at) → p w < m (q-of w) .ntrans
 place-low w = place-lt (file (q-of w)) (m (q-of w)) (readable (q-of w)) (b (q-of w)) (p w) (place w)
@@ -95,26 +95,36 @@ returns c = let call = c .before .before in
 find-input-requires : tie.Need-find-input-requires
 find-input-requires c κs = readable c
 
-enum-known-p : tie.Need-enum-known-p
-enum-known-p c = search needs
+enum-known-found : tie.Need-enum-known-found
+enum-known-found c = search needs
 
-enum-told-2 : tie.Need-enum-told-2
-enum-told-2 c = search needs
+enum-known-found-2 : tie.Need-enum-known-found-2
+enum-known-found-2 c = search needs
 
--- the judged node can be read
-first-above-requires : tie.Need-first-above-requires
-first-above-requires c κs = readable (c .before .before .before)
+-- ---- the byte is absent
+
+abbrev Gone-at : Type 0
+Gone-at = tie.After-known-told2
+
+abbrev g-of : Gone-at → At
+g-of w = w .before .before .before .before
+
+abbrev g : Gone-at → ℕ
+g w = w .before .found .given .0 .0
+
+gone : (w : Gone-at) → findInput (transitionsIn (file (g-of w)) (m (g-of w))) (b (g-of w)) ≡ Search.absent (g w)
+gone w = search-gone _ (w .before .before .before .find-input .result) (w .before .before .before .find-input .ensures) (g w) (w .before .found .given .1)
+
+gone-low : (w : Gone-at) → g w ≤ 256
+gone-low w = omega (arith, gone-le (file (g-of w)) (m (g-of w)) (readable (g-of w)) (b (g-of w)) (g w) (gone w), count (g-of w))
 
 -- a node has at most 256 transitions, so the place fits in 16 bits
-cast-t15 : tie.Need-cast-t15
-cast-t15 c = let q = c .before .before .before .before in omega (arith, c .first-above .ensures .1, count q)
+cast-t16 : tie.Need-cast-t16
+cast-t16 c = omega (arith, gone-low c)
 
 -- the byte is absent
 returns-2 : tie.Need-returns-2
-returns-2 c = let q = c .before .before .before .before in
-    let call = c .before .before .before in
-    let none = place-none _ (call .find-input .result) (call .find-input .ensures) (c .before .enum-told2 .given .1) in
-    (ap Miss (c .first-above .ensures .0) ∙ sym (enter-miss (f q) (addr q) (b q) (meaning (file q) (m q)) (node-is q) none), omega (arith, c .first-above .ensures .1, count q))
+returns-2 c = let q = g-of c in (sym (enter-miss (f q) (addr q) (b q) (meaning (file q) (m q)) (node-is q) (g c) (gone c)), omega (arith, gone-low c))
 
 -- the judged node can be read, and it has the transition
 transition-addr-requires : tie.Need-transition-addr-requires
@@ -145,13 +155,12 @@ enter-spec =
     enum-told
     returns
     find-input-requires
-    enum-known-p
-    enum-told-2
-    first-above-requires
-    cast-t15
-    returns-2
+    enum-known-found
+    cast-t16
+    enum-known-found-2
     transition-addr-requires
     output-requires
     cast-place
     cast-to
+    returns-2
     returns-3)
