@@ -1,10 +1,6 @@
 -- `node_step::ends` meets its contract.
 -- Assumes nothing.
-use mathlib.Core.Path.{_≡_, refl, sym, ap, _∙_}
 use borrow.Author.Tests.{eq-eqb, ne-eqb}
-use borrow.Author.Needs.{needs}
-use native.Mathlib.Omega.{arith}
-use denote.Ref.{now}
 use Rattle.node_step.proofs.ends.Statement.{statement}
 use Rattle.node_step.proofs.ends.Tie as tie
 

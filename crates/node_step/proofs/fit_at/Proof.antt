@@ -6,7 +6,6 @@ use Rattle.node_sound.specs.Shapes.{AtForm}
 use Rattle.node_sound.specs.JudgingLaws.{sound-low}
 use Rattle.node_step.proofs.Fits.{fit-empty-ends, fit-empty-none, fit-no}
 use borrow.Author.Needs.{needs}
-use native.Mathlib.Omega.{arith}
 use Rattle.node_step.proofs.fit_at.Statement.{statement}
 use Rattle.node_step.proofs.fit_at.Tie as tie
 

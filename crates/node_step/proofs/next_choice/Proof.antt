@@ -2,7 +2,7 @@
 -- Assumes nothing.
 use mathlib.Core.Path.{_≡_, refl, sym, ap}
 use mathlib.Core.Bool.{false}
-use Prim.Native.Nat.{ℕ, _+_, _-_, _*_, _/_, _%_, _≤_, _<_}
+use Prim.Native.Nat.{ℕ, _+_, _-_, _≤_}
 use native.Mathlib.Nat.{add-zero}
 use denote.Ref.{now}
 use Rattle.format.specs.Bytes.{le}
@@ -18,7 +18,6 @@ use Rattle.node.specs.Read.{Readable, Judges, meaning}
 use Rattle.format.specs.laws.StoredLaws.{length-numbers-down, getD-numbers-down}
 use mathlib.Core.List.{List, [], _∷_}
 use Rattle.node_sound.specs.ShapesLaws.{nextShape, shape-next}
-use borrow.Author.Needs.{needs}
 use native.Mathlib.Omega.{arith}
 use Rattle.node_step.proofs.next_choice.Statement.{statement}
 use Rattle.node_step.proofs.next_choice.Tie as tie
