@@ -1,6 +1,5 @@
 -- What the answers of lookup stand for: document 01's number and values for each case, and the key buffer afterwards.
 --     answerIs r              what a lookup by key answered
---     fittingIs r             the place of the last output that fits
 --     keyIs r path            what a search by value answered, its key at the front of path
 --     KeyFits r path          path has 255 bytes, and a found key fits it
 --     KeyWritten w ..         the answer and the buffer of a search whose definition answers w
@@ -15,9 +14,6 @@ use Rattle.format.specs.Lookup as L
 use Rattle.format.specs.Lookup.{value, found}
 use Rattle.lookup.specs.declared.Answer.{Answer}
 use Rattle.lookup.specs.declared.Answer.the-variants.{Value, None, Refused}
-use Rattle.format.specs.Node.{Place, at, absent}
-use Rattle.lookup.specs.declared.Fitting.{Fitting}
-use Rattle.lookup.specs.declared.Fitting.the-variants.{Last, None as NoFitting}
 use Rattle.lookup.specs.declared.KeyAnswer.{KeyAnswer}
 use Rattle.lookup.specs.declared.KeyAnswer.the-variants.{Key, None as NoKey, Refused as KeyRefused}
 
@@ -25,10 +21,6 @@ abbrev pub answerIs : Answer → L.Answer
 answerIs (Value v) = value v
 answerIs None = L.Answer.none
 answerIs (Refused n) = L.Answer.refused n
-
-abbrev pub fittingIs : Fitting → Place
-fittingIs (Last i) = at i
-fittingIs NoFitting = absent
 
 abbrev pub keyIs : KeyAnswer → List ℕ → L.KeyAnswer
 keyIs (Key n) path = found (take n path)

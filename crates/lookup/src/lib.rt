@@ -1,16 +1,12 @@
 // A value for a key, a key for a value (src/raw/mod.rs: `get`, `get_key_into`), on any file, admitted or not.
 // Each node is judged once, as it is entered; the last is entered too.
 ghost use mathlib.Core.Path.{_≡_};
-ghost use Prim.Native.Nat.{ℕ, _+_, _≤_, _<_};
-ghost use lib.ListN.{length, take, drop};
-ghost use lib.Dec.{eqb};
-ghost use mathlib.Core.Bool.{_&&_};
-ghost use mathlib.Core.List.{List, [], _++_};
+ghost use lib.ListN.{length};
+ghost use mathlib.Core.List.{[]};
 ghost use Rattle.format.specs.Limits.{maxPath};
 ghost use Rattle.format.specs.Lookup as L;
-ghost use Rattle.format.specs.Lookup.{getFrom, getKeyFrom, lastFitting};
-ghost use Rattle.node.specs.Read.{transitionsIn, Readable};
-ghost use Rattle.lookup.specs.Answers.{answerIs, fittingIs, keyIs, KeyFits, KeyWritten};
+ghost use Rattle.format.specs.Lookup.{getFrom, getKeyFrom};
+ghost use Rattle.lookup.specs.Answers.{answerIs, keyIs, KeyFits, KeyWritten};
 ghost use Rattle.format.specs.Paths.{fstWith};
 use format::DEEP;
 use format::MAX_KEY;
@@ -19,7 +15,8 @@ use format::SPACE;
 use format::SUM;
 use fst::Opened;
 use node::Judged;
-use node::Node;
+use node_step::Choice;
+use node_step::Fit;
 use node_step::Step;
 use node_step::Way;
 
@@ -102,35 +99,6 @@ pub fn get(file: &[u8], key: &[u8]) -> Answer
 
 // ---- by value
 
-// The place of a transition whose output fits, or none.
-enum Fitting {
-    Last(usize),
-    None,
-}
-
-// The last of the leading transitions whose output is not above what is left.
-fn last_fitting(file: &[u8], node: Node, left: u64) -> Fitting
-    requires { ⌜ Readable (now file) node ⌝ }
-    ensures { λ r. ⌜ fittingIs r ≡ lastFitting (transitionsIn (now (file .entry)) node) left ⌝ }
-{
-    let n = node.ntrans;
-    let mut i = 0;
-    while i < n {
-        if left < node::output(file, node, i) {
-            if i == 0 {
-                return Fitting::None;
-            }
-            return Fitting::Last(i - 1);
-        }
-        i += 1;
-    }
-    if n == 0 {
-        Fitting::None
-    } else {
-        Fitting::Last(n - 1)
-    }
-}
-
 // Searches from the root of a file that opens; the key's bytes stand at the front of path where a key is found.
 fn find_key(
     file: &[u8],
@@ -148,31 +116,28 @@ fn find_key(
     let mut left = value;
     let mut n = 0;
     loop {
-        let Judged::Sound(m) = node::node_at(file, version, root, addr) else {
+        let Fit::Sound(choice) = node_step::fit_at(file, version, root, addr, left) else {
             return KeyAnswer::Refused(NODE);
         };
-        if ends(left, m.is_final) {
-            return KeyAnswer::Key(n);
+        match choice {
+            Choice::Ends => {
+                return KeyAnswer::Key(n);
+            }
+            Choice::Absent => {
+                return KeyAnswer::None;
+            }
+            Choice::To(inp, out, target) => {
+                // a key has at most 255 bytes
+                if MAX_KEY <= n {
+                    return KeyAnswer::Refused(DEEP);
+                }
+                path[n] = inp;
+                left -= out;
+                addr = target;
+                n += 1;
+            }
         }
-        let Fitting::Last(i) = last_fitting(file, m, left) else {
-            return KeyAnswer::None;
-        };
-        // a key has at most 255 bytes
-        if MAX_KEY <= n {
-            return KeyAnswer::Refused(DEEP);
-        }
-        path[n] = node::input(file, m, i);
-        left -= node::output(file, m, i);
-        addr = node::transition_addr(file, m, i);
-        n += 1;
     }
-}
-
-// Whether the search ends at a node: nothing is left, and it is final.
-fn ends(left: u64, is_final: bool) -> bool
-    ensures { λ r. ⌜ r ≡ (eqb left 0 && «is_final») ⌝ }
-{
-    if left == 0 { is_final } else { false }
 }
 
 // A key with this value. Opening's refusals, then SPACE for a buffer under 255; then NODE for each node entered, and DEEP before a

@@ -1,17 +1,17 @@
 -- The parts of a judged node's transition i, as the accessors read them.
 -- Assumes nothing.
 use mathlib.Core.Path.{_≡_, refl, sym, ap, _∙_}
-use mathlib.Core.Bool.{Bool, true, false, cond}
-use mathlib.Core.List.{List, [], _∷_}
-use Prim.Native.Nat.{ℕ, zero, suc, _+_, _-_, _*_, _≤_, _<_}
+use mathlib.Core.Bool.{false}
+use mathlib.Core.List.{List}
+use Prim.Native.Nat.{ℕ, _+_, _-_, _≤_, _<_}
 use native.Mathlib.Omega.{arith}
 use borrow.Author.Tests.{eq-eqb, ne-eqb}
-use lib.ListN.{length, getD, take, drop}
+use lib.ListN.{getD}
 use Rattle.format.specs.declared.State.{State}
 use Rattle.format.specs.declared.State.the-variants.{OneTransNext, OneTrans, AnyTrans}
 use Rattle.format.specs.declared.Transition.{Transition}
-use Rattle.format.specs.Node.{bytesDown, numbersDown, inputsAt, deltasAt, inputsLen, inputsIn, deltasIn, targetOf, Ascending, TargetsRight, transitionAt}
-use Rattle.format.specs.laws.StoredLaws.{getD-bytes-down, length-bytes-down}
+use Rattle.format.specs.Node.{bytesDown, numbersDown, inputsAt, inputsIn, targetOf, TargetsRight, transitionAt}
+use Rattle.format.specs.laws.StoredLaws.{getD-bytes-down}
 use Rattle.node.specs.declared.Node.{Node}
 use Rattle.node.specs.declared.Found.{Found}
 use Rattle.node.specs.Read.{transitionsIn, nodeInputs, nodeDeltas, Readable, Searchable, Finds}

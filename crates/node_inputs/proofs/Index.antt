@@ -179,6 +179,14 @@ placed-all {s} {at} {n} {index} {j} within past bytes d = decides-iff to from d
             let both = rw e at there in
             omega arith
 
+-- more than 256 places cannot all be entries
+pub probed-few : (s : List ℕ) (at n index : ℕ) → 256 < n → ((i : ℕ) → getD s i 0 < 256) → ¬ Probed (bytesDown s at n) (entriesOf s index)
+unfolding Probed
+probed-few s at n index many bytes p =
+    let here = p 256 (omega (arith, length-bytes-down s at n)) in
+    let there = entry-of s at n index 256 many (bytes (at + (n - 1 - 256))) in
+    omega (arith, bytes (index + getD s (at + (n - 1 - 256)) 0))
+
 -- ---- counting in parts
 
 length-entries-of : (s : List ℕ) (index : ℕ) → index + 256 ≤ length s → length (entriesOf s index) ≡ 256

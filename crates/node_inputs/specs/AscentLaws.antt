@@ -1,6 +1,6 @@
 -- Inputs stored last first ascend where the stored bytes fall, pair by pair. Pairs may be tested in groups that overlap.
 -- Assumes nothing.
-use mathlib.Core.Path.{_≡_, refl, sym, ap, _∙_}
+use mathlib.Core.Path.{_≡_, refl, _∙_}
 use mathlib.Core.Bool.{Bool, true, false, _&&_}
 use mathlib.Core.Logic.{_⊎_, inl, inr}
 use mathlib.Core.List.{List}
@@ -10,7 +10,7 @@ use native.Mathlib.Omega.{arith}
 use borrow.Author.Count.{below-more}
 use borrow.Author.Tests.{ltb-true, ltb-false}
 use lib.Dec.{eqb, ltb}
-use lib.ListN.{length, getD}
+use lib.ListN.{getD}
 use Rattle.buffers.specs.Decide.{Decides}
 use Rattle.buffers.specs.DecideLaws.{decides-true, decides-false, decides-iff, decides-and}
 use Rattle.format.specs.Node.{Ascending, bytesDown}

@@ -72,15 +72,21 @@ fn probes(file: &[u8], at: usize, n: usize, index: usize) -> bool
     ensures { λ r. ⌜ Decides r (Probed (bytesDown (now (file .entry)) at n)
         (take 256 (drop index (now (file .entry))))) ⌝ }
 {
+    // an entry is a byte, so no more than 256 inputs have one
+    if 256 < n {
+        return false;
+    }
     let mut good = true;
-    let mut j = 0;
-    while j < n {
-        // the inputs stand last first: the byte at j is input n - 1 - j
-        let b = small(file[at + j]);
-        if small(file[index + b]) + j != n - 1 {
+    // the inputs stand last first: from at on, n - 1 down to 0
+    let mut i = n;
+    let mut p = at;
+    while 0 < i {
+        i -= 1;
+        let b = small(file[p]);
+        if file[index + b] != (i as u8) {
             good = false;
         }
-        j += 1;
+        p += 1;
     }
     good
 }

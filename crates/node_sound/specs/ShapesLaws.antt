@@ -1,16 +1,15 @@
 -- The shapes that the three judging functions work out are the definition's, and what makes each of them sound.
 -- Assumes nothing.
-use mathlib.Core.Path.{_≡_, refl, sym, ap, _∙_}
-use mathlib.Core.Bool.{Bool, true, false, cond}
-use mathlib.Core.Logic.{_⊎_, inl, inr}
+use mathlib.Core.Path.{_≡_, refl, _∙_}
+use mathlib.Core.Bool.{Bool, false}
+use mathlib.Core.Logic.{inl, inr}
 use mathlib.Core.List.{List, [], _∷_}
-use Prim.Native.Nat.{ℕ, zero, suc, _+_, _-_, _*_, _/_, _%_, _≤_, _<_}
-use native.Mathlib.Nat.{add-zero, mul-le-mul-right, mul-le-mul-left, le-trans}
+use Prim.Native.Nat.{ℕ, _+_, _-_, _*_, _/_, _%_, _≤_, _<_}
+use native.Mathlib.Nat.{mul-le-mul-right, mul-le-mul-left, le-trans}
 use native.Mathlib.Omega.{arith}
 use lib.Dec.{leb}
-use lib.ListN.{length, getD, take, drop}
+use lib.ListN.{getD}
 use Rattle.format.specs.declared.State.the-variants.{OneTransNext, OneTrans, AnyTrans}
-use Rattle.format.specs.Bytes.{le}
 use Rattle.format.specs.Node as F
 use Rattle.format.specs.Node.{stateForm, isFinal, countOf, headLen, inputOf, ntransOf, sizesByte, indexLen, endLen, sizeOf, shapeOf, numbersDown, Ascending, TargetRight, TargetsRight, Useful, SoundShape}
 use Rattle.format.specs.laws.NodeLaws.{form-next, form-one, form-any, not-final, final-any}

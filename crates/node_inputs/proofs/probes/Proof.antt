@@ -1,65 +1,70 @@
--- `node_inputs::probes` meets its contract. The invariant: the flag says whether each of the first j bytes has the entry that its place
--- asks for. The measure is n less j.
+-- `node_inputs::probes` meets its contract. The invariant: p is the place of input i less 1, and the flag says whether each byte before p has
+-- the entry that its place asks for. The measure is i.
 -- Assumes nothing.
-use Prim.Native.Nat.{_-_, _+_, _≤_}
+use mathlib.Core.Path.{_≡_, refl}
+use Prim.Native.Nat.{ℕ, _-_, _+_, _≤_, _<_}
 use mathlib.Core.Logic.{⊎-elim}
+use lib.ListN.{getD}
 use denote.Ref.{now}
 use Rattle.buffers.specs.Decide.{Decides}
-use Rattle.node_inputs.proofs.Index.{PlacedTo, placed-none, placed-kept, placed-lost, placed-all}
+use Rattle.buffers.specs.DecideLaws.{decides-false}
+use Rattle.node_inputs.proofs.Index.{PlacedTo, placed-none, placed-kept, placed-lost, placed-all, probed-few}
 use borrow.Author.Needs.{needs}
 use native.Mathlib.Omega.{arith}
 use Rattle.node_inputs.proofs.probes.Statement.{statement}
 use Rattle.node_inputs.proofs.probes.Tie as tie
 
 abbrev Inv-loop : tie.InvT-loop
-Inv-loop file at n index good₀ j₀ good j = (j ≤ n) × Decides good (PlacedTo file at n index j)
+Inv-loop file at n index good₀ i₀ p₀ good i p = (i ≤ n) × (p ≡ at + (n - i)) × Decides good (PlacedTo file at n index (n - i))
 
 abbrev μ-loop : tie.MeasureT-loop
-μ-loop file at n index good₀ j₀ good j = n - j
+μ-loop file at n index good₀ i₀ p₀ good i p = i
+
+-- more inputs than entries
+returns : tie.Need-returns Inv-loop μ-loop
+returns c =
+    let known = c .before in
+    let a = known .before .args in
+    decides-false (probed-few (now (a .file)) (a .at) (a .n) (a .index) (c .if1 .taken) (λ i. known .shared-slice-known .given i .fits))
 
 -- no input is probed yet
 loop-holds : tie.Need-loop-holds Inv-loop μ-loop
-loop-holds c = let a = c .before .args in (omega arith, placed-none (now (a .file)) (a .at) (a .n) (a .index))
+loop-holds c =
+    let a = c .before .before .args in
+    let z : a .n - a .n ≡ 0 = omega arith in
+    (omega arith, omega arith, rw z (placed-none (now (a .file)) (a .at) (a .n) (a .index)))
 
-add-small : tie.Need-add-small Inv-loop μ-loop
-add-small c = search needs
+sub-i : tie.Need-sub-i Inv-loop μ-loop
+sub-i c = search needs
 
+-- an input is left
 shared-slice-read-small : tie.Need-shared-slice-read-small Inv-loop μ-loop
-shared-slice-read-small c = search needs
+shared-slice-read-small c = let at-loop = c .before .before in omega (arith, at-loop .loop .inv .0, at-loop .loop .inv .1, c .before .loop-test .taken)
 
 small-requires : tie.Need-small-requires Inv-loop μ-loop
 small-requires c κs = search needs
 
 -- an input is below 256, so its entry lies in the index
-add-small-2 : tie.Need-add-small-2 Inv-loop μ-loop
-add-small-2 c =
-    let body = c .before .before in
-    let start = body .before .before .before in
-    let byte = c .before .shared-slice-known2 .given (start .args .at + body .before .loop .j) in
+add-if2 : tie.Need-add-if2 Inv-loop μ-loop
+add-if2 c =
+    let at-loop = c .before .before .before in
+    let byte = c .before .shared-slice-known2 .given (at-loop .loop .p) in
     omega arith
 
 -- an input is below 256, so its entry lies in the index
-shared-slice-read-small-2 : tie.Need-shared-slice-read-small-2 Inv-loop μ-loop
-shared-slice-read-small-2 c =
-    let body = c .before .before .before in
-    let start = body .before .before .before in
-    let byte = c .before .before .shared-slice-known2 .given (start .args .at + body .before .loop .j) in
+shared-slice-read-if2 : tie.Need-shared-slice-read-if2 Inv-loop μ-loop
+shared-slice-read-if2 c =
+    let at-loop = c .before .before .before .before in
+    let byte = c .before .before .shared-slice-known2 .given (at-loop .loop .p) in
     omega arith
 
-small-requires-2 : tie.Need-small-requires-2 Inv-loop μ-loop
-small-requires-2 c κs = search needs
+-- there are at most 256 inputs
+cast-if2 : tie.Need-cast-if2 Inv-loop μ-loop
+cast-if2 c = let at-loop = c .before .before .before .before in omega (arith, at-loop .loop .inv .0, at-loop .before .if1 .left)
 
--- an entry is a byte, and j is below n
-add-if1 : tie.Need-add-if1 Inv-loop μ-loop
-add-if1 c =
-    let byte = c .before .before in
-    omega (arith, c .before .shared-slice-known3 .given (byte .before .before .before .before .before .args .index + byte .small .result))
-
-sub-if1 : tie.Need-sub-if1 Inv-loop μ-loop
-sub-if1 c = search needs
-
-add-j : tie.Need-add-j Inv-loop μ-loop
-add-j c = search needs
+-- an input is left
+add-p : tie.Need-add-p Inv-loop μ-loop
+add-p c = let at-loop = c .before .before .before .before .before in omega (arith, at-loop .loop .inv .0, at-loop .loop .inv .1)
 
 loop-less : tie.Need-loop-less Inv-loop μ-loop
 loop-less c = search needs
@@ -67,26 +72,31 @@ loop-less c = search needs
 -- the entry is not what the byte's place asks for, or it is
 loop-again : tie.Need-loop-again Inv-loop μ-loop
 loop-again c =
-    let entry = c .before in
-    let byte = entry .before .before in
+    let byte = c .before .before in
     let at-loop = byte .before .before .before in
-    let a = at-loop .before .before .args in (
+    let a = at-loop .before .before .before .args in
+    let i : ℕ = at-loop .loop .i in
+    let left : 0 < i = byte .before .before .loop-test .taken in
+    let within = at-loop .loop .inv .0 in
+    let place = at-loop .loop .inv .1 in
+    let next : a .n - i + 1 ≡ a .n - (i - 1) = omega arith in
+    let is-b : byte .small .result ≡ getD (now (a .file)) (a .at + (a .n - i)) 0 = rw (← place) (byte .small .ensures) in (
       omega arith,
-      ⊎-elim
+      omega arith,
+      rw (← next)
+          (⊎-elim
+          (λ w. rw (w .1) (placed-lost (now (a .file)) (a .at) (a .n) (a .index) (a .n - i) (byte .small .result) _ is-b refl (λ z. w .0 .taken (omega arith))))
           (λ w. rw (w .1)
-          (placed-lost (now (a .file)) (a .at) (a .n) (a .index) (at-loop .loop .j) (byte .small .result) (entry .small2 .result) (byte .small .ensures)
-          (entry .small2 .ensures) (w .0 .taken)))
-          (λ w. rw (w .1)
-          (placed-kept (now (a .file)) (a .at) (a .n) (a .index) (at-loop .loop .j) (byte .small .result) (entry .small2 .result) (byte .small .ensures)
-          (entry .small2 .ensures) (w .0 .left) (at-loop .loop .inv .1)))
-          (c .if1 .came),
+          (placed-kept (now (a .file)) (a .at) (a .n) (a .index) (a .n - i) (byte .small .result) _ is-b refl (omega (arith, w .0 .left)) (at-loop .loop .inv .2)))
+          (c .if2 .came)),
     )
 
 -- all inputs are probed
-returns : tie.Need-returns Inv-loop μ-loop
-returns c =
-    let known = c .before .before in
-    placed-all (c .before .loop .inv .0) (c .loop-test .left) (λ i. known .shared-slice-known .given i .fits) (c .before .loop .inv .1)
+returns-2 : tie.Need-returns-2 Inv-loop μ-loop
+returns-2 c =
+    let at-loop = c .before in
+    let known = at-loop .before .before in
+    placed-all (omega arith) (omega (arith, c .loop-test .left)) (λ i. known .shared-slice-known .given i .fits) (at-loop .loop .inv .2)
 
 pub probes-spec : {M : Type 1} → statement M
 probes-spec =
@@ -94,16 +104,15 @@ probes-spec =
     (tie.spec
     Inv-loop
     μ-loop
+    returns
     loop-holds
-    add-small
+    sub-i
     shared-slice-read-small
     small-requires
-    add-small-2
-    shared-slice-read-small-2
-    small-requires-2
-    add-if1
-    sub-if1
-    add-j
+    add-if2
+    shared-slice-read-if2
+    cast-if2
+    add-p
     loop-less
     loop-again
-    returns)
+    returns-2)

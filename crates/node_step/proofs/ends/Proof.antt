@@ -1,12 +1,8 @@
--- `lookup::ends` meets its contract.
+-- `node_step::ends` meets its contract.
 -- Assumes nothing.
-use mathlib.Core.Path.{_≡_, refl, sym, ap, _∙_}
 use borrow.Author.Tests.{eq-eqb, ne-eqb}
-use borrow.Author.Needs.{needs}
-use native.Mathlib.Omega.{arith}
-use denote.Ref.{now}
-use Rattle.lookup.proofs.ends.Statement.{statement}
-use Rattle.lookup.proofs.ends.Tie as tie
+use Rattle.node_step.proofs.ends.Statement.{statement}
+use Rattle.node_step.proofs.ends.Tie as tie
 
 -- nothing is left: whether the node is final decides
 returns : tie.Need-returns
