@@ -21,10 +21,11 @@ use Rattle.admission.specs.declared.Admission.{Admission}
 use Rattle.admission.specs.declared.Admission.the-variants.{Refused}
 use Rattle.admission.specs.declared.Verdict.{Verdict}
 use Rattle.admission.specs.declared.Verdict.the-variants.{Good, Lost, Deep, Heavy}
-use Rattle.admission.specs.Passes.{Kept}
+use Rattle.admission_node.specs.Entries.{Kept}
 use Rattle.format.specs.Paths.{fstWith}
 use Rattle.admission.specs.Outcome.{Holds, Wiped, RefusedFor, not-opened, no-space, no-nodes, too-deep, too-heavy, Admits, Outcome, Opens, Cleared, JudgeCase, Judges}
-use Rattle.admission.proofs.Stores.{kept-then, length-wiped, wiped-kept, wiped-at, wiped-after}
+use Rattle.admission_node.specs.KeptLaws.{kept-then}
+use Rattle.admission.proofs.Wiping.{length-wiped, wiped-kept, wiped-at, wiped-after}
 
 -- ---- refused before the tables are touched
 

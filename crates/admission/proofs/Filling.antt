@@ -20,16 +20,17 @@ use Rattle.format.specs.Node.{Node, sound}
 use Rattle.format.specs.Paths.{Fst, nodeIn}
 use Rattle.format.specs.laws.NodeFacts.{node-target-lt, node-final-lt}
 use Rattle.format.specs.Tables.{longest, largestSum}
-use Rattle.admission.specs.declared.Total.{Total}
-use Rattle.admission.specs.declared.Total.the-variants.{Is}
-use Rattle.admission.specs.declared.Survey.{Survey}
+use Rattle.admission_node.specs.declared.Total.{Total}
+use Rattle.admission_node.specs.declared.Total.the-variants.{Is}
+use Rattle.admission_node.specs.declared.Survey.{Survey}
 use Rattle.admission.specs.declared.Verdict.{Verdict}
-use Rattle.admission.specs.Passes.{Kept, Live, deepest, heaviest, totalAs, entryIs, orOver, Surveyable, SurveyableAt, SurveyedAt, AllPassed, Fillable, LostOne, DeepOne, HeavyOne, GoodAll, HeavyCase, FillCase, Filled}
-use Rattle.admission.proofs.Stores.{kept-none, kept-set}
-use Rattle.admission.proofs.Totals.{total-cases}
-use Rattle.admission.proofs.JudgedNodes.{sound-node}
+use Rattle.admission_node.specs.Entries.{Kept, deepest, heaviest, totalAs, entryIs, orOver, Surveyable, SurveyableAt, SurveyedAt}
+use Rattle.admission.specs.Passes.{Live, AllPassed, Fillable, LostOne, DeepOne, HeavyOne, GoodAll, HeavyCase, FillCase, Filled}
+use Rattle.admission_node.specs.KeptLaws.{kept-none, kept-set}
+use Rattle.admission_node.specs.TotalLaws.{total-cases}
+use Rattle.admission.proofs.SoundNodes.{sound-node}
 use Rattle.admission.proofs.HalfFilled.{Half, half-none, half-skip, half-store, half-map}
-use Rattle.admission.proofs.Children.{child-depth-le, deepest-is, heaviest-is}
+use Rattle.admission_node.specs.ChildLaws.{child-depth-le, deepest-is, heaviest-is}
 
 pub record DepthE (f : Fst) (d₀ : List ℕ) (deep : Bool) (j x : ℕ) : Type 0 where
   pub off : ¬ Live d₀ j → x ≡ 0

@@ -7,7 +7,7 @@ use native.Mathlib.Omega.{arith}
 use native.Mathlib.Nat.{not-suc-le-zero}
 use borrow.Author.Count.{below-more}
 use lib.ListN.{length, getD, set}
-use Rattle.admission.proofs.Stores.{at-set}
+use Rattle.admission_node.specs.KeptLaws.{at-set}
 
 pub record Half (E : ℕ → ℕ → Type 0) (d₀ d : List ℕ) (a : ℕ) : Type 0 where
   pub below : (j : ℕ) → j < a → E j (getD d j 0)

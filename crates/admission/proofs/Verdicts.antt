@@ -23,9 +23,10 @@ use Rattle.format.specs.Tables.{longest, largestSum, InTable}
 use Rattle.format.specs.laws.TableLaws.{longest-zero, largest-zero, longest-bound, largest-bound, longest-attained, largest-attained}
 use Rattle.admission.specs.declared.Verdict.{Verdict}
 use Rattle.admission.specs.declared.Verdict.the-variants.{Good, Lost, Deep, Heavy}
-use Rattle.admission.specs.Passes.{Kept, Hit, Live, Source, ChainMarked, AllPassed, Fillable, LostOne, DeepOne, HeavyOne, GoodAll, FillCase, Filled}
+use Rattle.admission_node.specs.Entries.{Kept}
+use Rattle.admission.specs.Passes.{Hit, Live, Source, ChainMarked, AllPassed, Fillable, LostOne, DeepOne, HeavyOne, GoodAll, FillCase, Filled}
 use Rattle.admission.specs.Outcome.{Holds, LongPath, LargeSum, Cleared, GoodNodes, JudgeCase, Judges}
-use Rattle.admission.proofs.Stores.{at-set, kept-none, kept-then}
+use Rattle.admission_node.specs.KeptLaws.{at-set, kept-none, kept-then}
 
 -- ---- root 0 has no chain
 

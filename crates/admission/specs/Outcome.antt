@@ -16,11 +16,11 @@ use Rattle.format.specs.Opening.{Meta, opened, refused, opening}
 use Rattle.format.specs.Paths.{Fst, fstOf, nodeIn, Path, Reached}
 use Rattle.format.specs.Admitted.{Nodes, Shallow, Light, Admitted}
 use Rattle.format.specs.Tables.{longest, largestSum, InTable}
+use Rattle.admission_node.specs.Entries.{Kept}
 use Rattle.admission.specs.declared.Admission.{Admission}
 use Rattle.admission.specs.declared.Admission.the-variants.{Admitted as Yes, Refused}
 use Rattle.admission.specs.declared.Verdict.{Verdict}
 use Rattle.admission.specs.declared.Verdict.the-variants.{Good, Lost, Deep, Heavy}
-use Rattle.admission.specs.Passes.{Kept}
 
 -- ---- the tables
 

@@ -7,7 +7,7 @@ use denote.Ref.{now}
 use lib.ListN.{length, set}
 use Rattle.format.specs.Paths.{Fst, fstWith}
 use Rattle.admission.specs.declared.Verdict.the-variants.{Good, Lost, Deep, Heavy}
-use Rattle.admission.proofs.Stores.{kept-lt}
+use Rattle.admission_node.specs.KeptLaws.{kept-lt}
 use Rattle.admission.proofs.Filling.{Filling, filling-none, filling-skip, surveyable-at, filling-lost, filling-store, filling-as, filling-ends, passed-all, filled-heavy, filled-good}
 use borrow.Author.Needs.{needs}
 use native.Mathlib.Omega.{arith}

@@ -7,9 +7,10 @@ use Prim.Native.Nat.{ℕ, _≤_, _<_}
 use denote.Ref.{now}
 use lib.ListN.{length, set}
 use Rattle.format.specs.Paths.{Fst}
-use Rattle.admission.specs.Passes.{Kept, Walked}
+use Rattle.admission_node.specs.Entries.{Kept}
+use Rattle.admission.specs.Passes.{Walked}
 use Rattle.format.specs.Paths.{fstWith}
-use Rattle.admission.proofs.Stores.{kept-none, kept-set}
+use Rattle.admission_node.specs.KeptLaws.{kept-none, kept-set}
 use Rattle.admission.proofs.Verdicts.{root-zero-judges, broken-nodes, Marks, marks-of, marks-fillable, filled-judges}
 use borrow.Author.Needs.{needs}
 use native.Mathlib.Omega.{arith}

@@ -7,10 +7,10 @@ use denote.Ref.{now}
 use lib.ListN.{length, set}
 use Rattle.format.specs.Node.{Node, sound, SoundAt}
 use Rattle.format.specs.Paths.{Fst, nodeIn}
-use Rattle.admission.specs.Passes.{Kept, MarksTargets}
+use Rattle.admission_node.specs.Entries.{Kept, MarksTargets}
 use Rattle.format.specs.Paths.{fstWith}
-use Rattle.admission.proofs.Stores.{kept-none, kept-set, kept-then, kept-lt}
-use Rattle.admission.proofs.JudgedNodes.{sound-node, unsound-node}
+use Rattle.admission_node.specs.KeptLaws.{kept-none, kept-set, kept-then, kept-lt}
+use Rattle.admission.proofs.SoundNodes.{sound-node, unsound-node}
 use Rattle.admission.proofs.Walking.{Walking, walking-none, walking-broken, walked-inside, walked-below, walked-first-low, mark-high, walking-last, walking-next}
 use borrow.Author.Needs.{needs}
 use native.Mathlib.Omega.{arith}

@@ -1,0 +1,4 @@
+pub mod Entries
+pub mod KeptLaws
+pub mod TotalLaws
+pub mod ChildLaws
