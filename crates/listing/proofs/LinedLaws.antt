@@ -21,14 +21,14 @@ use Rattle.reading.specs.Reading as R
 use Rattle.reading.specs.Reading.{View, key, end, written, counted}
 use Rattle.reading.specs.WholeLaws.{start-only-bound}
 use Rattle.stream_start.specs.Views.{viewIs, beganIs, startedIs}
-use Rattle.stream_next.specs.Stepped.{answerAs, Stepped}
+use Rattle.stream_step.specs.Stepped.{answerAs, Stepped}
 use Rattle.stream_start.specs.declared.Reading.{Reading}
-use Rattle.stream_next.specs.declared.Step.{Step}
+use Rattle.stream_step.specs.declared.Step.{Step}
 use Rattle.stream_start.specs.declared.Started.{Started}
 use Rattle.stream_start.specs.declared.Begins.{Begins}
 use Rattle.stream_start.specs.declared.Begins.the-variants.{Began, Refused as NotBegun}
-use Rattle.stream_next.specs.declared.Answer.{Answer}
-use Rattle.stream_next.specs.declared.Answer.the-variants.{Key, End, Refused}
+use Rattle.stream_step.specs.declared.Answer.{Answer}
+use Rattle.stream_step.specs.declared.Answer.the-variants.{Key, End, Refused}
 use Rattle.listing.specs.declared.Line.the-variants.{Key as KeyLine, Last, Short}
 use Rattle.listing.specs.declared.Listed.{Listed}
 use Rattle.listing.specs.Lines.{keyLine, endLine, refusedLine, Written}

@@ -13,10 +13,10 @@ ghost use Rattle.listing.specs.Lined.{Begins, Lined};
 use admission::Admission;
 use format::LARGE;
 use format::MAX_KEY;
-use stream_next::Answer;
 use stream_start::Bound;
 use stream_start::Reading;
 use stream_start::Started;
+use stream_step::Answer;
 
 // The room that the longest line takes: 510 digits, a space, 20 digits, a newline.
 pub const LINE: usize = 532;
@@ -201,7 +201,7 @@ pub fn next_line(file: &[u8], reading: Reading, keys: u64, line: &mut [u8]) -> L
             let len = key_line(&key, n, value, line);
             Listed {
                 line: Line::Key(len),
-                keys: stream_next::counted(keys),
+                keys: stream_descend::counted(keys),
                 reading: after,
             }
         }

@@ -16,11 +16,11 @@ use Rattle.stream_start.specs.declared.Reading.{Reading}
 use Rattle.stream_start.specs.declared.Started.{Started}
 use Rattle.stream_start.specs.declared.Begins.{Begins}
 use Rattle.stream_start.specs.declared.Begins.the-variants.{Began, Refused as NotStarted}
-use Rattle.stream_next.specs.declared.Answer.{Answer}
-use Rattle.stream_next.specs.declared.Answer.the-variants.{Key, End, Refused}
-use Rattle.stream_next.specs.declared.Step.{Step}
+use Rattle.stream_step.specs.declared.Answer.{Answer}
+use Rattle.stream_step.specs.declared.Answer.the-variants.{Key, End, Refused}
+use Rattle.stream_step.specs.declared.Step.{Step}
 use Rattle.stream_start.specs.Views.{boundIs, viewIs, startedIs, beganIs}
-use Rattle.stream_next.specs.Stepped.{answerAs, Stepped}
+use Rattle.stream_step.specs.Stepped.{answerAs, Stepped}
 use Rattle.oracle_stream.specs.Held.{kindIs, kindNumber, pendingIs, pendingFlag, pendingValue, Held, heldIs, heldAs, StartTold, nextNumber, valueIn, answerNumber, answerValue, Told, NextTold, keyTest, onKey, keysFrom, bufferFrom, KeysTold, StartKeysTold}
 
 -- ---- numbers for kinds and pending keys

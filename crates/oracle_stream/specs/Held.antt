@@ -22,8 +22,8 @@ use Rattle.stream_start.specs.declared.Bound.the-variants.{Included, Excluded, 
 use Rattle.stream_start.specs.declared.EmptyOutput.{EmptyOutput}
 use Rattle.stream_start.specs.declared.EmptyOutput.the-variants.{Pending, Absent}
 use Rattle.stream_start.specs.declared.Reading.{Reading}
-use Rattle.stream_next.specs.declared.Answer.{Answer}
-use Rattle.stream_next.specs.declared.Answer.the-variants.{Key, End, Refused}
+use Rattle.stream_step.specs.declared.Answer.{Answer}
+use Rattle.stream_step.specs.declared.Answer.the-variants.{Key, End, Refused}
 use Rattle.stream_start.specs.Views.{viewIs}
 
 -- ---- a reading in six arrays

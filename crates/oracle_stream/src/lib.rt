@@ -9,11 +9,11 @@ ghost use lib.ListN.{length};
 ghost use Rattle.reading.specs.Reading as R;
 ghost use Rattle.stream_start.specs.Views.{boundIs, viewIs};
 ghost use Rattle.oracle_stream.specs.Held.{kindIs, kindNumber, pendingIs, pendingFlag, pendingValue, headAs, held, heldIs, heldAs, StartTold, Told, NextTold, keyTest, KeysTold, StartKeysTold};
-use stream_next::Answer;
 use stream_start::Begins;
 use stream_start::Bound;
 use stream_start::EmptyOutput;
 use stream_start::Reading;
+use stream_step::Answer;
 
 // ---- what stands for a kind and for a pending key
 

@@ -13,11 +13,11 @@ use replay_list::Parsed;
 use replay_list::Place;
 use replay_list::at_most;
 use replay_list::number;
-use stream_next::Answer;
 use stream_start::Begins;
 use stream_start::Bound;
 use stream_start::EmptyOutput;
 use stream_start::Reading;
+use stream_step::Answer;
 
 // The list's length, and one byte more by which a longer list is seen.
 const LIST: usize = 192_241;

@@ -1,5 +1,2 @@
-pub mod OrderLaws
-pub mod PopLaws
-pub mod DescendLaws
-pub mod GoingLaws
-pub mod NextCases
+-- Lemmas on the cases of next, for the proofs of this crate.
+mod NextCases

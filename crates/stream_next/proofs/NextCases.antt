@@ -1,63 +1,35 @@
 -- The cases of `next`, each by what leads to it: the answer, the reading and the buffer.
---     filled q ..         the reading q with other arrays
---     ended-..            the end
 --     pending-..          the pending empty key
---     after-..            what the descent leads to
 --     walk-..             what the pops lead to
 --     state-.., next-..   the refusals before the walk, and the walk
 -- Assumes nothing.
 use mathlib.Core.Path.{_≡_, refl, sym, _∙_, ap}
 use mathlib.Core.Bool.{Bool, true, false, _&&_}
 use mathlib.Core.Option.{Option, none, some}
-use mathlib.Core.List.{List, [], _∷_, _++_}
-use Prim.Native.Nat.{ℕ, _+_, _<_, _≤_}
+use mathlib.Core.List.{List, []}
+use Prim.Native.Nat.{ℕ, _<_, _≤_}
 use native.Mathlib.Omega.{arith}
 use borrow.Author.Tests.{lt-leb, le-leb, leb-true}
 use lib.Dec.{leb, eqb}
-use lib.ListN.{length, take, drop, length-drop}
-use lib.Seq.{length-take-le, take-take}
-use Rattle.format.specs.Limits.{maxPath, maxLevels, NODE, SPACE, STATE}
+use lib.ListN.{length}
+use Rattle.format.specs.Limits.{NODE, SPACE, STATE}
 use Rattle.format.specs.Opening as Opening
 use Rattle.format.specs.Opening.{Meta, opened, opening}
 use Rattle.format.specs.Paths.{Fst, fstWith, fstOf}
 use Rattle.node.specs.declared.Node.{Node}
 use Rattle.node.specs.Read.{meaning}
 use Rattle.reading.specs.Reading as R
-use Rattle.reading.specs.Reading.{Level, passesTest, Went, found, passed, top, used-up, bad, pop, afterDescend, moved, stateTest, refuse}
+use Rattle.reading.specs.Reading.{passesTest, top, used-up, bad, pop, afterDescend, stateTest, refuse}
 use Rattle.stream_start.specs.declared.Reading.{Reading}
-use Rattle.stream_next.specs.declared.Answer.the-variants.{Key, End, Refused}
-use Rattle.stream_next.specs.declared.Step.{Step}
-use Rattle.stream_next.specs.declared.Popped.{Popped}
-use Rattle.stream_next.specs.declared.Down.{Down}
-use Rattle.stream_next.specs.declared.Down.the-variants.{Found}
 use Rattle.stream_start.specs.Views.{levelAt, stackIs, viewIs, emptyIs}
-use Rattle.stream_next.specs.Stepped.{Stepped}
-use Rattle.stream_next.specs.Steps.{popSeen, Pops, downSeen, downAt, downOf, Descends, stateRight, placedAt, endedAt}
-use Rattle.stream_start.specs.StackLaws.{stack-length, stack-more, key-stack}
-
--- ---- the reading after a call
-
-abbrev filled : Reading → List ℕ → List ℕ → List ℕ → List ℕ → Reading
-filled q xs is ps os = record {
-  len = q .len;
-  kind = q .kind;
-  «bound_len» = q .«bound_len»;
-  bound = q .bound;
-  «empty_output» = q .«empty_output»;
-  total = q .total;
-  levels = q .levels;
-  addrs = xs;
-  inps = is;
-  trans = ps;
-  outs = os;
-}
-
-filled-view : (r q : Reading) (k t : ℕ) → q ≡ placedAt r k t → (xs is ps os : List ℕ) → viewIs (filled q xs is ps os) ≡ moved (viewIs r) (stackIs k xs is ps os) t
-filled-view r q k t e xs is ps os = ap (λ (x : Reading). viewIs (filled x xs is ps os)) e
-
-pub ended-is : (r q : Reading) (t : ℕ) → q ≡ placedAt r 0 t → (buf : List ℕ) → Stepped (endedAt (viewIs r) t) buf buf (record { answer = End; reading = q })
-unfolding stackIs
-ended-is r q t e buf = record { answer = refl; reading = ap viewIs e; buffer = refl }
+use Rattle.stream_start.specs.StackLaws.{stack-length}
+use Rattle.stream_bounds.specs.State.{stateRight}
+use Rattle.stream_pop.specs.declared.Popped.{Popped}
+use Rattle.stream_pop.specs.Pops.{popSeen, Pops}
+use Rattle.stream_step.specs.declared.Answer.the-variants.{Key, Refused}
+use Rattle.stream_step.specs.declared.Step.{Step}
+use Rattle.stream_step.specs.Stepped.{Stepped}
+use Rattle.stream_step.specs.Steps.{downOf, placedAt, endedAt}
 
 -- ---- the pending empty key
 
@@ -69,43 +41,6 @@ module _ (f : Fst) (r : Reading) (v : ℕ) (buf : List ℕ) where
   pub pending-key : passesTest (viewIs r .bound) [] ≡ false → (q : Reading) → q ≡ placedAt r (r .levels) (r .total)
       → Stepped (R.walk f (viewIs r) (some v)) buf buf (record { answer = Key 0 v; reading = q })
   pending-key p q e = rw p (record { answer = refl; reading = ap viewIs e; buffer = refl })
-
--- ---- the descent
-
-pub descends-is : {want : Went} {xs is ps os : List ℕ} {d d′ : Down} → Descends want xs is ps os d → d ≡ d′ → want ≡ downSeen xs is ps os d′
-descends-is {want} {xs} {is} {ps} {os} h e = sym (h .seen) ∙ ap (downSeen xs is ps os) e
-
-pub descends-low : {want : Went} {xs is ps os : List ℕ} {d : Down} {k v t : ℕ} → Descends want xs is ps os d → d ≡ Found k v t → k < 256
-descends-low h e = rw (ap downAt e) at (h .low)
-
-module _ (r : Reading) (w : Went) where
-  pub after-halted : (buf : List ℕ) (n : ℕ) → w ≡ Went.halted n → Stepped (afterDescend (viewIs r) w) buf buf (record { answer = Refused n; reading = r })
-  after-halted buf n e = rw e (record { answer = refl; reading = refl; buffer = refl })
-
-  pub after-passed : (buf : List ℕ) (t : ℕ) → w ≡ passed t → (x : Step) → Stepped (endedAt (viewIs r) t) buf buf x
-      → Stepped (afterDescend (viewIs r) w) buf buf x
-  after-passed buf t e x h = rw e h
-
-  pub after-found : (k v t : ℕ) (xs is ps os buf₀ buf : List ℕ) → w ≡ found (levelAt k xs is ps os ∷ stackIs k xs is ps os) v t → k + 1 ≤ length is
-      → buf ≡ take k (drop 1 is) ++ drop k buf₀ → (q : Reading) → q ≡ placedAt r (k + 1) t
-      → Stepped (afterDescend (viewIs r) w) buf₀ buf (record { answer = Key k v; reading = filled q xs is ps os })
-  after-found k v t xs is ps os buf₀ buf e low copy q placed =
-      let key = key-stack k xs is ps os low in
-      let len : length (take k (drop 1 is)) ≡ k = length-take-le k (drop 1 is) (simp length-drop (omega arith)) in
-      rw e (record {
-        answer = rw (key, len);
-        reading = filled-view r q (k + 1) t placed xs is ps os ∙ ap (λ (s : List Level). moved (viewIs r) s t) (stack-more k xs is ps os);
-        buffer = rw (key, len) copy;
-      })
-
--- ---- the key goes to the buffer, out of the inputs after the first
-
-pub inputs-hold : {want : Went} {xs is ps os : List ℕ} {r : Down} → Descends want xs is ps os r → (k : ℕ) → k < maxLevels → k ≤ length (take maxPath (drop 1 is))
-inputs-hold {is = is} h k low = rw (length-take-le maxPath (drop 1 is) (simp length-drop (omega (arith, h .len)))) (omega arith)
-
-pub inputs-copied : {want : Went} {xs is ps os : List ℕ} {r : Down} → Descends want xs is ps os r → (k : ℕ) (buf₀ buf : List ℕ) → k < maxLevels
-    → buf ≡ take k (take maxPath (drop 1 is)) ++ drop k buf₀ → buf ≡ take k (drop 1 is) ++ drop k buf₀
-inputs-copied {is = is} h k buf₀ buf low copy = copy ∙ ap (λ (l : List ℕ). l ++ drop k buf₀) (take-take k maxPath (drop 1 is) (omega arith))
 
 -- ---- the pops
 
@@ -128,16 +63,6 @@ module _ (s : List ℕ) (v root : ℕ) (r : Reading) where
   walk-at buf₀ buf k m e x h = rw (e, stack-length k (r .addrs) (r .inps) (r .trans) (r .outs)) h
 
 -- ---- what comes before the walk
-
-module _ (levels bound-len held len : ℕ) where
-  pub state-high : 256 < levels → false ≡ stateRight levels bound-len held len
-  state-high h = rw (lt-leb levels 256 h)
-
-  pub state-bound : levels ≤ 256 → 255 < bound-len → false ≡ stateRight levels bound-len held len
-  state-bound h g = rw (le-leb levels 256 h, lt-leb bound-len 255 g)
-
-  pub state-len : levels ≤ 256 → bound-len ≤ 255 → eqb held len ≡ stateRight levels bound-len held len
-  state-len h g = rw (le-leb levels 256 h, le-leb bound-len 255 g)
 
 and-both : (a b : Bool) → (a && b) ≡ true → (a ≡ true) × (b ≡ true)
 and-both true b e = (refl, e)

@@ -11,7 +11,7 @@ use Rattle.listing.proofs.next_line.Lts as lts
 use Rattle.listing.proofs.end_line.Reads as end-line-reads
 use Rattle.listing.proofs.key_line.Reads as key-line-reads
 use Rattle.listing.proofs.refused_line.Reads as refused-line-reads
-use Rattle.stream_next.proofs.counted.Reads as counted-reads
+use Rattle.stream_descend.proofs.counted.Reads as counted-reads
 use Rattle.stream_next.proofs.next.Reads as next-reads
 
 -- the buffer is too short for the longest line

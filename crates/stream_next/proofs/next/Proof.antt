@@ -11,7 +11,7 @@ use Rattle.format.specs.Paths.{fstOf}
 use Rattle.fst.specs.declared.Meta.{Meta}
 use Rattle.fst.specs.Open.{metaIs, openingIs}
 use Rattle.stream_start.specs.Views.{emptyIs}
-use Rattle.stream_next.specs.Steps.{stateRight}
+use Rattle.stream_bounds.specs.State.{stateRight}
 use borrow.Author.Needs.{needs}
 use Rattle.stream_next.proofs.next.Statement.{statement}
 use Rattle.stream_next.proofs.next.Tie as tie

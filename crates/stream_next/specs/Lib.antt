@@ -1,4 +1,0 @@
-pub mod Stepped
-pub mod Steps
-pub mod Calls
-pub mod CallsLaws
