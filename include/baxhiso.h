@@ -84,7 +84,8 @@ int32_t fst_open(const uint8_t *file, size_t file_len, fst_meta *meta);
  *   value            set on FST_OK, and left as it was on any other result
  *
  * Returns FST_SHORT, FST_LARGE, FST_VERSION or FST_ROOT, as fst_open. Then FST_NONE if the file has no bytes. Then for each
- * node on the key's path, the last one included: FST_NODE if it is not sound, FST_SUM if the outputs up to it pass 2^64 - 1, FST_NONE if the key does not go on
+ * node on the key's path, the last one included: FST_NODE if it is not sound, FST_SUM if the outputs up to it pass
+ * 2^64 - 1, FST_NONE if the key does not go on
  * from it. At the key's end FST_NONE if the node is not final, FST_SUM if its final output is too much, else FST_OK.
  *
  * On a file that fst_admit admits, FST_OK comes exactly for the keys that the file holds, with their values, and FST_NONE for
@@ -100,7 +101,8 @@ int32_t fst_get(const uint8_t *file, size_t file_len, const uint8_t *key, size_t
  *   key_len          the key's length, 0 to 255, on FST_OK; left as it was on any other result
  *
  * Returns FST_SHORT, FST_LARGE, FST_VERSION or FST_ROOT, as fst_open, then FST_SPACE, then FST_NONE if the file has no bytes.
- * Then for each node on the way: FST_NODE if it is not sound; FST_OK if nothing is left of the value and it is final; FST_NONE if no transition fits what is
+ * Then for each node on the way: FST_NODE if it is not sound; FST_OK if nothing is left of the value and it is final;
+ * FST_NONE if no transition fits what is
  * left; FST_DEEP if 255 bytes do not end the key. Final outputs are not counted.
  *
  * On a numbered file (crates/format/specs/Lookup.antt, Numbered), FST_OK comes exactly when a held key has the value, with
