@@ -152,6 +152,9 @@ pub trait FileAnswers {
     // 0 for an admitted file, or a refusal. Both tables are left as document 01 says.
     fn admit(&self, file: &[u8], depths: &mut [u16], sums: &mut [u64]) -> u64;
 
+    // 0 where the table of keys is filled, or a refusal. The three tables are left as document 02, N11, says.
+    fn count_keys(&self, file: &[u8], depths: &mut [u16], sums: &mut [u64], counts: &mut [u64]) -> u64;
+
     // HELD, with the value in `out` where it has a place; NOT_HELD; or a refusal. Every other place of `out` stays as given.
     fn get(&self, file: &[u8], key: &[u8], out: &mut [u64]) -> u64;
 
@@ -165,6 +168,8 @@ pub trait FileAnswers {
 // The refusals of a bound and of a reading; the others are above.
 pub const BOUND: u64 = 9;
 pub const STATE: u64 = 11;
+// That of a table of keys; filling one answers it too.
+pub const COUNT: u64 = 19;
 
 // The numbers of the kinds are 0, 1, and any other.
 #[derive(Clone, Copy, Debug, Eq, PartialEq)]
@@ -216,6 +221,8 @@ pub struct Reading {
     pub bound: Vec<u8>,
     pub pending: Option<u64>,
     pub total: u64,
+    // the number of keys to come
+    pub keys: u64,
     pub level_count: usize,
     pub levels: Vec<Level>,
 }
@@ -230,6 +237,8 @@ pub struct Held {
     pub inps: [u8; LEVELS],
     pub places: [u16; LEVELS],
     pub sums: [u64; LEVELS],
+    // the number of keys to come
+    pub keys: [u64; 1],
 }
 
 impl Held {
@@ -241,6 +250,7 @@ impl Held {
             inps: [0; LEVELS],
             places: [0; LEVELS],
             sums: [0; LEVELS],
+            keys: [0],
         }
     }
 
@@ -256,6 +266,7 @@ impl Held {
             reading.total,
             reading.level_count as u64,
         ];
+        self.keys = [reading.keys];
         self.bound[..reading.bound.len()].copy_from_slice(&reading.bound);
         for (i, level) in reading.levels.iter().enumerate() {
             self.addrs[i] = level.addr;
@@ -277,14 +288,15 @@ impl Held {
             bound: self.bound[..bytes].to_vec(),
             pending: if self.head[3] == 0 { None } else { Some(self.head[4]) },
             total: self.head[5],
+            keys: self.keys[0],
             level_count,
             levels: (0..level_count.min(LEVELS)).map(level).collect(),
         }
     }
 
     // Every entry.
-    pub fn all(&self) -> (&[u64], &[u8], &[u32], &[u8], &[u16], &[u64]) {
-        (&self.head, &self.bound, &self.addrs, &self.inps, &self.places, &self.sums)
+    pub fn all(&self) -> (&[u64], &[u8], &[u32], &[u8], &[u16], &[u64], &[u64]) {
+        (&self.head, &self.bound, &self.addrs, &self.inps, &self.places, &self.sums, &self.keys)
     }
 }
 
@@ -303,7 +315,7 @@ pub const END: u64 = 1000;
 pub const NEXT_REFUSED: u64 = 2000;
 
 // The names of what a start and a next answer, for counts; refusals in the order of their numbers.
-pub const STARTS: [&str; 12] = [
+const STARTS: [&str; 12] = [
     "starts: a reading",
     "starts, refused: 1 SHORT",
     "starts, refused: 2 VERSION",
@@ -317,6 +329,16 @@ pub const STARTS: [&str; 12] = [
     "starts, refused: 10 RECORD",
     "starts, refused: 11 STATE",
 ];
+const STARTS_COUNT: &str = "starts, refused: 19 COUNT";
+
+pub fn start_name(number: u64) -> &'static str {
+    if number == COUNT {
+        STARTS_COUNT
+    } else {
+        STARTS[number as usize]
+    }
+}
+
 pub const NEXTS: [&str; 12] = [
     "nexts: a key or the end",
     "nexts, refused: 1 SHORT",
@@ -334,8 +356,8 @@ pub const NEXTS: [&str; 12] = [
 
 // One who answers about readings: our library, or in the self-test the model in its place.
 pub trait ReadingAnswers {
-    // STARTED, with the reading in `held`; or a refusal, `held` as given.
-    fn start(&self, file: &[u8], lower: &Bound, upper: &Bound, held: &mut Held) -> u64;
+    // STARTED, with the reading in `held`; or a refusal, `held` as given. `counts` is the table of keys.
+    fn start(&self, file: &[u8], lower: &Bound, upper: &Bound, counts: &[u64], held: &mut Held) -> u64;
 
     // The key's length, the key at the front of `key` and its value in `value`; END; or NEXT_REFUSED plus a refusal. `held` has
     // the reading afterwards. Everything else that is lent stays as given.
@@ -343,9 +365,9 @@ pub trait ReadingAnswers {
 
     // How many calls after a start give a key, up to the first that does not and at most so many; none where it is refused.
     // `key` holds what they left there.
-    fn keys(&self, file: &[u8], lower: &Bound, upper: &Bound, most: u64, key: &mut [u8]) -> u64 {
+    fn keys(&self, file: &[u8], lower: &Bound, upper: &Bound, counts: &[u64], most: u64, key: &mut [u8]) -> u64 {
         let mut held = Held::new();
-        if self.start(file, lower, upper, &mut held) != STARTED {
+        if self.start(file, lower, upper, counts, &mut held) != STARTED {
             return 0;
         }
         let mut n = 0;
@@ -354,4 +376,7 @@ pub trait ReadingAnswers {
         }
         n
     }
+
+    // The same of readings without the number of keys to come, which take no table.
+    fn bare_keys(&self, file: &[u8], lower: &Bound, upper: &Bound, most: u64, key: &mut [u8]) -> u64;
 }

@@ -1,5 +1,6 @@
 // Times of lookups, readings and admission, ours beside the Rust's, on three sets that are made here (docs/PERFORMANCE.md). Ours opens
 // the file and judges each node in every call; the Rust opens it once and judges nothing. Beside admission the Rust walks the nodes.
+// The table of keys is filled beside admission alone, and readings with the number of keys to come stand beside readings without it.
 
 use std::hint::black_box;
 use std::time::Instant;
@@ -153,6 +154,19 @@ fn admitting(ours: &dyn FileAnswers, rust: &Opened, file: &[u8]) -> (f64, f64) {
     (all.0 / file.len() as f64, all.1 / file.len() as f64)
 }
 
+// Filling the table of keys, a byte of the file, beside admission alone.
+fn filling(ours: &dyn FileAnswers, file: &[u8], counts: &mut [u64]) -> (f64, f64) {
+    let (mut depths, mut sums) = (vec![0; file.len()], vec![0; file.len()]);
+    let (mut other_depths, mut other_sums) = (vec![0; file.len()], vec![0; file.len()]);
+    let all = times_in(
+        &[()],
+        1,
+        |_| assert_eq!(ours.count_keys(black_box(file), &mut depths, &mut sums, counts), 0),
+        |_| assert_eq!(ours.admit(black_box(file), &mut other_depths, &mut other_sums), 0),
+    );
+    (all.0 / file.len() as f64, all.1 / file.len() as f64)
+}
+
 fn entering(ours: &dyn Answers, rust: &Opened, file: &[u8], paths: &[Vec<usize>]) -> (f64, f64) {
     let meta = rust.meta();
     let at = |addr| At { file, version: meta.version, root: meta.root, addr };
@@ -196,9 +210,9 @@ fn read_by_the_rust(rust: &Opened, part: &Part) -> usize {
 }
 
 // The time of a key, over ranges that are read whole.
-fn reading(ours: &dyn ReadingAnswers, rust: &Opened, file: &[u8], parts: &[Part]) -> (f64, f64) {
+fn reading(ours: &dyn ReadingAnswers, rust: &Opened, file: &[u8], counts: &[u64], parts: &[Part]) -> (f64, f64) {
     let mut key = [0; MAX_PATH];
-    let mut read = |part: &Part| ours.keys(file, &part.lower, &part.upper, u64::max_value(), &mut key) as usize;
+    let mut read = |part: &Part| ours.keys(file, &part.lower, &part.upper, counts, u64::max_value(), &mut key) as usize;
     let mut keys = 0;
     for part in parts {
         assert_eq!(read(part), part.keys);
@@ -223,10 +237,45 @@ fn reading(ours: &dyn ReadingAnswers, rust: &Opened, file: &[u8], parts: &[Part]
     (by_ours * each, by_the_rust * each)
 }
 
+// The time of a key with the number of keys to come, beside that without it; or of a start alone, where no key is read.
+fn numbered(ours: &dyn ReadingAnswers, file: &[u8], counts: &[u64], parts: &[Part], most: u64) -> (f64, f64) {
+    let (mut key, mut other_key) = ([0; MAX_PATH], [0; MAX_PATH]);
+    let mut read = |part: &Part| ours.keys(file, &part.lower, &part.upper, counts, most, &mut key) as usize;
+    let mut bare = |part: &Part| ours.bare_keys(file, &part.lower, &part.upper, most, &mut other_key) as usize;
+    let mut keys = 0;
+    for part in parts {
+        let wanted = part.keys.min(most as usize);
+        assert_eq!((read(part), bare(part)), (wanted, wanted));
+        keys += wanted;
+    }
+    let (with, without) = times_in(
+        parts,
+        1 + parts.len() / PARTS,
+        |parts| {
+            for part in parts {
+                black_box(read(part));
+            }
+        },
+        |parts| {
+            for part in parts {
+                black_box(bare(part));
+            }
+        },
+    );
+    let each = if keys == 0 { 1.0 } else { parts.len() as f64 / keys as f64 };
+    (with * each, without * each)
+}
+
 // The keys from place i on, so many of them, as one range.
 fn part(keys: &[Vec<u8>], i: usize, n: usize) -> Part {
     let bound = |place: usize| Bound { kind: Kind::Included, bytes: keys[place].clone() };
     Part { lower: bound(i), upper: bound(i + n - 1), keys: n }
+}
+
+// All keys, of which there are so many, without bounds.
+fn whole_part(n: usize) -> Part {
+    let unbounded = || Bound { kind: Kind::Unbounded, bytes: Vec::new() };
+    Part { lower: unbounded(), upper: unbounded(), keys: n }
 }
 
 pub fn bench(nodes: &dyn Answers, ours: &dyn FileAnswers, readings: &dyn ReadingAnswers) {
@@ -275,14 +324,24 @@ pub fn bench(nodes: &dyn Answers, ours: &dyn FileAnswers, readings: &dyn Reading
         say("by value, none", by_value(ours, &rust, &file, &values, false));
         // one reading over much of the file, and short ones
         let whole = [part(&set.keys, 0, READ)];
-        say("key of a long reading", reading(readings, &rust, &file, &whole));
+        let mut counts = vec![0; file.len()];
+        let fill = filling(ours, &file, &mut counts);
+        say("key of a long reading", reading(readings, &rust, &file, &counts, &whole));
         let short: Vec<Part> = (0..READ / SHORT).map(|_| part(&set.keys, prng.below(n - SHORT), SHORT)).collect();
-        say("key of a range of 20", reading(readings, &rust, &file, &short));
+        say("key of a range of 20", reading(readings, &rust, &file, &counts, &short));
         say("admission, a byte", admitting(ours, &rust, &file));
+        println!("    {:<28}{:>8} {:>8} {:>8}", "", "with", "without", "ratio");
+        let wholes: Vec<Part> = short.iter().map(|_| whole_part(n)).collect();
+        say("start of a whole reading", numbered(readings, &file, &counts, &wholes, 0));
+        say("start of a range of 20", numbered(readings, &file, &counts, &short, 0));
+        say("key of a long reading", numbered(readings, &file, &counts, &whole, u64::max_value()));
+        say("key of a range of 20", numbered(readings, &file, &counts, &short, u64::max_value()));
+        say("filling the table, a byte", fill);
         println!();
     }
     let file = generate_file::dense(&mut Prng::new(8), DENSE);
     let rust = given_file::open(&file).expect("it has a root");
     println!("a file of {} bytes", file.len());
     say("admission, a byte", admitting(ours, &rust, &file));
+    say("filling, beside admission", filling(ours, &file, &mut vec![0; file.len()]));
 }

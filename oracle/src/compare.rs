@@ -11,6 +11,7 @@ use crate::prng::Prng;
 
 mod admission;
 mod boundaries;
+mod counting;
 mod little;
 mod long;
 mod lookup;
@@ -21,6 +22,8 @@ mod packing;
 mod ranges;
 mod reading;
 mod stored;
+
+pub use self::counting::{filled, followed};
 
 pub struct Difference {
     pub what: String,

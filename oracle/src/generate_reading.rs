@@ -226,7 +226,7 @@ pub fn addresses(file: &[u8]) -> Vec<usize> {
     addrs
 }
 
-// A reading of nothing.
+// A reading of nothing, whose number of keys to come stands in the way of none.
 pub fn blank(file: &[u8]) -> Reading {
     Reading {
         file_len: file.len(),
@@ -235,6 +235,7 @@ pub fn blank(file: &[u8]) -> Reading {
         bound: Vec::new(),
         pending: None,
         total: 0,
+        keys: TOP,
         level_count: 0,
         levels: Vec::new(),
     }
@@ -256,7 +257,7 @@ pub fn made(prng: &mut Prng, file: &[u8], addrs: &[usize], given: Option<&Readin
         }
     };
     for _ in 0..prng.below(4) {
-        match prng.below(14) {
+        match prng.below(15) {
             0 => {
                 reading.file_len = prng.pick(&[len + 1, len.saturating_sub(1), 0, usize::max_value(), len + (1 << 32)])
             }
@@ -271,6 +272,7 @@ pub fn made(prng: &mut Prng, file: &[u8], addrs: &[usize], given: Option<&Readin
             3 => reading.pending = Some(number(prng)),
             4 => reading.pending = None,
             5 | 6 => reading.total = number(prng),
+            14 => reading.keys = prng.pick(&[0, 0, 1, TOP]),
             7 => {
                 let n = prng.pick(&COUNTS);
                 reading.state_levels(prng, addrs, len, n);
@@ -324,6 +326,7 @@ pub fn at_limits(file: &[u8], addr: usize) -> Vec<Reading> {
                                 let room = if kind == Kind::Unbounded { 0 } else { bound_len.min(BOUND_BYTES) };
                                 reading.bound = vec![b'a'; room];
                                 reading.total = total;
+                                reading.keys = [TOP, 0, 1][readings.len() % 3];
                                 reading.pending = pending;
                                 reading.file_len += more;
                                 readings.push(reading);

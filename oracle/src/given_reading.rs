@@ -61,6 +61,18 @@ impl<'f> Opened<'f> {
         Some(Range { stream, followed })
     }
 
+    // How many keys a range hands out, at most so many.
+    pub fn keys_in(&self, lower: &Bound, upper: &Bound, most: u64) -> Option<u64> {
+        caught(|| {
+            let mut range = between(self.fst.range(), lower, upper);
+            let mut keys = 0;
+            while keys < most && range.next().is_some() {
+                keys += 1;
+            }
+            keys
+        })
+    }
+
     // For timing: as a caller would have it, with no panic caught.
     pub fn range_timed(&self, lower: &Bound, upper: &Bound) -> Stream<'_, AlwaysMatch> {
         between(self.fst.range(), lower, upper)

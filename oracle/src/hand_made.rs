@@ -10,6 +10,25 @@ pub fn root_0() -> Vec<u8> {
     file
 }
 
+// a and b to address 0, and so many nodes above it, each with a and b to the one before, all of them final or none; then these. The
+// keys are 2, or 3, and twice as many with each node, or one more than that.
+pub fn doubled(version: u64, finals: bool, above: usize, on_top: &[u8]) -> Vec<u8> {
+    let state = if finals { 0x42 } else { 0x02 };
+    let mut nodes = vec![0, 0, b'b', b'a', 0x10, state];
+    for _ in 0..above {
+        nodes.extend(&[1, 1, b'b', b'a', 0x10, state]);
+    }
+    nodes.extend(on_top);
+    file_of(version, &nodes)
+}
+
+// c, b and a: one of them to a/0 at 16, which leads below 16 and is not sound, and the others to a final node with output 7.
+pub fn unsound_under(input: u8) -> Vec<u8> {
+    let delta = |b| if b == input { 5 } else { 1 };
+    let (a, b, c) = (delta(b'a'), delta(b'b'), delta(b'c'));
+    file_of(3, &[0xc1, 7, 1, 0, 0x40, c, b, a, b'c', b'b', b'a', 0x10, 3])
+}
+
 // Zeros with this version and this root, where a file of this length has them.
 pub fn ends(len: usize, version: u64, root: u64) -> Vec<u8> {
     let mut file = vec![0; len];

@@ -20,6 +20,8 @@ const README: &str = "tests/list/README.md";
 const MOST: usize = 4_096;
 // No refusal.
 const ADMITTED: u64 = 0;
+// The refusal of an admitted file with too many keys.
+const COUNT: u64 = 19;
 const TOP: u64 = u64::max_value();
 
 const ALL: Bound = Bound { kind: Kind::Unbounded, bytes: Vec::new() };
@@ -137,6 +139,16 @@ fn shared() -> Vec<u8> {
         }
     }
     builder.finish(0)
+}
+
+// So many nodes, each with a and b to the one before, the first to address 0, all with this state byte: 2 keys, or 3 where they are
+// final, and twice as many with each node more, or one more than that.
+fn doubled(n: usize, state: u8) -> Vec<u8> {
+    let mut nodes = vec![0, 0, b'b', b'a', 0x10, state];
+    for _ in 1..n {
+        nodes.extend(&[1, 1, b'b', b'a', 0x10, state]);
+    }
+    nodes
 }
 
 // The ends of each count of decimal digits from 1 to 20, each the value of a key.
@@ -359,6 +371,11 @@ fn unused_rows() -> Vec<Row> {
             "a node reached in two ways, to which an unused one leads too",
             file_of(1, &[0, 0x10, 0x85, 0xc5, 0xc6, 3, 2, b'b', b'a', 0x10, 0x02]),
         ),
+        yes(
+            "unused-too-many-keys",
+            "2^64 keys from a node that no path reaches",
+            file_of(3, &[&doubled(64, 2)[..], &b].concat()),
+        ),
     ]
 }
 
@@ -462,9 +479,19 @@ fn not_admitted_rows() -> Vec<Row> {
         deep("refused-6-key-256-bytes", "one key of 256 bytes", hand_made::one_key(256)),
         deep("refused-6-chain-of-256", "the chain of 256 nodes of `unused-path-of-256`, used", unused_path(256, &[])),
         deep("refused-6-and-a-sum", "a path of 256 bytes whose sum passes 2^64 - 1", hand_made::deep_and_sum()),
+        deep("refused-6-and-too-many-keys", "a path of 256 bytes and 2^256 keys", file_of(3, &doubled(256, 2))),
         sum("refused-7-outputs", "outputs 2^64 - 1 and 1", hand_made::sums(1, TOP)),
         sum("refused-7-sum-of-two-nodes", "the nodes of `unused-sum`, used", unused_sum(&[])),
         sum("refused-7-final-output", "output 2^64 - 1 and final output 1", hand_made::final_sums(1, TOP)),
+    ]
+}
+
+// Admitted files with over 2^64 - 1 keys.
+fn too_many_rows() -> Vec<Row> {
+    let many = |name, shows, nodes: &[u8]| row(name, COUNT, shows, file_of(3, nodes));
+    vec![
+        many("refused-19-too-many-keys", "2^64 keys in 64 nodes", &doubled(64, 2)),
+        many("refused-19-final-nodes", "2^65 - 1 keys in 64 final nodes", &doubled(64, 0x42)),
     ]
 }
 
@@ -511,6 +538,18 @@ fn by_paths(found: &Admitted) -> Listing {
     (keys, entered - 1)
 }
 
+// The number of held keys, up to 2^128 - 1: a node has those of its targets, which lie below it, and one if it is final.
+fn held(found: &Admitted) -> u128 {
+    // address 0 is a final node with no transitions; no bytes, no node
+    let mut keys = BTreeMap::new();
+    keys.insert(0, u128::from(found.meta.version != 0));
+    for (addr, node, _) in found.chain.iter().rev() {
+        let below = node.transitions.iter().map(|t| keys[&t.addr]);
+        keys.insert(*addr, below.fold(u128::from(node.is_final), u128::saturating_add));
+    }
+    keys[&found.meta.root]
+}
+
 // Document 01's form: a line for each key, and the last line.
 fn lines((keys, followed): &Listing) -> String {
     let mut lines = String::new();
@@ -524,7 +563,11 @@ fn lines((keys, followed): &Listing) -> String {
 
 // What the program is to write, or why the row is not what it is made for.
 fn expected(row: &Row) -> Result<String, String> {
-    let judged = if row.file.len() > MOST { Err(LARGE) } else { model_file::admitted(&row.file) };
+    let judged = match model_file::admitted(&row.file) {
+        _ if row.file.len() > MOST => Err(LARGE),
+        Ok(found) if held(&found) > u128::from(TOP) => Err(COUNT),
+        judged => judged,
+    };
     let verdict = judged.as_ref().err().copied().unwrap_or(ADMITTED);
     if verdict != row.verdict {
         return Err(format!("{}: made for {}, judged {} by the model", row.name, row.verdict, verdict));
@@ -546,7 +589,9 @@ fn expected(row: &Row) -> Result<String, String> {
 fn made() -> Result<(BTreeMap<String, Vec<u8>>, String), String> {
     let mut files = BTreeMap::new();
     let mut table = String::from("| File | Bytes | Last line | Shows |\n|---|---|---|---|\n");
-    for rows in vec![admitted_rows(), unusual_rows(), unused_rows(), refused_rows(), not_admitted_rows()] {
+    for rows in
+        vec![admitted_rows(), unusual_rows(), unused_rows(), refused_rows(), not_admitted_rows(), too_many_rows()]
+    {
         for row in rows {
             let out = expected(&row)?;
             let last = out.lines().last().unwrap_or("");

@@ -4,7 +4,7 @@
 use std::collections::{HashMap, HashSet};
 
 use crate::answers::{
-    At, FileAnswers, Meaning, Meta, Transition, DEEP, HELD, KEY_REFUSED, LARGE, NODE, NOT_HELD, NO_CHECKSUM, NO_KEY,
+    At, FileAnswers, Meaning, Meta, Transition, COUNT, DEEP, HELD, KEY_REFUSED, LARGE, NODE, NOT_HELD, NO_CHECKSUM, NO_KEY,
     ROOT, SHORT, SPACE, SUM, VERSION,
 };
 use crate::model::{self, number, Model, FIRST_NODE, MAX_LEN};
@@ -65,11 +65,12 @@ pub fn judge(file: &[u8], meta: &Meta, addr: usize) -> Option<Meaning> {
 
 // ---- admission
 
-// The longest path from a node, and its largest sum.
+// The longest path from a node, its largest sum, and the number of keys from it, at most 2^128 - 1.
 #[derive(Clone, Copy, Debug, Eq, PartialEq)]
 pub struct Reach {
     pub longest: usize,
     pub largest: u128,
+    pub keys: u128,
 }
 
 // An admitted file: the nodes of its chain, from the root down, with what they reach; and the addresses that a path from the
@@ -85,6 +86,18 @@ impl Admitted {
     pub fn entries(&self) -> Vec<(usize, u16, u64)> {
         let reached = self.chain.iter().filter(|(addr, _, _)| self.reached.contains(addr));
         reached.map(|(addr, _, r)| (*addr, 1 + r.longest as u16, r.largest as u64)).collect()
+    }
+
+    // The table of keys of a file of n bytes: the number of keys from each reached node; 19 where one is over 2^64 - 1.
+    pub fn counts(&self, n: usize) -> Result<Vec<u64>, u64> {
+        let mut counts = vec![0; n];
+        for (addr, _, reach) in self.chain.iter().filter(|(addr, _, _)| self.reached.contains(addr)) {
+            if reach.keys > MAX_SUM {
+                return Err(COUNT);
+            }
+            counts[*addr] = reach.keys as u64;
+        }
+        Ok(counts)
     }
 }
 
@@ -130,15 +143,17 @@ pub fn admitted(file: &[u8]) -> Result<Admitted, u64> {
     }
     // a target lies below its node, so from the lowest node up each target is known
     for (addr, node) in nodes.iter().rev() {
-        let mut here = Reach { longest: 0, largest: u128::from(node.final_output) };
+        let mut here =
+            Reach { longest: 0, largest: u128::from(node.final_output), keys: u128::from(node.is_final) };
         for t in &node.transitions {
             // address 0 is a final node with no transitions and output 0
             let there = match t.addr {
-                0 => Reach { longest: 0, largest: 0 },
+                0 => Reach { longest: 0, largest: 0, keys: 1 },
                 target => reach[&target].expect("a target lies below its node"),
             };
             here.longest = here.longest.max(1 + there.longest);
             here.largest = here.largest.max(u128::from(t.out) + there.largest);
+            here.keys = here.keys.saturating_add(there.keys);
         }
         reach.insert(*addr, Some(here));
     }
@@ -201,7 +216,7 @@ pub fn entries(file: &[u8]) -> Result<Entries, u64> {
     for i in 0..nodes.len() {
         let node = judge(file, &meta, nodes[i].0 as usize).expect("judged above");
         said = said.wrapping_add(node.is_final as u64).wrapping_add(node.final_output);
-        let mut here = Reach { longest: 0, largest: u128::from(node.final_output) };
+        let mut here = Reach { longest: 0, largest: u128::from(node.final_output), keys: 0 };
         for t in &node.transitions {
             said = said.wrapping_add(u64::from(t.inp)).wrapping_add(t.out).wrapping_add(t.addr as u64);
             let there = match t.addr {
@@ -242,14 +257,29 @@ pub fn fill(n: usize, judged: &Result<Admitted, u64>, depths: &mut [u16], sums: 
     }
 }
 
+// What filling leaves in the table of keys of a file of n bytes that opens, where all three tables are long enough, and what it
+// answers: after 5, 6 and 7 the table is as it was, after 19 it has zeros over the file's length.
+pub fn fill_counts(n: usize, judged: &Result<Admitted, u64>, counts: &mut [u64]) -> u64 {
+    match judged {
+        Ok(admitted) => {
+            let filled = admitted.counts(n);
+            counts[..n].copy_from_slice(filled.as_ref().unwrap_or(&vec![0; n]));
+            filled.err().unwrap_or(0)
+        }
+        Err(why) => *why,
+    }
+}
+
 // What a node of an admitted file reaches, by following every path from it; nothing where there are more than `steps`
 // transitions to follow.
 pub fn reach_by_paths(nodes: &HashMap<usize, &Meaning>, addr: usize, steps: &mut usize) -> Option<Reach> {
-    let mut found = Reach { longest: 0, largest: 0 };
+    let mut found = Reach { longest: 0, largest: 0, keys: 0 };
     // the paths still to be followed: where they lead, their length and their sum
     let mut paths = vec![(addr, 0, 0)];
     while let Some((addr, length, sum)) = paths.pop() {
         let final_output = if addr == 0 { 0 } else { nodes[&addr].final_output };
+        // each path that ends at a final node is a key
+        found.keys += u128::from(addr == 0 || nodes[&addr].is_final);
         found.longest = found.longest.max(length);
         found.largest = found.largest.max(sum + u128::from(final_output));
         if addr != 0 {
@@ -392,6 +422,19 @@ impl FileAnswers for Model {
         let judged = admitted(file);
         fill(n, &judged, depths, sums);
         judged.err().unwrap_or(0)
+    }
+
+    fn count_keys(&self, file: &[u8], depths: &mut [u16], sums: &mut [u64], counts: &mut [u64]) -> u64 {
+        let n = file.len();
+        if let Err(why) = open(file) {
+            return why;
+        }
+        if depths.len() < n || sums.len() < n || counts.len() < n {
+            return SPACE;
+        }
+        let judged = admitted(file);
+        fill(n, &judged, depths, sums);
+        fill_counts(n, &judged, counts)
     }
 
     fn get(&self, file: &[u8], key: &[u8], out: &mut [u64]) -> u64 {

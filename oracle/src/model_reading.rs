@@ -1,8 +1,9 @@
-// A plain model of document 01, "A reading": start and next, on all bytes and from every reading whatsoever. It is written from
-// the paper, with OPEN-POINTS 9 and 11 to 16; nodes and files are judged by model.rs and model_file.rs.
+// A plain model of document 01, "A reading", with document 02's N11: start and next, on all bytes, with every table and from every
+// reading whatsoever. It is written from the papers, with OPEN-POINTS 9 and 11 to 16; nodes and files are judged by model.rs and
+// model_file.rs.
 
 use crate::answers::{
-    Bound, Held, Kind, Level, Meaning, Meta, Reading, ReadingAnswers, BOUND, BOUND_BYTES, DEEP, END, LEVELS,
+    Bound, Held, Kind, Level, Meaning, Meta, Reading, ReadingAnswers, BOUND, BOUND_BYTES, COUNT, DEEP, END, LEVELS,
     NEXT_REFUSED, NODE, SPACE, STARTED, STATE, SUM,
 };
 use crate::model::Model;
@@ -69,8 +70,76 @@ fn enter(file: &[u8], meta: &Meta, bytes: &[u8]) -> Result<Vec<Entered>, u64> {
     Ok(entered)
 }
 
-// A reading of the keys between two bounds, or 1, 4, 2, 3, then 9, then what the walk along the lower bound meets.
-pub fn start(file: &[u8], lower: &Bound, upper: &Bound) -> Result<Reading, u64> {
+// A reading of the keys between two bounds, or 1, 4, 2, 3, then 9, then 8 for the table, then what the walk along the lower bound
+// meets, then what the number meets: 5 along the upper bound, and 19.
+pub fn start(file: &[u8], lower: &Bound, upper: &Bound, counts: &[u64]) -> Result<Reading, u64> {
+    let meta = open(file)?;
+    if meant(lower).len() > BOUND_BYTES || meant(upper).len() > BOUND_BYTES {
+        return Err(BOUND);
+    }
+    if counts.len() < file.len() {
+        return Err(SPACE);
+    }
+    let begun = bare_start(file, lower, upper)?;
+    let keys = if file.is_empty() || cross(lower, upper) { 0 } else { number(file, &meta, lower, upper, counts)? };
+    Ok(Reading { keys, ..begun })
+}
+
+// ---- the number of keys to come
+
+// Bounds cross where both are given and the lower's bytes are greater, or equal with either excluded.
+pub fn cross(lower: &Bound, upper: &Bound) -> bool {
+    let given = lower.kind != Kind::Unbounded && upper.kind != Kind::Unbounded;
+    let excluded = lower.kind == Kind::Excluded || upper.kind == Kind::Excluded;
+    given && (lower.bytes > upper.bytes || lower.bytes == upper.bytes && excluded)
+}
+
+// The keys from an address: one from 0, for which no entry is read.
+fn keys_at(counts: &[u64], addr: usize) -> u128 {
+    if addr == 0 {
+        1
+    } else {
+        u128::from(counts[addr])
+    }
+}
+
+// The keys before a string, and the string itself if it counts; or 5 for a node on its path, the last included.
+fn keys_up_to(file: &[u8], meta: &Meta, counts: &[u64], string: &[u8], own: bool) -> Result<u128, u64> {
+    let (mut addr, mut keys) = (meta.root, 0);
+    for &b in string {
+        let node = judge(file, meta, addr).ok_or(NODE)?;
+        keys += u128::from(node.is_final);
+        for t in node.transitions.iter().filter(|t| t.inp < b) {
+            keys += keys_at(counts, t.addr);
+        }
+        match node.transitions.iter().find(|t| t.inp == b) {
+            Some(t) => addr = t.addr,
+            None => return Ok(keys),
+        }
+    }
+    let node = judge(file, meta, addr).ok_or(NODE)?;
+    Ok(keys + u128::from(own && node.is_final))
+}
+
+// The keys that do not pass the upper bound, less those that do not meet the lower.
+fn number(file: &[u8], meta: &Meta, lower: &Bound, upper: &Bound, counts: &[u64]) -> Result<u64, u64> {
+    let within = match upper.kind {
+        Kind::Unbounded => keys_at(counts, meta.root),
+        kind => keys_up_to(file, meta, counts, &upper.bytes, kind == Kind::Included)?,
+    };
+    let below = match lower.kind {
+        Kind::Unbounded => 0,
+        kind => keys_up_to(file, meta, counts, &lower.bytes, kind == Kind::Excluded)?,
+    };
+    if within > MAX_SUM || below > MAX_SUM || within < below {
+        return Err(COUNT);
+    }
+    Ok((within - below) as u64)
+}
+
+// ---- a start without the number
+
+pub fn bare_start(file: &[u8], lower: &Bound, upper: &Bound) -> Result<Reading, u64> {
     let meta = open(file)?;
     if meant(lower).len() > BOUND_BYTES || meant(upper).len() > BOUND_BYTES {
         return Err(BOUND);
@@ -82,6 +151,7 @@ pub fn start(file: &[u8], lower: &Bound, upper: &Bound) -> Result<Reading, u64> 
         bound: meant(upper).to_vec(),
         pending: None,
         total: 0,
+        keys: 0,
         level_count: 0,
         levels: Vec::new(),
     };
@@ -136,8 +206,19 @@ pub enum Told {
     Refused(u64),
 }
 
-// What a next answers with a key buffer of so many bytes, and the reading afterwards.
+// What a next answers with a key buffer of so many bytes, and the reading afterwards. A key lowers the number of keys to come, and is
+// 11, as the last thing judged, where the number says none.
 pub fn next(file: &[u8], reading: &Reading, space: usize) -> (Told, Reading) {
+    let (told, after) = bare_next(file, reading, space);
+    match told {
+        Told::Key(..) if reading.keys == 0 => (Told::Refused(STATE), reading.clone()),
+        Told::Key(..) => (told, Reading { keys: reading.keys - 1, ..after }),
+        Told::End | Told::Refused(_) => (told, after),
+    }
+}
+
+// The same without a look at the number.
+pub fn bare_next(file: &[u8], reading: &Reading, space: usize) -> (Told, Reading) {
     match unrefused(file, reading, space) {
         Ok(answered) => answered,
         Err(why) => (Told::Refused(why), reading.clone()),
@@ -219,8 +300,8 @@ pub fn tell(told: &Told, key: &mut [u8], value: &mut [u64; 1]) -> u64 {
 }
 
 impl ReadingAnswers for Model {
-    fn start(&self, file: &[u8], lower: &Bound, upper: &Bound, held: &mut Held) -> u64 {
-        match start(file, lower, upper) {
+    fn start(&self, file: &[u8], lower: &Bound, upper: &Bound, counts: &[u64], held: &mut Held) -> u64 {
+        match start(file, lower, upper, counts) {
             Ok(started) => {
                 held.put(&started);
                 STARTED
@@ -233,5 +314,20 @@ impl ReadingAnswers for Model {
         let (told, after) = next(file, &held.reading(), key.len());
         held.put(&after);
         tell(&told, key, value)
+    }
+
+    fn bare_keys(&self, file: &[u8], lower: &Bound, upper: &Bound, most: u64, key: &mut [u8]) -> u64 {
+        let mut reading = match bare_start(file, lower, upper) {
+            Ok(reading) => reading,
+            Err(_) => return 0,
+        };
+        for n in 0..most {
+            let (told, after) = bare_next(file, &reading, key.len());
+            if tell(&told, key, &mut [0]) >= END {
+                return n;
+            }
+            reading = after;
+        }
+        most
     }
 }

@@ -17,6 +17,17 @@ extern "C" {
         sums_len: usize,
     ) -> u64;
 
+    fn baxhiso_count_keys(
+        file: *const u8,
+        file_len: usize,
+        depths: *mut u16,
+        depths_len: usize,
+        sums: *mut u64,
+        sums_len: usize,
+        counts: *mut u64,
+        counts_len: usize,
+    ) -> u64;
+
     fn baxhiso_get(
         file: *const u8,
         file_len: usize,
@@ -38,6 +49,21 @@ impl FileAnswers for Library {
     fn admit(&self, file: &[u8], depths: &mut [u16], sums: &mut [u64]) -> u64 {
         unsafe {
             baxhiso_admit(file.as_ptr(), file.len(), depths.as_mut_ptr(), depths.len(), sums.as_mut_ptr(), sums.len())
+        }
+    }
+
+    fn count_keys(&self, file: &[u8], depths: &mut [u16], sums: &mut [u64], counts: &mut [u64]) -> u64 {
+        unsafe {
+            baxhiso_count_keys(
+                file.as_ptr(),
+                file.len(),
+                depths.as_mut_ptr(),
+                depths.len(),
+                sums.as_mut_ptr(),
+                sums.len(),
+                counts.as_mut_ptr(),
+                counts.len(),
+            )
         }
     }
 

@@ -15,12 +15,15 @@ extern "C" {
         upper_kind: u64,
         upper: *const u8,
         upper_len: usize,
+        counts: *const u64,
+        counts_len: usize,
         head: *mut u64,
         bound: *mut u8,
         addrs: *mut u32,
         inps: *mut u8,
         places: *mut u16,
         sums: *mut u64,
+        keys: *mut u64,
     ) -> u64;
 
     fn baxhiso_next(
@@ -32,12 +35,29 @@ extern "C" {
         inps: *mut u8,
         places: *mut u16,
         sums: *mut u64,
+        keys: *mut u64,
         key: *mut u8,
         key_len: usize,
         value: *mut u64,
     ) -> u64;
 
     fn baxhiso_keys(
+        file: *const u8,
+        file_len: usize,
+        lower_kind: u64,
+        lower: *const u8,
+        lower_len: usize,
+        upper_kind: u64,
+        upper: *const u8,
+        upper_len: usize,
+        counts: *const u64,
+        counts_len: usize,
+        most: u64,
+        key: *mut u8,
+        key_len: usize,
+    ) -> u64;
+
+    fn baxhiso_bare_keys(
         file: *const u8,
         file_len: usize,
         lower_kind: u64,
@@ -54,7 +74,7 @@ extern "C" {
 
 // Each slice and array lives through the call, and one that is written is lent to nobody else.
 impl ReadingAnswers for Library {
-    fn start(&self, file: &[u8], lower: &Bound, upper: &Bound, held: &mut Held) -> u64 {
+    fn start(&self, file: &[u8], lower: &Bound, upper: &Bound, counts: &[u64], held: &mut Held) -> u64 {
         unsafe {
             baxhiso_start(
                 file.as_ptr(),
@@ -65,12 +85,15 @@ impl ReadingAnswers for Library {
                 upper.kind.number(),
                 upper.bytes.as_ptr(),
                 upper.bytes.len(),
+                counts.as_ptr(),
+                counts.len(),
                 held.head.as_mut_ptr(),
                 held.bound.as_mut_ptr(),
                 held.addrs.as_mut_ptr(),
                 held.inps.as_mut_ptr(),
                 held.places.as_mut_ptr(),
                 held.sums.as_mut_ptr(),
+                held.keys.as_mut_ptr(),
             )
         }
     }
@@ -86,6 +109,7 @@ impl ReadingAnswers for Library {
                 held.inps.as_mut_ptr(),
                 held.places.as_mut_ptr(),
                 held.sums.as_mut_ptr(),
+                held.keys.as_mut_ptr(),
                 key.as_mut_ptr(),
                 key.len(),
                 value.as_mut_ptr(),
@@ -93,9 +117,29 @@ impl ReadingAnswers for Library {
         }
     }
 
-    fn keys(&self, file: &[u8], lower: &Bound, upper: &Bound, most: u64, key: &mut [u8]) -> u64 {
+    fn keys(&self, file: &[u8], lower: &Bound, upper: &Bound, counts: &[u64], most: u64, key: &mut [u8]) -> u64 {
         unsafe {
             baxhiso_keys(
+                file.as_ptr(),
+                file.len(),
+                lower.kind.number(),
+                lower.bytes.as_ptr(),
+                lower.bytes.len(),
+                upper.kind.number(),
+                upper.bytes.as_ptr(),
+                upper.bytes.len(),
+                counts.as_ptr(),
+                counts.len(),
+                most,
+                key.as_mut_ptr(),
+                key.len(),
+            )
+        }
+    }
+
+    fn bare_keys(&self, file: &[u8], lower: &Bound, upper: &Bound, most: u64, key: &mut [u8]) -> u64 {
+        unsafe {
+            baxhiso_bare_keys(
                 file.as_ptr(),
                 file.len(),
                 lower.kind.number(),

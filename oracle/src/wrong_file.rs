@@ -1,9 +1,9 @@
-// Wrong answers about whole files, to see that the comparisons notice them: document 01 with one slip each.
+// Wrong answers about whole files, to see that the comparisons notice them: documents 01 and 02 with one slip each.
 
 use std::collections::{HashMap, HashSet};
 
 use crate::answers::{
-    At, FileAnswers, Meaning, Meta, DEEP, HELD, KEY_REFUSED, LARGE, NODE, NOT_HELD, NO_CHECKSUM, NO_KEY, ROOT, SHORT,
+    At, FileAnswers, Meaning, Meta, COUNT, DEEP, HELD, KEY_REFUSED, LARGE, NODE, NOT_HELD, NO_CHECKSUM, NO_KEY, ROOT, SHORT,
     SPACE, SUM, VERSION,
 };
 use crate::model::{self, number, FIRST_NODE, MAX_LEN};
@@ -58,6 +58,23 @@ pub const SLIPS: &[&str] = &[
     "tables are wiped before 8",
     "a table is written beyond the file",
     "8 comes before opening's refusals",
+    // the table of keys
+    "address 0 counts no key",
+    "a final node's own key is left out",
+    "equal targets of a node count once",
+    "keys from nodes that are not reached count",
+    "nodes that are not reached have a number of keys",
+    "2^64 - 1 keys are too many",
+    "2^64 keys wrap",
+    "the third table's length is not judged",
+    "a third table one entry short is taken",
+    "the first two tables are filled before the third's 8",
+    "the third table is wiped after 5",
+    "the third table stays as it was after 19",
+    "the third table stays filled up to the node of 19",
+    "the first two tables are wiped after 19",
+    "the third table keeps what stood beside its entries",
+    "the third table is written beyond the file",
     "a table one entry short is taken",
     "the second table's length is not judged",
     "a file without bytes is turned down",
@@ -279,6 +296,37 @@ impl Wrong {
         Ok(entries)
     }
 
+    // The entries of the table of keys of an admitted file, up to the first that is too large, and whether there is one.
+    fn keys_of_nodes(&self, file: &[u8]) -> (Vec<(usize, u64)>, bool) {
+        let found = model_file::admitted(file).ok().expect("it was admitted");
+        let mut all: HashMap<usize, u128> = HashMap::new();
+        let mut entries = Vec::new();
+        for (addr, node, _) in found.chain.iter().rev() {
+            let mut keys = u128::from(node.is_final && !self.slips("a final node's own key is left out"));
+            let mut met = HashSet::new();
+            for t in &node.transitions {
+                if !met.insert(t.addr) && self.slips("equal targets of a node count once") {
+                    continue;
+                }
+                let none = self.slips("address 0 counts no key");
+                keys = keys.saturating_add(if t.addr == 0 { u128::from(!none) } else { all[&t.addr] });
+            }
+            if self.slips("2^64 keys wrap") {
+                keys %= 1 << 64;
+            }
+            all.insert(*addr, keys);
+            let reached = found.reached.contains(addr);
+            let top = (1u128 << 64) - 1 - self.slips("2^64 - 1 keys are too many") as u128;
+            if keys > top && (reached || self.slips("keys from nodes that are not reached count")) {
+                return (entries, true);
+            }
+            if reached || self.slips("nodes that are not reached have a number of keys") {
+                entries.push((*addr, keys as u64));
+            }
+        }
+        (entries, false)
+    }
+
     fn find(&self, file: &[u8], value: u64, space: usize, key: &mut [u8]) -> Result<Option<Vec<u8>>, u64> {
         let least = if self.slips("a key buffer of 254 bytes is taken") { MAX_PATH - 1 } else { MAX_PATH };
         if self.slips("8 comes before the search's opening") && space < least {
@@ -467,6 +515,50 @@ impl FileAnswers for Wrong {
                 0
             }
             Err(why) => why,
+        }
+    }
+
+    fn count_keys(&self, file: &[u8], depths: &mut [u16], sums: &mut [u64], counts: &mut [u64]) -> u64 {
+        let n = file.len();
+        if let Err(why) = model_file::open(file) {
+            return why;
+        }
+        let third = !self.slips("the third table's length is not judged");
+        let more = self.slips("a third table one entry short is taken") as usize;
+        if self.slips("the first two tables are filled before the third's 8") {
+            model::Model.admit(file, depths, sums);
+        }
+        if depths.len() < n || sums.len() < n || third && counts.len() + more < n {
+            return SPACE;
+        }
+        let why = model::Model.admit(file, depths, sums);
+        if why != 0 {
+            if why == NODE && self.slips("the third table is wiped after 5") {
+                counts.iter_mut().take(n).for_each(|entry| *entry = 0);
+            }
+            return why;
+        }
+        let (keys, many) = self.keys_of_nodes(file);
+        let kept = many && self.slips("the third table stays as it was after 19")
+            || self.slips("the third table keeps what stood beside its entries");
+        if !kept {
+            counts.iter_mut().take(n).for_each(|entry| *entry = 0);
+        }
+        if self.slips("the third table is written beyond the file") && counts.len() > n {
+            counts[n] = 0;
+        }
+        if many && self.slips("the first two tables are wiped after 19") {
+            wipe(depths, sums, n);
+        }
+        if !many || self.slips("the third table stays filled up to the node of 19") {
+            for (addr, keys) in keys {
+                counts.iter_mut().skip(addr).take(1).for_each(|entry| *entry = keys);
+            }
+        }
+        if many {
+            COUNT
+        } else {
+            0
         }
     }
 

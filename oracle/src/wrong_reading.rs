@@ -1,11 +1,11 @@
-// Wrong answers about readings, to see that the comparisons notice them: document 01 with one slip each.
+// Wrong answers about readings, to see that the comparisons notice them: documents 01 and 02 with one slip each.
 
 use crate::answers::{
-    Bound, Held, Kind, Level, Meta, Reading, ReadingAnswers, BOUND, BOUND_BYTES, DEEP, LEVELS, NODE, SPACE, STARTED,
-    STATE, SUM,
+    Bound, Held, Kind, Level, Meta, Reading, ReadingAnswers, BOUND, BOUND_BYTES, COUNT, DEEP, END, LEVELS, NODE, SPACE,
+    STARTED, STATE, SUM,
 };
-use crate::model_file::{judge, open, MAX_PATH};
-use crate::model_reading::{passes, tell, Told};
+use crate::model_file::{judge, open, MAX_PATH, MAX_SUM};
+use crate::model_reading::{cross, passes, tell, Told};
 use crate::wrong::Wrong;
 
 pub const SLIPS: &[&str] = &[
@@ -34,7 +34,46 @@ pub const SLIPS: &[&str] = &[
     "7 comes before 5 in a start",
     "a start judges the final output",
     "a refused start writes a number",
+    // the number of a start
+    "a start's table is not judged",
+    "a start's table one entry short is taken",
+    "a start's table is judged only where it is read",
+    "8 comes before a start's opening",
+    "8 comes before 9 in a start",
+    "8 comes after the walk of a start",
+    "a start on no bytes has a number",
+    "crossed bounds are read",
+    "equal bounds do not cross",
+    "crossed bounds judge the upper bound's nodes",
+    "the number is the root's entry",
+    "the number counts an excluded upper bound",
+    "the number leaves an included upper bound out",
+    "the number counts an excluded lower bound",
+    "the number leaves an included lower bound out",
+    "keys that begin a bound are left out of the number",
+    "an equal input counts in the number",
+    "a target of 0 has an entry",
+    "a target of 0 counts none",
+    "the upper bound's nodes are not judged",
+    "the upper bound's last node is not judged",
+    "7 is judged along the upper bound",
+    "19 comes before the upper bound's 5",
+    "the number wraps",
+    "the number is 0 where fewer keys are within than before",
+    "19 is not judged of the keys before the lower bound",
     // next
+    "a key does not lower the number",
+    "the pending key does not lower the number",
+    "the end lowers the number",
+    "the end leaves no key to come",
+    "a refusal lowers the number",
+    "a key comes where the number says none",
+    "the pending key comes where the number says none",
+    "11 comes at the end where the number says none",
+    "the number is judged first",
+    "the number is judged before the final output",
+    "the late 11 writes the key",
+    "the late 11 leaves the reading that it reached",
     "a reading ends at the first call",
     "the first key is repeated",
     "a place is not advanced",
@@ -101,15 +140,26 @@ impl Wrong {
         counts && bound.bytes.len() > most
     }
 
-    fn begun(&self, file: &[u8], lower: &Bound, upper: &Bound) -> Result<Reading, u64> {
+    // A start, without the number where no table is given.
+    fn begun(&self, file: &[u8], lower: &Bound, upper: &Bound, counts: Option<&[u64]>) -> Result<Reading, u64> {
         let judges_upper = !self.slips("the upper bound's length is not judged");
         let too_long = self.too_long(lower) || judges_upper && self.too_long(upper);
         if self.slips("9 comes before opening's refusals") && too_long {
             return Err(BOUND);
         }
+        let short = counts.map_or(false, |counts| self.too_short(file, lower, upper, counts));
+        if self.slips("8 comes before a start's opening") && short {
+            return Err(SPACE);
+        }
         let meta = open(file)?;
+        if self.slips("8 comes before 9 in a start") && short {
+            return Err(SPACE);
+        }
         if too_long && !self.slips("9 comes after the walk") {
             return Err(BOUND);
+        }
+        if short && !self.slips("8 comes after the walk of a start") {
+            return Err(SPACE);
         }
         let (levels, pending) = if !file.is_empty() {
             self.sought(file, &meta, lower)?
@@ -125,6 +175,13 @@ impl Wrong {
         if too_long {
             return Err(BOUND);
         }
+        if short {
+            return Err(SPACE);
+        }
+        let keys = match counts {
+            Some(counts) => self.number_to_come(file, &meta, lower, upper, counts)?,
+            None => 0,
+        };
         let counted = if self.slips("the transitions of the start count") { (levels.len() as u64).saturating_sub(1) } else { 0 };
         let bound: &[u8] = if upper.kind == Kind::Unbounded { &[] } else { &upper.bytes };
         Ok(Reading {
@@ -134,9 +191,119 @@ impl Wrong {
             bound: bound[..bound.len().min(BOUND_BYTES)].to_vec(),
             pending,
             total: if self.slips("the total starts at 1") { 1 } else { counted },
+            keys,
             level_count: levels.len(),
             levels,
         })
+    }
+
+    fn too_short(&self, file: &[u8], lower: &Bound, upper: &Bound, counts: &[u64]) -> bool {
+        if self.slips("a start's table is not judged") {
+            return false;
+        }
+        if self.slips("a start's table is judged only where it is read") && cross(lower, upper) {
+            return false;
+        }
+        let more = self.slips("a start's table one entry short is taken") as usize;
+        counts.len() + more < file.len()
+    }
+
+    fn entry(&self, counts: &[u64], addr: usize) -> u128 {
+        if addr == 0 && self.slips("a target of 0 counts none") {
+            return 0;
+        }
+        if addr == 0 && !self.slips("a target of 0 has an entry") {
+            return 1;
+        }
+        u128::from(counts.get(addr).copied().unwrap_or(0))
+    }
+
+    // The keys up to a bound.
+    fn keys_up_to(&self, file: &[u8], meta: &Meta, bound: &Bound, counts: &[u64], own: bool, is_upper: bool) -> Result<u128, u64> {
+        let (mut addr, mut keys, mut sum) = (meta.root, 0u128, 0u128);
+        for i in 0..=bound.bytes.len() {
+            let last = i == bound.bytes.len();
+            let unjudged = is_upper
+                && (self.slips("the upper bound's nodes are not judged")
+                    || last && self.slips("the upper bound's last node is not judged"));
+            let node = match judge(file, meta, addr) {
+                Some(node) => node,
+                None if unjudged => return Ok(keys),
+                None => return Err(NODE),
+            };
+            if self.slips("7 is judged along the upper bound") && sum > MAX_SUM {
+                return Err(SUM);
+            }
+            if last {
+                return Ok(keys + u128::from(own && node.is_final));
+            }
+            let b = bound.bytes[i];
+            keys += u128::from(node.is_final && !self.slips("keys that begin a bound are left out of the number"));
+            let equal = self.slips("an equal input counts in the number");
+            for t in node.transitions.iter().filter(|t| t.inp < b || equal && t.inp == b) {
+                keys += self.entry(counts, t.addr);
+            }
+            if self.slips("19 comes before the upper bound's 5") && keys > MAX_SUM {
+                return Err(COUNT);
+            }
+            match node.transitions.iter().find(|t| t.inp == b) {
+                Some(t) => {
+                    addr = t.addr;
+                    sum += u128::from(t.out);
+                }
+                None => return Ok(keys),
+            }
+        }
+        unreachable!("the last place answers")
+    }
+
+    fn number_to_come(&self, file: &[u8], meta: &Meta, lower: &Bound, upper: &Bound, counts: &[u64]) -> Result<u64, u64> {
+        if file.is_empty() {
+            return Ok(self.slips("a start on no bytes has a number") as u64);
+        }
+        let own_upper = match upper.kind {
+            Kind::Included => !self.slips("the number leaves an included upper bound out"),
+            _ => self.slips("the number counts an excluded upper bound"),
+        };
+        let own_lower = match lower.kind {
+            Kind::Included => self.slips("the number leaves an included lower bound out"),
+            _ => !self.slips("the number counts an excluded lower bound"),
+        };
+        let mut crossed = cross(lower, upper) && !self.slips("crossed bounds are read");
+        if self.slips("equal bounds do not cross") && lower.bytes == upper.bytes {
+            crossed = false;
+        }
+        if crossed {
+            if self.slips("crossed bounds judge the upper bound's nodes") {
+                self.keys_up_to(file, meta, upper, counts, own_upper, true)?;
+            }
+            return Ok(0);
+        }
+        let root = self.entry(counts, meta.root);
+        if self.slips("the number is the root's entry") {
+            return Ok(root as u64);
+        }
+        let within = match upper.kind {
+            Kind::Unbounded => root,
+            _ => self.keys_up_to(file, meta, upper, counts, own_upper, true)?,
+        };
+        let below = match lower.kind {
+            Kind::Unbounded => 0,
+            _ => self.keys_up_to(file, meta, lower, counts, own_lower, false)?,
+        };
+        if self.slips("the number wraps") {
+            return Ok(within.wrapping_sub(below) as u64);
+        }
+        if self.slips("19 is not judged of the keys before the lower bound") && below > MAX_SUM {
+            return Ok(0);
+        }
+        if self.slips("the number is 0 where fewer keys are within than before") && within < below {
+            return Ok(0);
+        }
+        if within > MAX_SUM || below > MAX_SUM || within < below {
+            return Err(COUNT);
+        }
+        Ok((within - below) as u64)
     }
 
     // The levels and the pending key of a start.
@@ -409,6 +576,9 @@ impl Wrong {
                 break;
             }
             if target.is_final {
+                if self.slips("the number is judged before the final output") && reading.keys == 0 {
+                    return self.refused(STATE, levels, after);
+                }
                 if too_much {
                     return self.refused(SUM, levels, after);
                 }
@@ -439,6 +609,43 @@ impl Wrong {
         }
     }
 
+    // What a call tells once the number of keys to come is looked at.
+    fn number_judged(&self, before: &Reading, after: &mut Reading, told: Told, key: &mut [u8]) -> Told {
+        let none = before.keys == 0;
+        let pending = before.pending.is_some();
+        let late = match &told {
+            Told::Key(..) => {
+                let comes = self.slips("a key comes where the number says none")
+                    || pending && self.slips("the pending key comes where the number says none");
+                none && !comes
+            }
+            Told::End => none && self.slips("11 comes at the end where the number says none"),
+            Told::Refused(_) => false,
+        };
+        if late || none && self.slips("the number is judged first") {
+            if let (Told::Key(found, _), true) = (&told, self.slips("the late 11 writes the key")) {
+                key[..found.len()].copy_from_slice(found);
+            }
+            if !self.slips("the late 11 leaves the reading that it reached") {
+                *after = before.clone();
+            }
+            return Told::Refused(STATE);
+        }
+        let lowers = match &told {
+            Told::Key(..) => {
+                !self.slips("a key does not lower the number")
+                    && !(pending && self.slips("the pending key does not lower the number"))
+            }
+            Told::End => self.slips("the end lowers the number"),
+            Told::Refused(_) => self.slips("a refusal lowers the number"),
+        };
+        after.keys = before.keys.saturating_sub(lowers as u64);
+        if told == Told::End && self.slips("the end leaves no key to come") {
+            after.keys = 0;
+        }
+        told
+    }
+
     // A refusal in the middle of a walk.
     fn refused(&self, why: u64, mut levels: Vec<Level>, after: &mut Reading) -> Result<Told, u64> {
         if self.slips("a refusal counts") {
@@ -453,8 +660,8 @@ impl Wrong {
 }
 
 impl ReadingAnswers for Wrong {
-    fn start(&self, file: &[u8], lower: &Bound, upper: &Bound, held: &mut Held) -> u64 {
-        match self.begun(file, lower, upper) {
+    fn start(&self, file: &[u8], lower: &Bound, upper: &Bound, counts: &[u64], held: &mut Held) -> u64 {
+        match self.begun(file, lower, upper, Some(counts)) {
             Ok(begun) => {
                 held.put(&begun);
                 STARTED
@@ -477,6 +684,7 @@ impl ReadingAnswers for Wrong {
         if let Told::Key(found, _) = &mut told {
             found.truncate(key.len());
         }
+        told = self.number_judged(&before, &mut after, told, key);
         held.put(&after);
         if let (Told::Key(found, _), true) = (&told, self.slips("the rest of a next's buffer is cleared")) {
             key[found.len()..].iter_mut().for_each(|b| *b = 0);
@@ -485,5 +693,27 @@ impl ReadingAnswers for Wrong {
             *value = [0];
         }
         tell(&told, key, value)
+    }
+
+    fn bare_keys(&self, file: &[u8], lower: &Bound, upper: &Bound, most: u64, key: &mut [u8]) -> u64 {
+        let mut reading = match self.begun(file, lower, upper, None) {
+            Ok(reading) => reading,
+            Err(_) => return 0,
+        };
+        for n in 0..most {
+            // the number stands in no key's way
+            reading.keys = 1;
+            let mut after = reading.clone();
+            let mut told = self.went(file, &reading, &mut after, key).unwrap_or_else(Told::Refused);
+            after.levels.truncate(LEVELS);
+            if let Told::Key(found, _) = &mut told {
+                found.truncate(key.len());
+            }
+            if tell(&told, key, &mut [0]) >= END {
+                return n;
+            }
+            reading = after;
+        }
+        most
     }
 }

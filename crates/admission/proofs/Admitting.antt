@@ -25,7 +25,7 @@ use Rattle.admission_node.specs.Entries.{Kept}
 use Rattle.format.specs.Paths.{fstWith}
 use Rattle.admission.specs.Outcome.{Holds, Wiped, RefusedFor, not-opened, no-space, no-nodes, too-deep, too-heavy, Admits, Outcome, Opens, Cleared, JudgeCase, Judges}
 use Rattle.admission_node.specs.KeptLaws.{kept-then}
-use Rattle.admission.proofs.Wiping.{length-wiped, wiped-kept, wiped-at, wiped-after}
+use Rattle.admission.specs.WipingLaws.{length-wiped, wiped-kept, wiped-at, wiped-after}
 
 -- ---- refused before the tables are touched
 

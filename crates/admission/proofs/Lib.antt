@@ -1,5 +1,4 @@
 -- Lemmas on plain lists and numbers, for the proofs of this crate.
-mod Wiping
 mod SoundNodes
 mod Walking
 mod HalfFilled

@@ -1,3 +1,4 @@
 pub mod Passes
 pub mod Outcome
 pub mod Exactly
+pub mod WipingLaws

@@ -59,7 +59,7 @@ fn clear16(t: &mut [u16], n: usize)
 }
 
 // The first n entries to 0.
-fn clear64(t: &mut [u64], n: usize)
+pub fn clear64(t: &mut [u64], n: usize)
     requires { ⌜ n ≤ length (now t) ⌝ }
     ensures { λ _. ⌜ now (t .exit) ≡ replicate n 0 ++ drop n (now (t .entry)) ⌝ }
 {

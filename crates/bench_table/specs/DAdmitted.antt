@@ -40,10 +40,10 @@ tNode = record { first = 16; final = true; finalOutput = 0; transitions = by 116
 
 -- ---- a file with these two nodes
 
-abbrev addrs : List ℕ
+abbrev pub addrs : List ℕ
 addrs = 29 ∷ 21 ∷ []
 
-in-two : {A : Type 0} {x a b : A} → List·Memᴰ x (a ∷ b ∷ []) → (x ≡ a) ⊎ (x ≡ b)
+pub in-two : {A : Type 0} {x a b : A} → List·Memᴰ x (a ∷ b ∷ []) → (x ≡ a) ⊎ (x ≡ b)
 in-two h = ⊎-elim (λ e. inl e) (λ g. ⊎-elim (λ e. inr e) (λ n. absurd (List·Memᴰ·not-nil n)) (List·Memᴰ·cases-cons g)) (List·Memᴰ·cases-cons h)
 
 in-one : {A : Type 0} {x a : A} → List·Memᴰ x (a ∷ []) → x ≡ a
@@ -74,7 +74,7 @@ module _ (f : Fst) (root-is : f .root ≡ 29) (at-root : nodeIn f 29 ≡ sound r
       (in-two (rw e at mem))
   targets m t mem ne (inr e) = absurd (ne (ap (λ (u : Transition). u .addr) (in-one (rw e at mem))))
 
-  nodes-two : Nodes f addrs
+  pub nodes-two : Nodes f addrs
   nodes-two =
       record {
         chain = root-chain;
@@ -156,11 +156,11 @@ pub opens-D : opening D ≡ opened metaD
 unfolding bytesOf le metaOf rootTest opening
 opens-D = refl
 
-root-D : nodeIn (fstOf D metaD) 29 ≡ sound rootNode
+pub root-D : nodeIn (fstOf D metaD) 29 ≡ sound rootNode
 unfolding bytesOf le commonInputs commonInputsInv headLen inputOf ntransOf sizesByte indexLen sizeOf downFrom bytesDown numbersDown transitionsOf nodeOf soundTest nodeAt
 root-D = refl
 
-t-D : nodeIn (fstOf D metaD) 21 ≡ sound tNode
+pub t-D : nodeIn (fstOf D metaD) 21 ≡ sound tNode
 unfolding bytesOf le commonInputs commonInputsInv headLen inputOf ntransOf sizesByte indexLen sizeOf downFrom bytesDown numbersDown transitionsOf nodeOf soundTest nodeAt
 t-D = refl
 

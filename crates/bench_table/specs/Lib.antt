@@ -1,3 +1,5 @@
 pub mod BenchTable
 pub mod DAdmitted
 pub mod DValues
+pub mod DKeys
+pub mod NumberTable

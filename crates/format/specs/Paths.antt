@@ -4,6 +4,8 @@
 --     Path f a k sum b     the transitions with the inputs k lead from a to b, through sound nodes; their outputs add up to sum
 --     Reached f a          a path from the root leads to the address a; the root is reached
 --     Held f k v           the key k is held, with the value v (document 01's word)
+--     HeldFrom f a k v     the key k leads from a to a final node, with the value v; Held is HeldFrom the root
+--     KeyFrom f a k        the same with some value
 -- Assumes nothing.
 use mathlib.Core.Path.{_≡_}
 use mathlib.Core.Bool.{Bool, true, false}
@@ -48,3 +50,17 @@ pub record Held (f : Fst) (k : List ℕ) (v : ℕ) : Type 0 where
   pub ends : nodeIn f to ≡ sound last
   pub final : last .final ≡ true
   pub value : v ≡ sum + last .finalOutput
+
+-- the same from any node
+pub record HeldFrom (f : Fst) (a : ℕ) (k : List ℕ) (v : ℕ) : Type 0 where
+  pub sum : ℕ
+  pub to : ℕ
+  pub last : Node
+  pub path : Path f a k sum to
+  pub ends : nodeIn f to ≡ sound last
+  pub final : last .final ≡ true
+  pub value : v ≡ sum + last .finalOutput
+
+-- with some value
+abbrev pub KeyFrom : Fst → ℕ → List ℕ → Type 0
+KeyFrom f a k = (v : ℕ) × HeldFrom f a k v

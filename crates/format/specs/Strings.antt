@@ -5,13 +5,17 @@
 --     MeetsLower b s       s meets the lower bound b: there is none, s is greater, or s is equal and the bound included
 --     PassesUpper b s      s passes the upper bound b: there is one, and s is greater, or equal and the bound excluded
 --     Between lo hi s      s lies between the bounds: it meets the lower and does not pass the upper
+--     AllAfter k, Rising   strings that all come after k; each string comes before all that follow
+--     NumberOf P n         n is the number of different strings such that P
 -- Assumes nothing.
+use Prim.{Unit}
 use mathlib.Core.Path.{_≡_}
 use mathlib.Core.Bool.{Bool, true, false, cond, not, _||_}
 use mathlib.Core.Logic.{_⊎_}
-use mathlib.Core.List.{List, [], _∷_}
+use mathlib.Core.List.{List, [], _∷_, List·Memᴰ}
 use Prim.Native.Nat.{ℕ, _<_}
 use lib.Dec.{ltb}
+use lib.ListN.{length}
 
 pub data Before : List ℕ → List ℕ → Type 0 where
   shorter : {y : ℕ} {t : List ℕ} → Before [] (y ∷ t)
@@ -39,6 +43,25 @@ pub data PassesUpper : Bound → List ℕ → Type 0 where
 pub record Between (lo hi : Bound) (s : List ℕ) : Type 0 where
   pub meets : MeetsLower lo s
   pub within : ¬ PassesUpper hi s
+
+-- ---- strings, and their number
+
+-- each string comes before all that follow
+abbrev pub AllAfter : List ℕ → List (List ℕ) → Type 0
+AllAfter k [] = Unit {0}
+AllAfter k (l ∷ ls) = Before k l × AllAfter k ls
+
+abbrev pub Rising : List (List ℕ) → Type 0
+Rising [] = Unit {0}
+Rising (k ∷ ks) = AllAfter k ks × Rising ks
+
+-- n is the number of different strings such that P
+pub record NumberOf (P : List ℕ → Type 0) (n : ℕ) : Type 0 where
+  pub strings : List (List ℕ)
+  pub rising : Rising strings
+  pub such : (x : List ℕ) → List·Memᴰ x strings → P x
+  pub all : (x : List ℕ) → P x → List·Memᴰ x strings
+  pub number : length strings ≡ n
 
 -- ---- the order as a test that computes; StringLaws, `decides-before`
 

@@ -19,3 +19,5 @@ pub mod BlankLaws
 pub mod FoundLaws
 pub mod NumberedLaws
 pub mod StringLaws
+pub mod NumberOfLaws
+pub mod KeysLaws

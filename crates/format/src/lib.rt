@@ -1,11 +1,11 @@
-// What every layer shares: the limits of document 01, its refusals by number, and a transition.
+// What every layer shares: the limits of document 01, the refusals of documents 01 and 02 by number, and a transition.
 // The meaning of the format stands in specs/; docs/FORMAT.md walks through it. `limits` and `refusals` hold each number here to the
 // definition of its name.
 ghost use mathlib.Core.Path.{_≡_};
 ghost use mathlib.Core.List.{[], _∷_};
 ghost use Rattle.format.specs.Limits as L;
 
-// Refusals, by the numbers of document 01's table.
+// Refusals, by the numbers of document 01's table, and from 12 on of document 02's.
 pub const SHORT: u8 = 1;
 
 pub const VERSION: u8 = 2;
@@ -27,6 +27,8 @@ pub const BOUND: u8 = 9;
 pub const RECORD: u8 = 10;
 
 pub const STATE: u8 = 11;
+
+pub const COUNT: u8 = 19;
 
 // The first byte of a file that a node may take: the header ends before it.
 pub const FIRST_NODE: usize = 16;
@@ -95,9 +97,9 @@ pub fn limits() -> Named
 }
 
 // Each refusal has the number that the definitions give it.
-pub fn refusals() -> [u8; 11]
+pub fn refusals() -> [u8; 12]
     ensures { λ r. ⌜ r ≡ L.SHORT ∷ L.VERSION ∷ L.ROOT ∷ L.LARGE ∷ L.NODE ∷ L.DEEP ∷ L.SUM ∷ L.SPACE
-        ∷ L.BOUND ∷ L.RECORD ∷ L.STATE ∷ [] ⌝ }
+        ∷ L.BOUND ∷ L.RECORD ∷ L.STATE ∷ L.COUNT ∷ [] ⌝ }
 {
     [
         SHORT,
@@ -111,5 +113,6 @@ pub fn refusals() -> [u8; 11]
         BOUND,
         RECORD,
         STATE,
+        COUNT,
     ]
 }

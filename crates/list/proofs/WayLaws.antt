@@ -9,21 +9,22 @@ use lib.ListN.{length}
 use Rattle.format.specs.Limits.{maxPath}
 use Rattle.format.specs.Opening.{metaOf}
 use Rattle.format.specs.laws.OpeningLaws.{opened-facts}
-use Rattle.format.specs.Paths.{Fst, fstOf}
+use Rattle.format.specs.Paths.{fstOf}
 use Rattle.format.specs.Strings.{unbounded}
 use Rattle.format.specs.Admitted.{Admitted}
-use Rattle.admission.specs.Outcome.{Admits}
-use Rattle.reading.specs.Reading.{View, Answer, key, end, Step, counted, next}
+use Rattle.reading.specs.Reading as R
+use Rattle.reading.specs.Reading.{View, Answer, key, end, counted, next}
+use Rattle.plain.specs.Plain.{Plain, nextPlain}
+use Rattle.plain.specs.PlainRunLaws.{plain-key, plain-started}
 use Rattle.reading.specs.ProgressLaws.{left}
 use Rattle.reading.specs.WholeLaws.{OnWay, OnWayNext, goes-on, comes-to-end, on-way-start, on-way-next}
-use Rattle.stream_start.specs.Views.{viewIs}
-use Rattle.stream_start.specs.declared.Started.{Started}
-use Rattle.stream_start.specs.declared.Begins.the-variants.{Began, Refused}
+use Rattle.stream.specs.Plains.{plainIs}
+use Rattle.stream.specs.declared.Started.{Started}
+use Rattle.stream_start.specs.declared.Begins.the-variants.{Began}
 use Rattle.listing.specs.declared.Line.the-variants.{Key, Last}
 use Rattle.listing.specs.declared.Listed.{Listed}
-use Rattle.listing.specs.Lines.{keyLine, endLine}
 use Rattle.listing.specs.Listing.{Line, State, state, more, last, lineBy, lineOf}
-use Rattle.listing.specs.Lined.{Begins, too-large, not-admitted, begins, stateIs, Wrote, Lined}
+use Rattle.listing.specs.Lined.{Begins, too-large, not-counted, begins, Wrote, Lined}
 use Rattle.list.specs.Stands.{Stands}
 
 -- what is left to visit, read off the file and the reading alone
@@ -60,36 +61,49 @@ last-fits {x} {st} {buf₀} {buf} {r} n l room e = last-short x buf₀ buf r n (
 
 -- ---- a key's line
 
-pub record After (s : List ℕ) (v : View) (r : Listed) : Type 0 where
-  pub stands : Stands s (viewIs (r .reading))
-  pub less : leftIn s (viewIs (r .reading)) < leftIn s v
+-- the line of a key comes from an answer that hands it out
+key-line-of : (a : Answer) (p : Plain) (keys : ℕ) (buf₀ buf : List ℕ) (r : Listed) (n : ℕ) → Wrote (lineBy a p keys) buf₀ buf r → r .line ≡ Key n
+    → (k : List ℕ) × (v : ℕ) × (a ≡ key k v) × (plainIs (r .plain) ≡ p)
+key-line-of (key k v) p keys buf₀ buf r n w e = (k, v, refl, ap (λ (st : State). st .reading) (w .2))
+key-line-of end p keys buf₀ buf r n w e = absurd (key-not-last (sym e ∙ w .0))
+key-line-of (Answer.refused c) p keys buf₀ buf r n w e = absurd (key-not-last (sym e ∙ w .0))
 
-module _ {s : List ℕ} (v : View) (keys : ℕ) (buf₀ buf : List ℕ) (r : Listed) (n : ℕ) where
-  way-goes : (A : Admitted s) → OnWayNext A unbounded unbounded v (next s v maxPath) → Wrote (lineOf s (state v keys)) buf₀ buf r → r .line ≡ Key n → After s v r
-  unfolding lineOf
-  way-goes A (goes-on e is way less) w q =
-      let line-is : lineOf s (state v keys) ≡ more (keyLine (e .key) (e .value)) (state (next s v maxPath .reading) (counted keys)) =
-      ap (λ (a : Answer). lineBy a (next s v maxPath .reading) keys) is in
-      let w′ = subst (λ x. Wrote x buf₀ buf r) line-is w in
-      let same : viewIs (r .reading) ≡ next s v maxPath .reading = ap (λ (st : State). st .reading) (w′ .2) in
+pub record After (s : List ℕ) (v : View) (r : Listed) : Type 0 where
+  pub stands : Stands s (plainIs (r .plain) .view)
+  pub less : leftIn s (plainIs (r .plain) .view) < leftIn s v
+
+module _ (s : List ℕ) (p : Plain) (keys : ℕ) (buf₀ buf : List ℕ) (r : Listed) (n : ℕ) where
+  abbrev call : R.Step
+  call = next s (p .view) maxPath
+
+  goes : (A : Admitted s) → OnWayNext A unbounded unbounded (p .view) call → (k : List ℕ) (u : ℕ) → call .answer ≡ key k u → plainIs (r .plain) .view ≡ call .reading
+      → After s (p .view) r
+  goes A (goes-on e is way less) k u q same =
       record {
         stands = record { admitted = A; on-way = subst (λ x. OnWay A unbounded unbounded x) (sym same) way };
-        less = omega (arith, less, left-is A (next s v maxPath .reading), left-is A v, ap (leftIn s) same);
+        less = omega (arith, less, left-is A (call .reading), left-is A (p .view), ap (leftIn s) same);
       }
-  way-goes A (comes-to-end is) w q =
-      let line-is : lineOf s (state v keys) ≡ last (endLine keys (next s v maxPath .reading .total)) (state (next s v maxPath .reading) keys) =
-      ap (λ (a : Answer). lineBy a (next s v maxPath .reading) keys) is in
-      let w′ = subst (λ x. Wrote x buf₀ buf r) line-is w in
-      absurd (key-not-last (sym q ∙ w′ .0))
+  goes A (comes-to-end is) k u q same = absurd (let z : _≡_ {A = ℕ} 0 1 = cc in omega arith)
 
-  pub way-on : Stands s v → 532 ≤ length buf₀ → Lined (lineOf s (state v keys)) (state v keys) buf₀ buf r → r .line ≡ Key n → After s v r
-  way-on st room l q =
-      way-goes (st .admitted) (on-way-next (st .admitted) unbounded unbounded v (st .on-way) maxPath (omega arith)) (l .wrote room) q
+  wrote-goes : (A : Admitted s) → OnWayNext A unbounded unbounded (p .view) call → Wrote (lineOf s (state p keys)) buf₀ buf r → r .line ≡ Key n → After s (p .view) r
+  unfolding lineOf
+  wrote-goes A way w e =
+      let q = key-line-of (nextPlain s p maxPath .answer) (nextPlain s p maxPath .reading) keys buf₀ buf r n w e in
+      let c = plain-key p (call .reading) (call .answer) (q .0) (q .1) (q .2) in
+      goes A way (q .0) (q .1) (c .0) (ap (λ (x : Plain). x .view) (q .3) ∙ c .1)
+
+  pub way-on : Stands s (p .view) → 532 ≤ length buf₀ → Lined (lineOf s (state p keys)) (state p keys) buf₀ buf r → r .line ≡ Key n → After s (p .view) r
+  way-on st room l e =
+      wrote-goes (st .admitted) (on-way-next (st .admitted) unbounded unbounded (p .view) (st .on-way) maxPath (omega arith)) (l .wrote room) e
 
 -- ---- the beginning
 
-pub way-begins : {s d₀ s₀ d t : List ℕ} (r : Started) → Begins s d₀ s₀ d t r → r .answer ≡ Began → Stands s (viewIs (r .reading))
-way-begins r (too-large h e p q) is = let z : _≡_ {A = ℕ} 0 1 = cc in absurd (omega arith)
-way-begins r (not-admitted h n e p) is = let z : _≡_ {A = ℕ} 0 1 = cc in absurd (omega arith)
-way-begins r (begins h e a st) is =
-    record { admitted = a .admitted; on-way = on-way-start (a .admitted) unbounded unbounded (omega arith) (omega arith) (viewIs (r .reading)) st }
+pub way-begins : {s d₀ s₀ c₀ d t c : List ℕ} (r : Started) → Begins s d₀ s₀ c₀ d t c r → r .answer ≡ Began → Stands s (plainIs (r .plain) .view)
+way-begins r (too-large h e p q w) is = let z : _≡_ {A = ℕ} 0 1 = cc in absurd (omega arith)
+way-begins r (not-counted h n e p) is = let z : _≡_ {A = ℕ} 0 1 = cc in absurd (omega arith)
+way-begins {s} {c = c} r (begins h e a st) is =
+    let A = a .admits .admitted in
+    record {
+      admitted = A;
+      on-way = on-way-start A unbounded unbounded (omega arith) (omega arith) (plainIs (r .plain) .view) (plain-started s unbounded unbounded c (plainIs (r .plain)) st);
+    }

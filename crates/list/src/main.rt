@@ -2,14 +2,14 @@
 // The work is crate `listing`'s; a line is written as soon as it is there, so that memory does not grow with the number of keys.
 ghost use Prim.Native.Nat.{_≤_};
 ghost use lib.ListN.{length};
-ghost use Rattle.stream_start.specs.Views.{viewIs};
+ghost use Rattle.stream.specs.Plains.{plainIs};
 ghost use Rattle.list.specs.Stands.{Stands};
 use libc::STDIN_FILENO;
 use libc::STDOUT_FILENO;
 use listing::LINE;
 use listing::Line;
+use stream::Plain;
 use stream_start::Begins;
-use stream_start::Reading;
 
 // The longest file that is listed, and one byte more by which a longer one is seen.
 const ROOM: usize = 4_097;
@@ -31,14 +31,14 @@ fn refuse(why: u8) {
 }
 
 // Writes the lines of an admitted file, from its unbounded reading on. Each key that is handed out leaves fewer visits to come.
-fn lines(file: &[u8], first: Reading)
-    requires { ⌜ Stands (now file) (viewIs first) ⌝ }
+fn lines(file: &[u8], first: Plain)
+    requires { ⌜ Stands (now file) (plainIs first .view) ⌝ }
 {
     let mut line = [0u8; LINE];
-    let mut reading = first;
+    let mut plain = first;
     let mut keys: u64 = 0;
     loop {
-        let listed = listing::next_line(file, reading, keys, &mut line);
+        let listed = listing::next_line(file, plain, keys, &mut line);
         let got = listed.line;
         match got {
             Line::Key(n) => {
@@ -55,7 +55,7 @@ fn lines(file: &[u8], first: Reading)
             }
         }
         keys = listed.keys;
-        reading = listed.reading;
+        plain = listed.plain;
     }
 }
 
@@ -63,11 +63,12 @@ fn lines(file: &[u8], first: Reading)
 fn list(file: &[u8]) {
     let mut depths = [0u16; CELLS];
     let mut sums = [0u64; CELLS];
-    let begun = listing::begin(file, &mut depths, &mut sums);
+    let mut counts = [0u64; CELLS];
+    let begun = listing::begin(file, &mut depths, &mut sums, &mut counts);
     let answer = begun.answer;
     match answer {
         Begins::Refused(why) => refuse(why),
-        Begins::Began => lines(file, begun.reading),
+        Begins::Began => lines(file, begun.plain),
     }
 }
 

@@ -1,6 +1,6 @@
 -- The lines of an admitted file are its held keys: the claim that `listed` proves (ListingLaws).
 --     lineFor e           the line of a key and its value
---     HeldLines A         the lines: the held keys, ascending, each once with its value, and then the two numbers
+--     HeldLines A c       the lines, with the table of keys c: the held keys, ascending, each once with its value, and then the two numbers
 -- Assumes nothing.
 use mathlib.Core.Path.{_≡_}
 use mathlib.Core.List.{List, [], _∷_, _++_, map, List·Memᴰ}
@@ -8,19 +8,19 @@ use Prim.Native.Nat.{ℕ}
 use lib.ListN.{length}
 use Rattle.format.specs.Paths.{fstOf, Held}
 use Rattle.format.specs.Admitted.{Admitted}
-use Rattle.format.specs.Strings.{unbounded}
-use Rattle.reading.specs.Reading.{View, started, start}
-use Rattle.reading.specs.Demand.{Rising, NumberOf, BeginsHeld, Entry, entry, capped}
+use Rattle.format.specs.Strings.{unbounded, Rising, NumberOf}
+use Rattle.plain.specs.Plain.{Plain, begun, startPlain}
+use Rattle.reading.specs.Demand.{BeginsHeld, Entry, entry, capped}
 use Rattle.listing.specs.Lines.{keyLine, endLine}
 use Rattle.listing.specs.Listing.{state, Lists}
 
 abbrev pub lineFor : Entry → List ℕ
 lineFor e = keyLine (e .key) (e .value)
 
-pub record HeldLines {s : List ℕ} (A : Admitted s) : Type 0 where
+pub record HeldLines {s : List ℕ} (A : Admitted s) (c : List ℕ) : Type 0 where
   -- the unbounded reading
-  pub reading : View
-  pub starts : start s unbounded unbounded ≡ started reading
+  pub reading : Plain
+  pub starts : startPlain s unbounded unbounded c ≡ begun reading
   -- the held keys, ascending, each once with its value
   pub entries : List Entry
   pub ascending : Rising (map (λ (e : Entry). e .key) entries)

@@ -8,14 +8,15 @@ use mathlib.Core.Path.{_≡_}
 use mathlib.Core.List.{List, [], _∷_}
 use Prim.Native.Nat.{ℕ}
 use Rattle.format.specs.Limits.{maxPath}
-use Rattle.reading.specs.Reading.{View, Answer, key, end, Step, counted, next}
+use Rattle.reading.specs.Reading.{Answer, key, end, counted}
+use Rattle.plain.specs.Plain.{Plain, nextPlain}
 use Rattle.listing.specs.Lines.{keyLine, endLine, refusedLine}
 
 pub record State : Type 0 where
-  pub reading : View
+  pub reading : Plain
   pub keys : ℕ
 
-abbrev pub state : View → ℕ → State
+abbrev pub state : Plain → ℕ → State
 state r n = record { reading = r; keys = n }
 
 pub data Line : Type 0 where
@@ -23,14 +24,14 @@ pub data Line : Type 0 where
   last : List ℕ → State → Line
 
 -- the line of an answer, with the reading after it
-abbrev pub lineBy : Answer → View → ℕ → Line
+abbrev pub lineBy : Answer → Plain → ℕ → Line
 lineBy (key k v) r n = more (keyLine k v) (state r (counted n))
-lineBy end r n = last (endLine n (r .total)) (state r n)
+lineBy end r n = last (endLine n (r .view .total)) (state r n)
 lineBy (Answer.refused c) r n = last (refusedLine c) (state r n)
 
 -- a call of next with a key buffer of 255 bytes
 unfoldable pub lineOf : List ℕ → State → Line
-lineOf s st = lineBy (next s (st .reading) maxPath .answer) (next s (st .reading) maxPath .reading) (st .keys)
+lineOf s st = lineBy (nextPlain s (st .reading) maxPath .answer) (nextPlain s (st .reading) maxPath .reading) (st .keys)
 
 pub data Lists (s : List ℕ) : State → List (List ℕ) → Type 0 where
   last-line : {st st′ : State} (b : List ℕ) → lineOf s st ≡ last b st′ → Lists s st (b ∷ [])

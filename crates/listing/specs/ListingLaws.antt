@@ -4,7 +4,7 @@
 --     lists-same             a listing has one list of lines
 -- Assumes nothing.
 use mathlib.Core.Path.{_≡_, refl, sym, _∙_, ap}
-use mathlib.Core.List.{List, [], _∷_, _++_, map, List·Memᴰ}
+use mathlib.Core.List.{List, [], _∷_, _++_, map}
 use Prim.Native.Nat.{ℕ, zero, suc, _+_, _≤_}
 use native.Mathlib.Nat.{add-zero}
 use native.Mathlib.Omega.{arith}
@@ -13,24 +13,28 @@ use Rattle.format.specs.Limits.{maxPath}
 use Rattle.format.specs.Paths.{Fst, fstOf, Held}
 use Rattle.format.specs.Admitted.{Admitted}
 use Rattle.format.specs.Strings.{unbounded}
-use Rattle.reading.specs.Reading.{View, started, start, counted, next}
+use Rattle.reading.specs.Reading.{counted}
 use Rattle.reading.specs.RunLaws.{counted-capped}
-use Rattle.reading.specs.Demand.{Rising, NumberOf, BeginsHeld, Within, Beyond, Extra, one-more, no-more, EmptyExcluded, Entry, entry, capped}
-use Rattle.reading.specs.WholeRun.{Runs, run-end, run-key, Whole}
-use Rattle.reading.specs.WholeLaws.{whole, between-all}
+use Rattle.reading.specs.Demand.{Extra, one-more, no-more, Entry, capped}
+use Rattle.reading.specs.WholeRun.{Whole}
+use Rattle.reading.specs.WholeLaws.{between-all}
+use Rattle.plain.specs.Numbers.{TableFits}
+use Rattle.plain.specs.Plain.{Plain, plainWith}
+use Rattle.plain.specs.PlainRun.{RunsPlain, run-end, run-key, WholePlain}
+use Rattle.plain.specs.PlainRunLaws.{whole-plain}
 use Rattle.listing.specs.HeldLines.{lineFor, HeldLines}
-use Rattle.listing.specs.Lines.{keyLine, endLine}
-use Rattle.listing.specs.Listing.{State, state, Line, more, last, lineBy, lineOf, Lists, last-line, line-more}
+use Rattle.listing.specs.Lines.{endLine}
+use Rattle.listing.specs.Listing.{State, state, Line, more, last, lineOf, Lists, last-line, line-more}
 
 -- ---- the lines of a reading from start to end
 
-lines-run : {s : List ℕ} {r r′ : View} {es : List Entry} → Runs s maxPath r es r′ → (n : ℕ)
-    → Lists s (state r (capped n)) (map lineFor es ++ (endLine (capped (n + length es)) (r′ .total) ∷ []))
+lines-run : {s : List ℕ} {r r′ : Plain} {es : List Entry} → RunsPlain s maxPath r es r′ → (n : ℕ)
+    → Lists s (state r (capped n)) (map lineFor es ++ (endLine (capped (n + length es)) (r′ .view .total) ∷ []))
 unfolding lineOf
-lines-run {r = r} (run-end {r′ = r′} e) n =
+lines-run {r = r} (run-end {p′ = r′} e) n =
     let z : n + 0 ≡ n = add-zero n in
-    rw z (last-line {st = state r (capped n)} {st′ = state r′ (capped n)} (endLine (capped n) (r′ .total)) (rw e))
-lines-run {r = r} (run-key {r₁ = r₁} {es = es} e is rest) n =
+    rw z (last-line {st = state r (capped n)} {st′ = state r′ (capped n)} (endLine (capped n) (r′ .view .total)) (rw e))
+lines-run {r = r} (run-key {p₁ = r₁} {es = es} e is rest) n =
     let z : n + 1 + length es ≡ n + suc (length es) = omega arith in
     line-more {st = state r (capped n)} {st′ = state r₁ (capped (n + 1))} (lineFor e) (rw is (ap (λ (k : ℕ). more (lineFor e) (state r₁ k)) (counted-capped n))) (rw z at (lines-run rest (n + 1)))
 
@@ -41,17 +45,19 @@ none-beyond : (f : Fst) (e : ℕ) → Extra f unbounded unbounded e → e ≡ 0
 none-beyond f e (one-more x b) = elim (b .1 .1) [ ]
 none-beyond f e (no-more h) = refl
 
-pub listed : {s : List ℕ} (A : Admitted s) → HeldLines A
-listed {s} A =
-    let W : Whole A unbounded unbounded maxPath = whole A unbounded unbounded (omega arith) (omega arith) maxPath (omega arith) in
+-- with a table that has an entry for each byte and is as filled for the file, or of which no entry is read
+pub listed : {s : List ℕ} (A : Admitted s) (c : List ℕ) → length s ≤ length c → TableFits (fstOf s (A .meta)) unbounded unbounded c → HeldLines A c
+listed {s} A c long fits =
+    let P : WholePlain A unbounded unbounded c maxPath = whole-plain A unbounded unbounded (omega arith) (omega arith) c long fits maxPath (omega arith) in
+    let W : Whole A unbounded unbounded maxPath = P .whole in
     let t = W .total (λ x. elim (x .passes) [ ]) in
     let z = none-beyond (fstOf s (A .meta)) (t .1) (t .3) in
     let m : t .0 + t .1 ≡ t .0 = omega (arith, z) in
     let n : W .last .total ≡ capped (t .0) = t .4 ∙ ap capped m in
     let k : 0 + length (W .entries) ≡ length (W .entries) = omega arith in
     record {
-      reading = W .reading;
-      starts = W .starts;
+      reading = plainWith (W .reading) (length (W .entries));
+      starts = P .starts;
       entries = W .entries;
       ascending = W .ascending;
       held = λ e on. W .held e on .0;
@@ -65,7 +71,7 @@ listed {s} A =
             all = λ x b. t .2 .all x (b, between-all x);
             number = t .2 .number;
           };
-      lists = rw (k, n) at (lines-run (W .runs) 0);
+      lists = rw (k, n) at (lines-run (P .runs) 0);
     }
 
 -- ---- one list of lines

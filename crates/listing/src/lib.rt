@@ -1,5 +1,5 @@
-// The listing program's work, as functions on slices: a file is admitted and its unbounded reading begun, and each call then writes the next
-// line into a lent buffer. The program that calls them is crate `list`.
+// The listing program's work, as functions on slices: a file is admitted, its keys are counted and its unbounded reading begun, and each call
+// then writes the next line into a lent buffer. The program that calls them is crate `list`.
 ghost use mathlib.Core.Path.{_≡_};
 ghost use Prim.Native.Nat.{_+_, _*_, _≤_, _<_};
 ghost use lib.ListN.{length, take};
@@ -7,15 +7,15 @@ ghost use Rattle.listing.specs.Lines.{hexDigit, hexOf, keyText, decimal,
 ghost use Rattle.listing.specs.Lines.{longestLine, Written};
 ghost use Rattle.format.specs.Limits.{maxPath};
 ghost use Rattle.buffers.specs.Put.{PutAt};
-ghost use Rattle.stream_start.specs.Views.{viewIs};
+ghost use Rattle.stream.specs.Plains.{plainIs};
 ghost use Rattle.listing.specs.Listing.{state, lineOf};
 ghost use Rattle.listing.specs.Lined.{Begins, Lined};
-use admission::Admission;
+use counting::Counting;
 use format::LARGE;
 use format::MAX_KEY;
+use stream::Plain;
+use stream::Started;
 use stream_start::Bound;
-use stream_start::Reading;
-use stream_start::Started;
 use stream_step::Answer;
 
 // The room that the longest line takes: 510 digits, a space, 20 digits, a newline.
@@ -34,7 +34,7 @@ pub enum Line {
 pub struct Listed {
     pub line: Line,
     pub keys: u64,
-    pub reading: Reading,
+    pub plain: Plain,
 }
 
 // ---- the parts, written
@@ -158,59 +158,62 @@ pub fn refused_line(number: u8, line: &mut [u8]) -> usize
 
 // ---- a listing
 
-// Begins the listing of a file: LARGE over 4,096 bytes, then admission's refusals; else the unbounded reading. Both tables are admission's.
-pub fn begin(file: &[u8], depths: &mut [u16], sums: &mut [u64]) -> Started
+// Begins the listing of a file: LARGE over 4,096 bytes, then the refusals of counting its keys; else the unbounded reading. The tables are
+// counting's.
+pub fn begin(file: &[u8], depths: &mut [u16], sums: &mut [u64], counts: &mut [u64]) -> Started
     ensures { λ r. ⌜ Begins (now (file .entry)) (now (depths .entry)) (now (sums .entry))
-        (now (depths .exit)) (now (sums .exit)) r ⌝ }
+        (now (counts .entry)) (now (depths .exit)) (now (sums .exit)) (now (counts .exit)) r ⌝ }
 {
     if LARGEST < file.len() {
-        return stream_start::refused(LARGE);
+        return stream::refused(LARGE);
     }
-    let admitted = admission::admit(file, depths, sums);
-    match admitted {
-        Admission::Refused(why) => stream_start::refused(why),
-        Admission::Admitted => stream_start::start(
+    let counted = counting::count_keys(file, depths, sums, counts);
+    match counted {
+        Counting::Refused(why) => stream::refused(why),
+        Counting::Counted => stream::start(
             file,
             Bound::Unbounded,
             &file[..0],
             Bound::Unbounded,
             &file[..0],
+            counts,
         ),
     }
 }
 
 // Writes the next line of a listing, after keys lines of keys: a key's, or the last. The line stands from the buffer's first byte on, the rest as
 // given; a buffer under LINE bytes is left as it is, and so is the listing.
-pub fn next_line(file: &[u8], reading: Reading, keys: u64, line: &mut [u8]) -> Listed
-    ensures { λ r. ⌜ Lined (lineOf (now (file .entry)) (state (viewIs reading) keys))
-        (state (viewIs reading) keys) (now (line .entry)) (now (line .exit)) r ⌝ }
+pub fn next_line(file: &[u8], plain: Plain, keys: u64, line: &mut [u8]) -> Listed
+    ensures { λ r. ⌜ Lined (lineOf (now (file .entry)) (state (plainIs plain) keys))
+        (state (plainIs plain) keys) (now (line .entry)) (now (line .exit)) r ⌝ }
 {
     if line.len() < LINE {
         return Listed {
             line: Line::Short,
             keys,
-            reading,
+            plain,
         };
     }
     let mut key = [0u8; MAX_KEY];
-    let step = stream_next::next(file, reading, &mut key);
+    let step = stream::next(file, plain, &mut key);
     let answer = step.answer;
-    let after = step.reading;
+    let after = step.plain;
     match answer {
         Answer::Key(n, value) => {
             let len = key_line(&key, n, value, line);
             Listed {
                 line: Line::Key(len),
                 keys: stream_descend::counted(keys),
-                reading: after,
+                plain: after,
             }
         }
         Answer::End => {
-            let len = end_line(keys, after.total, line);
+            let total = after.reading.total;
+            let len = end_line(keys, total, line);
             Listed {
                 line: Line::Last(len),
                 keys,
-                reading: after,
+                plain: after,
             }
         }
         Answer::Refused(why) => {
@@ -218,7 +221,7 @@ pub fn next_line(file: &[u8], reading: Reading, keys: u64, line: &mut [u8]) -> L
             Listed {
                 line: Line::Last(len),
                 keys,
-                reading: after,
+                plain: after,
             }
         }
     }

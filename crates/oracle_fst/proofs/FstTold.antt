@@ -15,12 +15,16 @@ use Rattle.fst.specs.Open.{metaIs, checksumIs, openingIs}
 use Rattle.admission.specs.declared.Admission.{Admission}
 use Rattle.admission.specs.declared.Admission.the-variants.{Admitted, Refused}
 use Rattle.admission.specs.Outcome.{RefusedFor, not-opened, no-space, no-nodes, too-deep, too-heavy, Outcome}
+use Rattle.counting.specs.declared.Counting.{Counting}
+use Rattle.counting.specs.declared.Counting.the-variants.{Counted, Refused as NotCounted}
+use Rattle.counting.specs.Outcome as C
+use Rattle.counting.specs.Outcome.{CountRefusedFor, not-admitted, too-many, CountOutcome}
 use Rattle.lookup.specs.declared.Answer.{Answer}
 use Rattle.lookup.specs.declared.Answer.the-variants.{Value, None, Refused as NotGot}
 use Rattle.lookup.specs.declared.KeyAnswer.{KeyAnswer}
 use Rattle.lookup.specs.declared.KeyAnswer.the-variants.{Key, None as NoKey, Refused as KeyRefused}
 use Rattle.lookup.specs.Answers.{answerIs, keyAnswerAs, KeyWritten}
-use Rattle.oracle_fst.specs.FstTells.{front, checksumNumber, OpenTold, admissionIs, GetTold, keyNumber, KeyTold}
+use Rattle.oracle_fst.specs.FstTells.{front, checksumNumber, OpenTold, admissionIs, countingIs, GetTold, keyNumber, KeyTold}
 
 -- ---- opening
 
@@ -63,6 +67,25 @@ module _ (s d₀ s₀ d t : List ℕ) (r : Admission) (outcome : Outcome s d₀ 
     where
       go : (k : ℕ) → RefusedFor s d₀ s₀ d t k → Outcome s d₀ s₀ d t (admissionIs k)
       go zero h = absurd (refused-not-0 h)
+      go (suc k) h = h
+
+-- ---- the table of keys: no refusal is 0
+
+not-counted-not-0 : {s d₀ s₀ c₀ d t c : List ℕ} → ¬ CountRefusedFor s d₀ s₀ c₀ d t c 0
+not-counted-not-0 {s} (C.not-opened e p q o) = opening-not-0 s e
+not-counted-not-0 (C.no-space m o e short p q i) = omega (arith, e)
+not-counted-not-0 (not-admitted m o rd rs rc why p) = refused-not-0 why
+not-counted-not-0 (too-many A rc e many p) = omega (arith, e)
+
+module _ (s d₀ s₀ c₀ d t c : List ℕ) (r : Counting) (outcome : CountOutcome s d₀ s₀ c₀ d t c r) where
+  pub counted-told : r ≡ Counted → CountOutcome s d₀ s₀ c₀ d t c (countingIs 0)
+  counted-told e = subst (λ x. CountOutcome s d₀ s₀ c₀ d t c x) e outcome
+
+  pub not-counted-told : (n : ℕ) → r ≡ NotCounted n → CountOutcome s d₀ s₀ c₀ d t c (countingIs n)
+  not-counted-told n e = go n (subst (λ x. CountOutcome s d₀ s₀ c₀ d t c x) e outcome)
+    where
+      go : (k : ℕ) → CountRefusedFor s d₀ s₀ c₀ d t c k → CountOutcome s d₀ s₀ c₀ d t c (countingIs k)
+      go zero h = absurd (not-counted-not-0 h)
       go (suc k) h = h
 
 -- ---- a value for a key

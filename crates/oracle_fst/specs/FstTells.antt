@@ -3,6 +3,7 @@
 --     checksumNumber c         a checksum, 2 ^ 32 for none
 --     OpenTold o out₀ out r    what is told of the opening o of a file
 --     admissionIs r            the answer of admission that the number r stands for
+--     countingIs r             the answer of filling the table of keys that it stands for
 --     GetTold a out₀ out r     what is told of the answer a to a lookup by key
 --     KeyTold w buf₀ buf r     what is told of the answer w to a search by value
 -- Assumes nothing.
@@ -17,6 +18,8 @@ use Rattle.format.specs.Opening.{Meta, Opening, opened, refused}
 use Rattle.format.specs.Lookup as L
 use Rattle.admission.specs.declared.Admission.{Admission}
 use Rattle.admission.specs.declared.Admission.the-variants.{Admitted, Refused}
+use Rattle.counting.specs.declared.Counting.{Counting}
+use Rattle.counting.specs.declared.Counting.the-variants.{Counted, Refused as NotCounted}
 use Rattle.lookup.specs.Answers.{keyBufferAfter}
 
 unfoldable pub front : List ℕ → List ℕ → List ℕ
@@ -48,6 +51,12 @@ pub record OpenTold (o : Opening) (out₀ out : List ℕ) (r : ℕ) : Type 0 whe
 abbrev pub admissionIs : ℕ → Admission
 admissionIs zero = Admitted
 admissionIs (suc n) = Refused (suc n)
+
+-- ---- the table of keys: 0, or the refusal, which is never 0
+
+abbrev pub countingIs : ℕ → Counting
+countingIs zero = Counted
+countingIs (suc n) = NotCounted (suc n)
 
 -- ---- a value for a key: 0 and the value, 100 for none, or the refusal
 

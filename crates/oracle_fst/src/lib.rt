@@ -1,4 +1,4 @@
-// Opening, admission and lookup as functions on numbers and slices, for the comparison with the Rust (oracle/README.md).
+// Opening, admission, the table of keys and lookup as functions on numbers and slices, for the comparison with the Rust (oracle/README.md).
 // Nothing is asked of a caller: each function answers on every input, and its contract says the answer and what the
 // lent buffers hold afterwards. A slice is passed as its pointer and then its length.
 ghost use mathlib.Core.Path.{_≡_};
@@ -8,8 +8,10 @@ ghost use Rattle.format.specs.Opening.{opening};
 ghost use Rattle.format.specs.Lookup as L;
 ghost use Rattle.fst.specs.Open.{checksumIs};
 ghost use Rattle.admission.specs.Outcome.{Outcome};
-ghost use Rattle.oracle_fst.specs.FstTells.{front, checksumNumber, OpenTold, admissionIs, GetTold, KeyTold};
+ghost use Rattle.counting.specs.Outcome.{CountOutcome};
+ghost use Rattle.oracle_fst.specs.FstTells.{front, checksumNumber, OpenTold, admissionIs, countingIs, GetTold, KeyTold};
 use admission::Admission;
+use counting::Counting;
 use fst::Checksum;
 use fst::Opened;
 use lookup::Answer;
@@ -70,6 +72,26 @@ pub extern "C" fn baxhiso_admit(file: &[u8], depths: &mut [u16], sums: &mut [u64
     match admission::admit(file, depths, sums) {
         Admission::Admitted => 0,
         Admission::Refused(why) => why as u64,
+    }
+}
+
+// ---- the table of keys
+
+// 0 where the table of keys is filled, else the refusal; the three tables are left as the filling leaves them.
+#[no_mangle]
+pub extern "C" fn baxhiso_count_keys(
+    file: &[u8],
+    depths: &mut [u16],
+    sums: &mut [u64],
+    counts: &mut [u64],
+) -> u64
+    ensures { λ r. ⌜ CountOutcome (now (file .entry)) (now (depths .entry)) (now (sums .entry))
+        (now (counts .entry)) (now (depths .exit)) (now (sums .exit)) (now (counts .exit))
+        (countingIs r) ⌝ }
+{
+    match counting::count_keys(file, depths, sums, counts) {
+        Counting::Counted => 0,
+        Counting::Refused(why) => why as u64,
     }
 }
 

@@ -4,10 +4,12 @@ use mathlib.Core.Path.{_≡_, refl, sym, ap, _∙_, subst}
 use mathlib.Core.Bool.{Bool, true, false}
 use mathlib.Core.List.{List, [], _∷_}
 use Prim.Native.Nat.{ℕ, zero, suc, _+_, _-_, _≤_, _<_}
-use lib.ListN.{length}
+use lib.ListN.{length, getD}
 use native.Mathlib.Omega.{arith}
+use Rattle.format.specs.Strings as F
 use Rattle.reading.specs.Reading as R
 use Rattle.reading.specs.Reading.{View, key, end, written}
+use Rattle.plain.specs.Plain as P
 use Rattle.stream_start.specs.declared.Bound.{Bound}
 use Rattle.stream_start.specs.declared.Bound.the-variants.{Included, Excluded, Unbounded}
 use Rattle.stream_start.specs.declared.EmptyOutput.{EmptyOutput}
@@ -19,9 +21,15 @@ use Rattle.stream_start.specs.declared.Begins.the-variants.{Began, Refused as N
 use Rattle.stream_step.specs.declared.Answer.{Answer}
 use Rattle.stream_step.specs.declared.Answer.the-variants.{Key, End, Refused}
 use Rattle.stream_step.specs.declared.Step.{Step}
+use Rattle.stream.specs.declared.Plain.{Plain}
+use Rattle.stream.specs.declared.Started.{Started as Begun}
+use Rattle.stream.specs.declared.Step.{Step as PlainStep}
 use Rattle.stream_start.specs.Views.{boundIs, viewIs, startedIs, beganIs}
 use Rattle.stream_step.specs.Stepped.{answerAs, Stepped}
-use Rattle.oracle_stream.specs.Held.{kindIs, kindNumber, pendingIs, pendingFlag, pendingValue, Held, heldIs, heldAs, StartTold, nextNumber, valueIn, answerNumber, answerValue, Told, NextTold, keyTest, onKey, keysFrom, bufferFrom, KeysTold, StartKeysTold}
+use Rattle.stream.specs.Plains.{plainIs, begunIs, PlainStepped}
+use Rattle.stream.specs.Plains as Plains
+use Rattle.oracle_stream.specs.Held.{kindIs, kindNumber, pendingIs, pendingFlag, pendingValue, Held, heldIs, heldAs, heldPlain, PlainPut, StartTold, nextNumber, valueIn, answerNumber, answerValue, Told, NextTold}
+use Rattle.oracle_stream.specs.Runs.{keyTest, onKey, Calls, keysBy, bufferBy, RunTold, bareCalls, KeysTold, BareKeysTold, plainCalls, PlainKeysTold, StartKeysTold}
 
 -- ---- numbers for kinds and pending keys
 
@@ -44,30 +52,43 @@ pending-back Absent = refl
 pending-back (Pending v) = refl
 
 -- the arrays hold the reading that was put into them
-pub held-back : (r : Reading) → viewIs (heldIs (heldAs r)) ≡ viewIs r
+held-back : (r : Reading) → viewIs (heldIs (heldAs r)) ≡ viewIs r
 held-back r = rw (kind-back (r .kind)) (rw (pending-back (r .«empty_output»)) refl)
+
+plain-back : {p : Plain} {h : Held} {n : List ℕ} → PlainPut p h n → heldPlain h n ≡ plainIs p
+plain-back {p} {h} {n} put =
+    ap (λ x. heldPlain x n) (put .reading) ∙ ap (λ x. heldPlain (heldAs (p .reading)) x) (put .keys)
+    ∙ ap (λ v. P.plainWith v (p .keys)) (held-back (p .reading))
 
 -- ---- start
 
 -- the bounds are those whose kinds the numbers stand for
-pub start-bounds : {w : R.Started} (f lo hi : List ℕ) {k l : Bound} (n m : ℕ) → k ≡ kindIs n → l ≡ kindIs m
+bounds-of : {A : Type 0} {w : A} (start : F.Bound → F.Bound → A) (lo hi : List ℕ) {k l : Bound} (n m : ℕ) → k ≡ kindIs n → l ≡ kindIs m
+    → w ≡ start (boundIs k lo) (boundIs l hi) → w ≡ start (boundIs (kindIs n) lo) (boundIs (kindIs m) hi)
+bounds-of start lo hi {k} {l} n m a b e =
+    e ∙ ap (λ x. start (boundIs x lo) (boundIs l hi)) a ∙ ap (λ x. start (boundIs (kindIs n) lo) (boundIs x hi)) b
+
+pub bare-bounds : {w : R.Started} (f lo hi : List ℕ) {k l : Bound} (n m : ℕ) → k ≡ kindIs n → l ≡ kindIs m
     → w ≡ R.start f (boundIs k lo) (boundIs l hi) → w ≡ R.start f (boundIs (kindIs n) lo) (boundIs (kindIs m) hi)
-start-bounds {w} f lo hi {k} {l} n m a b e =
-    e ∙ ap (λ x. R.start f (boundIs x lo) (boundIs l hi)) a ∙ ap (λ x. R.start f (boundIs (kindIs n) lo) (boundIs x hi)) b
+bare-bounds f lo hi n m a b e = bounds-of (λ x y. R.start f x y) lo hi n m a b e
 
-module _ {w : R.Started} (s : Started) (e : startedIs s ≡ w) where
-  pub start-refused : (n : ℕ) (h : Held) → s .answer ≡ NotStarted n → StartTold w h h n
-  start-refused n h is =
-      let q : w ≡ R.Started.refused n = sym e ∙ ap (λ b. beganIs b (s .reading)) is in
-      rw q (record { answer = refl; reading = λ v no. absurd (let z : _≡_ {A = ℕ} 0 1 = cc in omega arith); kept = λ m same. refl })
+pub start-bounds : {w : P.Begun} (f lo hi c : List ℕ) {k l : Bound} (n m : ℕ) → k ≡ kindIs n → l ≡ kindIs m
+    → w ≡ P.startPlain f (boundIs k lo) (boundIs l hi) c → w ≡ P.startPlain f (boundIs (kindIs n) lo) (boundIs (kindIs m) hi) c
+start-bounds f lo hi c n m a b e = bounds-of (λ x y. P.startPlain f x y c) lo hi n m a b e
 
-  pub start-told : (h₀ h : Held) → s .answer ≡ Began → h ≡ heldAs (s .reading) → StartTold w h₀ h 0
-  start-told h₀ h is put =
-      let q : w ≡ R.started (viewIs (s .reading)) = sym e ∙ ap (λ b. beganIs b (s .reading)) is in
+module _ {w : P.Begun} (s : Begun) (e : begunIs s ≡ w) where
+  pub start-refused : (m : ℕ) (h : Held) (n : List ℕ) → s .answer ≡ NotStarted m → StartTold w h n h n m
+  start-refused m h n is =
+      let q : w ≡ P.Begun.refused m = sym e ∙ ap (λ b. Plains.beganIs b (s .plain)) is in
+      rw q (record { answer = refl; reading = λ p no. absurd (let z : _≡_ {A = ℕ} 0 1 = cc in omega arith); kept = λ i same. (refl, refl) })
+
+  pub start-told : (h₀ : Held) (n₀ : List ℕ) (h : Held) (n : List ℕ) → s .answer ≡ Began → PlainPut (s .plain) h n → StartTold w h₀ n₀ h n 0
+  start-told h₀ n₀ h n is put =
+      let q : w ≡ P.begun (plainIs (s .plain)) = sym e ∙ ap (λ b. Plains.beganIs b (s .plain)) is in
       rw q
       (record {
         answer = refl;
-        reading = λ v same. ap (λ x. viewIs (heldIs x)) put ∙ held-back (s .reading) ∙ (let z : viewIs (s .reading) ≡ v = cc in z);
+        reading = λ p same. plain-back put ∙ (let z : plainIs (s .plain) ≡ p = cc in z);
         kept = λ m no. absurd (let z : _≡_ {A = ℕ} 0 1 = cc in omega arith);
       })
 
@@ -84,18 +105,18 @@ value-is end v = refl
 value-is (R.Answer.refused n) v = refl
 
 -- the reading that is handed on is the one that the arrays hold
-pub next-of : (f : List ℕ) (n : ℕ) (h : Held) {k₀ k : List ℕ} {r : Reading} {s : Step} → r ≡ heldIs h
-    → Stepped (R.next f (viewIs r) n) k₀ k s → Stepped (R.next f (viewIs (heldIs h)) n) k₀ k s
-next-of f n h {k₀} {k} {r} {s} e st = subst (λ x. Stepped (R.next f (viewIs x) n) k₀ k s) e st
+pub next-of : (f : List ℕ) (m : ℕ) (h : Held) (n : List ℕ) {k₀ k : List ℕ} {r : Reading} {s : PlainStep} → r ≡ heldIs h
+    → PlainStepped (P.nextPlain f (P.plainWith (viewIs r) (getD n 0 0)) m) k₀ k s → PlainStepped (P.nextPlain f (heldPlain h n) m) k₀ k s
+next-of f m h n {k₀} {k} {r} {s} e st = subst (λ x. PlainStepped (P.nextPlain f (P.plainWith (viewIs x) (getD n 0 0)) m) k₀ k s) e st
 
-pub next-told : {w : R.Step} {k₀ k v₀ v : List ℕ} {s : Step} → Stepped w k₀ k s → (h : Held) → h ≡ heldAs (s .reading)
-    → (r : ℕ) → Told (s .answer) v₀ v r → NextTold w h k₀ k v₀ v r
-next-told {w} {k₀} {k} {v₀} {v} {s} st h put r told =
+pub next-told : {w : P.PlainStep} {k₀ k v₀ v : List ℕ} {s : PlainStep} → PlainStepped w k₀ k s → (h : Held) (n : List ℕ) → PlainPut (s .plain) h n
+    → (r : ℕ) → Told (s .answer) v₀ v r → NextTold w h n k₀ k v₀ v r
+next-told {w} {k₀} {k} {v₀} {v} {s} st h n put r told =
     record {
-      answer = told .number ∙ ap answerNumber (st .answer) ∙ number-is (w .answer);
-      reading = ap (λ x. viewIs (heldIs x)) put ∙ held-back (s .reading) ∙ st .reading;
+      answer = told .number ∙ ap answerNumber (st .gave .answer) ∙ number-is (w .answer);
+      reading = plain-back put ∙ st .gave .plain;
       buffer = st .buffer;
-      value = told .value ∙ ap (λ a. answerValue a v₀) (st .answer) ∙ value-is (w .answer) v₀;
+      value = told .value ∙ ap (λ a. answerValue a v₀) (st .gave .answer) ∙ value-is (w .answer) v₀;
     }
 
 -- the number and the value of an answer that is known
@@ -126,82 +147,111 @@ off-written (key j x) k e = absurd (let z : _≡_ {A = ℕ} 0 1 = cc in omega ar
 off-written end k e = refl
 off-written (R.Answer.refused n) k e = refl
 
-module _ (f : List ℕ) (v : View) {k₀ k : List ℕ} {t : Step} (st : Stepped (R.next f v (length k₀)) k₀ k t) where
+-- what a call gave: its answer x, the reading v' after it, and the buffer
+pub record Called {S : Type 0} (c : Calls S) (v : S) (k₀ k : List ℕ) (x : Answer) (v' : S) : Type 0 where
+  pub answer : x ≡ answerAs (c .answer v (length k₀))
+  pub reading : v' ≡ c .after v (length k₀)
+  pub buffer : k ≡ written (c .answer v (length k₀)) k₀
+
+pub bare-called : (f : List ℕ) (v : View) {k₀ k : List ℕ} {t : Step} → Stepped (R.next f v (length k₀)) k₀ k t
+    → Called (bareCalls f) v k₀ k (t .answer) (viewIs (t .reading))
+bare-called f v st = record { answer = st .answer; reading = st .reading; buffer = st .buffer }
+
+pub plain-called : (f : List ℕ) (p : P.Plain) {k₀ k : List ℕ} {t : PlainStep} → PlainStepped (P.nextPlain f p (length k₀)) k₀ k t
+    → Called (plainCalls f) p k₀ k (t .answer) (plainIs (t .plain))
+plain-called f p st = record { answer = st .gave .answer; reading = st .gave .plain; buffer = st .buffer }
+
+module _ {S : Type 0} (c : Calls S) (v : S) {k₀ k : List ℕ} {x : Answer} {v' : S} (st : Called c v k₀ k x v') where
   -- a call that hands out a key, with m calls left after it
-  pub keys-on : (m : ℕ) → keyTest (t .answer) ≡ true → keysFrom (suc m) f v k₀ ≡ suc (keysFrom m f (viewIs (t .reading)) k)
-  unfolding keysFrom
+  keys-on : (m : ℕ) → keyTest x ≡ true → keysBy c (suc m) v k₀ ≡ suc (keysBy c m v' k)
+  unfolding keysBy
   keys-on m e =
-      on-key (R.next f v (length k₀) .answer) _ _ (ap keyTest (sym (st .answer)) ∙ e)
-      ∙ ap (λ x. suc (keysFrom m f x (written (R.next f v (length k₀) .answer) k₀))) (sym (st .reading))
-      ∙ ap (λ x. suc (keysFrom m f (viewIs (t .reading)) x)) (sym (st .buffer))
+      on-key (c .answer v (length k₀)) _ _ (ap keyTest (sym (st .answer)) ∙ e)
+      ∙ ap (λ y. suc (keysBy c m y (written (c .answer v (length k₀)) k₀))) (sym (st .reading))
+      ∙ ap (λ y. suc (keysBy c m v' y)) (sym (st .buffer))
 
-  pub buffer-on : (m : ℕ) → keyTest (t .answer) ≡ true → bufferFrom (suc m) f v k₀ ≡ bufferFrom m f (viewIs (t .reading)) k
-  unfolding bufferFrom
+  buffer-on : (m : ℕ) → keyTest x ≡ true → bufferBy c (suc m) v k₀ ≡ bufferBy c m v' k
+  unfolding bufferBy
   buffer-on m e =
-      on-key (R.next f v (length k₀) .answer) _ _ (ap keyTest (sym (st .answer)) ∙ e)
-      ∙ ap (λ x. bufferFrom m f x (written (R.next f v (length k₀) .answer) k₀)) (sym (st .reading))
-      ∙ ap (λ x. bufferFrom m f (viewIs (t .reading)) x) (sym (st .buffer))
+      on-key (c .answer v (length k₀)) _ _ (ap keyTest (sym (st .answer)) ∙ e)
+      ∙ ap (λ y. bufferBy c m y (written (c .answer v (length k₀)) k₀)) (sym (st .reading))
+      ∙ ap (λ y. bufferBy c m v' y) (sym (st .buffer))
 
-  pub keys-off : (m : ℕ) → keyTest (t .answer) ≡ false → keysFrom (suc m) f v k₀ ≡ 0
-  unfolding keysFrom
-  keys-off m e = off-key (R.next f v (length k₀) .answer) _ _ (ap keyTest (sym (st .answer)) ∙ e)
+  keys-off : (m : ℕ) → keyTest x ≡ false → keysBy c (suc m) v k₀ ≡ 0
+  unfolding keysBy
+  keys-off m e = off-key (c .answer v (length k₀)) _ _ (ap keyTest (sym (st .answer)) ∙ e)
 
-  pub buffer-off : (m : ℕ) → keyTest (t .answer) ≡ false → bufferFrom (suc m) f v k₀ ≡ k
-  unfolding bufferFrom
+  buffer-off : (m : ℕ) → keyTest x ≡ false → bufferBy c (suc m) v k₀ ≡ k
+  unfolding bufferBy
   buffer-off m e =
-      off-key (R.next f v (length k₀) .answer) _ _ (ap keyTest (sym (st .answer)) ∙ e)
-      ∙ sym (off-written (R.next f v (length k₀) .answer) k₀ (ap keyTest (sym (st .answer)) ∙ e)) ∙ sym (st .buffer)
+      off-key (c .answer v (length k₀)) _ _ (ap keyTest (sym (st .answer)) ∙ e)
+      ∙ sym (off-written (c .answer v (length k₀)) k₀ (ap keyTest (sym (st .answer)) ∙ e)) ∙ sym (st .buffer)
 
 -- n keys were handed out, and of m calls the others are still to come
-pub record Reached (m : ℕ) (f : List ℕ) (v₀ : View) (k₀ : List ℕ) (v : View) (k : List ℕ) (n : ℕ) : Type 0 where
+pub record Reached {S : Type 0} (c : Calls S) (m : ℕ) (v₀ : S) (k₀ : List ℕ) (v : S) (k : List ℕ) (n : ℕ) : Type 0 where
   pub at-most : n ≤ m
-  pub keys : keysFrom m f v₀ k₀ ≡ n + keysFrom (m - n) f v k
-  pub buffer : bufferFrom m f v₀ k₀ ≡ bufferFrom (m - n) f v k
+  pub keys : keysBy c m v₀ k₀ ≡ n + keysBy c (m - n) v k
+  pub buffer : bufferBy c m v₀ k₀ ≡ bufferBy c (m - n) v k
 
-pub reached-first : (m : ℕ) (f : List ℕ) (v : View) (k : List ℕ) → Reached m f v k v k 0
-reached-first m f v k =
+pub reached-first : {S : Type 0} (c : Calls S) (m : ℕ) (v : S) (k : List ℕ) → Reached c m v k v k 0
+reached-first c m v k =
     let all : m ≡ m - 0 = omega arith in
-    record { at-most = omega arith; keys = omega (arith, ap (λ x. keysFrom x f v k) all); buffer = ap (λ x. bufferFrom x f v k) all }
+    record { at-most = omega arith; keys = omega (arith, ap (λ x. keysBy c x v k) all); buffer = ap (λ x. bufferBy c x v k) all }
 
 left-is : (m n : ℕ) → n < m → m - n ≡ suc (m - (n + 1))
 left-is m n h = omega (arith, h)
 
-module _ (m : ℕ) (f : List ℕ) {v₀ : View} {k₀ : List ℕ} (v : View) {k : List ℕ} (n : ℕ) (h : n < m) (r : Reached m f v₀ k₀ v k n) where
-  keys-left : keysFrom m f v₀ k₀ ≡ n + keysFrom (suc (m - (n + 1))) f v k
-  keys-left = r .keys ∙ ap (λ x. n + keysFrom x f v k) (left-is m n h)
+module _ {S : Type 0} (c : Calls S) (m : ℕ) {v₀ : S} {k₀ : List ℕ} (v : S) {k : List ℕ} (n : ℕ) (h : n < m) (r : Reached c m v₀ k₀ v k n) where
+  keys-left : keysBy c m v₀ k₀ ≡ n + keysBy c (suc (m - (n + 1))) v k
+  keys-left = r .keys ∙ ap (λ x. n + keysBy c x v k) (left-is m n h)
 
-  buffer-left : bufferFrom m f v₀ k₀ ≡ bufferFrom (suc (m - (n + 1))) f v k
-  buffer-left = r .buffer ∙ ap (λ x. bufferFrom x f v k) (left-is m n h)
+  buffer-left : bufferBy c m v₀ k₀ ≡ bufferBy c (suc (m - (n + 1))) v k
+  buffer-left = r .buffer ∙ ap (λ x. bufferBy c x v k) (left-is m n h)
 
-  pub reached-next : {k' : List ℕ} {t : Step} → Stepped (R.next f v (length k)) k k' t → keyTest (t .answer) ≡ true
-      → Reached m f v₀ k₀ (viewIs (t .reading)) k' (n + 1)
+  pub reached-next : {k' : List ℕ} {x : Answer} {v' : S} → Called c v k k' x v' → keyTest x ≡ true → Reached c m v₀ k₀ v' k' (n + 1)
   reached-next st e =
-      let q = keys-left ∙ ap (λ x. n + x) (keys-on f v st (m - (n + 1)) e) in
-      record { at-most = omega (arith, h); keys = omega (arith, q); buffer = buffer-left ∙ buffer-on f v st (m - (n + 1)) e }
+      let q = keys-left ∙ ap (λ y. n + y) (keys-on c v st (m - (n + 1)) e) in
+      record { at-most = omega (arith, h); keys = omega (arith, q); buffer = buffer-left ∙ buffer-on c v st (m - (n + 1)) e }
 
-  pub reached-stop : {k' : List ℕ} {t : Step} → Stepped (R.next f v (length k)) k k' t → keyTest (t .answer) ≡ false → KeysTold m f v₀ k₀ k' n
+  pub reached-stop : {k' : List ℕ} {x : Answer} {v' : S} → Called c v k k' x v' → keyTest x ≡ false → RunTold c m v₀ k₀ k' n
   reached-stop st e =
-      let q = keys-left ∙ ap (λ x. n + x) (keys-off f v st (m - (n + 1)) e) in
-      record { answer = omega (arith, q); buffer = sym (buffer-left ∙ buffer-off f v st (m - (n + 1)) e) }
+      let q = keys-left ∙ ap (λ y. n + y) (keys-off c v st (m - (n + 1)) e) in
+      record { answer = omega (arith, q); buffer = sym (buffer-left ∙ buffer-off c v st (m - (n + 1)) e) }
 
-pub reached-end : (m : ℕ) (f : List ℕ) {v₀ : View} {k₀ : List ℕ} (v : View) {k : List ℕ} (n : ℕ) → m ≤ n → Reached m f v₀ k₀ v k n → KeysTold m f v₀ k₀ k n
-unfolding keysFrom bufferFrom
-reached-end m f {v₀} {k₀} v {k} n h r =
+pub reached-end : {S : Type 0} (c : Calls S) (m : ℕ) {v₀ : S} {k₀ : List ℕ} (v : S) {k : List ℕ} (n : ℕ) → m ≤ n → Reached c m v₀ k₀ v k n
+    → RunTold c m v₀ k₀ k n
+unfolding keysBy bufferBy
+reached-end c m {v₀} {k₀} v {k} n h r =
     let none : m - n ≡ 0 = omega (arith, h) in
-    let q : keysFrom m f v₀ k₀ ≡ n + 0 = r .keys ∙ ap (λ x. n + keysFrom x f v k) none in
-    record { answer = omega (arith, q); buffer = sym (r .buffer ∙ ap (λ x. bufferFrom x f v k) none) }
+    let q : keysBy c m v₀ k₀ ≡ n + 0 = r .keys ∙ ap (λ x. n + keysBy c x v k) none in
+    record { answer = omega (arith, q); buffer = sym (r .buffer ∙ ap (λ x. bufferBy c x v k) none) }
 
 module _ (m : ℕ) (f : List ℕ) {w : R.Started} (s : Started) (e : startedIs s ≡ w) where
-  pub keys-refused : (n : ℕ) (k : List ℕ) → s .answer ≡ NotStarted n → StartKeysTold m f w k k 0
-  keys-refused n k is =
+  pub bare-refused : (n : ℕ) (k : List ℕ) → s .answer ≡ NotStarted n → BareKeysTold m f w k k 0
+  bare-refused n k is =
       let q : w ≡ R.Started.refused n = sym e ∙ ap (λ b. beganIs b (s .reading)) is in
       rw q (record { reading = λ v no. absurd (let z : _≡_ {A = ℕ} 0 1 = cc in omega arith); refused = λ i same. (refl, refl) })
 
-  pub keys-told : (k₀ k : List ℕ) (r : ℕ) → s .answer ≡ Began → KeysTold m f (viewIs (s .reading)) k₀ k r → StartKeysTold m f w k₀ k r
-  keys-told k₀ k r is told =
+  pub bare-told : (k₀ k : List ℕ) (r : ℕ) → s .answer ≡ Began → KeysTold m f (viewIs (s .reading)) k₀ k r → BareKeysTold m f w k₀ k r
+  bare-told k₀ k r is told =
       let q : w ≡ R.started (viewIs (s .reading)) = sym e ∙ ap (λ b. beganIs b (s .reading)) is in
       rw q
       (record {
         reading = λ v same. let z : viewIs (s .reading) ≡ v = cc in subst (λ x. KeysTold m f x k₀ k r) z told;
+        refused = λ i no. absurd (let z : _≡_ {A = ℕ} 0 1 = cc in omega arith);
+      })
+
+module _ (m : ℕ) (f : List ℕ) {w : P.Begun} (s : Begun) (e : begunIs s ≡ w) where
+  pub keys-refused : (n : ℕ) (k : List ℕ) → s .answer ≡ NotStarted n → StartKeysTold m f w k k 0
+  keys-refused n k is =
+      let q : w ≡ P.Begun.refused n = sym e ∙ ap (λ b. Plains.beganIs b (s .plain)) is in
+      rw q (record { reading = λ p no. absurd (let z : _≡_ {A = ℕ} 0 1 = cc in omega arith); refused = λ i same. (refl, refl) })
+
+  pub keys-told : (k₀ k : List ℕ) (r : ℕ) → s .answer ≡ Began → PlainKeysTold m f (plainIs (s .plain)) k₀ k r → StartKeysTold m f w k₀ k r
+  keys-told k₀ k r is told =
+      let q : w ≡ P.begun (plainIs (s .plain)) = sym e ∙ ap (λ b. Plains.beganIs b (s .plain)) is in
+      rw q
+      (record {
+        reading = λ p same. let z : plainIs (s .plain) ≡ p = cc in subst (λ x. PlainKeysTold m f x k₀ k r) z told;
         refused = λ i no. absurd (let z : _≡_ {A = ℕ} 0 1 = cc in omega arith);
       })

@@ -1,22 +1,23 @@
--- What the exported functions answer: numbers, and what the lent buffers hold afterwards. The reading itself is in `reading` and `stream_start`.
+-- What the exported functions answer: numbers, and what the lent buffers hold afterwards. The reading itself is in `reading`, `plain` and
+-- `stream`. Runs has the calls one after the other.
 --     kindIs n, kindNumber k        the kind of a bound that a number stands for, and back
 --     pendingIs n v                 the pending empty key that two numbers stand for; pendingFlag and pendingValue go back
 --     Held, heldIs h                six arrays, and the reading that they hold
 --     headAs r, heldAs r            the first of the arrays, and all of them, for a reading
---     StartTold w h₀ h r            what is told of the answer w to a start
+--     heldPlain h n                 the plain reading that the arrays hold with the number of keys to come in n
+--     PlainPut p h n                the arrays hold the plain reading p
+--     StartTold w h₀ n₀ h n r       what is told of the answer w to a start
 --     Told a v₀ v r                 the number and the value that are told of an answer
---     NextTold w h k₀ k v₀ v r      what is told of the answer w to a call of next
---     keysFrom m s v k              how many of the first m calls hand out a key, up to the first that does not, with the buffer k
---     bufferFrom m s v k            the buffer after these calls
---     KeysTold, StartKeysTold       what is told of them, from a reading and from a start
+--     NextTold w h n k₀ k v₀ v r    what is told of the answer w to a call of next
 -- Assumes nothing.
 use mathlib.Core.Path.{_≡_}
-use mathlib.Core.Bool.{Bool, true, false}
 use mathlib.Core.List.{List, [], _∷_}
 use Prim.Native.Nat.{ℕ, zero, suc, _+_}
 use lib.ListN.{length, getD}
 use Rattle.reading.specs.Reading as R
-use Rattle.reading.specs.Reading.{View, key, end, written}
+use Rattle.reading.specs.Reading.{key, end, written}
+use Rattle.plain.specs.Plain as P
+use Rattle.plain.specs.Plain.{plainWith}
 use Rattle.stream_start.specs.declared.Bound.{Bound}
 use Rattle.stream_start.specs.declared.Bound.the-variants.{Included, Excluded, Unbounded}
 use Rattle.stream_start.specs.declared.EmptyOutput.{EmptyOutput}
@@ -25,6 +26,7 @@ use Rattle.stream_start.specs.declared.Reading.{Reading}
 use Rattle.stream_step.specs.declared.Answer.{Answer}
 use Rattle.stream_step.specs.declared.Answer.the-variants.{Key, End, Refused}
 use Rattle.stream_start.specs.Views.{viewIs}
+use Rattle.stream.specs.declared.Plain.{Plain}
 
 -- ---- a reading in six arrays
 
@@ -85,16 +87,25 @@ headAs r =
 abbrev pub heldAs : Reading → Held
 heldAs r = held (headAs r) (r .bound) (r .addrs) (r .inps) (r .trans) (r .outs)
 
+-- ---- with the number of keys to come
+
+abbrev pub heldPlain : Held → List ℕ → P.Plain
+heldPlain h n = plainWith (viewIs (heldIs h)) (getD n 0 0)
+
+pub record PlainPut (p : Plain) (h : Held) (n : List ℕ) : Type 0 where
+  pub reading : h ≡ heldAs (p .reading)
+  pub keys : n ≡ p .keys ∷ []
+
 -- ---- start: 0 and the reading, or the refusal
 
-abbrev pub startNumber : R.Started → ℕ
-startNumber (R.started v) = 0
-startNumber (R.Started.refused n) = n
+abbrev pub startNumber : P.Begun → ℕ
+startNumber (P.begun p) = 0
+startNumber (P.Begun.refused n) = n
 
-pub record StartTold (w : R.Started) (h₀ h : Held) (r : ℕ) : Type 0 where
+pub record StartTold (w : P.Begun) (h₀ : Held) (n₀ : List ℕ) (h : Held) (n : List ℕ) (r : ℕ) : Type 0 where
   pub answer : r ≡ startNumber w
-  pub reading : (v : View) → w ≡ R.started v → viewIs (heldIs h) ≡ v
-  pub kept : (n : ℕ) → w ≡ R.Started.refused n → h ≡ h₀
+  pub reading : (p : P.Plain) → w ≡ P.begun p → heldPlain h n ≡ p
+  pub kept : (m : ℕ) → w ≡ P.Begun.refused m → (h ≡ h₀) × (n ≡ n₀)
 
 -- ---- next: a key's length, 1000 for the end, or 2000 and the refusal; and a key's value
 
@@ -123,38 +134,8 @@ pub record Told (a : Answer) (v₀ v : List ℕ) (r : ℕ) : Type 0 where
   pub number : r ≡ answerNumber a
   pub value : v ≡ answerValue a v₀
 
-pub record NextTold (w : R.Step) (h : Held) (k₀ k v₀ v : List ℕ) (r : ℕ) : Type 0 where
+pub record NextTold (w : P.PlainStep) (h : Held) (n k₀ k v₀ v : List ℕ) (r : ℕ) : Type 0 where
   pub answer : r ≡ nextNumber (w .answer)
-  pub reading : viewIs (heldIs h) ≡ w .reading
+  pub reading : heldPlain h n ≡ w .reading
   pub buffer : k ≡ written (w .answer) k₀
   pub value : v ≡ valueIn (w .answer) v₀
-
--- ---- calls one after the other
-
-abbrev pub keyTest : Answer → Bool
-keyTest (Key n x) = true
-keyTest End = false
-keyTest (Refused n) = false
-
-abbrev pub onKey : {A : Type 0} → R.Answer → A → A → A
-onKey (key k x) go stop = go
-onKey end go stop = stop
-onKey (R.Answer.refused n) go stop = stop
-
-unfoldable pub keysFrom : ℕ → List ℕ → View → List ℕ → ℕ
-keysFrom zero s v k = 0
-keysFrom (suc m) s v k =
-    onKey (R.next s v (length k) .answer) (suc (keysFrom m s (R.next s v (length k) .reading) (written (R.next s v (length k) .answer) k))) 0
-
-unfoldable pub bufferFrom : ℕ → List ℕ → View → List ℕ → List ℕ
-bufferFrom zero s v k = k
-bufferFrom (suc m) s v k =
-    onKey (R.next s v (length k) .answer) (bufferFrom m s (R.next s v (length k) .reading) (written (R.next s v (length k) .answer) k)) k
-
-pub record KeysTold (m : ℕ) (s : List ℕ) (v : View) (k₀ k : List ℕ) (r : ℕ) : Type 0 where
-  pub answer : r ≡ keysFrom m s v k₀
-  pub buffer : k ≡ bufferFrom m s v k₀
-
-pub record StartKeysTold (m : ℕ) (s : List ℕ) (w : R.Started) (k₀ k : List ℕ) (r : ℕ) : Type 0 where
-  pub reading : (v : View) → w ≡ R.started v → KeysTold m s v k₀ k r
-  pub refused : (n : ℕ) → w ≡ R.Started.refused n → (r ≡ 0) × (k ≡ k₀)

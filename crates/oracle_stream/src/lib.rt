@@ -1,14 +1,19 @@
-// A reading's start and next as functions on numbers, slices and arrays, for the comparison with the Rust (oracle/README.md). Nothing is
-// asked of a caller: each function answers on every input, and its contract says the answer and what the lent buffers hold afterwards. A
+// A plain reading's start and next as functions on numbers, slices and arrays, for the comparison with the Rust (oracle/README.md). Nothing
+// is asked of a caller: each function answers on every input, and its contract says the answer and what the lent buffers hold afterwards. A
 // slice is passed as its pointer and then its length, an array as its pointer.
 //
 // A reading stands in six arrays: head has the file's length, the upper bound's kind and length, 1 where an empty key is pending, its
-// value, the total and the number of levels; the others have the bound's bytes and the levels.
+// value, the total and the number of levels; the others have the bound's bytes and the levels. Beside them stands an array of one, the
+// number of keys to come.
 ghost use mathlib.Core.Path.{_≡_};
 ghost use lib.ListN.{length};
 ghost use Rattle.reading.specs.Reading as R;
+ghost use Rattle.plain.specs.Plain as P;
 ghost use Rattle.stream_start.specs.Views.{boundIs, viewIs};
-ghost use Rattle.oracle_stream.specs.Held.{kindIs, kindNumber, pendingIs, pendingFlag, pendingValue, headAs, held, heldIs, heldAs, StartTold, Told, NextTold, keyTest, KeysTold, StartKeysTold};
+ghost use Rattle.stream.specs.Plains.{plainIs};
+ghost use Rattle.oracle_stream.specs.Held.{kindIs, kindNumber, pendingIs, pendingFlag, pendingValue, headAs, held, heldIs, heldAs, heldPlain, PlainPut, StartTold, Told, NextTold};
+ghost use Rattle.oracle_stream.specs.Runs.{keyTest, KeysTold, PlainKeysTold, StartKeysTold, BareKeysTold};
+use stream::Plain;
 use stream_start::Begins;
 use stream_start::Bound;
 use stream_start::EmptyOutput;
@@ -142,9 +147,28 @@ fn put(
     *outs = o;
 }
 
+// Puts a plain reading into the arrays.
+fn put_plain(
+    plain: Plain,
+    head: &mut [u64; 7],
+    bound: &mut [u8; 255],
+    addrs: &mut [u32; 256],
+    inps: &mut [u8; 256],
+    trans: &mut [u16; 256],
+    outs: &mut [u64; 256],
+    keys: &mut [u64; 1],
+)
+    ensures { λ _. ⌜ PlainPut plain (held (now (head .exit)) (now (bound .exit)) (now (addrs .exit))
+        (now (inps .exit)) (now (trans .exit)) (now (outs .exit))) (now (keys .exit)) ⌝ }
+{
+    let reading = plain.reading;
+    put(reading, head, bound, addrs, inps, trans, outs);
+    *keys = [plain.keys];
+}
+
 // ---- start
 
-// 0 where a start gives a reading, which stands in the arrays then; else the refusal, the arrays as they were.
+// 0 where a start with this table gives a reading, which stands in the arrays then; else the refusal, the arrays as they were.
 #[no_mangle]
 pub extern "C" fn baxhiso_start(
     file: &[u8],
@@ -152,30 +176,32 @@ pub extern "C" fn baxhiso_start(
     lower: &[u8],
     upper_kind: u64,
     upper: &[u8],
+    counts: &[u64],
     head: &mut [u64; 7],
     bound: &mut [u8; 255],
     addrs: &mut [u32; 256],
     inps: &mut [u8; 256],
     trans: &mut [u16; 256],
     outs: &mut [u64; 256],
+    keys: &mut [u64; 1],
 ) -> u64
-    ensures { λ r. ⌜ StartTold (R.start (now (file .entry))
+    ensures { λ r. ⌜ StartTold (P.startPlain (now (file .entry))
         (boundIs (kindIs «lower_kind») (now (lower .entry)))
-        (boundIs (kindIs «upper_kind») (now (upper .entry))))
+        (boundIs (kindIs «upper_kind») (now (upper .entry))) (now (counts .entry)))
         (held (now (head .entry)) (now (bound .entry)) (now (addrs .entry)) (now (inps .entry))
-        (now (trans .entry)) (now (outs .entry)))
+        (now (trans .entry)) (now (outs .entry))) (now (keys .entry))
         (held (now (head .exit)) (now (bound .exit)) (now (addrs .exit)) (now (inps .exit))
-        (now (trans .exit)) (now (outs .exit))) r ⌝ }
+        (now (trans .exit)) (now (outs .exit))) (now (keys .exit)) r ⌝ }
 {
     let lower_bound = kind_of(lower_kind);
     let upper_bound = kind_of(upper_kind);
-    let started = stream_start::start(file, lower_bound, lower, upper_bound, upper);
+    let started = stream::start(file, lower_bound, lower, upper_bound, upper, counts);
     let answer = started.answer;
     match answer {
         Begins::Refused(why) => why as u64,
         Begins::Began => {
-            let reading = started.reading;
-            put(reading, head, bound, addrs, inps, trans, outs);
+            let plain = started.plain;
+            put_plain(plain, head, bound, addrs, inps, trans, outs, keys);
             0
         }
     }
@@ -208,14 +234,16 @@ pub extern "C" fn baxhiso_next(
     inps: &mut [u8; 256],
     trans: &mut [u16; 256],
     outs: &mut [u64; 256],
+    keys: &mut [u64; 1],
     key: &mut [u8],
     value: &mut [u64; 1],
 ) -> u64
-    ensures { λ r. ⌜ NextTold (R.next (now (file .entry))
-        (viewIs (heldIs (held (now (head .entry)) (now (bound .entry)) (now (addrs .entry))
-        (now (inps .entry)) (now (trans .entry)) (now (outs .entry))))) (length (now (key .entry))))
+    ensures { λ r. ⌜ NextTold (P.nextPlain (now (file .entry))
+        (heldPlain (held (now (head .entry)) (now (bound .entry)) (now (addrs .entry))
+        (now (inps .entry)) (now (trans .entry)) (now (outs .entry))) (now (keys .entry)))
+        (length (now (key .entry))))
         (held (now (head .exit)) (now (bound .exit)) (now (addrs .exit)) (now (inps .exit))
-        (now (trans .exit)) (now (outs .exit))) (now (key .entry)) (now (key .exit))
+        (now (trans .exit)) (now (outs .exit))) (now (keys .exit)) (now (key .entry)) (now (key .exit))
         (now (value .entry)) (now (value .exit)) r ⌝ }
 {
     let h = *head;
@@ -224,10 +252,15 @@ pub extern "C" fn baxhiso_next(
     let i = *inps;
     let t = *trans;
     let o = *outs;
+    let n = *keys;
     let reading = reading_of(h, b, a, i, t, o);
-    let step = stream_next::next(file, reading, key);
-    let after = step.reading;
-    put(after, head, bound, addrs, inps, trans, outs);
+    let plain = Plain {
+        reading,
+        keys: n[0],
+    };
+    let step = stream::next(file, plain, key);
+    let after = step.plain;
+    put_plain(after, head, bound, addrs, inps, trans, outs, keys);
     let answer = step.answer;
     told(answer, value)
 }
@@ -245,7 +278,57 @@ fn is_key(answer: Answer) -> bool
 }
 
 // How many calls hand out a key, from this reading on, up to the first that does not and at most so many.
-fn keys_from(file: &[u8], reading: Reading, most: u64, key: &mut [u8]) -> u64
+fn keys_from(file: &[u8], plain: Plain, most: u64, key: &mut [u8]) -> u64
+    ensures { λ r. ⌜ PlainKeysTold most (now (file .entry)) (plainIs plain) (now (key .entry))
+        (now (key .exit)) r ⌝ }
+{
+    let mut here = plain;
+    let mut n: u64 = 0;
+    while n < most {
+        let step = stream::next(file, here, key);
+        let answer = step.answer;
+        if is_key(answer) {} else {
+            return n;
+        }
+        here = step.plain;
+        n += 1;
+    }
+    n
+}
+
+// How many calls after a start with this table hand out a key, up to the first that does not and at most so many; none where the start is
+// refused. The buffer holds what the last of them left there.
+#[no_mangle]
+pub extern "C" fn baxhiso_keys(
+    file: &[u8],
+    lower_kind: u64,
+    lower: &[u8],
+    upper_kind: u64,
+    upper: &[u8],
+    counts: &[u64],
+    most: u64,
+    key: &mut [u8],
+) -> u64
+    ensures { λ r. ⌜ StartKeysTold most (now (file .entry))
+        (P.startPlain (now (file .entry)) (boundIs (kindIs «lower_kind») (now (lower .entry)))
+        (boundIs (kindIs «upper_kind») (now (upper .entry))) (now (counts .entry)))
+        (now (key .entry)) (now (key .exit)) r ⌝ }
+{
+    let lower_bound = kind_of(lower_kind);
+    let upper_bound = kind_of(upper_kind);
+    let started = stream::start(file, lower_bound, lower, upper_bound, upper, counts);
+    let answer = started.answer;
+    match answer {
+        Begins::Refused(_) => 0,
+        Begins::Began => {
+            let plain = started.plain;
+            keys_from(file, plain, most, key)
+        }
+    }
+}
+
+// The same of a reading without the number.
+fn bare_keys_from(file: &[u8], reading: Reading, most: u64, key: &mut [u8]) -> u64
     ensures { λ r. ⌜ KeysTold most (now (file .entry)) (viewIs reading) (now (key .entry))
         (now (key .exit)) r ⌝ }
 {
@@ -263,10 +346,9 @@ fn keys_from(file: &[u8], reading: Reading, most: u64, key: &mut [u8]) -> u64
     n
 }
 
-// How many calls after a start hand out a key, up to the first that does not and at most so many; none where the start is refused. The
-// buffer holds what the last of them left there.
+// As baxhiso_keys, by readings without the number, which take no table.
 #[no_mangle]
-pub extern "C" fn baxhiso_keys(
+pub extern "C" fn baxhiso_bare_keys(
     file: &[u8],
     lower_kind: u64,
     lower: &[u8],
@@ -275,7 +357,7 @@ pub extern "C" fn baxhiso_keys(
     most: u64,
     key: &mut [u8],
 ) -> u64
-    ensures { λ r. ⌜ StartKeysTold most (now (file .entry))
+    ensures { λ r. ⌜ BareKeysTold most (now (file .entry))
         (R.start (now (file .entry)) (boundIs (kindIs «lower_kind») (now (lower .entry)))
         (boundIs (kindIs «upper_kind») (now (upper .entry)))) (now (key .entry)) (now (key .exit))
         r ⌝ }
@@ -288,7 +370,7 @@ pub extern "C" fn baxhiso_keys(
         Begins::Refused(_) => 0,
         Begins::Began => {
             let reading = started.reading;
-            keys_from(file, reading, most, key)
+            bare_keys_from(file, reading, most, key)
         }
     }
 }

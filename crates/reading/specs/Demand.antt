@@ -26,7 +26,6 @@
 --     But if the empty key is held and meets the lower bound, and           `EmptyExcluded`
 --     the upper excludes it, none is followed and the total stays 0.        `none-followed`, `total-excluded`
 -- Assumes nothing.
-use Prim.{Unit, tt}
 use mathlib.Core.Path.{_≡_}
 use mathlib.Core.Bool.{cond}
 use mathlib.Core.Logic.{_⊎_}
@@ -37,27 +36,10 @@ use lib.ListN.{length, replicate}
 use Rattle.format.specs.Limits.{maxPath, maxSum}
 use Rattle.format.specs.Paths.{Fst, fstOf, Held}
 use Rattle.format.specs.Admitted.{Admitted}
-use Rattle.format.specs.Strings.{Before, Begins, Bound, MeetsLower, PassesUpper, Between}
+use Rattle.format.specs.Strings.{Before, Begins, Bound, MeetsLower, PassesUpper, Between, Rising, NumberOf}
 use Rattle.reading.specs.Reading.{View, Started, started, start, Answer, key, end, Step, refuse, next}
 
--- ---- strings, and their number
-
--- each string comes before all that follow
-abbrev pub AllAfter : List ℕ → List (List ℕ) → Type 0
-AllAfter k [] = Unit {0}
-AllAfter k (l ∷ ls) = Before k l × AllAfter k ls
-
-abbrev pub Rising : List (List ℕ) → Type 0
-Rising [] = Unit {0}
-Rising (k ∷ ks) = AllAfter k ks × Rising ks
-
--- n is the number of different strings such that P
-pub record NumberOf (P : List ℕ → Type 0) (n : ℕ) : Type 0 where
-  pub strings : List (List ℕ)
-  pub rising : Rising strings
-  pub such : (x : List ℕ) → List·Memᴰ x strings → P x
-  pub all : (x : List ℕ) → P x → List·Memᴰ x strings
-  pub number : length strings ≡ n
+-- ---- strings that begin held keys
 
 -- x is not empty and begins a held key
 pub record BeginsHeld (f : Fst) (x : List ℕ) : Type 0 where

@@ -23,7 +23,7 @@ use Rattle.format.specs.laws.ReachedLaws.{held-from, from-held, held-here, held
 use Rattle.format.specs.Admitted.{Admitted}
 use Rattle.buffers.specs.Decide.{Decides}
 use Rattle.buffers.specs.DecideLaws.{true-of, false-of}
-use Rattle.format.specs.Strings.{Before, shorter, Begins, Bound, MeetsLower, PassesUpper, Between}
+use Rattle.format.specs.Strings.{Before, shorter, Begins, Bound, MeetsLower, PassesUpper, Between, AllAfter, Rising, NumberOf}
 use Rattle.format.specs.laws.StringLaws.{before-irrefl, before-trans, before-nil}
 use Rattle.reading.specs.Reading.{meetsTest, passesTest, boundBytes, isInclusive, Level, View, Started, started, startedAt, boundsTest, pendingAt, seek, start, Answer, key, end, Step, refuse}
 use Rattle.reading.specs.BoundLaws.{decides-meets, decides-passes, passes-up}
@@ -32,7 +32,7 @@ use Rattle.reading.specs.VisitLaws.{before-full, all-mem, kept-mem, mem-
 use Rattle.reading.specs.SeekLaws.{SeekCome, start-come}
 use Rattle.reading.specs.RunLaws.{lt-or, capped-low, capped-high}
 use Rattle.reading.specs.NextLaws.{viewAt, next-pending-on, next-pending-off, Ways, at-end, over-at, handed-at, next-come}
-use Rattle.reading.specs.Demand.{AllAfter, Rising, NumberOf, BeginsHeld, Within, Beyond, Extra, one-more, no-more, EmptyExcluded, Call, Allowed, call, readingAfter, answers, unrefused, atZero, followed, Entry, entry, handOut, handedIn, NotAfterLast, NoneLeft, Demand3, capped}
+use Rattle.reading.specs.Demand.{BeginsHeld, Within, Beyond, Extra, one-more, no-more, EmptyExcluded, Call, Allowed, call, readingAfter, answers, unrefused, atZero, followed, Entry, entry, handOut, handedIn, NotAfterLast, NoneLeft, Demand3, capped}
 use Rattle.reading.specs.ProgressLaws.{entriesOf, entries-append, entries-one, LastFinal, no-visit, last-visit, Pre, no-empty, empty-key, Progress, fresh, going, finished, beyond, shut, Called, hands, ended, file-same, view-refused, progress-step, progress-refused, dec-allowed, Ran, progress-run}
 
 -- ---- what the visits of a start are, in the words of demand 3

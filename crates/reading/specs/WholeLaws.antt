@@ -18,14 +18,14 @@ use Rattle.format.specs.Limits.{maxPath, BOUND}
 use Rattle.format.specs.Paths.{Fst, fstOf, Held}
 use Rattle.format.specs.laws.PathLaws.{held-unique}
 use Rattle.format.specs.Admitted.{Admitted}
-use Rattle.format.specs.Strings.{Bound, unbounded, MeetsLower, no-lower, PassesUpper, Between}
+use Rattle.format.specs.Strings.{Bound, unbounded, MeetsLower, no-lower, PassesUpper, Between, Rising, NumberOf}
 use Rattle.format.specs.Lookup as L
 use Rattle.format.specs.Lookup.{get}
 use Rattle.format.specs.Exact.{GetExact}
 use Rattle.format.specs.laws.LookupHeld.{get-exact}
 use Rattle.reading.specs.Reading.{boundBytes, boundsTest, View, Started, started, start, Answer, end, Step, next}
 use Rattle.reading.specs.RunLaws.{lt-or}
-use Rattle.reading.specs.Demand.{Rising, NumberOf, Within, Extra, EmptyExcluded, Entry, entry, handOut, NoneLeft, capped}
+use Rattle.reading.specs.Demand.{Within, Extra, EmptyExcluded, Entry, entry, handOut, NoneLeft, capped}
 use Rattle.reading.specs.WholeRun.{Runs, run-end, run-key, Whole}
 use Rattle.reading.specs.ProgressLaws.{left, Called, hands, ended, ask-step}
 use Rattle.reading.specs.DemandLaws.{visits, pend, Comes, keysOut, comes-held, comes-rising, comes-none-left, comes-total-ended, start-comes, begun, reading₀, start-given}
@@ -121,7 +121,7 @@ on-way-next {s} A lo hi r w space room =
 
 -- ---- the refusals of a start
 
-both-false : (x : Bool) → (x && false) ≡ false
+pub both-false : (x : Bool) → (x && false) ≡ false
 both-false true = refl
 both-false false = refl
 

@@ -7,9 +7,9 @@ use mathlib.Core.List.{List, [], _∷_, map, List·Memᴰ}
 use Prim.Native.Nat.{ℕ, _+_}
 use Rattle.format.specs.Paths.{fstOf, Held}
 use Rattle.format.specs.Admitted.{Admitted}
-use Rattle.format.specs.Strings.{Bound, Between}
+use Rattle.format.specs.Strings.{Bound, Between, Rising, NumberOf}
 use Rattle.reading.specs.Reading.{View, started, start, end, next}
-use Rattle.reading.specs.Demand.{Rising, NumberOf, Within, Extra, EmptyExcluded, Entry, handOut, NoneLeft, capped}
+use Rattle.reading.specs.Demand.{Within, Extra, EmptyExcluded, Entry, handOut, NoneLeft, capped}
 
 pub data Runs (s : List ℕ) (space : ℕ) : View → List Entry → View → Type 0 where
   run-end : {r r′ : View} → next s r space ≡ record { answer = end; reading = r′ } → Runs s space r [] r′

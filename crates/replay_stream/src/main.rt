@@ -1,7 +1,7 @@
 // Replays recorded readings, with no Rust at hand. The list on standard input has files, each with
-// starts and the calls of next after them (README.md). Each is asked again, and the answer, the
-// total and the key buffer are held to what is recorded. A difference changes a count that is
-// written.
+// tables of keys, starts and the calls of next after them (README.md). Each is asked again, and the
+// answer, the total, the number of keys to come and the key buffer are held to what is recorded. A
+// difference changes a count that is written.
 ghost use Prim.Native.Nat.{_+_, _*_, _≤_, _<_};
 ghost use lib.ListN.{length};
 ghost use Rattle.replay_list.specs.Records.{Within};
@@ -13,6 +13,8 @@ use replay_list::Parsed;
 use replay_list::Place;
 use replay_list::at_most;
 use replay_list::number;
+use stream::Plain;
+use stream::Started;
 use stream_start::Begins;
 use stream_start::Bound;
 use stream_start::EmptyOutput;
@@ -20,7 +22,7 @@ use stream_start::Reading;
 use stream_step::Answer;
 
 // The list's length, and one byte more by which a longer list is seen.
-const LIST: usize = 192_241;
+const LIST: usize = 255_462;
 
 // The kinds of record beside the file.
 const START: u64 = 2;
@@ -28,6 +30,44 @@ const START: u64 = 2;
 const NEXT: u64 = 3;
 
 const MADE: u64 = 4;
+
+const TABLE: u64 = 5;
+
+// The entries of a table of keys: more than the longest file of the list has bytes.
+const CELLS: usize = 1_024;
+
+// What the records up to a place leave: the reading that the last of them left, and how many entries
+// of the table are lent.
+struct Left {
+    plain: Plain,
+    lent: u64,
+}
+
+// ---- tables of keys
+
+// The entries that a record lists, each of 10 bytes, from place at of the list.
+fn fill_table(list: &[u8], at: usize, n: usize, table: &mut [u64; CELLS])
+    requires { ⌜ at + 10 * n ≤ length (now list) ⌝ }
+{
+    let mut i = 0;
+    while i < n {
+        let from = at + 10 * i;
+        let addr = number(list, from, 2) as usize;
+        if addr < CELLS {
+            table[addr] = number(list, from + 2, 8);
+        }
+        i += 1;
+    }
+}
+
+// The table of a record: one entry everywhere, but for those that it lists.
+fn replay_table(list: &[u8], entry: Entry, table: &mut [u64; CELLS], counts: &mut [u64; 16])
+    requires { ⌜ Within (now list) entry ⌝ }
+{
+    *table = [entry.b; CELLS];
+    fill_table(list, entry.part, entry.len / 10, table);
+    replay_list::tally(counts, TABLE, entry.len % 10 == 0);
+}
 
 // ---- starts
 
@@ -49,33 +89,59 @@ fn begins_number(answer: Begins) -> u64 {
     }
 }
 
-// Starts again. The answer is the reading that it gives, or where it is refused the one before.
+// A start with so many entries of this table.
+fn start_with(
+    file: &[u8],
+    lower_kind: Bound,
+    lower: &[u8],
+    upper_kind: Bound,
+    upper: &[u8],
+    table: [u64; CELLS],
+    lent: u64,
+) -> Started {
+    let n = at_most(lent, CELLS);
+    stream::start(file, lower_kind, lower, upper_kind, upper, &table[..n])
+}
+
+// Starts again with so many entries of this table. The answer is the reading that it gives, or where it is refused the
+// one before.
 fn replay_start(
     list: &[u8],
     file: &[u8],
     entry: Entry,
-    reading: Reading,
+    table: [u64; CELLS],
+    lent: u64,
+    plain: Plain,
     counts: &mut [u64; 16],
-) -> Reading
+) -> Plain
     requires { ⌜ Within (now list) entry ⌝ }
 {
-    let from = entry.part;
-    let between = from + at_most(entry.b, entry.len);
+    if entry.len < 8 {
+        replay_list::tally(counts, START, false);
+        return plain;
+    }
+    let keys = number(list, entry.part, 8);
+    let from = entry.part + 8;
+    let between = from + at_most(entry.b, entry.len - 8);
     let to = replay_list::end_of(list, entry);
-    let started = stream_start::start(
+    let started = start_with(
         file,
         kind_of(entry.c / 3),
         &list[from..between],
         kind_of(entry.c % 3),
         &list[between..to],
+        table,
+        lent,
     );
     let begins = started.answer;
     let answer = begins_number(begins);
-    replay_list::tally(counts, START, answer == entry.a);
+    let begun = started.plain;
+    let numbered = (answer != 0) | (begun.keys == keys);
+    replay_list::tally(counts, START, (answer == entry.a) & numbered);
     if answer == 0 {
-        return started.reading;
+        return begun;
     }
-    reading
+    plain
 }
 
 // ---- calls of next
@@ -94,11 +160,19 @@ fn answer_alike(answer: Answer, number: u64, value: u64) -> bool {
     }
 }
 
-// Whether the reading's total and levels after a call, and the buffer, are what is recorded.
-fn left_alike(list: &[u8], entry: Entry, total: u64, levels: usize, key: &[u8; 4096]) -> bool
+// Whether the reading's total, levels and number of keys to come after a call, and the buffer, are
+// what is recorded.
+fn left_alike(
+    list: &[u8],
+    entry: Entry,
+    total: u64,
+    levels: usize,
+    keys: u64,
+    key: &[u8; 4096],
+) -> bool
     requires { ⌜ Within (now list) entry ⌝ }
 {
-    if entry.len < 10 {
+    if entry.len < 18 {
         return false;
     }
     if number(list, entry.part, 8) != total {
@@ -107,7 +181,10 @@ fn left_alike(list: &[u8], entry: Entry, total: u64, levels: usize, key: &[u8; 4
     if number(list, entry.part + 8, 2) != levels as u64 {
         return false;
     }
-    replay_list::same_bytes(list, entry.part + 10, entry.len - 10, key)
+    if number(list, entry.part + 10, 8) != keys {
+        return false;
+    }
+    replay_list::same_bytes(list, entry.part + 18, entry.len - 18, key)
 }
 
 // Calls next again. The answer is the reading that it leaves.
@@ -115,18 +192,19 @@ fn replay_next(
     list: &[u8],
     file: &[u8],
     entry: Entry,
-    reading: Reading,
+    plain: Plain,
     counts: &mut [u64; 16],
-) -> Reading
+) -> Plain
     requires { ⌜ Within (now list) entry ⌝ }
 {
     let space = at_most(entry.c, 4096);
     let mut key = [KEPT; 4096];
-    let step = stream_next::next(file, reading, &mut key[..space]);
+    let step = stream::next(file, plain, &mut key[..space]);
     let answer = step.answer;
-    let after = step.reading;
+    let after = step.plain;
+    let reading = after.reading;
     let told = answer_alike(answer, entry.a, entry.b);
-    let left = left_alike(list, entry, after.total, after.levels, &key);
+    let left = left_alike(list, entry, reading.total, reading.levels, after.keys, &key);
     replay_list::tally(counts, NEXT, told & left);
     after
 }
@@ -201,30 +279,31 @@ fn pending_of(there: u64, value: u64) -> EmptyOutput {
 
 // How long the part of a recorded reading is.
 fn made_len(entry: Entry) -> usize {
-    18 + at_most(entry.c, 255) + 15 * at_most(entry.a, 256)
+    26 + at_most(entry.c, 255) + 15 * at_most(entry.a, 256)
 }
 
-// A recorded reading, or one of nothing where the part is not as long as it says.
+// A recorded reading but for its number of keys, or one of nothing where the part is not as long as
+// it says.
 fn made(list: &[u8], entry: Entry) -> Reading
     requires { ⌜ Within (now list) entry ⌝ }
 {
     let levels = at_most(entry.a, 256);
     let bytes = at_most(entry.c, 255);
-    if entry.len != 18 + bytes + 15 * levels {
+    if entry.len != 26 + bytes + 15 * levels {
         return nothing();
     }
     let at = entry.part;
     let empty_output = pending_of(number(list, at + 8, 1), number(list, at + 9, 8));
     let kind = kind_of(number(list, at + 17, 1));
     let mut bound = [0u8; 255];
-    fill_bound(list, at + 18, bytes, &mut bound);
+    fill_bound(list, at + 26, bytes, &mut bound);
     let mut addrs = [0u32; 256];
     let mut inps = [0u8; 256];
     let mut trans = [0u16; 256];
     let mut outs = [0u64; 256];
     fill_levels(
         list,
-        at + 18 + bytes,
+        at + 26 + bytes,
         levels,
         &mut addrs,
         &mut inps,
@@ -246,35 +325,71 @@ fn made(list: &[u8], entry: Entry) -> Reading
     }
 }
 
+// A recorded reading with its number of keys.
+fn replay_made(list: &[u8], entry: Entry, counts: &mut [u64; 16]) -> Plain
+    requires { ⌜ Within (now list) entry ⌝ }
+{
+    replay_list::tally(counts, MADE, entry.len == made_len(entry));
+    let reading = made(list, entry);
+    if entry.len < 26 {
+        return Plain { reading, keys: 0 };
+    }
+    Plain {
+        reading,
+        keys: number(list, entry.part + 18, 8),
+    }
+}
+
 // ---- the list
 
-// Replays one record that is about this file, with the reading that the records before it left.
+// Replays one record that is about this file, with what the records before it left.
 fn replay_one(
     list: &[u8],
     file: &[u8],
     entry: Entry,
-    reading: Reading,
+    left: Left,
+    table: &mut [u64; CELLS],
     counts: &mut [u64; 16],
-) -> Reading
+) -> Left
     requires { ⌜ Within (now list) entry ⌝ }
 {
+    let plain = left.plain;
+    let lent = left.lent;
+    if entry.kind == TABLE {
+        replay_table(list, entry, table, counts);
+        return Left {
+            plain,
+            lent: entry.c,
+        };
+    }
     if entry.kind == START {
-        return replay_start(list, file, entry, reading, counts);
+        let cells = *table;
+        let started = replay_start(list, file, entry, cells, lent, plain, counts);
+        return Left {
+            plain: started,
+            lent,
+        };
     }
     if entry.kind == NEXT {
-        return replay_next(list, file, entry, reading, counts);
+        let after = replay_next(list, file, entry, plain, counts);
+        return Left { plain: after, lent };
     }
     if entry.kind == MADE {
-        replay_list::tally(counts, MADE, entry.len == made_len(entry));
-        return made(list, entry);
+        let made = replay_made(list, entry, counts);
+        return Left { plain: made, lent };
     }
     replay_list::tally(counts, entry.kind, entry.kind == FILE);
-    reading
+    Left { plain, lent }
 }
 
 // Every record of the list, which ends with the last of them.
 fn replay(list: &[u8], counts: &mut [u64; 16]) {
-    let mut reading = nothing();
+    let mut table = [0u64; CELLS];
+    let reading = nothing();
+    let mut left = Left {
+        plain: Plain { reading, keys: 0 },
+        lent: 0,
+    };
     let mut place = Place { from: 0, to: 0 };
     let mut at = 0;
     while at < list.len() {
@@ -285,7 +400,7 @@ fn replay(list: &[u8], counts: &mut [u64; 16]) {
         place = replay_list::place_of(list, entry, place);
         let from = place.from;
         let to = place.to;
-        reading = replay_one(list, &list[from..to], entry, reading, counts);
+        left = replay_one(list, &list[from..to], entry, left, &mut table, counts);
         at = replay_list::end_of(list, entry);
     }
 }
@@ -299,5 +414,6 @@ fn main() {
     replay_list::line(&counts, 2, b"starts");
     replay_list::line(&counts, 3, b"calls of next");
     replay_list::line(&counts, 4, b"readings that no start gave");
+    replay_list::line(&counts, 5, b"tables of keys");
     replay_list::line(&counts, 0, b"malformed");
 }

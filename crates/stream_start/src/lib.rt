@@ -211,7 +211,7 @@ fn seek(
 }
 
 // How many bytes a bound has: none where it is unbounded, whatever stands beside it.
-fn len_of(kind: Bound, bytes: &[u8]) -> usize
+pub fn len_of(kind: Bound, bytes: &[u8]) -> usize
     ensures { λ r. ⌜ BoundTaken kind (now (bytes .entry)) r ⌝ }
 {
     match kind {
@@ -261,7 +261,7 @@ fn empty_output(file: &[u8], version: u64, root: usize, meets: bool) -> EmptyOut
 }
 
 // A reading without levels, for a refusal: nothing is left of the file that was refused.
-fn no_reading() -> Reading
+pub fn no_reading() -> Reading
     ensures { λ r. ⌜ r ≡ noReading ⌝ }
 {
     Reading {

@@ -1,8 +1,9 @@
-// Admission, by each: the verdict, and both tables entry by entry.
+// Admission, and the filling of the table of keys, by each: the verdict, and the tables entry by entry.
 
 use std::collections::HashMap;
 use std::time::Instant;
 
+use super::counting::{counted, COUNTS_REFUSED};
 use super::opening::{refusal_name, REFUSALS};
 use super::{
     describe_file, same, smallest, Checked, Difference, Run, FILES_DAMAGED, LARGE_FILES_DAMAGED, UNUSED_FILES,
@@ -110,19 +111,21 @@ const B_TO_0: [u8; 3] = [0, 0x10, 0x9a];
 
 // ---- one file
 
-// What admission was given beside the file: the lengths of both tables, and what stands in them.
+// What admission was given beside the file: the lengths of both tables, with that of the table of keys for the filling, and what
+// stands in them.
 #[derive(Clone, Copy)]
 pub struct Lent {
     pub depths: usize,
     pub sums: usize,
+    pub counts: usize,
     pub keep: u64,
 }
 
-fn describe_lent(file: &[u8], lent: Lent) -> String {
-    format!("tables of {} and {} entries, {}", lent.depths, lent.sums, describe_file(file))
+pub fn describe_lent(file: &[u8], lent: Lent) -> String {
+    format!("tables of {}, {} and {} entries, {}", lent.depths, lent.sums, lent.counts, describe_file(file))
 }
 
-// Admission by the model and by ours. What the model says.
+// Admission and the filling by the model and by ours. What the model says of admission.
 pub fn admitted(ours: Option<&dyn FileAnswers>, file: &[u8], lent: Lent) -> Result<Result<Admitted, u64>, Difference> {
     let input = || describe_lent(file, lent);
     let mut depths = vec![lent.keep as u16; lent.depths];
@@ -141,8 +144,9 @@ pub fn admitted(ours: Option<&dyn FileAnswers>, file: &[u8], lent: Lent) -> Resu
         let mut our_depths = vec![lent.keep as u16; lent.depths];
         let mut our_sums = vec![lent.keep; lent.sums];
         same("admission", input, ("model", want), ("ours", ours.admit(file, &mut our_depths, &mut our_sums)))?;
-        same("the table of paths", input, ("model", depths), ("ours", our_depths))?;
-        same("the table of sums", input, ("model", sums), ("ours", our_sums))?;
+        same("the table of paths", input, ("model", &depths), ("ours", &our_depths))?;
+        same("the table of sums", input, ("model", &sums), ("ours", &our_sums))?;
+        counted(ours, file, lent, &judged, (depths, sums))?;
     }
     Ok(judged)
 }
@@ -185,6 +189,8 @@ impl<'a> Run<'a> {
     pub fn admission(&mut self) -> Checked {
         self.prng = Prng::new(5);
         self.admission_rows()?;
+        self.counting_rows()?;
+        self.many_keys()?;
         self.admission_limits()?;
         self.admission_deep()?;
 
@@ -248,6 +254,8 @@ impl<'a> Run<'a> {
         self.require(&["admitted", "admitted: unused nodes"], 20_000)?;
         self.require(&["chains on top of others, one byte damaged"], 80_000)?;
         self.require(&REFUSALS, 100)?;
+        self.require(&[COUNTS_REFUSED, "the table of keys alone too short", "files with 2^64 - 1 keys"], 120)?;
+        self.require(&["files with over 2^64 - 1 keys from an unused node alone"], 120)?;
         self.require(
             &[
                 "admitted: version 1",
@@ -269,10 +277,11 @@ impl<'a> Run<'a> {
     }
 
     // One file: tables with some entries more than the file has bytes, and now and then tables that are short.
-    fn admission_of(&mut self, file: &[u8]) -> Checked {
+    pub fn admission_of(&mut self, file: &[u8]) -> Checked {
         let n = file.len();
         let keep = self.prng.next() | 1;
-        let lent = Lent { depths: n + self.prng.below(3), sums: n + self.prng.below(3), keep };
+        let (depths, sums) = (n + self.prng.below(3), n + self.prng.below(3));
+        let lent = Lent { depths, sums, counts: n + keep as usize / 2 % 3, keep };
         let ours = self.ours_file;
         self.count("files");
         match smallest(file, |file| admitted(ours, file, lent))? {
@@ -281,6 +290,7 @@ impl<'a> Run<'a> {
                     self.count("admitted: every path followed");
                 }
                 self.count_admitted(&found);
+                self.count(if found.counts(n).is_ok() { "tables of keys filled" } else { COUNTS_REFUSED });
             }
             Err(why) => self.count(refusal_name(why)),
         }
@@ -290,10 +300,16 @@ impl<'a> Run<'a> {
                 1 => self.prng.below(n + 1),
                 _ => 0,
             };
+            // the table of keys alone is short too
+            let third = Lent { counts: short, ..lent };
+            smallest(file, |file| admitted(ours, file, third).map(|_| ()))?;
+            if short < n && model_file::open(file).is_ok() {
+                self.count("the table of keys alone too short");
+            }
             let lent = match self.prng.below(3) {
                 0 => Lent { depths: short, ..lent },
                 1 => Lent { sums: short, ..lent },
-                _ => Lent { depths: short, sums: short, keep },
+                _ => Lent { depths: short, sums: short, ..lent },
             };
             if let Err(SPACE) = smallest(file, |file| admitted(ours, file, lent))? {
                 self.count(refusal_name(SPACE));
@@ -370,13 +386,13 @@ impl<'a> Run<'a> {
             (n - 1, n + 1, SPACE),
         ];
         for &(depths, sums, want) in &space {
-            let lent = Lent { depths, sums, keep };
+            let lent = Lent { depths, sums, counts: depths.max(sums), keep };
             let judged = admitted(self.ours_file, &longest, lent)?;
             same("tables", || describe_lent(&longest, lent), ("wanted", want), ("model", verdict(&judged)))?;
             self.count("tables at the limit");
         }
         // opening's refusals come before SPACE
-        let mut lent = Lent { depths: 0, sums: 0, keep };
+        let mut lent = Lent { depths: 0, sums: 0, counts: 0, keep };
         let large = Zeros::new(MAX_LEN + 128);
         for i in 1..=120 {
             lent.depths = i;
@@ -422,7 +438,7 @@ impl<'a> Run<'a> {
             return Ok(());
         }
         let file = generate_file::dense(&mut Prng::new(8), 16_777_217);
-        let lent = Lent { depths: file.len(), sums: file.len(), keep: 1 };
+        let lent = Lent { depths: file.len(), sums: file.len(), counts: file.len(), keep: 1 };
         let judged = admitted(self.ours_file, &file, lent)?;
         same("a dense file", || describe_file(&file), ("wanted", 0), ("model", verdict(&judged)))?;
         let found = judged.ok().expect("its verdict is 0");

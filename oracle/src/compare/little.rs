@@ -2,6 +2,7 @@
 // the model, and the model to rows by hand.
 
 use super::admission::{admitted, Lent};
+use super::counting::{any_table, filled};
 use super::lookup::{got, got_key};
 use super::opening::put_ends;
 use super::ranges::{started, stepped};
@@ -113,7 +114,8 @@ impl<'a> Run<'a> {
         self.count_opening(file)?;
         let n = file.len();
         let (depths, sums) = (n + self.prng.below(2), n + self.prng.below(2));
-        let judged = smallest(file, |file| admitted(ours, file, Lent { depths, sums, keep }))?;
+        let counts = depths.max(sums);
+        let judged = smallest(file, |file| admitted(ours, file, Lent { depths, sums, counts, keep }))?;
         let common = self.prng.pick(&[b'a', b't', 0, b'~']);
         for key in &[&b""[..], &[common], &[common, common]] {
             smallest(file, |file| got(ours, None, file, key, keep))?;
@@ -126,7 +128,10 @@ impl<'a> Run<'a> {
             1 => Bound { kind: Kind::Included, bytes: vec![common] },
             _ => Bound { kind: Kind::Excluded, bytes: Vec::new() },
         };
-        if let Ok(mut reading) = smallest(file, |file| started(readings, file, &lower, &unbounded(), keep))? {
+        let begun = smallest(file, |file| {
+            started(readings, file, &lower, &unbounded(), &any_table(&mut Prng::new(keep), file), keep)
+        })?;
+        if let Ok(mut reading) = begun {
             for _ in 0..3 {
                 reading = stepped(readings, file, &reading, MAX_PATH, keep)?.1;
             }
@@ -141,14 +146,16 @@ impl<'a> Run<'a> {
             self.count_opening(&file)?;
             same("a row", input, ("row", row.open), ("model", crate::model_file::open(&file).err().unwrap_or(0)))?;
             same("a row's empty key", input, ("row", &row.empty), ("model", &got(self.ours_file, None, &file, b"", 4)?))?;
-            let lent = Lent { depths: file.len(), sums: file.len() + 1, keep: 5 };
+            let lent = Lent { depths: file.len(), sums: file.len() + 1, counts: file.len(), keep: 5 };
             let judged = admitted(self.ours_file, &file, lent)?.err().unwrap_or(0);
             same("a row's admission", input, ("row", row.listed.err().unwrap_or(0)), ("model", judged))?;
             if let Ok((keys, total)) = row.listed {
-                let mut reading = match started(self.ours_reading, &file, &unbounded(), &unbounded(), 6)? {
+                let begun = started(self.ours_reading, &file, &unbounded(), &unbounded(), &filled(&file), 6)?;
+                let mut reading = match begun {
                     Ok(reading) => reading,
                     Err(why) => return same("a row's start", input, ("row", 0), ("model", why)),
                 };
+                same("a row's number", input, ("row", keys.len() as u64), ("model", reading.keys))?;
                 for want in keys.iter().map(|(k, v)| Told::Key(k.to_vec(), *v)).chain(vec![Told::End, Told::End]) {
                     let (told, after) = stepped(self.ours_reading, &file, &reading, MAX_PATH, 7)?;
                     same("a row's line", input, ("row", want), ("model", told))?;
@@ -165,8 +172,8 @@ impl<'a> Run<'a> {
     fn no_bytes(&mut self) -> Checked {
         let input = || "no bytes".to_string();
         let (ours, readings) = (self.ours_file, self.ours_reading);
-        for &(depths, sums) in &[(0, 0), (1, 0), (0, 1), (300, 7)] {
-            let judged = admitted(ours, &[], Lent { depths, sums, keep: 9 })?;
+        for &(depths, sums, counts) in &[(0, 0, 0), (1, 0, 0), (0, 1, 1), (300, 7, 5)] {
+            let judged = admitted(ours, &[], Lent { depths, sums, counts, keep: 9 })?;
             same("tables", input, ("wanted", true), ("model", judged.is_ok()))?;
         }
         let spaces = [(0, Answer::Refused(SPACE)), (254, Answer::Refused(SPACE)), (255, Answer::None), (300, Answer::None)];
@@ -187,12 +194,14 @@ impl<'a> Run<'a> {
         for (lower_kind, lower) in bounds() {
             for (upper_kind, upper) in bounds() {
                 let long = |kind, n| kind != Kind::Unbounded && n > 255;
-                let begun = started(readings, &[], &bound(lower_kind, lower), &bound(upper_kind, upper), 11)?;
+                // any table will do
+                let counts = vec![7; (lower + upper) % 3];
+                let begun = started(readings, &[], &bound(lower_kind, lower), &bound(upper_kind, upper), &counts, 11)?;
                 let want = if long(lower_kind, lower) || long(upper_kind, upper) { BOUND } else { 0 };
                 same("a start", input, ("wanted", want), ("model", *begun.as_ref().err().unwrap_or(&0)))?;
                 if let Ok(reading) = begun {
-                    let of = (reading.file_len, reading.pending, reading.total, reading.level_count);
-                    same("a start's reading", input, ("wanted", (0, None, 0, 0)), ("model", of))?;
+                    let of = (reading.file_len, reading.pending, reading.total, reading.keys, reading.level_count);
+                    same("a start's reading", input, ("wanted", (0, None, 0, 0, 0)), ("model", of))?;
                     for &(space, ref want) in &[(255, Told::End), (254, Told::Refused(SPACE)), (300, Told::End)] {
                         let (told, after) = stepped(readings, &[], &reading, space, 12)?;
                         same("a next", input, ("wanted", want), ("model", &told))?;

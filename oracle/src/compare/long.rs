@@ -2,6 +2,7 @@
 // few nodes (sparse.rs), so that they cost a few pages. Such a file is not admitted, since zeros are no chain of nodes; what
 // is admitted is dense and shorter (admission.rs).
 
+use super::counting::followed;
 use super::lookup::{got, got_key};
 use super::opening::put_ends;
 use super::ranges::{ranged, Asked};
@@ -237,12 +238,17 @@ impl<'a> Run<'a> {
         for version in 1..=3 {
             let file = sparse(version);
             let rust = given_file::open(&file).expect("the Rust opens it");
+            // 32 GiB of addresses, of which three entries are written
+            let mut counts = Zeros::<u64>::new(file.len());
+            for (addr, keys) in followed(&file) {
+                counts[addr] = keys;
+            }
             for lower in &bounds {
                 for upper in &bounds {
                     if self.one_in > 1 && !self.prng.one_in(4) {
                         continue;
                     }
-                    let asked = Asked { lower, upper, calls: 20, keep: self.prng.next() };
+                    let asked = Asked { lower, upper, counts: &counts, calls: 20, keep: self.prng.next() };
                     let seen = ranged(self.ours_reading, &rust, Some(&strings), &file, &asked)?;
                     self.count_range(&seen, lower, upper, true);
                 }

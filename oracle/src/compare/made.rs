@@ -1,13 +1,15 @@
-// Readings of damaged files, and readings that no start gave: by the model and by ours.
+// Readings of damaged files, starts with any table, and readings that no start gave: by the model and by ours.
 
+use super::counting::any_table;
 use super::ranges::{describe_reading, started, stepped, Row};
 use super::{describe_file, same, smallest, Checked, Run, READINGS};
 use crate::answers::{
-    Kind, Level, Reading, BOUND, DEEP, LARGE, LEVELS, NEXTS, NODE, ROOT, SHORT, SPACE, STARTS, STATE, SUM, VERSION,
+    start_name, Kind, Level, Reading, BOUND, COUNT, DEEP, LARGE, LEVELS, NEXTS, NODE, ROOT, SHORT, SPACE, STATE, SUM,
+    VERSION,
 };
 use crate::generate_file::file_of;
 use crate::generate_reading::{addresses, at_limits, blank, bounds, made};
-use crate::hand_made::{d, path_to, root_0, sums, unsound_after_sum};
+use crate::hand_made::{d, final_sums, path_to, root_0, sums, unsound_after_sum};
 use crate::model::MAX_LEN;
 use crate::model_file::MAX_PATH;
 use crate::model_reading::{self, Told};
@@ -222,6 +224,63 @@ const MADE_ROWS: &[MadeRow] = &[
         want: Row::Key(b"a", 1, TOP),
         levels: 2,
     },
+    // the number of keys to come is judged last, and only where a key comes
+    MadeRow {
+        name: "late-state",
+        file: d,
+        reading: |r| with(Reading { keys: 0, ..r }, &[level(29, 0, 0, 0)]),
+        space: 255,
+        want: Row::Refused(STATE),
+        levels: 1,
+    },
+    MadeRow {
+        name: "the-last-key",
+        file: d,
+        reading: |r| with(Reading { keys: 1, ..r }, &[level(29, 0, 0, 0)]),
+        space: 255,
+        want: Row::Key(b"a", 1, 1),
+        levels: 2,
+    },
+    MadeRow {
+        name: "pending-late-state",
+        file: d,
+        reading: |r| with(Reading { keys: 0, pending: Some(9), ..r }, &[level(29, 0, 0, 0)]),
+        space: 255,
+        want: Row::Refused(STATE),
+        levels: 1,
+    },
+    MadeRow {
+        name: "pending-ends-with-no-key-to-come",
+        file: d,
+        reading: |r| with(Reading { keys: 0, pending: Some(9), kind: Kind::Excluded, ..r }, &[level(29, 0, 0, 0)]),
+        space: 255,
+        want: Row::End(0),
+        levels: 0,
+    },
+    MadeRow {
+        name: "end-with-no-key-to-come",
+        file: d,
+        reading: |r| with(Reading { keys: 0, ..r }, &[level(29, 0, 2, 0)]),
+        space: 255,
+        want: Row::End(0),
+        levels: 0,
+    },
+    MadeRow {
+        name: "space-before-the-late-state",
+        file: d,
+        reading: |r| with(Reading { keys: 0, ..r }, &[level(29, 0, 0, 0)]),
+        space: 254,
+        want: Row::Refused(SPACE),
+        levels: 1,
+    },
+    MadeRow {
+        name: "final-sum-before-the-late-state",
+        file: || final_sums(1, TOP),
+        reading: |r| with(Reading { keys: 0, ..r }, &[level(30, 0, 0, 0)]),
+        space: 255,
+        want: Row::Refused(SUM),
+        levels: 1,
+    },
     // the key that a made reading stands at is past its upper bound with the first byte that is followed
     MadeRow {
         name: "past-already",
@@ -266,6 +325,7 @@ impl<'a> Run<'a> {
     pub fn made_readings(&mut self) -> Checked {
         self.prng = Prng::new(13);
         self.made_rows()?;
+        self.number_rows()?;
         self.made_at_limits()?;
         let mut done = 0;
         while done < READINGS / self.one_in {
@@ -303,9 +363,10 @@ impl<'a> Run<'a> {
         self.require(&["nexts"], 200_000)?;
         self.require(&["nexts: readings that no start gave"], 100_000)?;
         self.require(&["starts: a reading", "nexts: a key", "nexts: the end"], 10_000)?;
-        for &why in &[SHORT, VERSION, ROOT, LARGE, NODE, SUM, BOUND] {
-            self.require(&[STARTS[why as usize]], 100)?;
+        for &why in &[SHORT, VERSION, ROOT, LARGE, NODE, SUM, SPACE, BOUND, COUNT] {
+            self.require(&[start_name(why)], 120)?;
         }
+        self.require(&["nexts: 11 STATE for a key where the number says none"], 120)?;
         for &why in &[SHORT, VERSION, ROOT, LARGE, NODE, DEEP, SUM, SPACE, STATE] {
             self.require(&[NEXTS[why as usize]], 100)?;
         }
@@ -317,9 +378,10 @@ impl<'a> Run<'a> {
         let ours = self.ours_reading;
         let ((lower, _), (upper, _)) = bounds(&mut self.prng, leading);
         let keep = self.prng.next();
-        let begun = smallest(file, |file| started(ours, file, &lower, &upper, keep))?;
+        let begun =
+            smallest(file, |file| started(ours, file, &lower, &upper, &any_table(&mut Prng::new(keep), file), keep))?;
         self.count("starts");
-        self.count(STARTS[begun.as_ref().err().copied().unwrap_or(0) as usize]);
+        self.count(start_name(begun.as_ref().err().copied().unwrap_or(0)));
         Ok(begun.ok())
     }
 
@@ -359,6 +421,9 @@ impl<'a> Run<'a> {
                 self.count(NEXTS[why as usize]);
                 let input = || format!("{}, {}", describe_reading(reading), describe_file(file));
                 same("a refused reading", input, ("as given", reading), ("model", &after))?;
+                if why == STATE && model_reading::bare_next(file, reading, space).0 != Told::Refused(STATE) {
+                    self.count("nexts: 11 STATE for a key where the number says none");
+                }
                 if no_start && why == DEEP {
                     self.count("nexts: 6 DEEP of a reading that no start gave");
                 }

@@ -1,6 +1,8 @@
-// Readings of admitted files, by each: after the start and after every next the answer, the total, the pending empty key and
-// the levels, held to the Rust and its stack, to the model, and to demand 3 by the list of the file's strings.
+// Readings of admitted files, by each: after the start and after every next the answer, the total, the pending empty key, the levels
+// and the number of keys to come, held to the Rust with its stack and the keys that it still hands out, to the model, and to demand 3
+// by the list of the file's strings.
 
+use super::counting::filled;
 use super::{describe_file, hex, same, smallest, Checked, Difference, Run, RANGES};
 use crate::answers::{
     Bound, Held, Kind, Reading, ReadingAnswers, BOUND, BOUND_BYTES, DEEP, LEVELS, NODE, SHORT, SPACE, STARTED, SUM,
@@ -24,13 +26,14 @@ pub fn describe_reading(reading: &Reading) -> String {
     let levels: Vec<_> =
         reading.levels.iter().map(|l| format!("({} {:02x} {} {})", l.addr, l.inp, l.place, l.sum)).collect();
     format!(
-        "a reading of {} bytes, upper {:?} {} ({} bytes), pending {:?}, total {}, {} levels (address byte place sum) {}",
+        "a reading of {} bytes, upper {:?} {} ({} bytes), pending {:?}, total {}, {} keys, {} levels (address byte place sum) {}",
         reading.file_len,
         reading.kind,
         hex(&reading.bound),
         reading.bound_len,
         reading.pending,
         reading.total,
+        reading.keys,
         reading.level_count,
         levels.join(" ")
     )
@@ -46,6 +49,7 @@ fn junk(keep: u64) -> Held {
         inps: [n as u8; LEVELS],
         places: [n as u16; LEVELS],
         sums: [n; LEVELS],
+        keys: [n],
     };
     // none of them used up, and each at a node of the smallest files
     if keep % 2 == 0 {
@@ -55,22 +59,32 @@ fn junk(keep: u64) -> Held {
     held
 }
 
-// A start by the model and by ours.
+// The entries of a table that are not 0, of the first ones.
+fn describe_counts(counts: &[u64]) -> String {
+    let entries = counts.iter().take(4_096).enumerate().filter(|(_, keys)| **keys != 0);
+    let said: Vec<_> = entries.take(40).map(|(addr, keys)| format!("{}: {}", addr, keys)).collect();
+    format!("a table of {} entries with {}", counts.len(), said.join(", "))
+}
+
+// A start with this table by the model and by ours.
 pub fn started(
     ours: Option<&dyn ReadingAnswers>,
     file: &[u8],
     lower: &Bound,
     upper: &Bound,
+    counts: &[u64],
     keep: u64,
 ) -> Result<Result<Reading, u64>, Difference> {
-    let want = model_reading::start(file, lower, upper);
+    let want = model_reading::start(file, lower, upper, counts);
     if let Some(ours) = ours {
-        let input =
-            || format!("lower {}, upper {}, {}", describe_bound(lower), describe_bound(upper), describe_file(file));
+        let input = || {
+            let (lower, upper) = (describe_bound(lower), describe_bound(upper));
+            format!("lower {}, upper {}, {}, {}", lower, upper, describe_counts(counts), describe_file(file))
+        };
         let given = junk(keep);
         let mut held = given.clone();
         let number = want.as_ref().err().copied().unwrap_or(STARTED);
-        same("a start", input, ("model", number), ("ours", ours.start(file, lower, upper, &mut held)))?;
+        same("a start", input, ("model", number), ("ours", ours.start(file, lower, upper, counts, &mut held)))?;
         match &want {
             Ok(reading) => same("a started reading", input, ("model", reading), ("ours", &held.reading()))?,
             Err(_) => same("after a refused start", input, ("as given", given.all()), ("ours", held.all()))?,
@@ -79,10 +93,16 @@ pub fn started(
         let most = keep % 5;
         let mut key = vec![keep as u8; if keep % 64 == 0 { MAX_PATH - 1 } else { MAX_PATH }];
         let mut left = key.clone();
-        let number = Model.keys(file, lower, upper, most, &mut left);
+        let number = Model.keys(file, lower, upper, counts, most, &mut left);
         let input = || format!("at most {} keys, {}", most, input());
-        same("keys in a row", input, ("model", number), ("ours", ours.keys(file, lower, upper, most, &mut key)))?;
-        same("the key buffer after keys in a row", input, ("model", left), ("ours", key))?;
+        let answer = ours.keys(file, lower, upper, counts, most, &mut key);
+        same("keys in a row", input, ("model", number), ("ours", answer))?;
+        same("the key buffer after keys in a row", input, ("model", &left), ("ours", &key))?;
+        // and without the number
+        let number = Model.bare_keys(file, lower, upper, most, &mut left);
+        let answer = ours.bare_keys(file, lower, upper, most, &mut key);
+        same("keys in a row, without the number", input, ("model", number), ("ours", answer))?;
+        same("the key buffer after keys in a row, without the number", input, ("model", left), ("ours", key))?;
     }
     Ok(want)
 }
@@ -162,6 +182,8 @@ impl<'s> Demanded<'s> {
 pub struct Asked<'q> {
     pub lower: &'q Bound,
     pub upper: &'q Bound,
+    // the table as filled for the file
+    pub counts: &'q [u64],
     pub calls: usize,
     pub keep: u64,
 }
@@ -174,7 +196,12 @@ pub struct Seen {
     ended: bool,
     total: u64,
     nothing: bool,
+    // how often the number of keys to come was held to the keys that the Rust still hands out
+    numbers: usize,
 }
+
+// So many keys of a range are counted by the Rust.
+const COUNTED: u64 = 10_000;
 
 // A range with so many calls, or up to the end and one call more, by each.
 pub fn ranged(
@@ -187,7 +214,7 @@ pub fn ranged(
     let (lower, upper) = (asked.lower, asked.upper);
     let mut prng = Prng::new(asked.keep);
     let mut seen = Seen::default();
-    let mut reading = match started(ours, file, lower, upper, prng.next())? {
+    let mut reading = match started(ours, file, lower, upper, asked.counts, prng.next())? {
         Ok(reading) => reading,
         Err(why) => {
             let long = |bound: &Bound| bound.kind != Kind::Unbounded && bound.bytes.len() > MAX_PATH;
@@ -216,6 +243,11 @@ pub fn ranged(
     };
     same("the levels of a start", || at(0), ("the Rust", range.levels()), ("model", reading.levels.clone()))?;
     same("a start's pending key", || at(0), ("the Rust", range.pending()), ("model", reading.pending))?;
+    // the number is held to the Rust where it hands out fewer keys than are counted, and is at least so many elsewhere
+    let to_come = rust.keys_in(lower, upper, COUNTED).unwrap_or(0);
+    let number = |keys: u64| if to_come < COUNTED { keys } else { keys.min(COUNTED) };
+    same("the number of a start", || at(0), ("the Rust", to_come), ("model", number(reading.keys)))?;
+    seen.numbers += 1;
     let demanded = strings.map(|strings| Demanded::new(strings, lower, upper));
     let mut place = 0;
 
@@ -250,6 +282,11 @@ pub fn ranged(
             let at_most = reading.total - before <= demanded.longest;
             same("no more is followed than the longest key has", || at(call), ("demand 3", true), ("model", at_most))?;
             seen.nothing = demanded.nothing;
+        }
+        let handed_out = seen.keys as u64 + matches!(told, Told::Key(..)) as u64;
+        if to_come < COUNTED {
+            same("the number", || at(call), ("the Rust", to_come - handed_out), ("model", reading.keys))?;
+            seen.numbers += 1;
         }
         match told {
             Told::Key(..) => seen.keys += 1,
@@ -550,7 +587,7 @@ impl<'a> Run<'a> {
                 let (lower, upper) = (describe_bound(&lower), describe_bound(&upper));
                 format!("row \"{}\", lower {}, upper {}, {}", row.name, lower, upper, describe_file(&file))
             };
-            let started = started(self.ours_reading, &file, &lower, &upper, 1)?;
+            let started = started(self.ours_reading, &file, &lower, &upper, &filled(&file), 1)?;
             same("a row's start", input, ("row", row.want.as_ref().err()), ("model", started.as_ref().err()))?;
             if let (Ok(calls), Ok(reading)) = (&row.want, started) {
                 let mut reading = reading;
@@ -642,6 +679,7 @@ impl<'a> Run<'a> {
         self.require(&["ranges: the empty key held, and the upper bound excludes it"], 100)?;
         self.require(&["ranges: refused, 9 BOUND"], 1_000)?;
         self.require(&["ranges: held to demand 3"], 80_000)?;
+        self.require(&["numbers held to the keys that the Rust still hands out"], 500_000)?;
         self.require(&["calls with a short buffer"], 10_000)?;
         self.require(&["ranges: lower and upper with the same bytes"], 1_000)?;
         self.require(&BOUNDS, 1_000)?;
@@ -670,22 +708,28 @@ impl<'a> Run<'a> {
         if found.chain.first().map_or(false, |(_, _, reach)| reach.longest == MAX_PATH) {
             self.count("files: a path of 255 bytes");
         }
+        let counts = match found.counts(file.len()) {
+            Ok(counts) => counts,
+            // no table is filled
+            Err(_) => return Ok(self.count("files: over 2^64 - 1 keys")),
+        };
         let ours = self.ours_reading;
         for i in 0..asked {
             let prng = &mut self.prng;
             let ((lower, lower_name), (upper, upper_name)) = bounds(prng, &some);
             let whole = i % 10 == 0;
             let calls = if whole { 4_000 } else { prng.between(1, 8) };
-            let asked = Asked { lower: &lower, upper: &upper, calls, keep: prng.next() };
+            let asked = Asked { lower: &lower, upper: &upper, counts: &counts, calls, keep: prng.next() };
             let seen = match ranged(ours, &rust, all, file, &asked) {
                 Ok(seen) => seen,
                 // the same on a file with as many zeros as leave it admitted and the difference there
                 Err(_) => smallest(file, |file| match model_file::admitted(file) {
-                    Ok(found) => {
+                    Ok(found) if found.counts(file.len()).is_ok() => {
                         let rust = given_file::open(file).expect("the Rust opens an admitted file");
+                        let asked = Asked { counts: &filled(file), ..asked };
                         ranged(ours, &rust, strings(&found, 3_000).as_ref().map(|all| &all[..]), file, &asked)
                     }
-                    Err(_) => Ok(Seen::default()),
+                    _ => Ok(Seen::default()),
                 })?,
             };
             self.count(BOUNDS[lower_name]);
@@ -716,6 +760,7 @@ impl<'a> Run<'a> {
                 self.count(what);
             }
         }
+        self.count_more("numbers held to the keys that the Rust still hands out", seen.numbers);
         self.count_more("calls with a short buffer", seen.short_buffers);
         self.count_more("calls that gave a key", seen.keys);
         self.count_more("transitions followed", seen.total as usize);

@@ -1,8 +1,8 @@
--- `admission::clear64` meets its contract. The loop's invariant: the first i entries are 0, the others as they were; `Stores` has its
+-- `admission::clear64` meets its contract. The loop's invariant: the first i entries are 0, the others as they were; `WipingLaws` has its
 -- laws, for every width. The measure is n - i.
 -- Assumes nothing.
 use borrow.Author.Needs.{needs}
-use Rattle.admission.proofs.Wiping.{Clearing, clearing-none, clearing-step, clearing-all}
+use Rattle.admission.specs.WipingLaws.{Clearing, clearing-none, clearing-step, clearing-all}
 use Prim.Native.Nat.{_-_}
 use Rattle.admission.proofs.clear64.Statement.{statement}
 use Rattle.admission.proofs.clear64.Tie as tie

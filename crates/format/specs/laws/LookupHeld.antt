@@ -13,11 +13,11 @@ use Rattle.format.specs.declared.Transition.{Transition}
 use Rattle.format.specs.Limits.{maxSum}
 use Rattle.format.specs.Node.{Node, sound, Search, findInput, transitionAt}
 use Rattle.format.specs.laws.TransitionLaws.{at-member}
-use Rattle.format.specs.Paths.{Fst, fstOf, nodeIn, Path, here, Held}
+use Rattle.format.specs.Paths.{Fst, fstOf, nodeIn, Path, here, Held, HeldFrom}
 use Rattle.format.specs.Admitted.{Admitted}
 use Rattle.format.specs.laws.NodeFacts.{find-member, find-none}
 use Rattle.format.specs.laws.PathLaws.{path-snoc, held-unique, blank-held}
-use Rattle.format.specs.laws.ReachedLaws.{PathEnd, path-reached, HeldFrom, held-from, from-held, held-here, held-by, held-nil, held-step, held-input}
+use Rattle.format.specs.laws.ReachedLaws.{PathEnd, path-reached, held-from, from-held, held-here, held-by, held-nil, held-step, held-input}
 use Rattle.format.specs.Lookup.{Answer, getFrom, get}
 use Rattle.format.specs.Exact.{GetExact}
 use Rattle.format.specs.laws.LookupLaws.{get-from-end-value, get-from-end-none, get-from-absent, get-from-step, get-opened, get-blank}

@@ -1,7 +1,7 @@
 -- What `nodeIn f a ≡ sound m` says of the node m, so that nothing above opens a definition of `Node`.
 --     Stored f a m                  a node other than the one at address 0: its stored lists and the conditions on them
 --     node-zero                     address 0
---     node-first-.., node-inside    where its bytes lie
+--     node-first-.., node-inside    where its bytes lie; node-room, one for each transition at least
 --     node-target, node-target-lt   where its transitions lead
 --     node-ascending, node-same     its inputs are distinct
 --     node-..-lt, node-count        its numbers, in a file of bytes
@@ -24,7 +24,7 @@ use Rattle.format.specs.declared.Transition.{Transition}
 use Rattle.format.specs.Bytes.{le}
 use Rattle.format.specs.laws.BytesLaws.{le-lt, pow-256-le}
 use Rattle.format.specs.laws.CommonInputsLaws.{common-input-lt}
-use Rattle.format.specs.Node.{stateForm, isFinal, lowBits, headLen, inputOf, ntransOf, sizesByte, endLen, sizeOf, shapeOf, firstOf, outputsAt, deltasAt, inputsAt, numbersDown, inputsIn, deltasIn, shapeInputs, shapeDeltas, targetOf, Node, transitionsOf, nodeOf, Ascending, TargetsRight, Useful, SoundAt, sound, emptyFinal, Search, findInput, transitionAt}
+use Rattle.format.specs.Node.{stateForm, isFinal, lowBits, headLen, inputOf, ntransOf, sizesByte, endLen, sizesLen, inputsLen, indexLen, sizeOf, shapeOf, firstOf, outputsAt, deltasAt, inputsAt, numbersDown, inputsIn, deltasIn, shapeInputs, shapeDeltas, targetOf, Node, transitionsOf, nodeOf, Ascending, TargetsRight, Useful, SoundAt, sound, emptyFinal, Search, findInput, transitionAt}
 use Rattle.format.specs.laws.NodeLaws.{node-at-cases}
 use Rattle.format.specs.laws.StoredLaws.{length-bytes-down, getD-bytes-down, length-numbers-down, getD-numbers-down}
 use Rattle.format.specs.laws.HeadLaws.{input-of-byte, input-of-common, ntrans-next, ntrans-one}
@@ -44,6 +44,19 @@ head-len-pos s a = go (eqb (lowBits s a) 0)
 size-pos : (s : List ℕ) (v a : ℕ) → 1 ≤ sizeOf s v a
 unfolding sizeOf
 size-pos s v a = omega (arith, head-len-pos s a)
+
+-- a node has a byte for each transition
+ntrans-le-size : (s : List ℕ) (v a : ℕ) → ntransOf s a ≤ sizeOf s v a
+unfolding sizeOf
+ntrans-le-size s v a = go (stateForm (getD s a 0)) refl
+  where
+    go : (st : State) → stateForm (getD s a 0) ≡ st
+        → ntransOf s a
+        ≤ endLen (isFinal (getD s a 0)) (sizesByte s a % 16) + ntransOf s a * (sizesByte s a % 16) + ntransOf s a * (sizesByte s a / 16) + inputsLen st (ntransOf s a)
+        + indexLen v (ntransOf s a) + sizesLen st + headLen s a
+    go OneTransNext form = omega (arith, ntrans-next s a form, head-len-pos s a)
+    go OneTrans form = omega (arith, ntrans-one s a form, head-len-pos s a)
+    go AnyTrans form = omega arith
 
 -- a stored number of at most 8 bytes
 number-lt : (s : List ℕ) (i k : ℕ) → ((i : ℕ) → getD s i 0 < 256) → k ≤ 8 → le (take k (drop i s)) < 2 ^ 64
@@ -98,6 +111,7 @@ pub record Stored (f : Fst) (a : ℕ) (m : Node) : Type 0 where
   pub below : a ≤ f .root
   pub low : 16 ≤ m .first
   pub high : m .first ≤ a
+  pub room : m .first + length inputs ≤ a + 1
   pub ascending : Ascending inputs
   pub targets : TargetsRight (m .first) deltas
   pub useful : (m .final ≡ true) ⊎ ((0 < length inputs) ⊎ (a ≡ f .root))
@@ -135,6 +149,7 @@ sound-stored f a h =
       below = h .below;
       low = omega (arith, h .above);
       high = omega (arith, h .above);
+      room = omega (arith, h .above, n, ntrans-le-size s v a);
       ascending = h .ascending;
       targets = h .targets;
       useful = rw n (h .useful);
@@ -197,6 +212,9 @@ module _ (f : Fst) (a : ℕ) (m : Node) (e : nodeIn f a ≡ sound m) where
 
   pub node-first-le : ¬ (a ≡ 0) → m .first ≤ a
   node-first-le ne = node-stored ne .high
+
+  pub node-room : ¬ (a ≡ 0) → m .first + length (m .transitions) ≤ a + 1
+  node-room ne = let st = node-stored ne in omega (arith, st .room, stored-length st)
 
   pub node-inside : ¬ (a ≡ 0) → a < length (f .bytes)
   node-inside ne = node-stored ne .inside

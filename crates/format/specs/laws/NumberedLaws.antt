@@ -20,11 +20,11 @@ use Rattle.format.specs.declared.Transition.{Transition}
 use Rattle.format.specs.Limits.{maxPath}
 use Rattle.format.specs.Node.{Node, sound, at, transitionAt}
 use Rattle.format.specs.laws.TransitionLaws.{member-at, at-member}
-use Rattle.format.specs.Paths.{Fst, fstOf, nodeIn, Path, here, Held}
+use Rattle.format.specs.Paths.{Fst, fstOf, nodeIn, Path, here, Held, HeldFrom}
 use Rattle.format.specs.Tables.{largestSum}
 use Rattle.format.specs.laws.TableLaws.{largest-bound}
 use Rattle.format.specs.laws.PathLaws.{path-append, path-snoc, held-not-empty}
-use Rattle.format.specs.laws.ReachedLaws.{PathEnd, path-reached, HeldFrom, held-from, held-nil, held-step, held-input}
+use Rattle.format.specs.laws.ReachedLaws.{PathEnd, path-reached, held-from, held-nil, held-step, held-input}
 use Rattle.format.specs.Lookup.{KeyAnswer, withByte, getKeyFrom, getKey, NumberedNode, Numbered}
 use Rattle.format.specs.Exact.{KeyExact}
 use Rattle.format.specs.laws.LookupLaws.{Fitting, fitting-at, key-goes-on-value, key-goes-on-final, get-key-from-end, get-key-from-step, get-key-opened}

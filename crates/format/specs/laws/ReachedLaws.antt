@@ -3,7 +3,7 @@
 --     shallow-root, light-root               the conditions on reached nodes are those on paths from the root, both ways
 --     unused-does-not-matter                 the nodes that are not reached change no held key and no value
 --     PathEnd f k sum b                      the end of a path from the root of an admitted file
---     HeldFrom f a k v                       the key k leads from a to a final node, with the value v; Held is HeldFrom the root
+--     held-from, from-held                   Held is HeldFrom the root
 -- Assumes nothing.
 use mathlib.Core.Path.{_≡_, refl, sym, ap, _∙_, subst}
 use mathlib.Core.Bool.{true}
@@ -17,7 +17,7 @@ use Rattle.format.specs.declared.Transition.{Transition}
 use Rattle.format.specs.Limits.{maxPath, maxSum}
 use Rattle.format.specs.Node.{Node, sound, emptyFinal}
 use Rattle.format.specs.laws.NodeLaws.{node-at-zero}
-use Rattle.format.specs.Paths.{Fst, fstOf, nodeIn, Path, here, follow, Reached, Held}
+use Rattle.format.specs.Paths.{Fst, fstOf, nodeIn, Path, here, follow, Reached, Held, HeldFrom}
 use Rattle.format.specs.Admitted.{Nodes, Shallow, Light, Admitted}
 use Rattle.format.specs.laws.NodeFacts.{node-zero-none, node-same}
 use Rattle.format.specs.laws.PathLaws.{path-nil, path-step, path-append, path-snoc}
@@ -143,15 +143,6 @@ path-reached {s} A pos {k} {sum} {b} p =
     sound-at (inr mem) = root-chain-sound (A .chained .chain) b mem
 
 -- ---- held from a node
-
-pub record HeldFrom (f : Fst) (a : ℕ) (k : List ℕ) (v : ℕ) : Type 0 where
-  pub sum : ℕ
-  pub to : ℕ
-  pub last : Node
-  pub path : Path f a k sum to
-  pub ends : nodeIn f to ≡ sound last
-  pub final : last .final ≡ true
-  pub value : v ≡ sum + last .finalOutput
 
 pub held-from : {f : Fst} {k : List ℕ} {v : ℕ} → Held f k v → HeldFrom f (f .root) k v
 held-from h = record { sum = h .sum; to = h .to; last = h .last; path = h .path; ends = h .ends; final = h .final; value = h .value }

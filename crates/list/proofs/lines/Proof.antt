@@ -2,7 +2,7 @@
 -- Assumes nothing.
 use mathlib.Core.Path.{_≡_, refl, sym, ap, _∙_}
 use lib.ListN.{length}
-use Rattle.stream_start.specs.Views.{viewIs}
+use Rattle.stream.specs.Plains.{plainIs}
 use Rattle.list.specs.Stands.{Stands}
 use Rattle.list.proofs.WayLaws.{leftIn, After, way-on, key-fits, last-fits}
 use denote.Ref.{now}
@@ -16,10 +16,10 @@ use Rattle.list.proofs.put.Reads as put-reads
 use Rattle.listing.proofs.next_line.Reads as next-line-reads
 
 abbrev Inv-loop : tie.InvT-loop
-Inv-loop file line₀ reading₀ keys₀ line reading keys = Stands file (viewIs reading) × (length line ≡ 532)
+Inv-loop file line₀ plain₀ keys₀ line plain keys = Stands file (plainIs plain .view) × (length line ≡ 532)
 
 abbrev μ-loop : tie.MeasureT-loop
-μ-loop file line₀ reading₀ keys₀ line reading keys = leftIn file (viewIs reading)
+μ-loop file line₀ plain₀ keys₀ line plain keys = leftIn file (plainIs plain .view)
 
 -- the reading is the one given, and the buffer is new
 loop-holds : tie.Need-loop-holds Inv-loop μ-loop
@@ -73,13 +73,13 @@ returns-3 c = search needs
 loop-less : tie.Need-loop-less Inv-loop μ-loop
 loop-less c =
     let call = c .before .before .before .before .before .before .before .before in
-    (way-on _ _ _ _ (call .next-line .result) _ (call .before .before .loop .inv .0) (omega (arith, call .before .before .loop .inv .1)) (call .next-line .ensures) (c .before .before .before .before .before .got .given .1)) .less
+    (way-on _ _ _ _ _ (call .next-line .result) _ (call .before .before .loop .inv .0) (omega (arith, call .before .before .loop .inv .1)) (call .next-line .ensures) (c .before .before .before .before .before .got .given .1)) .less
 
 -- after a key the reading is still on its way
 loop-again : tie.Need-loop-again Inv-loop μ-loop
 loop-again c =
     let call = c .before .before .before .before .before .before .before .before in
-    ((way-on _ _ _ _ (call .next-line .result) _ (call .before .before .loop .inv .0) (omega (arith, call .before .before .loop .inv .1)) (call .next-line .ensures) (c .before .before .before .before .before .got .given .1)) .stands, search needs)
+    ((way-on _ _ _ _ _ (call .next-line .result) _ (call .before .before .loop .inv .0) (omega (arith, call .before .before .loop .inv .1)) (call .next-line .ensures) (c .before .before .before .before .before .got .given .1)) .stands, search needs)
 
 pub lines-spec : {M : Type 1} → statement M
 lines-spec =

@@ -16,6 +16,9 @@ slice-aggregate-begin c = search needs
 slice-aggregate-begin-2 : tie.Need-slice-aggregate-begin-2
 slice-aggregate-begin-2 c = search needs
 
+slice-aggregate-begin-3 : tie.Need-slice-aggregate-begin-3
+slice-aggregate-begin-3 c = search needs
+
 begin-requires : tie.Need-begin-requires
 begin-requires c κs = search needs
 
@@ -30,7 +33,7 @@ enum-told c = search needs
 
 -- the reading that began is on its way
 lines-requires : tie.Need-lines-requires
-lines-requires c κs = way-begins _ (c .before .before .before .before .begin .ensures) (c .enum-told .given .1)
+lines-requires c κs = way-begins _ (c .before .before .before .before .before .begin .ensures) (c .enum-told .given .1)
 
 returns : tie.Need-returns
 returns c = search needs
@@ -44,6 +47,7 @@ list-spec =
     (tie.spec
     slice-aggregate-begin
     slice-aggregate-begin-2
+    slice-aggregate-begin-3
     begin-requires
     enum-known-answer
     refuse-requires

@@ -1,7 +1,9 @@
 -- `listing::next_line` meets its contract: each way out is a law of LinedLaws. Assumes nothing.
 use mathlib.Core.Path.{_≡_, refl, sym, ap, _∙_}
-use Rattle.listing.proofs.LinedLaws.{step-fits, lined-short, lined-key, lined-end, lined-refused}
+use Rattle.listing.proofs.LinedLaws.{lined-short, lined-key, lined-end, lined-refused}
 use denote.Ref.{now}
+use Rattle.stream.specs.PlainsLaws.{plain-told}
+use Rattle.stream_step.specs.SteppedLaws.{step-fits}
 use borrow.Author.Needs.{needs}
 use native.Mathlib.Omega.{arith}
 use Rattle.listing.proofs.next_line.Statement.{statement}
@@ -12,7 +14,7 @@ use Rattle.listing.proofs.end_line.Reads as end-line-reads
 use Rattle.listing.proofs.key_line.Reads as key-line-reads
 use Rattle.listing.proofs.refused_line.Reads as refused-line-reads
 use Rattle.stream_descend.proofs.counted.Reads as counted-reads
-use Rattle.stream_next.proofs.next.Reads as next-reads
+use Rattle.stream.proofs.next.Reads as next-reads
 
 -- the buffer is too short for the longest line
 returns : tie.Need-returns
@@ -35,7 +37,7 @@ key-line-requires : tie.Need-key-line-requires
 key-line-requires c κs =
     let q = c .before .before .before .before .before .before .before in
     let e = c .before .before .before .answer .given .1 in
-    let fits = step-fits (q .next .ensures) _ _ e (search needs) in
+    let fits = step-fits (plain-told (q .next .ensures)) _ _ e (search needs) in
     (search needs, search needs, q .before .before .if1 .left)
 
 counted-requires : tie.Need-counted-requires

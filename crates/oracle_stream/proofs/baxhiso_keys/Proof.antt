@@ -29,8 +29,8 @@ returns : tie.Need-returns
 returns c =
     let called = c .before .before in
     let kinds = called .before in
-    let x = kinds .before .before .before .before .before .before .args in
-    keys-refused (x .most) (now (x .file)) (called .start .result) (start-bounds (now (x .file)) (now (x .lower)) (now (x .upper)) (x .lower-kind) (x .upper-kind) (kinds .before .kind-of .ensures) (kinds .kind-of2 .ensures) (called .start .ensures)) _ (now (x .key)) (c .enum-told .given .1)
+    let x = kinds .before .before .before .before .before .before .before .args in
+    keys-refused (x .most) (now (x .file)) (called .start .result) (start-bounds (now (x .file)) (now (x .lower)) (now (x .upper)) (now (x .counts)) (x .lower-kind) (x .upper-kind) (kinds .before .kind-of .ensures) (kinds .kind-of2 .ensures) (called .start .ensures)) _ (now (x .key)) (c .enum-told .given .1)
 
 same-length : tie.Need-same-length
 same-length c = search needs
@@ -42,8 +42,8 @@ returns-2 c =
     let told = counted .before .before .before in
     let called = told .before .before in
     let kinds = called .before in
-    let x = kinds .before .before .before .before .before .before .args in
-    keys-told (x .most) (now (x .file)) (called .start .result) (start-bounds (now (x .file)) (now (x .lower)) (now (x .upper)) (x .lower-kind) (x .upper-kind) (kinds .before .kind-of .ensures) (kinds .kind-of2 .ensures) (called .start .ensures)) (now (x .key)) _ _ (told .enum-told2 .given .1) (counted .keys-from .ensures)
+    let x = kinds .before .before .before .before .before .before .before .args in
+    keys-told (x .most) (now (x .file)) (called .start .result) (start-bounds (now (x .file)) (now (x .lower)) (now (x .upper)) (now (x .counts)) (x .lower-kind) (x .upper-kind) (kinds .before .kind-of .ensures) (kinds .kind-of2 .ensures) (called .start .ensures)) (now (x .key)) _ _ (told .enum-told2 .given .1) (counted .keys-from .ensures)
 
 pub baxhiso-keys-spec : {M : Type 1} → statement M
 baxhiso-keys-spec =

@@ -11,11 +11,14 @@ use Rattle.oracle_stream.proofs.baxhiso_next.Tie as tie
 reading-of-requires : tie.Need-reading-of-requires
 reading-of-requires c κs = search needs
 
+array-read-t26 : tie.Need-array-read-t26
+array-read-t26 c = search needs
+
 next-requires : tie.Need-next-requires
 next-requires c κs = search needs
 
-put-requires : tie.Need-put-requires
-put-requires c κs = search needs
+put-plain-requires : tie.Need-put-plain-requires
+put-plain-requires c κs = search needs
 
 told-requires : tie.Need-told-requires
 told-requires c κs = search needs
@@ -27,19 +30,20 @@ same-length c = search needs
 returns : tie.Need-returns
 returns c =
     let put = c .before .before in
-    let called = put .before .before .before .before .before .before .before .before .before .before in
+    let called = put .before .before .before .before .before .before .before .before .before .before .before in
     let read = called .before .before in
-    let x = read .before .before .before .before .before .before .before .before .before .args in
+    let x = read .before .before .before .before .before .before .before .before .before .before .args in
     let h = held (now (x .head)) (now (x .bound)) (now (x .addrs)) (now (x .inps)) (now (x .trans)) (now (x .outs)) in
-    next-told (next-of (now (x .file)) (length (now (x .key))) h (read .reading-of .ensures) (called .next .ensures)) _ (put .put .ensures) _ (c .told .ensures)
+    next-told (next-of (now (x .file)) (length (now (x .key))) h (now (x .keys)) (read .reading-of .ensures) (called .next .ensures)) _ _ (put .put-plain .ensures) _ (c .told .ensures)
 
 pub baxhiso-next-spec : {M : Type 1} → statement M
 baxhiso-next-spec =
     tie.close
     (tie.spec
     reading-of-requires
+    array-read-t26
     next-requires
-    put-requires
+    put-plain-requires
     told-requires
     same-length
     returns)

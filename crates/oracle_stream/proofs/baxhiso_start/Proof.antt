@@ -24,8 +24,8 @@ cast-result c = search needs
 enum-told : tie.Need-enum-told
 enum-told c = search needs
 
-put-requires : tie.Need-put-requires
-put-requires c κs = search needs
+put-plain-requires : tie.Need-put-plain-requires
+put-plain-requires c κs = search needs
 
 -- the start is refused
 returns : tie.Need-returns
@@ -33,19 +33,19 @@ returns c =
     let bound = c .before in
     let called = bound .before .before in
     let kinds = called .before in
-    let x = kinds .before .before .before .before .before .args in
-    start-refused (called .start .result) (start-bounds (now (x .file)) (now (x .lower)) (now (x .upper)) (x .lower-kind) (x .upper-kind) (kinds .before .kind-of .ensures) (kinds .kind-of2 .ensures) (called .start .ensures)) _ _
+    let x = kinds .before .before .before .before .before .before .args in
+    start-refused (called .start .result) (start-bounds (now (x .file)) (now (x .lower)) (now (x .upper)) (now (x .counts)) (x .lower-kind) (x .upper-kind) (kinds .before .kind-of .ensures) (kinds .kind-of2 .ensures) (called .start .ensures)) _ _ _
     (bound .answer .given .1)
 
 -- a reading begins, and the arrays hold it
 returns-2 : tie.Need-returns-2
 returns-2 c =
-    let told = c .before .before .before .before .before .before .before .before in
+    let told = c .before .before .before .before .before .before .before .before .before in
     let called = told .before .before in
     let kinds = called .before in
-    let x = kinds .before .before .before .before .before .args in
-    start-told (called .start .result) (start-bounds (now (x .file)) (now (x .lower)) (now (x .upper)) (x .lower-kind) (x .upper-kind) (kinds .before .kind-of .ensures) (kinds .kind-of2 .ensures) (called .start .ensures)) _ _
-    (told .enum-told .given .1) (c .put .ensures)
+    let x = kinds .before .before .before .before .before .before .args in
+    start-told (called .start .result) (start-bounds (now (x .file)) (now (x .lower)) (now (x .upper)) (now (x .counts)) (x .lower-kind) (x .upper-kind) (kinds .before .kind-of .ensures) (kinds .kind-of2 .ensures) (called .start .ensures)) _ _ _ _
+    (told .enum-told .given .1) (c .put-plain .ensures)
 
 pub baxhiso-start-spec : {M : Type 1} → statement M
 baxhiso-start-spec =
@@ -57,6 +57,6 @@ baxhiso-start-spec =
     enum-known-answer
     cast-result
     enum-told
-    put-requires
+    put-plain-requires
     returns
     returns-2)

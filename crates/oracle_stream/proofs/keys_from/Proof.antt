@@ -5,13 +5,14 @@ use Prim.Native.Nat.{_-_}
 use lib.ListN.{length}
 use borrow.Author.Needs.{needs}
 use denote.Ref.{now}
-use Rattle.stream_start.specs.Views.{viewIs}
-use Rattle.oracle_stream.proofs.Telling.{Reached, reached-first, reached-next, reached-stop, reached-end}
+use Rattle.stream.specs.Plains.{plainIs}
+use Rattle.oracle_stream.specs.Runs.{plainCalls}
+use Rattle.oracle_stream.proofs.Telling.{plain-called, Reached, reached-first, reached-next, reached-stop, reached-end}
 use Rattle.oracle_stream.proofs.keys_from.Statement.{statement}
 use Rattle.oracle_stream.proofs.keys_from.Tie as tie
 
 abbrev Inv-loop : tie.InvT-loop
-Inv-loop file most key₀ here₀ n₀ key here n = (length key ≡ length key₀) × Reached most file (viewIs here₀) key₀ (viewIs here) key n
+Inv-loop file most key₀ here₀ n₀ key here n = (length key ≡ length key₀) × Reached (plainCalls file) most (plainIs here₀) key₀ (plainIs here) key n
 
 abbrev μ-loop : tie.MeasureT-loop
 μ-loop file most key₀ here₀ n₀ key here n = most - n
@@ -36,7 +37,7 @@ returns c =
     let called = asked .before .before .before in
     let looped = called .before .before in
     let inv = looped .before .loop .inv .1 in
-    reached-stop _ _ _ _ (looped .loop-test .taken) inv (called .next .ensures) (sym (asked .is-key .ensures) ∙ c .if1 .left)
+    reached-stop _ _ _ _ (looped .loop-test .taken) inv (plain-called _ _ (called .next .ensures)) (sym (asked .is-key .ensures) ∙ c .if1 .left)
 
 add-n : tie.Need-add-n Inv-loop μ-loop
 add-n c = search needs
@@ -52,7 +53,7 @@ loop-again c =
     let called = asked .before .before .before in
     let looped = called .before .before in
     let inv = looped .before .loop .inv .1 in
-    (search needs, reached-next _ _ _ _ (looped .loop-test .taken) inv (called .next .ensures) (sym (asked .is-key .ensures) ∙ then .if1 .taken))
+    (search needs, reached-next _ _ _ _ (looped .loop-test .taken) inv (plain-called _ _ (called .next .ensures)) (sym (asked .is-key .ensures) ∙ then .if1 .taken))
 
 same-length-2 : tie.Need-same-length-2 Inv-loop μ-loop
 same-length-2 c = search needs

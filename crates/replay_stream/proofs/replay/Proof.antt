@@ -14,10 +14,10 @@ use Rattle.replay_stream.proofs.replay.Statement.{statement}
 use Rattle.replay_stream.proofs.replay.Tie as tie
 
 abbrev Inv-loop : tie.InvT-loop
-Inv-loop list counts₀ reading₀ place₀ at₀ counts reading place at = Inside list place
+Inv-loop list counts₀ table₀ left₀ place₀ at₀ counts table left place at = Inside list place
 
 abbrev μ-loop : tie.MeasureT-loop
-μ-loop list counts₀ reading₀ place₀ at₀ counts reading place at = length list - at
+μ-loop list counts₀ table₀ left₀ place₀ at₀ counts table left place at = length list - at
 
 -- the list, and the place where the record was parsed
 abbrev listed : tie.After-entry Inv-loop μ-loop → List ℕ
@@ -75,19 +75,19 @@ part-replay-one-end c = let i = inside c in search needs
 
 -- the record lies in the list
 replay-one-requires : tie.Need-replay-one-requires Inv-loop μ-loop
-replay-one-requires c κs = found (c .before .before .before .before) .within
+replay-one-requires c κs = found (c .before .before .before .before .before) .within
 
 -- the record lies in the list
 end-of-requires : tie.Need-end-of-requires Inv-loop μ-loop
-end-of-requires c κs = found (c .before .before .before .before .before) .within
+end-of-requires c κs = found (c .before .before .before .before .before .before) .within
 
 -- the record ends past where it starts
 loop-less : tie.Need-loop-less Inv-loop μ-loop
-loop-less c = let f = found (c .before .before .before .before .before .before) in omega arith
+loop-less c = let f = found (c .before .before .before .before .before .before .before) in omega arith
 
 -- the file asked of lies in the list
 loop-again : tie.Need-loop-again Inv-loop μ-loop
-loop-again c = inside (c .before .before .before .before)
+loop-again c = inside (c .before .before .before .before .before)
 
 returns-2 : tie.Need-returns-2 Inv-loop μ-loop
 returns-2 c = search needs

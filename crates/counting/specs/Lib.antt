@@ -1,0 +1,4 @@
+pub mod Outcome
+pub mod Passes
+pub mod CountLaws
+pub mod Exactly

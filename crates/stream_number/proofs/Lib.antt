@@ -1,0 +1,5 @@
+pub mod TotalLaws
+pub mod Summing
+pub mod Walking
+pub mod Comparing
+pub mod NumberCases
