@@ -183,10 +183,6 @@ pub meta-D : admitted-D .meta ≡ metaD
 unfolding admitted-D
 meta-D = refl
 
-pub nodes-D : admitted-D .nodes ≡ 29 ∷ 21 ∷ []
-unfolding admitted-D
-nodes-D = refl
-
 pub numbered-meta-D : numbered-D .admitted .meta ≡ metaD
 unfolding admitted-D numbered-D
 numbered-meta-D = refl

@@ -6,10 +6,10 @@
 --     Sits s lo hi t es n       a plain reading from its start to its end: the keys with their values, their number at its start, and the total
 --     Cut s lo hi t c ..        the two readings that the cut c makes of one, each with its keys and its total
 -- Assumes nothing.
-use mathlib.Core.Path.{_≡_, refl}
+use mathlib.Core.Path.{_≡_, refl, sym}
 use mathlib.Core.Option.{Option, none, some}
 use mathlib.Core.Logic.{inl, ⊎-elim}
-use mathlib.Core.List.{List, [], _∷_, _++_, List·Memᴰ, List·Memᴰ·not-nil, List·Memᴰ·cases-cons}
+use mathlib.Core.List.{List, [], _∷_, _++_, List·Memᴰ}
 use Prim.Native.Nat.{ℕ, _≤_}
 use native.Mathlib.Omega.{arith}
 use lib.ListN.{length, replicate}
@@ -19,7 +19,7 @@ use Rattle.format.specs.Node.{headLen, inputOf, ntransOf, sizesByte, indexLen, 
 use Rattle.format.specs.Opening.{metaOf, rootTest, opening}
 use Rattle.format.specs.Paths.{fstOf}
 use Rattle.format.specs.Strings.{Bound, unbounded, included, excluded, beforeTest}
-use Rattle.format.specs.Tables.{sumOf, keysTo, keysFrom, Filled, KeysFilled}
+use Rattle.format.specs.Tables.{sumOf, KeysFilled}
 use Rattle.format.specs.laws.ReachedLaws.{reached-stays}
 use Rattle.reading.specs.Reading.{boundBytes, Level, levelWith, View, pathOf, seek, start, pop, descend, next}
 use Rattle.reading.specs.Demand.{Entry, entry}
@@ -32,7 +32,8 @@ use Rattle.plain.specs.PlainRunLaws.{runs-plain}
 use Rattle.sittings.specs.Sittings.{upToCut, fromCut, InTwo}
 use Rattle.sittings.specs.SittingsLaws.{two-sittings-runs}
 use Rattle.bench_table.specs.BenchTable.{D}
-use Rattle.bench_table.specs.DAdmitted.{metaD, admitted-D, meta-D, nodes-D}
+use Rattle.bench_table.specs.DAdmitted.{addrs, in-two, nodes-two, metaD, root-D, t-D, admitted-D, meta-D}
+use Rattle.bench_table.specs.DKeys.{keys-t, keys-root}
 
 -- 2 keys from the node at 21, 3 from the root at 29
 abbrev table : List ℕ
@@ -124,24 +125,18 @@ sittings-table = record {
 
 -- ---- the theorem, at the first row
 
-filled-root : Filled (fstOf D metaD) table 29
-unfolding bytesOf le commonInputs commonInputsInv headLen inputOf ntransOf sizesByte indexLen sizeOf downFrom bytesDown numbersDown transitionsOf nodeOf soundTest nodeAt sumOf keysTo keysFrom
-filled-root = record { entry = refl; fits = omega arith }
-
-filled-t : Filled (fstOf D metaD) table 21
-unfolding bytesOf le commonInputs commonInputsInv headLen inputOf ntransOf sizesByte indexLen sizeOf downFrom bytesDown numbersDown transitionsOf nodeOf soundTest nodeAt sumOf keysTo keysFrom
-filled-t = record { entry = refl; fits = omega arith }
-
 -- the table is filled for D: only the root and the node at 21 are reached
-filled-D : KeysFilled (fstOf D (admitted-D .meta)) table
+filled-D : KeysFilled (fstOf D metaD) table
 filled-D x on =
     ⊎-elim
     (λ (z : x ≡ 0). absurd (on .not-zero z))
-    (λ (mem : List·Memᴰ x (admitted-D .nodes)).
-    ⊎-elim (λ (q : x ≡ 29). rw (meta-D, q) filled-root)
-    (λ h. ⊎-elim (λ (q : x ≡ 21). rw (meta-D, q) filled-t) (λ no-more. absurd (List·Memᴰ·not-nil no-more)) (List·Memᴰ·cases-cons h))
-    (List·Memᴰ·cases-cons (rw nodes-D at mem)))
-    (reached-stays (admitted-D .chained) (on .reached))
+    (λ (mem : List·Memᴰ x addrs).
+    ⊎-elim (λ (q : x ≡ 29). rw q (record { entry = sym keys-root; fits = omega (arith, keys-root) }))
+    (λ (q : x ≡ 21). rw q (record { entry = sym keys-t; fits = omega (arith, keys-t) })) (in-two mem))
+    (reached-stays (nodes-two (fstOf D metaD) refl root-D t-D) (on .reached))
+
+fits-D : KeysFilled (fstOf D (admitted-D .meta)) table
+fits-D = rw meta-D filled-D
 
 long-D : length D ≤ length table
 unfolding bytesOf le
@@ -153,5 +148,5 @@ D-at-at =
     let w₁ = sittings-table .at-at .first in
     let w₂ = sittings-table .at-at .second in
     let cut = two-sittings-runs admitted-D unbounded unbounded (omega arith) (omega arith) at (omega arith) (between-all at) table table table long-D long-D long-D
-    (inl filled-D) (inl filled-D) (inl filled-D) (w .starts) (w₁ .starts) (w₂ .starts) (w .runs) (w₁ .runs) (w₂ .runs) in
+    (inl fits-D) (inl fits-D) (inl fits-D) (w .starts) (w₁ .starts) (w₂ .starts) (w .runs) (w₁ .runs) (w₂ .runs) in
     rw (w .total, w₁ .total, w₂ .total) at cut
