@@ -1,4 +1,4 @@
 pub mod Sittings
 pub mod RisingLaws
-pub mod CutLaws
+pub mod TwoPartsLaws
 pub mod SittingsLaws

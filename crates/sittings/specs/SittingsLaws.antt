@@ -1,5 +1,5 @@
 -- A long list in two sittings, proved: `two-sittings`, from the fields of `DemandPlain` and of the `Demand3` in it; no walk and no definition of
--- next enters. CutLaws has what a cut does to three readings that were run to their end.
+-- next enters. TwoPartsLaws has what a cut does to three readings that were run to their end.
 --     full-of, full-plain    a list of calls with an "end" among its answers is such a reading, by demand 3
 --     keys-started           at a start all held keys between its bounds are to come
 --     two-sittings           of lists of calls, for every cut of at most 255 bytes between the bounds and tables that fit
@@ -29,7 +29,7 @@ use Rattle.plain.specs.PlainDemand.{StillToCome, DemandPlain}
 use Rattle.plain.specs.PlainLaws.{handed-of, demand-3-plain}
 use Rattle.plain.specs.PlainRun.{RunsPlain, run-end, run-key}
 use Rattle.sittings.specs.Sittings.{upToCut, fromCut, Greater, InTwo, Ends, totalAfter, TwoSittings}
-use Rattle.sittings.specs.CutLaws.{first-open, KeysBetween, keys-cut, greater-or, Full, in-two}
+use Rattle.sittings.specs.TwoPartsLaws.{first-open, KeysBetween, keys-cut, greater-or, Full, in-two}
 
 -- ---- lists of answers
 

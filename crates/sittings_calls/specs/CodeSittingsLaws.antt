@@ -17,7 +17,7 @@ use Rattle.reading.specs.Demand.{handedIn}
 use Rattle.plain.specs.Numbers.{TableFits}
 use Rattle.plain.specs.Plain as P
 use Rattle.sittings.specs.Sittings.{upToCut, fromCut, InTwo, totalAfter}
-use Rattle.sittings.specs.CutLaws.{KeysBetween, keys-cut, Full, in-two}
+use Rattle.sittings.specs.TwoPartsLaws.{KeysBetween, keys-cut, Full, in-two}
 use Rattle.sittings.specs.SittingsLaws.{full-plain, keys-started}
 use Rattle.stream.specs.declared.Started.{Started}
 use Rattle.stream_calls.specs.Calls.{CodeCall, codeAnswers, callsIs, StartMade}

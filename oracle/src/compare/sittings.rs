@@ -87,8 +87,8 @@ impl<'a> Run<'a> {
             let up_to = Bound { kind: Kind::Included, bytes: cut.clone() };
             let from = Bound { kind: Kind::Excluded, bytes: cut.clone() };
             let calls = whole.handed.len() + 2;
-            let first = Asked { lower: asked.lower, upper: &up_to, calls, keep: prng.next() };
-            let second = Asked { lower: &from, upper: asked.upper, calls, keep: prng.next() };
+            let first = Asked { lower: asked.lower, upper: &up_to, counts: asked.counts, calls, keep: prng.next() };
+            let second = Asked { lower: &from, upper: asked.upper, counts: asked.counts, calls, keep: prng.next() };
             let first = ranged(self.ours_reading, rust, strings, file, &first)?;
             let second = ranged(self.ours_reading, rust, strings, file, &second)?;
             let input = || {
