@@ -21,6 +21,7 @@ mod opening;
 mod packing;
 mod ranges;
 mod reading;
+mod sittings;
 mod stored;
 
 pub use self::counting::{filled, followed};

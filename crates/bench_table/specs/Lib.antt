@@ -3,3 +3,4 @@ pub mod DAdmitted
 pub mod DValues
 pub mod DKeys
 pub mod NumberTable
+pub mod SittingsTable

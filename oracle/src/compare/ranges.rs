@@ -18,7 +18,7 @@ use crate::prng::Prng;
 
 // ---- one start, one next
 
-fn describe_bound(bound: &Bound) -> String {
+pub fn describe_bound(bound: &Bound) -> String {
     format!("{:?} {} ({} bytes)", bound.kind, hex(&bound.bytes), bound.bytes.len())
 }
 
@@ -193,11 +193,12 @@ pub struct Seen {
     refused: Option<u64>,
     keys: usize,
     short_buffers: usize,
-    ended: bool,
-    total: u64,
+    pub ended: bool,
+    pub total: u64,
     nothing: bool,
     // how often the number of keys to come was held to the keys that the Rust still hands out
     numbers: usize,
+    pub handed: Vec<(Vec<u8>, u64)>,
 }
 
 // So many keys of a range are counted by the Rust.
@@ -289,7 +290,10 @@ pub fn ranged(
             seen.numbers += 1;
         }
         match told {
-            Told::Key(..) => seen.keys += 1,
+            Told::Key(bytes, value) => {
+                seen.keys += 1;
+                seen.handed.push((bytes, value));
+            }
             // one call more, which is to say "end" again and leave all as it is
             _ if seen.ended => break,
             _ => seen.ended = true,
@@ -683,6 +687,7 @@ impl<'a> Run<'a> {
         self.require(&["calls with a short buffer"], 10_000)?;
         self.require(&["ranges: lower and upper with the same bytes"], 1_000)?;
         self.require(&BOUNDS, 1_000)?;
+        self.require_cuts()?;
         self.require(
             &[
                 "files: version 1",
@@ -735,6 +740,9 @@ impl<'a> Run<'a> {
             self.count(BOUNDS[lower_name]);
             self.count(BOUNDS[upper_name]);
             self.count_range(&seen, &lower, &upper, all.is_some());
+            if seen.ended {
+                self.in_two_sittings((&rust, file), all, &some, &asked, &seen)?;
+            }
         }
         Ok(())
     }

@@ -1,0 +1,4 @@
+pub mod Sittings
+pub mod RisingLaws
+pub mod TwoPartsLaws
+pub mod SittingsLaws

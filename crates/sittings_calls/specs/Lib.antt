@@ -1,0 +1,2 @@
+pub mod CodeSittings
+pub mod CodeSittingsLaws
