@@ -1,4 +1,4 @@
--- The limits and the refusals of document 01, by name, once.
+-- The limits and the refusals of documents 01 and 02, by name, once.
 -- Assumes nothing.
 use Prim.Native.Nat.{ℕ}
 
@@ -68,3 +68,6 @@ RECORD = 10
 
 abbrev pub STATE : ℕ
 STATE = 11
+
+abbrev pub EDITION : ℕ
+EDITION = 15

@@ -28,6 +28,9 @@ pub const RECORD: u8 = 10;
 
 pub const STATE: u8 = 11;
 
+// Of document 02: a file to be converted is not of version 1.
+pub const EDITION: u8 = 15;
+
 // The first byte of a file that a node may take: the header ends before it.
 pub const FIRST_NODE: usize = 16;
 // The longest path of an admitted file, and so the longest key, bound and key buffer that is needed.
@@ -95,9 +98,9 @@ pub fn limits() -> Named
 }
 
 // Each refusal has the number that the definitions give it.
-pub fn refusals() -> [u8; 11]
+pub fn refusals() -> [u8; 12]
     ensures { λ r. ⌜ r ≡ L.SHORT ∷ L.VERSION ∷ L.ROOT ∷ L.LARGE ∷ L.NODE ∷ L.DEEP ∷ L.SUM ∷ L.SPACE
-        ∷ L.BOUND ∷ L.RECORD ∷ L.STATE ∷ [] ⌝ }
+        ∷ L.BOUND ∷ L.RECORD ∷ L.STATE ∷ L.EDITION ∷ [] ⌝ }
 {
     [
         SHORT,
@@ -111,5 +114,6 @@ pub fn refusals() -> [u8; 11]
         BOUND,
         RECORD,
         STATE,
+        EDITION,
     ]
 }
