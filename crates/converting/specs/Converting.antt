@@ -1,7 +1,7 @@
 -- A version 1 file brought to version 2 (document 02, N7; docs/FORMAT.md, "Conversion"), over the chain of an admitted file.
 --     vanishes j             the node judged j is final, without transitions and with output 0: it becomes address 0
 --     Moved, newAddr         an old address with its new one; the new address of an old one
---     recordOf ms m          the record of the node m, with its targets replaced
+--     recordBy ren m         the record of the node m, with its targets replaced by ren; recordOf ms m by new addresses
 --     Laid, layOut f l       the nodes of the chain l of f (root first), packed from the lowest on, and where each went
 --     laid A                 the same of an admitted file: no node where its root vanishes
 --     movedTo A a            the new address of a
@@ -39,14 +39,17 @@ unfoldable pub newAddr : List Moved → ℕ → ℕ
 newAddr [] a = 0
 newAddr (x ∷ xs) a = cond (eqb (x .from) a) (x .to) (newAddr xs a)
 
-abbrev pub recordOf : List Moved → Node → BuilderNode
-recordOf ms m = record {
+abbrev pub recordBy : (ℕ → ℕ) → Node → BuilderNode
+recordBy ren m = record {
   final = m .final;
   finalOutput = m .finalOutput;
   inputs = map (λ (t : Transition). t .inp) (m .transitions);
   outputs = map (λ (t : Transition). t .out) (m .transitions);
-  targets = map (λ (t : Transition). newAddr ms (t .addr)) (m .transitions);
+  targets = map (λ (t : Transition). ren (t .addr)) (m .transitions);
 }
+
+abbrev pub recordOf : List Moved → Node → BuilderNode
+recordOf ms m = recordBy (newAddr ms) m
 
 -- ---- the layout
 

@@ -1,7 +1,7 @@
 -- Laws of the layout of `Converting`, node by node.
 --     lay-node-is           a node laid out, vanishing or not, in one form
 --     new-ok                a new address is 0, or lies from 16 to the end of the layout
---     ranges-of, record-ok-of    an old node's record meets what the packer asks
+--     ranges-of, record-ok-of      an old node's record meets what the packer asks
 --     record-mirrored       what a record says is the old node with its targets replaced
 -- Assumes nothing.
 use mathlib.Core.Path.{_≡_, refl, sym, ap, ap₂, _∙_, subst}
@@ -21,7 +21,7 @@ use Rattle.format.specs.laws.TransitionLaws.{at-member}
 use Rattle.format.specs.Packed.{BuilderNode, Ranges, TargetOk, TargetsOk, RecordOk, packed, packsToNothing, hasOne, leadsNext, nodeAddr, recordNode}
 use Rattle.format.specs.laws.PackedLaws.{packed-nothing, packed-next-is, packed-one-is, packed-any-is, length-packed-next, length-packed-one, length-packed-any}
 use Rattle.format.specs.Paths.{Fst, nodeIn}
-use Rattle.converting.specs.Converting.{vanishes, Moved, newAddr, recordOf, Laid, layNode, layOut}
+use Rattle.converting.specs.Converting.{vanishes, Moved, newAddr, recordBy, recordOf, Laid, layNode, layOut}
 use Rattle.converting.specs.Mirror.{renamed, mirrored}
 
 -- ---- a node laid out
@@ -135,16 +135,16 @@ pub mirrored-same : (ren ren′ : ℕ → ℕ) (first : ℕ) (m : Node) → ((t 
     → mirrored ren first m ≡ mirrored ren′ first m
 mirrored-same ren ren′ first m h = rw (map-same ren ren′ (m .transitions) h)
 
-getD-map-lt : (h : Transition → ℕ) (ts : List Transition) (i : ℕ) → i < length (map h ts) → getD (map h ts) i 0 ≡ h (transitionAt ts i)
+pub getD-map-lt : (h : Transition → ℕ) (ts : List Transition) (i : ℕ) → i < length (map h ts) → getD (map h ts) i 0 ≡ h (transitionAt ts i)
 getD-map-lt h [] i l = absurd (omega arith)
 getD-map-lt h (t ∷ ts) zero l = refl
 getD-map-lt h (t ∷ ts) (suc i) l = getD-map-lt h ts i (omega arith)
 
-module _ (f : Fst) (a : ℕ) (m : Node) (e : nodeIn f a ≡ sound m) (bytes : (i : ℕ) → getD (f .bytes) i 0 < 256) (ms : List Moved) where
+module _ (f : Fst) (a : ℕ) (m : Node) (e : nodeIn f a ≡ sound m) (bytes : (i : ℕ) → getD (f .bytes) i 0 < 256) (ren : ℕ → ℕ) where
   at-lt : (h : Transition → ℕ) (i : ℕ) → i < length (map h (m .transitions)) → i < length (m .transitions)
   at-lt h i l = omega (arith, length-map (m .transitions) h)
 
-  pub ranges-of : Ranges (recordOf ms m)
+  pub ranges-of : Ranges (recordBy ren m)
   ranges-of = record {
     input-lt = λ i l.
         rw (getD-map-lt (λ (t : Transition). t .inp) (m .transitions) i l)
@@ -155,12 +155,13 @@ module _ (f : Fst) (a : ℕ) (m : Node) (e : nodeIn f a ≡ sound m) (bytes : (i
     final-lt = node-final-lt f a m e bytes;
   }
 
-  pub record-ok-of : (first : ℕ) → 16 ≤ first → first ≤ maxLen → ((x : ℕ) → TargetOk first (newAddr ms x)) → RecordOk first (recordOf ms m)
+  pub record-ok-of : (first : ℕ) → 16 ≤ first → first ≤ maxLen → ((t : Transition) → List·Memᴰ t (m .transitions) → TargetOk first (ren (t .addr)))
+      → RecordOk first (recordBy ren m)
   unfolding Ascending TargetsOk
   record-ok-of first low high ok =
       let inputs = length-map (m .transitions) (λ (t : Transition). t .inp) in
       let outputs = length-map (m .transitions) (λ (t : Transition). t .out) in
-      let targets = length-map (m .transitions) (λ (t : Transition). newAddr ms (t .addr)) in
+      let targets = length-map (m .transitions) (λ (t : Transition). ren (t .addr)) in
       record {
         few = omega (arith, node-count f a m e bytes, inputs);
         outputs-len = outputs ∙ sym inputs;
@@ -171,6 +172,6 @@ module _ (f : Fst) (a : ℕ) (m : Node) (e : nodeIn f a ≡ sound m) (bytes : (i
         first-low = low;
         first-high = high;
         targets-ok = λ i l.
-            rw (getD-map-lt (λ (t : Transition). newAddr ms (t .addr)) (m .transitions) i l) (ok (transitionAt (m .transitions) i .addr));
+            rw (getD-map-lt (λ (t : Transition). ren (t .addr)) (m .transitions) i l) (ok (transitionAt (m .transitions) i) (at-member (m .transitions) i (at-lt (λ (t : Transition). ren (t .addr)) i l)));
         final-ok = node-not-final f a m e;
       }

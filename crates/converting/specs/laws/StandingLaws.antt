@@ -75,8 +75,8 @@ module _ (f : Fst) (bytes : (i : ℕ) → getD (f .bytes) i 0 < 256) (r : Laid) 
       let file-is : pre ++ ((r .nodes ++ packed first b) ++ post) ≡ (pre ++ r .nodes) ++ (packed first b ++ post) =
       ap (λ (l : List ℕ). pre ++ l) (append-assoc (r .nodes) (packed first b) post) ∙ sym (append-assoc pre (r .nodes) (packed first b ++ post)) in
       ap (λ (l : List ℕ). nodeAt l 2 root (nodeAddr first b)) file-is
-      ∙ round-trip first b (pre ++ r .nodes) post 2 root (ranges-of f a m e bytes (r .moved))
-      (record-ok-of f a m e bytes (r .moved) first (omega arith) (omega (arith, fits, size)) ok)
+      ∙ round-trip first b (pre ++ r .nodes) post 2 root (ranges-of f a m e bytes (newAddr (r .moved)))
+      (record-ok-of f a m e bytes (newAddr (r .moved)) first (omega arith) (omega (arith, fits, size)) (λ t mem. ok (t .addr)))
       (omega (arith, length-append pre (r .nodes))) (omega arith) addr-le useful
 
   -- targets lie below a, so that a's own new address changes none
