@@ -4,12 +4,12 @@
 --     Packable m F t .. room     what packing the node m at F asks, with its targets by the table t, into a buffer of room bytes
 --     PackedFront bs out₀ out r  the bytes bs stand at the front of out, its other bytes are those of out₀, and r is their number
 --     PackableAt, PackedAt       the same of the node at an address
+--     PackableMarked, PackedMarked     the same by the mark of the address: without one, nothing is packed
 -- Assumes nothing.
 use mathlib.Core.Path.{_≡_}
-use mathlib.Core.List.{List, _++_, map}
+use mathlib.Core.List.{List, [], _++_, map, List·Memᴰ}
 use Prim.Native.Nat.{ℕ, _≤_, _<_}
 use lib.ListN.{length, getD, take, drop}
-use mathlib.Core.List.{List·Memᴰ}
 use Rattle.format.specs.declared.Transition.{Transition}
 use Rattle.format.specs.Limits.{maxTrans}
 use Rattle.format.specs.Node.{Node, sound}
@@ -55,3 +55,10 @@ pub record PackableAt (f : Fst) (a first : ℕ) (moved : List ℕ) (inputs outpu
 
 pub record PackedAt (f : Fst) (a first : ℕ) (moved out₀ out : List ℕ) (r : ℕ) : Type 0 where
   pub each : (m : Node) → nodeIn f a ≡ sound m → PackedFront (packed first (recordBy (entryIn moved) m)) out₀ out r
+
+pub record PackableMarked (f : Fst) (a mark first : ℕ) (moved : List ℕ) (inputs outputs targets room : ℕ) : Type 0 where
+  pub each : ¬ (mark ≡ 0) → PackableAt f a first moved inputs outputs targets room
+
+pub record PackedMarked (f : Fst) (a mark first : ℕ) (moved out₀ out : List ℕ) (r : ℕ) : Type 0 where
+  pub off : mark ≡ 0 → PackedFront [] out₀ out r
+  pub on : ¬ (mark ≡ 0) → PackedAt f a first moved out₀ out r

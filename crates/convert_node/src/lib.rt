@@ -5,7 +5,7 @@ ghost use Rattle.format.specs.Packed.{packed};
 ghost use Rattle.format.specs.Paths.{fstWith};
 ghost use Rattle.node.specs.Read.{meaning, transitionsIn, Readable};
 ghost use Rattle.converting.specs.Converting.{recordBy};
-ghost use Rattle.convert_node.specs.Packs.{entryIn, Gatherable, Gathered, Packable, PackedFront, PackableAt, PackedAt};
+ghost use Rattle.convert_node.specs.Packs.{entryIn, Gatherable, Gathered, Packable, PackedFront, PackableAt, PackedAt, PackableMarked, PackedMarked};
 use node::Judged;
 use node::Node;
 use node_compile::Compiled;
@@ -75,7 +75,7 @@ fn pack(
 }
 
 // The same of the node at the address a of a version 1 file with this root.
-pub fn pack_at(
+fn pack_at(
     file: &[u8],
     root: usize,
     a: usize,
@@ -97,4 +97,28 @@ pub fn pack_at(
         // it is not
         Judged::Unsound => 0,
     }
+}
+
+// The same by the mark of the address: where there is none, nothing is packed.
+pub fn pack_marked(
+    file: &[u8],
+    root: usize,
+    a: usize,
+    mark: u16,
+    first: usize,
+    moved: &[u64],
+    inputs: &mut [u8],
+    outputs: &mut [u64],
+    targets: &mut [usize],
+    out: &mut [u8],
+) -> usize
+    requires { ⌜ PackableMarked (fstWith (now file) 1 root) a mark first (now moved)
+        (length (now inputs)) (length (now outputs)) (length (now targets)) (length (now out)) ⌝ }
+    ensures { λ r. ⌜ PackedMarked (fstWith (now (file .entry)) 1 root) a mark first
+        (now (moved .entry)) (now (out .entry)) (now (out .exit)) r ⌝ }
+{
+    if mark == 0 {
+        return 0;
+    }
+    pack_at(file, root, a, first, moved, inputs, outputs, targets, out)
 }

@@ -1,25 +1,31 @@
 -- Laws of the layout of `Converting`, node by node.
 --     lay-node-is           a node laid out, vanishing or not, in one form
+--     packed-pos, packed-le a packed node has from 1 to 4,619 bytes, unless it packs to nothing
 --     new-ok                a new address is 0, or lies from 16 to the end of the layout
 --     ranges-of, record-ok-of      an old node's record meets what the packer asks
 --     record-mirrored       what a record says is the old node with its targets replaced
 -- Assumes nothing.
 use mathlib.Core.Path.{_≡_, refl, sym, ap, ap₂, _∙_, subst}
-use mathlib.Core.Bool.{Bool, true, false, cond}
+use mathlib.Core.Bool.{Bool, true, false, cond, _&&_}
 use mathlib.Core.Logic.{_⊎_, inl, inr}
 use mathlib.Core.List.{List, [], _∷_, _++_, append-nil, map, List·Memᴰ, List·Memᴰ·head, List·Memᴰ·tail}
-use Prim.Native.Nat.{ℕ, zero, suc, _+_, _≤_, _<_}
+use Prim.Native.Nat.{ℕ, zero, suc, _+_, _*_, _≤_, _<_}
+use native.Mathlib.Nat.{le-trans, mul-le-mul-left, mul-le-mul-right}
+use lib.Dec.{eqb, ltb}
 use native.Mathlib.Decide.{ℕ-discrete}
 use native.Mathlib.Omega.{arith}
 use borrow.Author.Tests.{eq-eqb, ne-eqb}
 use lib.ListN.{length, getD, length-map, length-append}
 use Rattle.format.specs.declared.Transition.{Transition}
-use Rattle.format.specs.Limits.{maxLen}
-use Rattle.format.specs.Node.{Node, Judgement, sound, unsound, transitionsOf, transitionAt, Ascending}
+use Rattle.format.specs.Limits.{maxLen, indexThreshold}
+use Rattle.format.specs.Bytes.{largest}
+use Rattle.format.specs.CommonInputs.{commonIdx}
+use Rattle.format.specs.Node.{Node, Judgement, sound, unsound, endLen, transitionsOf, transitionAt, Ascending}
 use Rattle.format.specs.laws.NodeFacts.{node-ascending, node-not-final, node-count, node-inp-lt, node-out-lt, node-final-lt}
 use Rattle.format.specs.laws.TransitionLaws.{at-member}
-use Rattle.format.specs.Packed.{BuilderNode, Ranges, TargetOk, TargetsOk, RecordOk, packed, packsToNothing, hasOne, leadsNext, nodeAddr, recordNode}
-use Rattle.format.specs.laws.PackedLaws.{packed-nothing, packed-next-is, packed-one-is, packed-any-is, length-packed-next, length-packed-one, length-packed-any}
+use Rattle.format.specs.Packed.{BuilderNode, Ranges, deltaOf, inputBytes, indexBytes, outputSize, deltaSize, headOf, packedAny, TargetOk, TargetsOk, RecordOk, packed, packsToNothing, hasOne, leadsNext, nodeAddr, recordNode}
+use Rattle.format.specs.laws.PackedLaws.{packed-nothing, packed-next-is, packed-one-is, packed-any-is, length-packed-next, length-packed-one, length-packed-any, length-input-bytes, length-index-bytes, index-len-is, length-head-of, length-deltas, output-size-le, delta-size-le}
+use Rattle.format.specs.laws.BytesLaws.{pack-size-high}
 use Rattle.format.specs.Paths.{Fst, nodeIn}
 use Rattle.converting.specs.Converting.{vanishes, Moved, newAddr, recordBy, recordOf, Laid, layNode, layOut}
 use Rattle.converting.specs.Mirror.{renamed, mirrored}
@@ -64,6 +70,42 @@ packed-pos first b some = go (hasOne b) refl (leadsNext first b) refl
     go true one true leads = rw (packed-next-is first b one leads, length-packed-next) (omega arith)
     go true one false leads = rw (packed-one-is first b one leads, length-packed-one) (omega arith)
     go false one leads is-leads = rw (packed-any-is first b some one, length-packed-any) (omega arith)
+
+cond-le : (t : Bool) (a b m : ℕ) → a ≤ m → b ≤ m → cond t a b ≤ m
+cond-le true a b m p q = p
+cond-le false a b m p q = q
+
+-- no node is larger than one with 256 transitions, outputs and deltas of 8 bytes, and an index
+pub packed-le : (first : ℕ) (b : BuilderNode) → length (b .inputs) ≤ 256 → length (b .outputs) ≡ length (b .inputs) → length (b .targets) ≡ length (b .inputs)
+    → length (packed first b) ≤ 4619
+packed-le first b few outputs targets = go (packsToNothing b) refl (hasOne b) refl (leadsNext first b) refl
+  where
+    input-le : (inp : ℕ) → length (inputBytes inp) ≤ 1
+    input-le inp = rw length-input-bytes (cond-le (eqb (commonIdx inp) 0) 1 0 1 (omega arith) (omega arith))
+
+    any-le : (osize tsize : ℕ) → osize ≤ 8 → tsize ≤ 8 → length (packedAny b (map (deltaOf first) (b .targets)) osize tsize) ≤ 4619
+    any-le osize tsize o8 t8 =
+        let outs : length (b .outputs) * osize ≤ 256 * 8 = le-trans (mul-le-mul-right osize (omega arith)) (mul-le-mul-left 256 o8) in
+        let dels : length (map (deltaOf first) (b .targets)) * tsize ≤ 256 * 8 =
+        le-trans (mul-le-mul-right tsize (omega (arith, length-deltas first (b .targets)))) (mul-le-mul-left 256 t8) in
+        let end : endLen (b .final) osize ≤ 8 = cond-le (b .final) osize 0 8 o8 (omega arith) in
+        let index : length (indexBytes (b .inputs)) ≤ 256 =
+        rw (length-index-bytes 3 (b .inputs) (omega arith), index-len-is 3 (length (b .inputs)) (omega arith))
+        (cond-le (ltb indexThreshold (length (b .inputs))) 256 0 256 (omega arith) (omega arith)) in
+        let head : length (headOf (b .final) (length (b .inputs))) ≤ 2 =
+        rw length-head-of (cond-le (ltb 0 (length (b .inputs)) && ltb (length (b .inputs)) 64) 1 2 2 (omega arith) (omega arith)) in
+        omega (arith, length-packed-any b (map (deltaOf first) (b .targets)) osize tsize)
+
+    go : (none : Bool) → packsToNothing b ≡ none → (one : Bool) → hasOne b ≡ one → (leads : Bool) → leadsNext first b ≡ leads → length (packed first b) ≤ 4619
+    go true none one is-one leads is-leads = rw (packed-nothing first b none) (omega arith)
+    go false none true one true leads =
+        rw (packed-next-is first b one leads, length-packed-next) (omega (arith, input-le (getD (b .inputs) 0 0)))
+    go false none true one false leads =
+        rw (packed-one-is first b one leads, length-packed-one)
+        (omega (arith, input-le (getD (b .inputs) 0 0), output-size-le (getD (b .outputs) 0 0), pack-size-high (deltaOf first (getD (b .targets) 0 0))))
+    go false none false one leads is-leads =
+        rw (packed-any-is first b none one)
+        (any-le (outputSize (largest (b .finalOutput ∷ b .outputs))) (deltaSize (map (deltaOf first) (b .targets))) (output-size-le _) (delta-size-le _))
 
 -- ---- new addresses
 
