@@ -34,9 +34,9 @@ use Rattle.converting.specs.Converted.{oldFst, newFst, SameContents}
 use Rattle.format.specs.laws.ReachedLaws.{shallow-root, light-root}
 use Rattle.converting.specs.Mirror.{renamed, mirrored, Mirror}
 use Rattle.converting.specs.laws.MirrorLaws.{map-mem, Back, path-back}
-use Rattle.converting.specs.laws.LayLaws.{laidNext, new-addr-here, new-addr-other, new-ok}
+use Rattle.converting.specs.laws.LayLaws.{laidNext, lay-out-is, new-addr-here, new-addr-other, new-ok}
 use Rattle.converting.specs.Standing.{newNodes}
-use Rattle.converting.specs.laws.StandingLaws.{new-nodes-none, new-nodes-some, lay-out-is}
+use Rattle.converting.specs.laws.StandingLaws.{new-nodes-none, new-nodes-some}
 use Rattle.converting.specs.laws.ConvertedLaws.{header, trailer, old-low, converted-is, length-header, length-converted, laid-is, old-chain, root-new, stands, mirrors-kept, mirrors-vanished, vanished-none, zero-vanished, held-both}
 
 -- ---- the new chain's addresses
@@ -68,7 +68,7 @@ module _ (f : Fst) (bytes : (i : ℕ) → getD (f .bytes) i 0 < 256) where
       → ((c : ℕ) → List·Memᴰ c (newNodes (layOut f l .moved)) → Origin l (layOut f l .moved) c)
       → (c : ℕ) → List·Memᴰ c (newNodes (layOut f (a ∷ l) .moved)) → Origin (a ∷ l) (layOut f (a ∷ l) .moved) c
   origin-step a l m e lower below c mem =
-      let is = lay-out-is f bytes a l m e in
+      let is = lay-out-is f a l m e in
       subst (λ (r : Laid). Origin (a ∷ l) (r .moved) c) (sym is) (go (subst (λ (r : Laid). List·Memᴰ c (newNodes (r .moved))) is mem))
     where
       older : (y : Moved) → y .from ≡ a → Origin l (layOut f l .moved) c → Origin (a ∷ l) (y ∷ layOut f l .moved) c

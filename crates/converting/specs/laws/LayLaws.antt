@@ -1,5 +1,6 @@
 -- Laws of the layout of `Converting`, node by node.
 --     lay-node-is           a node laid out, vanishing or not, in one form
+--     lay-out-grows, lay-out-stays    one node more makes a layout no shorter, and moves no other node
 --     packed-pos, packed-le a packed node has from 1 to 4,619 bytes, unless it packs to nothing
 --     new-ok                a new address is 0, or lies from 16 to the end of the layout
 --     ranges-of, record-ok-of      an old node's record meets what the packer asks
@@ -63,6 +64,36 @@ lay-node-is r a m = go (vanishes (sound m)) refl
         rw (e, some)
         (both _ _ _ _ refl (omega (arith, length-append (r .nodes) (packed (16 + length (r .nodes)) (recordOf (r .moved) m)))))
 
+pub new-addr-here : (x : Moved) (ms : List Moved) (a : ℕ) → x .from ≡ a → newAddr (x ∷ ms) a ≡ x .to
+unfolding newAddr
+new-addr-here x ms a e = rw (eq-eqb (x .from) a e)
+
+pub new-addr-other : (x : Moved) (ms : List Moved) (a : ℕ) → ¬ (x .from ≡ a) → newAddr (x ∷ ms) a ≡ newAddr ms a
+unfolding newAddr
+new-addr-other x ms a ne = rw (ne-eqb (x .from) a ne)
+
+pub lay-out-is : (f : Fst) (a : ℕ) (l : List ℕ) (m : Node) → nodeIn f a ≡ sound m → layOut f (a ∷ l) ≡ laidNext (layOut f l) a m
+unfolding layOut
+lay-out-is f a l m e = ap (layNode (layOut f l) a) e ∙ lay-node-is (layOut f l) a m
+
+-- one node more makes a layout no shorter
+pub lay-out-grows : (f : Fst) (a : ℕ) (l : List ℕ) → length (layOut f l .nodes) ≤ length (layOut f (a ∷ l) .nodes)
+unfolding layOut
+lay-out-grows f a l = go (nodeIn f a)
+  where
+    go : (j : Judgement) → length (layOut f l .nodes) ≤ length (layNode (layOut f l) a j .nodes)
+    go unsound = omega arith
+    go (sound m) = rw (lay-node-is (layOut f l) a m) (omega (arith, length-append (layOut f l .nodes) (packed (16 + length (layOut f l .nodes)) (recordOf (layOut f l .moved) m))))
+
+-- and moves no other node
+pub lay-out-stays : (f : Fst) (a : ℕ) (l : List ℕ) (j : ℕ) → ¬ (a ≡ j) → newAddr (layOut f (a ∷ l) .moved) j ≡ newAddr (layOut f l .moved) j
+unfolding layOut
+lay-out-stays f a l j ne = go (nodeIn f a)
+  where
+    go : (q : Judgement) → newAddr (layNode (layOut f l) a q .moved) j ≡ newAddr (layOut f l .moved) j
+    go unsound = refl
+    go (sound m) = ap (λ (r : Laid). newAddr (r .moved) j) (lay-node-is (layOut f l) a m) ∙ new-addr-other _ (layOut f l .moved) j ne
+
 pub packed-pos : (first : ℕ) (b : BuilderNode) → packsToNothing b ≡ false → 1 ≤ length (packed first b)
 packed-pos first b some = go (hasOne b) refl (leadsNext first b) refl
   where
@@ -108,14 +139,6 @@ packed-le first b few outputs targets = go (packsToNothing b) refl (hasOne b) re
         (any-le (outputSize (largest (b .finalOutput ∷ b .outputs))) (deltaSize (map (deltaOf first) (b .targets))) (output-size-le _) (delta-size-le _))
 
 -- ---- new addresses
-
-pub new-addr-here : (x : Moved) (ms : List Moved) (a : ℕ) → x .from ≡ a → newAddr (x ∷ ms) a ≡ x .to
-unfolding newAddr
-new-addr-here x ms a e = rw (eq-eqb (x .from) a e)
-
-pub new-addr-other : (x : Moved) (ms : List Moved) (a : ℕ) → ¬ (x .from ≡ a) → newAddr (x ∷ ms) a ≡ newAddr ms a
-unfolding newAddr
-new-addr-other x ms a ne = rw (ne-eqb (x .from) a ne)
 
 pub target-ok-up : (first more t : ℕ) → first ≤ more → TargetOk first t → TargetOk more t
 unfolding TargetOk
@@ -172,6 +195,14 @@ map-same ren ren′ [] h = refl
 map-same ren ren′ (t ∷ ts) h =
     ap₂ (λ (x : ℕ) (us : List Transition). record { inp = t .inp; out = t .out; addr = x } ∷ us) (h t (List·Memᴰ·head refl))
     (map-same ren ren′ ts (λ u mem. h u (List·Memᴰ·tail mem)))
+
+records-same : (ren ren′ : ℕ → ℕ) (ts : List Transition) → ((t : Transition) → List·Memᴰ t ts → ren (t .addr) ≡ ren′ (t .addr))
+    → map (λ (t : Transition). ren (t .addr)) ts ≡ map (λ (t : Transition). ren′ (t .addr)) ts
+records-same ren ren′ [] h = refl
+records-same ren ren′ (t ∷ ts) h = ap₂ _∷_ (h t (List·Memᴰ·head refl)) (records-same ren ren′ ts (λ u mem. h u (List·Memᴰ·tail mem)))
+
+pub record-same : (ren ren′ : ℕ → ℕ) (m : Node) → ((t : Transition) → List·Memᴰ t (m .transitions) → ren (t .addr) ≡ ren′ (t .addr)) → recordBy ren m ≡ recordBy ren′ m
+record-same ren ren′ m h = rw (records-same ren ren′ (m .transitions) h)
 
 pub mirrored-same : (ren ren′ : ℕ → ℕ) (first : ℕ) (m : Node) → ((t : Transition) → List·Memᴰ t (m .transitions) → ren (t .addr) ≡ ren′ (t .addr))
     → mirrored ren first m ≡ mirrored ren′ first m

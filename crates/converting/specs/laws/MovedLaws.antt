@@ -21,9 +21,8 @@ use Rattle.format.specs.Admitted.{Chain, last, next, Admitted}
 use Rattle.format.specs.laws.ChainLaws.{chain-not-zero, chain-le}
 use Rattle.converting.specs.Converting.{vanishes, Moved, newAddr, recordOf, Laid, layOut, laid, movedTo, converted, tableOf}
 use Rattle.converting.specs.Converted.{nonzero, oldFst, newFst, Mirrors, Told}
-use Rattle.converting.specs.laws.LayLaws.{vanishes-nothing, packed-pos, new-addr-here, new-addr-other}
+use Rattle.converting.specs.laws.LayLaws.{vanishes-nothing, lay-out-is, packed-pos, new-addr-here, new-addr-other}
 use Rattle.converting.specs.Standing.{newNodes}
-use Rattle.converting.specs.laws.StandingLaws.{lay-out-is}
 use Rattle.converting.specs.laws.ConvertedLaws.{new-addr-off, zero-vanished, laid-is, old-chain, mirrors-kept}
 use Rattle.converting.specs.laws.AdmittedLaws.{new-nodes-hold, new-chain}
 
@@ -75,7 +74,7 @@ module _ (f : Fst) (bytes : (i : ℕ) → getD (f .bytes) i 0 < 256) where
       let r : Laid = layOut f l in
       let z = node-addr-zero (16 + length (r .nodes)) (recordOf (r .moved) m) (omega arith) (vanishes (sound m)) (vanishes-nothing (r .moved) m) in
       let v = ap vanishes e in
-      subst (λ (q : Laid). Along f (a ∷ l) (q .moved)) (sym (lay-out-is f bytes a l m e))
+      subst (λ (q : Laid). Along f (a ∷ l) (q .moved)) (sym (lay-out-is f a l m e))
       (along-cons a l _ (r .moved) refl lower (λ h. z .0 (sym v ∙ h), λ h. z .1 (sym v ∙ h)) below)
 
   along-none : Along f [] (layOut f [] .moved)

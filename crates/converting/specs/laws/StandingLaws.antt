@@ -21,7 +21,7 @@ use Rattle.format.specs.Admitted.{Chain, last, next}
 use Rattle.format.specs.laws.ChainLaws.{chain-not-zero, chain-start-low, chain-le}
 use Rattle.converting.specs.Converting.{Moved, newAddr, recordOf, Laid, layNode, layOut}
 use Rattle.converting.specs.Mirror.{Image}
-use Rattle.converting.specs.laws.LayLaws.{laidNext, lay-node-is, packed-pos, new-addr-here, new-addr-other, AllOk, new-ok, record-mirrored, mirrored-same, ranges-of, record-ok-of}
+use Rattle.converting.specs.laws.LayLaws.{laidNext, lay-node-is, lay-out-is, packed-pos, new-addr-here, new-addr-other, AllOk, new-ok, record-mirrored, mirrored-same, ranges-of, record-ok-of}
 use Rattle.converting.specs.Standing.{newNodes, Chained, Standing}
 
 -- ---- one node more
@@ -148,17 +148,13 @@ module _ (f : Fst) (bytes : (i : ℕ) → getD (f .bytes) i 0 < 256) where
     pub high : root < maxLen
     pub root-new : a ≡ f .root → newAddr (layOut f l .moved) a ≡ root
 
-  pub lay-out-is : (a : ℕ) (l : List ℕ) (m : Node) → nodeIn f a ≡ sound m → layOut f (a ∷ l) ≡ laidNext (layOut f l) a m
-  unfolding layOut
-  lay-out-is a l m e = ap (layNode (layOut f l) a) e ∙ lay-node-is (layOut f l) a m
-
   standing-step : (a : ℕ) (l : List ℕ) (m : Node) → nodeIn f a ≡ sound m → ¬ (a ≡ 0) → ((j : ℕ) → List·Memᴰ j l → j < a)
       → (pre post : List ℕ) (root : ℕ) → Around (a ∷ l) a pre root
       → Standing f l (layOut f l) (fstWith (pre ++ (layOut f l .nodes ++ (packed (16 + length (layOut f l .nodes)) (recordOf (layOut f l .moved) m) ++ post))) 2 root)
       → Standing f (a ∷ l) (layOut f (a ∷ l)) (fstWith (pre ++ (layOut f (a ∷ l) .nodes ++ post)) 2 root)
   standing-step a l m e ne lower pre post root w below =
       let r : Laid = layOut f l in
-      let is = lay-out-is a l m e in
+      let is = lay-out-is f a l m e in
       subst (λ (q : Laid). Standing f (a ∷ l) q (fstWith (pre ++ (q .nodes ++ post)) 2 root)) (sym is)
       (go (subst (λ (q : Laid). 15 + length (q .nodes) ≤ root) is (w .fits))
       (λ z. sym (new-addr-here (record { from = a; to = nodeAddr (16 + length (r .nodes)) (recordOf (r .moved) m) }) (r .moved) a refl) ∙ ap (λ (q : Laid). newAddr (q .moved) a) (sym is) ∙ w .root-new z))
@@ -183,7 +179,7 @@ module _ (f : Fst) (bytes : (i : ℕ) → getD (f .bytes) i 0 < 256) where
 
   lay-out-grows : (a : ℕ) (l : List ℕ) (m : Node) → nodeIn f a ≡ sound m → length (layOut f l .nodes) ≤ length (layOut f (a ∷ l) .nodes)
   lay-out-grows a l m e =
-      rw (lay-out-is a l m e)
+      rw (lay-out-is f a l m e)
       (omega (arith, length-append (layOut f l .nodes) (packed (16 + length (layOut f l .nodes)) (recordOf (layOut f l .moved) m))))
 
   standing-none : (g : Fst) → Standing f [] (layOut f []) g
