@@ -15,7 +15,6 @@ use native.Mathlib.Omega.{arith}
 use borrow.Author.Tests.{eq-eqb, ne-eqb}
 use lib.Dec.{eqb}
 use lib.ListN.{length, getD, set, take, drop, length-append, length-set, length-drop, length-take}
-use lib.Seq.{take-all, drop-length, drop-drop}
 use Rattle.format.specs.declared.Transition.{Transition}
 use Rattle.format.specs.Limits.{maxLen}
 use Rattle.format.specs.Node.{Node, sound}
@@ -33,6 +32,7 @@ use Rattle.converting.specs.laws.ConvertedLaws.{new-addr-off}
 use Rattle.convert_node.specs.Packs.{entryIn, PackedFront, PackableAt, PackableMarked, PackedAt, PackedMarked}
 use Rattle.convert_marks.specs.Marks.{marked}
 use Rattle.convert_marks.specs.MarkLaws.{marked-zero, marked-on, marked-off, member-marked}
+use Rattle.convert_layout.specs.PartLaws.{placed, part-is, none-after}
 use Rattle.convert_layout.specs.Layout.{laidTo, addrOf, MarkedSound, Layable, Entered, LaidOut, Writable}
 
 -- ---- one address more
@@ -239,21 +239,6 @@ module _ {f : Fst} {d s₀ s : List ℕ} {next a limit : ℕ} (h : Laying f d s�
           ]
 
 -- ---- the second pass
-
--- a part that starts with v, put back behind the first n bytes
-placed : (n : ℕ) (o v x x′ : List ℕ) → x ≡ drop n o → x′ ≡ v ++ drop (length v) x → take n o ++ x′ ≡ put o n v
-unfolding put
-placed n o v x x′ is is′ = ap (λ (l : List ℕ). take n o ++ l) (is′ ∙ ap (λ (l : List ℕ). v ++ l) (ap (drop (length v)) is ∙ drop-drop (length v) n o))
-    ∙ sym (append-assoc (take n o) v (drop (n + length v) o))
-
--- a part from n to the end
-part-is : (n : ℕ) (o : List ℕ) → take (length o - n) (drop n o) ≡ drop n o
-part-is n o = take-all (length o - n) (drop n o) (omega (arith, length-drop n o))
-
-none-after : (n : ℕ) (o x : List ℕ) → x ++ drop (length o - n) (drop n o) ≡ x
-none-after n o x =
-    let e : length o - n ≡ length (drop n o) = omega (arith, length-drop n o) in
-    ap (λ (k : ℕ). x ++ drop k (drop n o)) e ∙ ap (λ (l : List ℕ). x ++ l) (drop-length (drop n o)) ∙ append-nil x
 
 pub record Writes (f : Fst) (d out₀ out : List ℕ) (next a : ℕ) : Type 0 where
   pub within : a ≤ length (f .bytes)
