@@ -105,11 +105,14 @@ pub data Conversion : Type 0 where
   written : List ℕ → List ℕ → Conversion
   refused : ℕ → Conversion
 
--- EDITION, LARGE where the new file passes the limit, SPACE, in this order
+-- SPACE where the output has less room than the file, or the table fewer than n entries
+abbrev pub placing : List ℕ → List ℕ → ℕ → ℕ → ℕ → Conversion
+placing file table n room entries = cond (leb (length file) room && leb n entries) (written file table) (refused SPACE)
+
+-- EDITION, then LARGE where the new file passes the limit, then SPACE
 unfoldable pub conversion : ℕ → {s : List ℕ} → Admitted s → ℕ → ℕ → Conversion
 unfolding converted tableOf
 conversion limit {s} A room entries =
     cond (eqb (A .meta .version) 1)
-    (cond (ltb limit (length (converted A))) (refused LARGE)
-    (cond (leb (length (converted A)) room && leb (length s) entries) (written (converted A) (tableOf A)) (refused SPACE)))
+    (cond (ltb limit (length (converted A))) (refused LARGE) (placing (converted A) (tableOf A) (length s) room entries))
     (refused EDITION)
