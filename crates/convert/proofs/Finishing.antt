@@ -53,14 +53,16 @@ module _ {f : Fst} {d t : List ℕ} {next : ℕ} (ok : Finishable f d t next) (c
   file-len : length F ≡ next + 16
   file-len = omega (arith, length-file (f .bytes) (laidTo f d n .nodes) count (getD t (f .root) 0) (ok .long), ok .laid-out .next-is)
 
-  refused-by : placing F (take n t) n (length o₀) (length b₀) ≡ refused SPACE → Finished f count d t o₀ b₀ o₀ b₀ (Refused SPACE)
-  refused-by e = record { converts = converts-as (sym e) (record { answer = refl; out-is = refl; table-is = refl }) }
+  refused-by : {o b : List ℕ} {r : Converted} → placing F (take n t) n (length o₀) (length b₀) ≡ refused SPACE → (r ≡ Refused SPACE) × (o ≡ o₀) × (b ≡ b₀)
+      → Finished f count d t o₀ b₀ o b r
+  refused-by e h = record { converts = converts-as (sym e) (record { answer = h .0; out-is = h .1; table-is = h .2 }) }
 
-  pub finish-short-out : length o₀ < next + 16 → Finished f count d t o₀ b₀ o₀ b₀ (Refused SPACE)
-  finish-short-out l = refused-by (rw (lt-leb (length F) (length o₀) (omega (arith, file-len))))
+  pub finish-short-out : {o b : List ℕ} {r : Converted} → length o₀ < next + 16 → (r ≡ Refused SPACE) × (o ≡ o₀) × (b ≡ b₀) → Finished f count d t o₀ b₀ o b r
+  finish-short-out l h = refused-by (rw (lt-leb (length F) (length o₀) (omega (arith, file-len)))) h
 
-  pub finish-short-table : next + 16 ≤ length o₀ → length b₀ < n → Finished f count d t o₀ b₀ o₀ b₀ (Refused SPACE)
-  finish-short-table h l = refused-by (rw (le-leb (length F) (length o₀) (omega (arith, file-len)), lt-leb n (length b₀) l))
+  pub finish-short-table : {o b : List ℕ} {r : Converted} → next + 16 ≤ length o₀ → length b₀ < n → (r ≡ Refused SPACE) × (o ≡ o₀) × (b ≡ b₀)
+      → Finished f count d t o₀ b₀ o b r
+  finish-short-table h l k = refused-by (rw (le-leb (length F) (length o₀) (omega (arith, file-len)), lt-leb n (length b₀) l)) k
 
   pub finish-writable : next + 16 ≤ length o₀ → FileWritable f d t o₀
   finish-writable h =

@@ -1,9 +1,11 @@
 // Old cards brought to version 2 (document 02, N7). The file is admitted first. Nothing may be written before the length of the new file is
 // known, which depends on every new address; these are worked out in the sums' table, over the nodes that are marked in the depths' table,
 // and a second admission restores both: admission leaves the same tables every time.
+ghost use mathlib.Core.Path.{_≡_};
 ghost use Prim.Native.Nat.{_≤_};
 ghost use Rattle.format.specs.Limits.{maxLen};
 ghost use Rattle.format.specs.Paths.{fstWith};
+ghost use Rattle.admission.specs.Outcome.{Outcome};
 ghost use Rattle.convert.specs.Convert.{Marked, Says, OldFile, OldConverted, AgainConverted, Finishable, Finished, Converts};
 use admission::Admission;
 use admission::admit;
@@ -27,6 +29,14 @@ pub enum Converted {
     Refused(u8),
 }
 
+// SPACE, which leaves output and table as they are.
+fn no_space(out: &mut [u8], table: &mut [u32]) -> Converted
+    ensures { λ r. ⌜ (r ≡ Converted.Refused 8) × (now (out .exit) ≡ now (out .entry))
+        × (now (table .exit) ≡ now (table .entry)) ⌝ }
+{
+    Converted::Refused(SPACE)
+}
+
 // Writes the new file, whose nodes end before next, and the table, where both have room.
 fn finish(
     file: &[u8],
@@ -45,10 +55,10 @@ fn finish(
 {
     let len = next + TRAILER;
     if out.len() < len {
-        return Converted::Refused(SPACE);
+        return no_space(out, table);
     }
     if table.len() < file.len() {
-        return Converted::Refused(SPACE);
+        return no_space(out, table);
     }
     write_file(file, root, count, depths, sums, out);
     put_table(sums, file.len(), table);
@@ -79,6 +89,14 @@ fn convert_old(
     }
 }
 
+// Restores both work tables: admission fills them as it did before.
+fn restore(file: &[u8], depths: &mut [u16], sums: &mut [u64]) -> Admission
+    ensures { λ r. ⌜ Outcome (now (file .entry)) (now (depths .entry)) (now (sums .entry))
+        (now (depths .exit)) (now (sums .exit)) r ⌝ }
+{
+    admission::admit(file, depths, sums)
+}
+
 // Converts an admitted file that says this version, count and root, and restores the two work tables.
 fn convert_opened(
     file: &[u8],
@@ -101,7 +119,7 @@ fn convert_opened(
         return Converted::Refused(EDITION);
     }
     let done = convert_old(file, root, count, limit, depths, sums, out, table);
-    admit(file, depths, sums);
+    restore(file, depths, sums);
     done
 }
 

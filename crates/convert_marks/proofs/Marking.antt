@@ -45,25 +45,7 @@ module _ {f : Fst} {l d₀ d : List ℕ} {a : ℕ} (h : Marking f l d₀ d a) (r
   pub marking-room : a < length d
   marking-room = omega (arith, marking-inside, h .kept .long)
 
-  marks-off : (j : ℕ) → ¬ List·Memᴰ j l → getD (set d a 1) j 0 ≡ getD d₀ j 0
-  marks-off =
-      at-set (λ j x. ¬ List·Memᴰ j l → x ≡ getD d₀ j 0) d a 1 marking-room
-      (λ away. absurd (away (h .sub a (chain-head (h .rest))))) (λ j ne away. h .off j away)
-
-  -- what is left is a and others
-  marks-on : (others : List ℕ) → h .left ≡ a ∷ others → (j : ℕ) → List·Memᴰ j l → List·Memᴰ j others ⊎ ¬ (getD (set d a 1) j 0 ≡ 0)
-  marks-on others is =
-      at-set (λ j x. List·Memᴰ j l → List·Memᴰ j others ⊎ ¬ (x ≡ 0)) d a 1 marking-room (λ mem. inr (λ z. omega arith))
-      (λ j ne mem. ⊎-elim (λ k. ⊎-elim (λ e. absurd (ne e)) (λ q. inl q) (List·Memᴰ·cases-cons (rw is at k))) (λ q. inr q) (h .on j mem))
-
   module _ {first : ℕ} (at : FirstIs f a first) where
-    pub marking-last : first ≡ 16 → MarksList (length (f .bytes)) l d₀ (set d a 1)
-    marking-last done = record { on = go (chain-cases (h .rest)); off = marks-off; kept = kept-set a 1 marking-inside (h .kept) }
-      where
-        go : ChainLast f a (h .left) ⊎ ChainNext f a (h .left) → (j : ℕ) → List·Memᴰ j l → ¬ (getD (set d a 1) j 0 ≡ 0)
-        go (inl z) j mem = ⊎-elim (λ k. absurd (List·Memᴰ·not-nil k)) (λ q. q) (marks-on [] (z .list-is) j mem)
-        go (inr n) j mem = absurd (n .more (sym (at .each (n .node) (n .judged)) ∙ done))
-
     pub marking-low : 17 ≤ first ⊎ (first ≡ 16)
     marking-low =
         let e = at .each (here .0) (here .1) in
@@ -73,20 +55,41 @@ module _ {f : Fst} {l d₀ d : List ℕ} {a : ℕ} (h : Marking f l d₀ d a) (r
     pub marking-le : first ≤ a
     marking-le = omega (arith, at .each (here .0) (here .1), node-first-le f a (here .0) (here .1) (chain-not-zero (h .rest)))
 
-    pub marking-next : ¬ (first ≡ 16) → Marking f l d₀ (set d a 1) (first - 1)
-    marking-next more = go (chain-cases (h .rest))
-      where
-        go : ChainLast f a (h .left) ⊎ ChainNext f a (h .left) → Marking f l d₀ (set d a 1) (first - 1)
-        go (inl z) = absurd (more (at .each (z .node) (z .judged) ∙ z .done))
-        go (inr n) =
-            record {
-              left = n .others;
-              rest = subst (λ (x : ℕ). Chain f (x - 1) (n .others)) (sym (at .each (n .node) (n .judged))) (n .rest);
-              sub = λ j mem. h .sub j (subst (List·Memᴰ j) (sym (n .list-is)) (List·Memᴰ·tail mem));
-              on = marks-on (n .others) (n .list-is);
-              off = marks-off;
-              kept = kept-set a 1 marking-inside (h .kept);
-            }
+  -- the entry x is stored
+  module _ {x : ℕ} (some : ¬ (x ≡ 0)) where
+    marks-off : (j : ℕ) → ¬ List·Memᴰ j l → getD (set d a x) j 0 ≡ getD d₀ j 0
+    marks-off =
+        at-set (λ j x. ¬ List·Memᴰ j l → x ≡ getD d₀ j 0) d a x marking-room
+        (λ away. absurd (away (h .sub a (chain-head (h .rest))))) (λ j ne away. h .off j away)
+
+    -- what is left is a and others
+    marks-on : (others : List ℕ) → h .left ≡ a ∷ others → (j : ℕ) → List·Memᴰ j l → List·Memᴰ j others ⊎ ¬ (getD (set d a x) j 0 ≡ 0)
+    marks-on others is =
+        at-set (λ j x. List·Memᴰ j l → List·Memᴰ j others ⊎ ¬ (x ≡ 0)) d a x marking-room (λ mem. inr some)
+        (λ j ne mem. ⊎-elim (λ k. ⊎-elim (λ e. absurd (ne e)) (λ q. inl q) (List·Memᴰ·cases-cons (rw is at k))) (λ q. inr q) (h .on j mem))
+
+    module _ {first : ℕ} (at : FirstIs f a first) where
+      pub marking-last : first ≡ 16 → MarksList (length (f .bytes)) l d₀ (set d a x)
+      marking-last done = record { on = go (chain-cases (h .rest)); off = marks-off; kept = kept-set a x marking-inside (h .kept) }
+        where
+          go : ChainLast f a (h .left) ⊎ ChainNext f a (h .left) → (j : ℕ) → List·Memᴰ j l → ¬ (getD (set d a x) j 0 ≡ 0)
+          go (inl z) j mem = ⊎-elim (λ k. absurd (List·Memᴰ·not-nil k)) (λ q. q) (marks-on [] (z .list-is) j mem)
+          go (inr n) j mem = absurd (n .more (sym (at .each (n .node) (n .judged)) ∙ done))
+
+      pub marking-next : ¬ (first ≡ 16) → Marking f l d₀ (set d a x) (first - 1)
+      marking-next more = go (chain-cases (h .rest))
+        where
+          go : ChainLast f a (h .left) ⊎ ChainNext f a (h .left) → Marking f l d₀ (set d a x) (first - 1)
+          go (inl z) = absurd (more (at .each (z .node) (z .judged) ∙ z .done))
+          go (inr n) =
+              record {
+                left = n .others;
+                rest = subst (λ (x : ℕ). Chain f (x - 1) (n .others)) (sym (at .each (n .node) (n .judged))) (n .rest);
+                sub = λ j mem. h .sub j (subst (List·Memᴰ j) (sym (n .list-is)) (List·Memᴰ·tail mem));
+                on = marks-on (n .others) (n .list-is);
+                off = marks-off;
+                kept = kept-set a x marking-inside (h .kept);
+              }
 
 -- ---- the nodes that are laid out
 

@@ -41,6 +41,13 @@ fn first_of(file: &[u8], root: usize, a: usize) -> usize
     }
 }
 
+// An entry with a mark: a node that no path from the root reaches has none from admission.
+fn with_mark(entry: u16) -> u16
+    ensures { λ r. ⌜ ¬ (r ≡ 0) ⌝ }
+{
+    if entry == 0 { 1 } else { entry }
+}
+
 // Marks the nodes of the chain from the root down.
 fn mark_chain(file: &[u8], root: usize, depths: &mut [u16])
     requires { ⌜ ChainMarkable (fstWith (now file) 1 root) (now depths) ⌝ }
@@ -49,7 +56,7 @@ fn mark_chain(file: &[u8], root: usize, depths: &mut [u16])
 {
     let mut a = root;
     loop {
-        depths[a] = 1;
+        depths[a] = with_mark(depths[a]);
         let first = first_of(file, root, a);
         if first == FIRST_NODE {
             return;

@@ -29,15 +29,15 @@ one h ts {i = i} x l room is c =
     rw (is ∙ sym (getD-map-lt h ts i (omega arith))) (copied-step l (omega arith) (omega arith) c)
 
 pub gathering-step : {ts : List Transition} {moved inputs₀ outputs₀ targets₀ inputs outputs targets : List ℕ} {i : ℕ}
-    → Gatherable ts (length moved) (length inputs₀) (length outputs₀) (length targets₀) → i < length ts → (t : Transition) → t ≡ transitionAt ts i
+    → Gatherable ts (length moved) (length inputs₀) (length outputs₀) (length targets₀) → i < length ts → (t : Transition) → t ≡ transitionAt ts i → {x : ℕ} → x ≡ entryIn moved (t .addr)
     → Gathering ts moved inputs₀ outputs₀ targets₀ inputs outputs targets i
-    → Gathering ts moved inputs₀ outputs₀ targets₀ (set inputs i (t .inp)) (set outputs i (t .out)) (set targets i (entryIn moved (t .addr))) (i + 1)
-gathering-step {ts} {moved} room l t is g =
+    → Gathering ts moved inputs₀ outputs₀ targets₀ (set inputs i (t .inp)) (set outputs i (t .out)) (set targets i x) (i + 1)
+gathering-step {ts} {moved} room l t is {x} to g =
     record {
       ins = one (λ (u : Transition). u .inp) ts (t .inp) l (room .in-inputs) (ap (λ (u : Transition). u .inp) is) (g .ins);
       outs = one (λ (u : Transition). u .out) ts (t .out) l (room .in-outputs) (ap (λ (u : Transition). u .out) is) (g .outs);
-      tos = one (λ (u : Transition). entryIn moved (u .addr)) ts (entryIn moved (t .addr)) l (room .in-targets)
-          (ap (λ (u : Transition). entryIn moved (u .addr)) is) (g .tos);
+      tos = one (λ (u : Transition). entryIn moved (u .addr)) ts x l (room .in-targets)
+          (to ∙ ap (λ (u : Transition). entryIn moved (u .addr)) is) (g .tos);
     }
 
 whole : (h : Transition → ℕ) (ts : List Transition) {out₀ out : List ℕ} {i : ℕ} → length ts ≤ i → Copied (map h ts) (length ts) out₀ out i

@@ -1,5 +1,7 @@
 // What conversion does at one node of a version 1 file: its record is gathered, each target replaced by the table's entry, and packed
 // as document 01 says.
+ghost use mathlib.Core.Path.{_≡_};
+ghost use Prim.Native.Nat.{_<_};
 ghost use lib.ListN.{length};
 ghost use Rattle.format.specs.Packed.{packed};
 ghost use Rattle.format.specs.Paths.{fstWith};
@@ -12,6 +14,14 @@ use node_compile::Compiled;
 
 // The version that is converted.
 pub const OLD: u64 = 1;
+
+// Where a target went.
+fn new_target(moved: &[u64], to: usize) -> usize
+    requires { ⌜ to < length (now moved) ⌝ }
+    ensures { λ r. ⌜ r ≡ entryIn (now (moved .entry)) to ⌝ }
+{
+    moved[to] as usize
+}
 
 // The inputs, the outputs and the new targets of a node's transitions, each to the front of its buffer.
 fn gather(
@@ -34,7 +44,7 @@ fn gather(
         let to = t.addr;
         inputs[i] = t.inp;
         outputs[i] = t.out;
-        targets[i] = moved[to] as usize;
+        targets[i] = new_target(moved, to);
         i += 1;
     }
 }

@@ -6,15 +6,12 @@ use native.Mathlib.Omega.{arith}
 use Rattle.convert.proofs.convert_admitted.Statement.{statement}
 use Rattle.convert.proofs.convert_admitted.Tie as tie
 
--- src/lib.rt:122:11
 open-requires : tie.Need-open-requires
 open-requires c κs = search needs
 
--- src/lib.rt:123:22
 enum-known-m : tie.Need-enum-known-m
 enum-known-m c = search needs
 
--- src/lib.rt:123:28
 convert-opened-requires : tie.Need-convert-opened-requires
 convert-opened-requires c κs =
     let told = c .before .before .before .before .before in
@@ -22,31 +19,24 @@ convert-opened-requires c κs =
     let s = opens .before .before .before .before .before .before in
     (s .pre .0, says-of (opens .«open» .ensures) (told .m .given .0 .0) (told .m .given .1), s .pre .1)
 
--- src/lib.rt:135:25
 enum-known-why : tie.Need-enum-known-why
 enum-known-why c = search needs
 
--- src/lib.rt:109:1
 same-length : tie.Need-same-length
 same-length c = search needs
 
--- src/lib.rt:109:1
 same-length-2 : tie.Need-same-length-2
 same-length-2 c = search needs
 
--- src/lib.rt:109:1
 same-length-3 : tie.Need-same-length-3
 same-length-3 c = search needs
 
--- src/lib.rt:109:1
 same-length-4 : tie.Need-same-length-4
 same-length-4 c = search needs
 
--- src/lib.rt:109:1
 returns : tie.Need-returns
 returns c = search needs
 
--- src/lib.rt:109:1
 returns-2 : tie.Need-returns-2
 returns-2 c =
     let told = c .before in

@@ -44,25 +44,20 @@ laid-over c = lays-as (c .before .before .before .before) (c .enum-told .given .
 laid-ends : (c : tie.After-layout) → Lays (f (c .before .before .before .before)) (depths (c .before .before .before .before)) (sums (c .before .before .before .before)) (limit (c .before .before .before .before)) (Ends (c .layout .given .0 .0))
 laid-ends c = lays-as (c .before .before .before .before) (c .layout .given .1) (c .before .before .before .before .lay-out .ensures .1)
 
--- src/lib.rt:74:5
 mark-requires : tie.Need-mark-requires
 mark-requires c κs = old-markable (c .before .before .before .before .before .before .pre .0)
 
--- src/lib.rt:75:9
 lay-out-requires : tie.Need-lay-out-requires
 lay-out-requires c κs =
     let q = c .before .before .before .before in
     old-layable (start q .pre .0) (q .mark .ensures) (start q .pre .1)
 
--- src/lib.rt:77:25
 enum-told : tie.Need-enum-told
 enum-told c = search needs
 
--- src/lib.rt:78:22
 enum-known-layout : tie.Need-enum-known-layout
 enum-known-layout c = search needs
 
--- src/lib.rt:78:31
 finish-requires : tie.Need-finish-requires
 finish-requires c κs =
     let told = c .before .before .before .before .before in
@@ -70,38 +65,30 @@ finish-requires c κs =
     let s = start (marks q) in
     old-finishable (s .pre .0) (marks q .mark .ensures) (s .pre .1) (q .lay-out .ensures .0) (now (s .args .out)) (now (s .args .table)) (laid-ends told)
 
--- src/lib.rt:59:1
 same-length : tie.Need-same-length
 same-length c = search needs
 
--- src/lib.rt:59:1
 same-length-2 : tie.Need-same-length-2
 same-length-2 c = search needs
 
--- src/lib.rt:59:1
 returns : tie.Need-returns
 returns c =
     let q = c .before .before .before .before in
     let s = start (marks q) in
     old-over (s .pre .0) (marks q .mark .ensures) (s .pre .1) (q .lay-out .ensures .0) _ _ (laid-over c)
 
--- src/lib.rt:59:1
 same-length-3 : tie.Need-same-length-3
 same-length-3 c = search needs
 
--- src/lib.rt:59:1
 same-length-4 : tie.Need-same-length-4
 same-length-4 c = search needs
 
--- src/lib.rt:59:1
 same-length-5 : tie.Need-same-length-5
 same-length-5 c = search needs
 
--- src/lib.rt:59:1
 same-length-6 : tie.Need-same-length-6
 same-length-6 c = search needs
 
--- src/lib.rt:59:1
 returns-2 : tie.Need-returns-2
 returns-2 c =
     let done = c .before .before .before .before in

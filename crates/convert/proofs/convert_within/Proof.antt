@@ -7,19 +7,15 @@ use native.Mathlib.Omega.{arith}
 use Rattle.convert.proofs.convert_within.Statement.{statement}
 use Rattle.convert.proofs.convert_within.Tie as tie
 
--- src/lib.rt:153:11
 admit-requires : tie.Need-admit-requires
 admit-requires c κs = search needs
 
--- src/lib.rt:154:28
 enum-known-why : tie.Need-enum-known-why
 enum-known-why c = search needs
 
--- src/lib.rt:155:62
 enum-told : tie.Need-enum-told
 enum-told c = search needs
 
--- src/lib.rt:155:32
 convert-admitted-requires : tie.Need-convert-admitted-requires
 convert-admitted-requires c κs =
     let told = c .before .before .before .before in
@@ -27,37 +23,29 @@ convert-admitted-requires c κs =
     let s = judged .before .before .before .before .before .before .before .before in
     (marked-of (now (s .args .depths)) (now (s .args .sums)) (judged .admit .result) (judged .admit .ensures) (told .enum-told .given .1), s .pre)
 
--- src/lib.rt:140:1
 same-length : tie.Need-same-length
 same-length c = search needs
 
--- src/lib.rt:140:1
 same-length-2 : tie.Need-same-length-2
 same-length-2 c = search needs
 
--- src/lib.rt:140:1
 returns : tie.Need-returns
 returns c =
     let told = c .before in
     refused-whole (told .before .before .before .before .before .before .admit .ensures) (told .why .given .0 .0) (told .why .given .1)
 
--- src/lib.rt:140:1
 same-length-3 : tie.Need-same-length-3
 same-length-3 c = search needs
 
--- src/lib.rt:140:1
 same-length-4 : tie.Need-same-length-4
 same-length-4 c = search needs
 
--- src/lib.rt:140:1
 same-length-5 : tie.Need-same-length-5
 same-length-5 c = search needs
 
--- src/lib.rt:140:1
 same-length-6 : tie.Need-same-length-6
 same-length-6 c = search needs
 
--- src/lib.rt:140:1
 returns-2 : tie.Need-returns-2
 returns-2 c =
     let done = c .before .before .before .before .before .before .before .before in

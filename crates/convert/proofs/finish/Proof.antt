@@ -8,38 +8,61 @@ use native.Mathlib.Omega.{arith}
 use Rattle.convert.proofs.finish.Statement.{statement}
 use Rattle.convert.proofs.finish.Tie as tie
 
--- src/lib.rt:46:15
 add-len : tie.Need-add-len
 add-len c = search needs
 
--- src/lib.rt:48:9
+no-space-requires : tie.Need-no-space-requires
+no-space-requires c κs = search needs
+
+same-length : tie.Need-same-length
+same-length c = search needs
+
+same-length-2 : tie.Need-same-length-2
+same-length-2 c = search needs
+
+-- the output is short
 returns : tie.Need-returns
-returns c = let s = c .before .before .before .before .before .before in finish-short-out (s .pre) (s .args .count) _ _ (c .if1 .taken)
+returns c =
+    let call = c .before .before .before .before in
+    let test = call .before .before .before in
+    let s = test .before .before .before .before .before .before in
+    finish-short-out (s .pre) (s .args .count) _ _ (test .if1 .taken) (call .no-space .ensures)
 
--- src/lib.rt:51:9
+no-space-requires-2 : tie.Need-no-space-requires-2
+no-space-requires-2 c κs = search needs
+
+same-length-3 : tie.Need-same-length-3
+same-length-3 c = search needs
+
+same-length-4 : tie.Need-same-length-4
+same-length-4 c = search needs
+
+-- the table is short
 returns-2 : tie.Need-returns-2
-returns-2 c = let s = c .before .before .before .before .before .before .before in finish-short-table (s .pre) (s .args .count) _ _ (c .before .if1 .left) (c .if2 .taken)
+returns-2 c =
+    let call = c .before .before .before .before in
+    let test = call .before .before .before in
+    let s = test .before .before .before .before .before .before .before in
+    finish-short-table (s .pre) (s .args .count) _ _ (test .before .if1 .left) (test .if2 .taken) (call .no-space2 .ensures)
 
--- src/lib.rt:53:5
+-- the output has room
 write-file-requires : tie.Need-write-file-requires
 write-file-requires c κs = let s = c .before .before .before .before .before .before .before .before in finish-writable (s .pre) (s .args .count) _ (now (s .args .table)) (c .before .before .if1 .left)
 
--- src/lib.rt:54:5
+-- new addresses have 32 bits
 put-table-requires : tie.Need-put-table-requires
 put-table-requires c κs =
     let test = c .before .before .before .before .before in
     let s = test .before .before .before .before .before .before .before in
     finish-narrow (s .pre) (s .args .count) (now (s .args .out)) _ (test .if2 .left)
 
--- src/lib.rt:31:1
-same-length : tie.Need-same-length
-same-length c = search needs
+same-length-5 : tie.Need-same-length-5
+same-length-5 c = search needs
 
--- src/lib.rt:31:1
-same-length-2 : tie.Need-same-length-2
-same-length-2 c = search needs
+same-length-6 : tie.Need-same-length-6
+same-length-6 c = search needs
 
--- src/lib.rt:31:1
+-- both are written
 returns-3 : tie.Need-returns-3
 returns-3 c =
     let tabled = c .before .before in
@@ -53,10 +76,16 @@ finish-spec =
     tie.close
     (tie.spec
     add-len
+    no-space-requires
+    same-length
+    same-length-2
     returns
+    no-space-requires-2
+    same-length-3
+    same-length-4
     returns-2
     write-file-requires
     put-table-requires
-    same-length
-    same-length-2
+    same-length-5
+    same-length-6
     returns-3)

@@ -6,19 +6,15 @@ use native.Mathlib.Omega.{arith}
 use Rattle.convert_layout.proofs.addr_of.Statement.{statement}
 use Rattle.convert_layout.proofs.addr_of.Tie as tie
 
--- src/lib.rt:30:9
 returns : tie.Need-returns
 returns c = rw (eq-eqb (c .before .args .len) 0 (c .if1 .taken))
 
--- src/lib.rt:32:6
 add-result : tie.Need-add-result
 add-result c = search needs
 
--- src/lib.rt:32:6
 sub-result : tie.Need-sub-result
 sub-result c = search needs
 
--- src/lib.rt:25:1
 returns-2 : tie.Need-returns-2
 returns-2 c = rw (ne-eqb (c .before .args .len) 0 (c .if1 .left))
 

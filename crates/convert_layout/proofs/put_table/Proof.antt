@@ -13,39 +13,30 @@ Inv-loop sums n table₀ i₀ table i = Copied sums n table₀ table i
 abbrev μ-loop : tie.MeasureT-loop
 μ-loop sums n table₀ i₀ table i = n - i
 
--- src/lib.rt:124:5
 loop-holds : tie.Need-loop-holds Inv-loop μ-loop
 loop-holds c = copied-none _ _ _
 
--- src/lib.rt:125:20
 mul-table : tie.Need-mul-table Inv-loop μ-loop
 mul-table c = omega (arith, c .before .before .pre .in-sums)
 
--- src/lib.rt:125:20
 shared-slice-read-table : tie.Need-shared-slice-read-table Inv-loop μ-loop
 shared-slice-read-table c = omega (arith, c .before .before .before .pre .in-sums)
 
--- src/lib.rt:125:20
 cast-table : tie.Need-cast-table Inv-loop μ-loop
 cast-table c = let at = c .before .before in omega (arith, at .before .pre .small (at .loop .i) (c .before .loop-test .taken))
 
--- src/lib.rt:125:9
 mul-table-2 : tie.Need-mul-table-2 Inv-loop μ-loop
 mul-table-2 c = search needs
 
--- src/lib.rt:125:9
 slice-write-table : tie.Need-slice-write-table Inv-loop μ-loop
 slice-write-table c = let at = c .before .before in omega (arith, at .before .pre .in-table, at .loop .inv .len)
 
--- src/lib.rt:126:9
 add-i : tie.Need-add-i Inv-loop μ-loop
 add-i c = search needs
 
--- src/lib.rt:124:5
 loop-less : tie.Need-loop-less Inv-loop μ-loop
 loop-less c = search needs
 
--- src/lib.rt:124:5
 loop-again : tie.Need-loop-again Inv-loop μ-loop
 loop-again c =
     let turn = c .before in
@@ -53,11 +44,9 @@ loop-again c =
     let pre = at .before .pre in
     copied-step (turn .loop-test .taken) (omega (arith, pre .in-sums)) (omega (arith, pre .in-table)) (at .loop .inv)
 
--- src/lib.rt:119:1
 same-length : tie.Need-same-length Inv-loop μ-loop
 same-length c = c .before .loop .inv .len
 
--- src/lib.rt:119:1
 returns : tie.Need-returns Inv-loop μ-loop
 returns c = copied-all (c .loop-test .left) (c .before .loop .inv)
 

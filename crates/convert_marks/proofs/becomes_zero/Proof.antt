@@ -14,23 +14,18 @@ use native.Mathlib.Omega.{arith}
 use Rattle.convert_marks.proofs.becomes_zero.Statement.{statement}
 use Rattle.convert_marks.proofs.becomes_zero.Tie as tie
 
--- src/lib.rt:26:9
 node-at-requires : tie.Need-node-at-requires
 node-at-requires c κs = search needs
 
--- src/lib.rt:28:23
 enum-known-judged : tie.Need-enum-known-judged
 enum-known-judged c = search needs
 
--- src/lib.rt:28:29
 nothing-requires : tie.Need-nothing-requires
 nothing-requires c κs = search needs
 
--- src/lib.rt:29:28
 enum-told : tie.Need-enum-told
 enum-told c = search needs
 
--- src/lib.rt:23:1
 returns : tie.Need-returns
 returns c =
     let told = c .before .before in
@@ -42,7 +37,6 @@ returns c =
     ∙ ap (λ (n : ℕ). node .«is_final» && (eqb n 0 && eqb (node .«final_output») 0)) (sym count)
     ∙ sym (ap vanishes (answer-sound (at .node-at .ensures) node (told .judged .given .1)))
 
--- src/lib.rt:23:1
 returns-2 : tie.Need-returns-2
 returns-2 c = sym (ap vanishes (answer-unsound (c .before .before .node-at .ensures) (c .enum-told .given .1)))
 

@@ -11,19 +11,15 @@ use native.Mathlib.Omega.{arith}
 use Rattle.convert_marks.proofs.first_of.Statement.{statement}
 use Rattle.convert_marks.proofs.first_of.Tie as tie
 
--- src/lib.rt:37:9
 node-at-requires : tie.Need-node-at-requires
 node-at-requires c κs = search needs
 
--- src/lib.rt:39:23
 enum-known-judged : tie.Need-enum-known-judged
 enum-known-judged c = search needs
 
--- src/lib.rt:40:28
 enum-told : tie.Need-enum-told
 enum-told c = search needs
 
--- src/lib.rt:34:1
 returns : tie.Need-returns
 returns c =
     let told = c .before in
@@ -36,7 +32,6 @@ returns c =
           ap (λ (n : Node). n .first) is;
     }
 
--- src/lib.rt:34:1
 returns-2 : tie.Need-returns-2
 returns-2 c =
     record {

@@ -7,37 +7,30 @@ use native.Mathlib.Omega.{arith}
 use Rattle.convert_marks.proofs.mark.Statement.{statement}
 use Rattle.convert_marks.proofs.mark.Tie as tie
 
--- src/lib.rt:67:8
 becomes-zero-requires : tie.Need-becomes-zero-requires
 becomes-zero-requires c κs = search needs
 
--- src/lib.rt:68:9
 clear16-requires : tie.Need-clear16-requires
 clear16-requires c κs = search needs
 
--- src/lib.rt:69:9
 same-length : tie.Need-same-length
 same-length c = search needs
 
--- src/lib.rt:69:9
 returns : tie.Need-returns
 returns c =
     let call = c .before .before in
     let test = call .before .before in
     cleared-marks (test .before .before .before .before .pre) (sym (test .before .becomes-zero .ensures) ∙ test .if1 .taken) (call .clear16 .ensures)
 
--- src/lib.rt:71:5
 mark-chain-requires : tie.Need-mark-chain-requires
 mark-chain-requires c κs =
     let test = c .before in
     let ok = test .before .before .before .before .pre in
     record { nodes = ok .nodes; chain = root-some ok (sym (test .before .becomes-zero .ensures) ∙ test .if1 .left); room = ok .room }
 
--- src/lib.rt:62:1
 same-length-2 : tie.Need-same-length-2
 same-length-2 c = search needs
 
--- src/lib.rt:62:1
 returns-2 : tie.Need-returns-2
 returns-2 c =
     let call = c .before .before in

@@ -28,50 +28,54 @@ start q = q .before .before .before
 marks-as : {n : ℕ} {l k d₀ d : List ℕ} → l ≡ k → MarksList n l d₀ d → MarksList n k d₀ d
 marks-as e h = rw (← e) h
 
--- src/lib.rt:51:5
 loop-holds : tie.Need-loop-holds Inv-loop μ-loop
 loop-holds c = let s = c .before .before in (s .pre .nodes, marking-none _ (s .pre .chain), s .pre .chain)
 
--- src/lib.rt:52:9
+mul-with-mark : tie.Need-mul-with-mark Inv-loop μ-loop
+mul-with-mark c = omega (arith, marking-room (c .loop .inv .1) (start c .pre .room))
+
+slice-read-with-mark : tie.Need-slice-read-with-mark Inv-loop μ-loop
+slice-read-with-mark c = let at = c .before in marking-room (at .loop .inv .1) (start at .pre .room)
+
+with-mark-requires : tie.Need-with-mark-requires Inv-loop μ-loop
+with-mark-requires c κs = search needs
+
 mul-depths : tie.Need-mul-depths Inv-loop μ-loop
-mul-depths c = omega (arith, marking-room (c .loop .inv .1) (start c .pre .room))
+mul-depths c = let at = c .before .before in omega (arith, marking-room (at .loop .inv .1) (start at .pre .room))
 
--- src/lib.rt:52:9
 slice-write-depths : tie.Need-slice-write-depths Inv-loop μ-loop
-slice-write-depths c = marking-room (c .loop .inv .1) (start c .pre .room)
+slice-write-depths c = let at = c .before .before in marking-room (at .loop .inv .1) (start at .pre .room)
 
--- src/lib.rt:53:13
 first-of-requires : tie.Need-first-of-requires Inv-loop μ-loop
 first-of-requires c κs = search needs
 
--- src/lib.rt:55:13
 same-length : tie.Need-same-length Inv-loop μ-loop
-same-length c = let at = c .before .before in marking-last (at .loop .inv .1) (start at .pre .room) (c .before .first-of .ensures) (c .if1 .taken) .kept .long
+same-length c = let marks = c .before .before in let at = marks .before .before in marking-last (at .loop .inv .1) (start at .pre .room) (marks .with-mark .ensures) (c .before .first-of .ensures) (c .if1 .taken) .kept .long
 
--- src/lib.rt:55:13
 returns : tie.Need-returns Inv-loop μ-loop
 returns c =
-    let at = c .before .before in
-    let h = marking-last (at .loop .inv .1) (start at .pre .room) (c .before .first-of .ensures) (c .if1 .taken) in
+    let marks = c .before .before in
+    let at = marks .before .before in
+    let h = marking-last (at .loop .inv .1) (start at .pre .room) (marks .with-mark .ensures) (c .before .first-of .ensures) (c .if1 .taken) in
     record { each = λ l d. marks-as (chain-unique (at .loop .inv .2) d) h }
 
--- src/lib.rt:57:13
 sub-a : tie.Need-sub-a Inv-loop μ-loop
 sub-a c =
-    let at = c .before .before in let low = marking-low (at .loop .inv .1) (start at .pre .room) (c .before .first-of .ensures) in
+    let at = c .before .before .before .before in
+    let low = marking-low (at .loop .inv .1) (start at .pre .room) (c .before .first-of .ensures) in
     ⊎-elim (λ h. omega (arith, h)) (λ h. absurd (c .if1 .left h)) low
 
--- src/lib.rt:51:5
 loop-less : tie.Need-loop-less Inv-loop μ-loop
 loop-less c =
-    let at = c .before .before in let low = marking-low (at .loop .inv .1) (start at .pre .room) (c .before .first-of .ensures) in
+    let at = c .before .before .before .before in
+    let low = marking-low (at .loop .inv .1) (start at .pre .room) (c .before .first-of .ensures) in
     ⊎-elim (λ h. omega (arith, h, marking-le (at .loop .inv .1) (start at .pre .room) (c .before .first-of .ensures))) (λ h. absurd (c .if1 .left h)) low
 
--- src/lib.rt:51:5
 loop-again : tie.Need-loop-again Inv-loop μ-loop
 loop-again c =
-    let at = c .before .before in
-    (at .loop .inv .0, marking-next (at .loop .inv .1) (start at .pre .room) (c .before .first-of .ensures) (c .if1 .left), at .loop .inv .2)
+    let marks = c .before .before in
+    let at = marks .before .before in
+    (at .loop .inv .0, marking-next (at .loop .inv .1) (start at .pre .room) (marks .with-mark .ensures) (c .before .first-of .ensures) (c .if1 .left), at .loop .inv .2)
 
 pub mark-chain-spec : {M : Type 1} → statement M
 mark-chain-spec =
@@ -80,6 +84,9 @@ mark-chain-spec =
     Inv-loop
     μ-loop
     loop-holds
+    mul-with-mark
+    slice-read-with-mark
+    with-mark-requires
     mul-depths
     slice-write-depths
     first-of-requires

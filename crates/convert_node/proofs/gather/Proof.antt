@@ -63,15 +63,11 @@ slice-write-outputs c =
     let at = turn .before in
     omega (arith, in-list turn, start at .pre .1 .in-outputs, at .loop .inv .outs .len)
 
--- the place of the entry, in bytes, fits
+new-target-requires : tie.Need-new-target-requires Inv-loop μ-loop
+new-target-requires c κs = target-in c
+
 mul-targets : tie.Need-mul-targets Inv-loop μ-loop
-mul-targets c = omega (arith, target-in c)
-
-shared-slice-read-targets : tie.Need-shared-slice-read-targets Inv-loop μ-loop
-shared-slice-read-targets c = target-in (c .before)
-
-mul-targets-2 : tie.Need-mul-targets-2 Inv-loop μ-loop
-mul-targets-2 c = search needs
+mul-targets c = search needs
 
 slice-write-targets : tie.Need-slice-write-targets Inv-loop μ-loop
 slice-write-targets c =
@@ -91,7 +87,7 @@ loop-again c =
     let read = c .before in
     let turn = read .before in
     let at = turn .before in
-    gathering-step (start at .pre .1) (in-list turn) (read .transition .result) (read .transition .ensures) (at .loop .inv)
+    gathering-step (start at .pre .1) (in-list turn) (read .transition .result) (read .transition .ensures) (c .new-target .ensures) (at .loop .inv)
 
 -- the buffers keep their lengths
 same-length : tie.Need-same-length Inv-loop μ-loop
@@ -118,9 +114,8 @@ gather-spec =
     slice-write-inputs
     mul-outputs
     slice-write-outputs
+    new-target-requires
     mul-targets
-    shared-slice-read-targets
-    mul-targets-2
     slice-write-targets
     add-i
     loop-less

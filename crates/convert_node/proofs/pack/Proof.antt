@@ -37,7 +37,6 @@ gathered-outputs q = q .gather .last .1 .1 .1 .1 .0
 abbrev gathered-targets : tie.After-gather → List ℕ
 gathered-targets q = q .gather .last .1 .1 .1 .1 .1 .0
 
--- src/lib.rt:60:5
 gather-requires : tie.Need-gather-requires
 gather-requires c κs =
     let s = c .before .before .before .before .before .before .before .before .before in (
@@ -50,68 +49,54 @@ gather-requires c κs =
       },
     )
 
--- src/lib.rt:64:9
 slice-reshare-prefix-compile : tie.Need-slice-reshare-prefix-compile
 slice-reshare-prefix-compile c = let s = start (c .before .before .before .before .before .before) in omega (arith, few s, s .pre .1 .in-inputs)
 
--- src/lib.rt:64:9
 slice-aggregate-compile : tie.Need-slice-aggregate-compile
 slice-aggregate-compile c =
     let q = c .before .before .before .before .before .before .before in
     let s = start q in
     prefix-count (s .args .node .ntrans) (gathered-inputs q) (omega (arith, few s, s .pre .1 .in-inputs))
 
--- src/lib.rt:65:9
 slice-reshare-prefix-compile-2 : tie.Need-slice-reshare-prefix-compile-2
 slice-reshare-prefix-compile-2 c = let s = start (c .before .before .before .before .before .before .before) in omega (arith, few s, s .pre .1 .in-outputs)
 
--- src/lib.rt:65:9
 slice-aggregate-compile-2 : tie.Need-slice-aggregate-compile-2
 slice-aggregate-compile-2 c =
     let q = c .before .before .before .before .before .before .before .before in
     let s = start q in
     prefix-count (s .args .node .ntrans) (gathered-outputs q) (omega (arith, few s, s .pre .1 .in-outputs))
 
--- src/lib.rt:66:9
 slice-reshare-prefix-compile-3 : tie.Need-slice-reshare-prefix-compile-3
 slice-reshare-prefix-compile-3 c = let s = start (c .before .before .before .before .before .before .before .before) in omega (arith, few s, s .pre .1 .in-targets)
 
--- src/lib.rt:66:9
 slice-aggregate-compile-3 : tie.Need-slice-aggregate-compile-3
 slice-aggregate-compile-3 c =
     let q = c .before .before .before .before .before .before .before .before .before in
     let s = start q in
     prefix-count (s .args .node .ntrans) (gathered-targets q) (omega (arith, few s, s .pre .1 .in-targets))
 
--- src/lib.rt:61:9
 compile-requires : tie.Need-compile-requires
 compile-requires c κs = search needs
 
--- src/lib.rt:71:23
 enum-known-done : tie.Need-enum-known-done
 enum-known-done c = search needs
 
--- src/lib.rt:73:33
 enum-told : tie.Need-enum-told
 enum-told c = search needs
 
--- src/lib.rt:43:1
 same-length : tie.Need-same-length
 same-length c = search needs
 
--- src/lib.rt:43:1
 same-length-2 : tie.Need-same-length-2
 same-length-2 c = search needs
 
--- src/lib.rt:43:1
 same-length-3 : tie.Need-same-length-3
 same-length-3 c = search needs
 
--- src/lib.rt:43:1
 same-length-4 : tie.Need-same-length-4
 same-length-4 c = search needs
 
--- src/lib.rt:43:1
 returns : tie.Need-returns
 returns c =
     let packed = c .before .before .before .before .before in
@@ -119,23 +104,18 @@ returns c =
     let s = start q in
     pack-done (s .args .node .ntrans) (sym (count s)) (q .gather .ensures) (s .pre .1) (packed .compile .ensures) _ (c .before .done .given .1)
 
--- src/lib.rt:43:1
 same-length-5 : tie.Need-same-length-5
 same-length-5 c = search needs
 
--- src/lib.rt:43:1
 same-length-6 : tie.Need-same-length-6
 same-length-6 c = search needs
 
--- src/lib.rt:43:1
 same-length-7 : tie.Need-same-length-7
 same-length-7 c = search needs
 
--- src/lib.rt:43:1
 same-length-8 : tie.Need-same-length-8
 same-length-8 c = search needs
 
--- src/lib.rt:43:1
 returns-2 : tie.Need-returns-2
 returns-2 c =
     let packed = c .before .before .before .before in

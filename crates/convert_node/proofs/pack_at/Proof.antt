@@ -37,42 +37,33 @@ packable : (q : Told) → (i o t room : ℕ) → Packable (start (q .before .bef
 packable q i o t room p =
     subst (λ (m : Node). Packable m (start (q .before .before) .args .first) (now (start (q .before .before) .args .moved)) i o t room) (sym (same q)) p
 
--- src/lib.rt:94:9
 node-at-requires : tie.Need-node-at-requires
 node-at-requires c κs = search needs
 
--- src/lib.rt:96:23
 enum-known-judged : tie.Need-enum-known-judged
 enum-known-judged c = search needs
 
--- src/lib.rt:96:32
 pack-requires : tie.Need-pack-requires
 pack-requires c κs =
     let told = c .before .before .before .before .before in
     let at = told .before .before in
     (at .node-at .ensures .readable _ (told .judged .given .1), packable told _ _ _ _ (start at .pre .packable))
 
--- src/lib.rt:98:28
 enum-told : tie.Need-enum-told
 enum-told c = search needs
 
--- src/lib.rt:78:1
 same-length : tie.Need-same-length
 same-length c = search needs
 
--- src/lib.rt:78:1
 same-length-2 : tie.Need-same-length-2
 same-length-2 c = search needs
 
--- src/lib.rt:78:1
 same-length-3 : tie.Need-same-length-3
 same-length-3 c = search needs
 
--- src/lib.rt:78:1
 same-length-4 : tie.Need-same-length-4
 same-length-4 c = search needs
 
--- src/lib.rt:78:1
 returns : tie.Need-returns
 returns c =
     let call = c .before .before .before .before .before .before .before .before in
@@ -86,7 +77,6 @@ returns c =
           (call .pack .ensures);
     }
 
--- src/lib.rt:78:1
 returns-2 : tie.Need-returns-2
 returns-2 c =
     let at = c .before .before in

@@ -6,33 +6,26 @@ use native.Mathlib.Omega.{arith}
 use Rattle.convert_node.proofs.pack_marked.Statement.{statement}
 use Rattle.convert_node.proofs.pack_marked.Tie as tie
 
--- src/lib.rt:121:9
 returns : tie.Need-returns
 returns c = record { off = λ _. record { buffer = refl; count = refl }; on = λ ne. absurd (ne (c .if1 .taken)) }
 
--- src/lib.rt:123:5
 pack-at-requires : tie.Need-pack-at-requires
 pack-at-requires c κs =
     let test = c .before .before .before .before in
     test .before .before .before .before .before .before .before .pre .each (test .if1 .left)
 
--- src/lib.rt:103:1
 same-length : tie.Need-same-length
 same-length c = search needs
 
--- src/lib.rt:103:1
 same-length-2 : tie.Need-same-length-2
 same-length-2 c = search needs
 
--- src/lib.rt:103:1
 same-length-3 : tie.Need-same-length-3
 same-length-3 c = search needs
 
--- src/lib.rt:103:1
 same-length-4 : tie.Need-same-length-4
 same-length-4 c = search needs
 
--- src/lib.rt:103:1
 returns-2 : tie.Need-returns-2
 returns-2 c =
     let call = c .before .before .before .before .before .before .before .before in

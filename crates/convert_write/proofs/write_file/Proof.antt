@@ -7,39 +7,30 @@ use native.Mathlib.Omega.{arith}
 use Rattle.convert_write.proofs.write_file.Statement.{statement}
 use Rattle.convert_write.proofs.write_file.Tie as tie
 
--- src/lib.rt:41:5
 write-header-requires : tie.Need-write-header-requires
 write-header-requires c κs = search needs
 
--- src/lib.rt:42:9
 write-out-requires : tie.Need-write-out-requires
 write-out-requires c κs = search needs
 
--- src/lib.rt:43:5
 pack-uint-in-requires : tie.Need-pack-uint-in-requires
 pack-uint-in-requires c κs = search needs
 
--- src/lib.rt:44:14
 add-at : tie.Need-add-at
 add-at c = search needs
 
--- src/lib.rt:45:27
 mul-pack-uint-in : tie.Need-mul-pack-uint-in
 mul-pack-uint-in c = search needs
 
--- src/lib.rt:45:27
 shared-slice-read-pack-uint-in : tie.Need-shared-slice-read-pack-uint-in
 shared-slice-read-pack-uint-in c = search needs
 
--- src/lib.rt:45:5
 pack-uint-in-requires-2 : tie.Need-pack-uint-in-requires-2
 pack-uint-in-requires-2 c κs = search needs
 
--- src/lib.rt:27:1
 same-length : tie.Need-same-length
 same-length c = search needs
 
--- src/lib.rt:27:1
 returns : tie.Need-returns
 returns c =
     let last = c .before .before in

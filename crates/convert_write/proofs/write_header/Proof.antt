@@ -8,43 +8,33 @@ use native.Mathlib.Omega.{arith}
 use Rattle.convert_write.proofs.write_header.Statement.{statement}
 use Rattle.convert_write.proofs.write_header.Tie as tie
 
--- src/lib.rt:22:5
 pack-uint-in-requires : tie.Need-pack-uint-in-requires
 pack-uint-in-requires c κs = search needs
 
--- src/lib.rt:23:16
 sub-copy-front : tie.Need-sub-copy-front
 sub-copy-front c = search needs
 
--- src/lib.rt:23:16
 part-copy-front-start : tie.Need-part-copy-front-start
 part-copy-front-start c = search needs
 
--- src/lib.rt:23:16
 part-copy-front-end : tie.Need-part-copy-front-end
 part-copy-front-end c = search needs
 
--- src/lib.rt:23:32
 sub-copy-front-2 : tie.Need-sub-copy-front-2
 sub-copy-front-2 c = search needs
 
--- src/lib.rt:23:32
 part-copy-front-start-2 : tie.Need-part-copy-front-start-2
 part-copy-front-start-2 c = search needs
 
--- src/lib.rt:23:32
 part-copy-front-end-2 : tie.Need-part-copy-front-end-2
 part-copy-front-end-2 c = search needs
 
--- src/lib.rt:23:5
 copy-front-requires : tie.Need-copy-front-requires
 copy-front-requires c κs = search needs
 
--- src/lib.rt:17:1
 same-length : tie.Need-same-length
 same-length c = search needs
 
--- src/lib.rt:17:1
 returns : tie.Need-returns
 returns c =
     let copies = c .before .before in
