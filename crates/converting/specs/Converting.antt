@@ -81,22 +81,21 @@ chainOf f l = cond (vanishes (nodeIn f (f .root))) [] l
 
 -- ---- an admitted file
 
-module _ {s : List ℕ} (A : Admitted s) where
-  abbrev pub laid : Laid
-  laid = layOut (fstOf s (A .meta)) (chainOf (fstOf s (A .meta)) (A .nodes))
+abbrev pub laid : {s : List ℕ} → Admitted s → Laid
+laid {s} A = layOut (fstOf s (A .meta)) (chainOf (fstOf s (A .meta)) (A .nodes))
 
-  abbrev pub movedTo : ℕ → ℕ
-  movedTo a = newAddr (laid .moved) a
+abbrev pub movedTo : {s : List ℕ} → Admitted s → ℕ → ℕ
+movedTo A a = newAddr (laid A .moved) a
 
-  -- version 2, the type, the nodes, the count, the root
-  unfoldable pub converted : List ℕ
-  unfolding layOut
-  converted = bytesOf 8 2 ++ (take 8 (drop 8 s) ++ (laid .nodes ++ (bytesOf 8 (A .meta .len) ++ bytesOf 8 (movedTo (A .meta .root)))))
+-- version 2, the type, the nodes, the count, the root
+unfoldable pub converted : {s : List ℕ} → Admitted s → List ℕ
+unfolding layOut
+converted {s} A = bytesOf 8 2 ++ (take 8 (drop 8 s) ++ (laid A .nodes ++ (bytesOf 8 (A .meta .len) ++ bytesOf 8 (movedTo A (A .meta .root)))))
 
-  -- each node's new address at its old one, elsewhere 0
-  unfoldable pub tableOf : List ℕ
-  unfolding layOut newAddr upFrom
-  tableOf = upFrom movedTo 0 (length s)
+-- each node's new address at its old one, elsewhere 0
+unfoldable pub tableOf : {s : List ℕ} → Admitted s → List ℕ
+unfolding layOut newAddr upFrom
+tableOf {s} A = upFrom (movedTo A) 0 (length s)
 
 -- ---- what converting answers
 
