@@ -163,6 +163,21 @@ pub trait FileAnswers {
     fn get_key(&self, file: &[u8], value: u64, key: &mut [u8]) -> u64;
 }
 
+// One who converts: our library, or in the self-test the model in its place.
+pub trait ConvertAnswers {
+    // The new file's length, with the file at the front of `out` and each node's new address in `table`; or REFUSED plus a refusal. The
+    // first two tables are left as admission leaves them, and every other place stays as given.
+    fn convert(
+        &self,
+        file: &[u8],
+        limit: u32,
+        depths: &mut [u16],
+        sums: &mut [u64],
+        out: &mut [u8],
+        table: &mut [u32],
+    ) -> u64;
+}
+
 // ---- readings
 
 // The refusals of a bound and of a reading; the others are above.

@@ -4,13 +4,14 @@
 use std::collections::BTreeMap;
 use std::fmt::Debug;
 
-use crate::answers::{Answers, At, FileAnswers, ReadingAnswers, Record};
+use crate::answers::{Answers, At, ConvertAnswers, FileAnswers, ReadingAnswers, Record};
 use crate::generate::INPUTS;
 use crate::given;
 use crate::prng::Prng;
 
 mod admission;
 mod boundaries;
+mod convert;
 mod counting;
 mod little;
 mod long;
@@ -118,6 +119,7 @@ const LOOKUPS: usize = 2_000_000;
 const LOOKUPS_DAMAGED: usize = 600_000;
 const RANGES: usize = 150_000;
 const READINGS: usize = 150_000;
+const CONVERSIONS: usize = 60_000;
 
 // Who is compared on nodes, on whole files, and on readings; nobody where no library is linked.
 pub type Ours<'a> = (Option<&'a dyn Answers>, Option<&'a dyn FileAnswers>, Option<&'a dyn ReadingAnswers>);
@@ -127,6 +129,8 @@ pub struct Run<'a> {
     ours: Option<&'a dyn Answers>,
     ours_file: Option<&'a dyn FileAnswers>,
     ours_reading: Option<&'a dyn ReadingAnswers>,
+    // and on conversions
+    ours_convert: Option<&'a dyn ConvertAnswers>,
     // a whole run has every random case, another one in so many
     one_in: usize,
     prng: Prng,
@@ -159,7 +163,12 @@ const DELTA_SIZES: [&str; 9] = [
 impl<'a> Run<'a> {
     pub fn new(ours: Ours<'a>, one_in: usize) -> Run<'a> {
         let (ours, ours_file, ours_reading) = ours;
-        Run { ours, ours_file, ours_reading, one_in, prng: Prng::new(2), counts: BTreeMap::new() }
+        Run { ours, ours_file, ours_reading, ours_convert: None, one_in, prng: Prng::new(2), counts: BTreeMap::new() }
+    }
+
+    pub fn converting(mut self, ours: Option<&'a dyn ConvertAnswers>) -> Run<'a> {
+        self.ours_convert = ours;
+        self
     }
 
     // Every comparison, with a line or more for each.
@@ -185,7 +194,13 @@ impl<'a> Run<'a> {
         )?;
         self.readings(print)?;
         // last, so that the cases before it stay what they are
-        self.sections(print, &[("boundaries of judging", Run::boundaries)])
+        self.sections(print, &[("boundaries of judging", Run::boundaries)])?;
+        self.conversions(print)
+    }
+
+    // Those of conversion alone.
+    pub fn conversions(&mut self, print: bool) -> Checked {
+        self.sections(print, &[("conversion", Run::conversion)])
     }
 
     // The comparisons of readings alone.

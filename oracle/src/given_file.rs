@@ -3,6 +3,7 @@
 use crate::answers::{Meaning, Meta, Transition};
 use crate::given::caught;
 use crate::raw::{Builder, Fst};
+use crate::stream::Streamer;
 
 // The Rust opens no file under this length; document 02, N3, takes shorter ones.
 pub const LEAST: usize = 36;
@@ -36,6 +37,21 @@ impl<'f> Opened<'f> {
             } else {
                 None
             }
+        })
+    }
+
+    // The first pairs of a stream, at most so many; nothing where the Rust panics.
+    pub fn pairs(&self, most: usize) -> Option<Vec<(Vec<u8>, u64)>> {
+        caught(|| {
+            let mut stream = self.fst.stream();
+            let mut pairs = Vec::new();
+            while pairs.len() < most {
+                match stream.next() {
+                    Some((key, out)) => pairs.push((key.to_vec(), out.value())),
+                    None => break,
+                }
+            }
+            pairs
         })
     }
 

@@ -34,10 +34,13 @@ mod given_reading;
 mod hand_made;
 mod listing;
 mod model;
+mod model_convert;
 mod model_file;
 mod model_reading;
 #[cfg(library)]
 mod ours;
+#[cfg(library)]
+mod ours_convert;
 #[cfg(library)]
 mod ours_file;
 #[cfg(library)]
@@ -55,6 +58,7 @@ mod wrong_reading;
 
 use std::process;
 
+use crate::answers::ConvertAnswers;
 use crate::compare::{Difference, Ours, Run};
 
 #[cfg(library)]
@@ -65,6 +69,16 @@ fn library() -> Ours<'static> {
 #[cfg(not(library))]
 fn library() -> Ours<'static> {
     (None, None, None)
+}
+
+#[cfg(library)]
+fn library_converts() -> Option<&'static dyn ConvertAnswers> {
+    Some(&ours::Library)
+}
+
+#[cfg(not(library))]
+fn library_converts() -> Option<&'static dyn ConvertAnswers> {
+    None
 }
 
 fn report(difference: &Difference) {
@@ -80,7 +94,7 @@ fn compare(lists: &[String]) -> bool {
     if !listing::kept() {
         return false;
     }
-    let mut run = Run::new(library(), 1);
+    let mut run = Run::new(library(), 1).converting(library_converts());
     if let Err(difference) = compare::common_inputs_named().and_then(|()| run.all(true)) {
         report(&difference);
         return false;
@@ -109,6 +123,17 @@ fn compare_readings() -> bool {
 // Admission alone.
 fn compare_admission() -> bool {
     match Run::new(library(), 1).admissions(true) {
+        Ok(()) => true,
+        Err(difference) => {
+            report(&difference);
+            false
+        }
+    }
+}
+
+// Conversion alone.
+fn compare_conversions() -> bool {
+    match Run::new(library(), 1).converting(library_converts()).conversions(true) {
         Ok(()) => true,
         Err(difference) => {
             report(&difference);
@@ -204,12 +229,13 @@ fn main() {
         Some("compare") => compare(&args[2..]),
         Some("readings") => compare_readings(),
         Some("admission") => compare_admission(),
+        Some("convert") => compare_conversions(),
         Some("long") => compare_long(),
         Some("self-test") => self_test(),
         Some("record") => record(&args[2..]),
         Some("listing") => listing::make(),
         _ => {
-            println!("oracle: compare, readings, admission, long, self-test, record or listing");
+            println!("oracle: compare, readings, admission, convert, long, self-test, record or listing");
             process::exit(2);
         }
     };

@@ -47,7 +47,7 @@ enum Verdict {
 // ---- the tables
 
 // The first n entries to 0.
-fn clear16(t: &mut [u16], n: usize)
+pub fn clear16(t: &mut [u16], n: usize)
     requires { ⌜ n ≤ length (now t) ⌝ }
     ensures { λ _. ⌜ now (t .exit) ≡ replicate n 0 ++ drop n (now (t .entry)) ⌝ }
 {

@@ -69,5 +69,8 @@ RECORD = 10
 abbrev pub STATE : ℕ
 STATE = 11
 
+abbrev pub EDITION : ℕ
+EDITION = 15
+
 abbrev pub COUNT : ℕ
 COUNT = 19

@@ -28,6 +28,8 @@ pub const RECORD: u8 = 10;
 
 pub const STATE: u8 = 11;
 
+pub const EDITION: u8 = 15;
+
 pub const COUNT: u8 = 19;
 
 // The first byte of a file that a node may take: the header ends before it.
@@ -97,9 +99,9 @@ pub fn limits() -> Named
 }
 
 // Each refusal has the number that the definitions give it.
-pub fn refusals() -> [u8; 12]
+pub fn refusals() -> [u8; 13]
     ensures { λ r. ⌜ r ≡ L.SHORT ∷ L.VERSION ∷ L.ROOT ∷ L.LARGE ∷ L.NODE ∷ L.DEEP ∷ L.SUM ∷ L.SPACE
-        ∷ L.BOUND ∷ L.RECORD ∷ L.STATE ∷ L.COUNT ∷ [] ⌝ }
+        ∷ L.BOUND ∷ L.RECORD ∷ L.STATE ∷ L.EDITION ∷ L.COUNT ∷ [] ⌝ }
 {
     [
         SHORT,
@@ -113,6 +115,7 @@ pub fn refusals() -> [u8; 12]
         BOUND,
         RECORD,
         STATE,
+        EDITION,
         COUNT,
     ]
 }

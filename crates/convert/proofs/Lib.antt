@@ -1,0 +1,3 @@
+pub mod Finishing
+pub mod Old
+pub mod Again

@@ -1,0 +1,1 @@
+// The worked rows of a conversion (specs/Rows.antt), as theorems; there is no code here.

@@ -1,0 +1,5 @@
+pub mod Converting
+pub mod Mirror
+pub mod Standing
+pub mod Converted
+pub mod laws
