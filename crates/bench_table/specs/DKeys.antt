@@ -18,8 +18,8 @@ use Rattle.format.specs.laws.KeysLaws.{keys-of, keys-zero, keys-path-le}
 use Rattle.format.specs.laws.ReachedLaws.{reached-root, reached-by, reached-stays}
 use Rattle.counting.specs.declared.Counting.{Counting}
 use Rattle.counting.specs.declared.Counting.the-variants.{Counted}
-use Rattle.counting.specs.Outcome.{FewKeys, Counts, CountOutcome}
-use Rattle.counting.specs.Exactly.{FewAdmitted, count-exactly}
+use Rattle.counting.specs.CountOutcomes.{FewKeys, Counts, CountOutcome}
+use Rattle.counting.specs.CountExactly.{FewAdmitted, count-exactly}
 use Rattle.bench_table.specs.BenchTable.{D}
 use Rattle.bench_table.specs.DAdmitted.{rootNode, tNode, in-two, nodes-two, metaD, opens-D, root-D, t-D, admitted-D, meta-D}
 

@@ -24,7 +24,7 @@ use Rattle.admission_node.specs.declared.Total.the-variants.{Is, Over}
 use Rattle.admission_node.specs.Entries.{totalAs}
 use Rattle.admission_node.specs.TotalLaws.{total-of-le}
 use Rattle.admission_node.specs.ChildLaws.{child-zero, child-entry}
-use Rattle.counting.specs.Passes.{addedTo, keysBy, Inside}
+use Rattle.counting.specs.CountPasses.{addedTo, keysBy, Inside}
 
 -- ---- a total and more
 

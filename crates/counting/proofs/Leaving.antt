@@ -30,8 +30,8 @@ use Rattle.admission.specs.Outcome as Admission
 use Rattle.admission.specs.WipingLaws.{wiped-after}
 use Rattle.counting.specs.declared.Counting.{Counting}
 use Rattle.counting.specs.declared.Counting.the-variants.{Counted, Refused}
-use Rattle.counting.specs.Outcome.{FewKeys, ManyKeys, CountRefusedFor, not-opened, no-space, not-admitted, too-many, Counts, CountOutcome}
-use Rattle.counting.specs.Passes.{HasEntry, Countable, OverOne, Passed, NotCounted, Leaves}
+use Rattle.counting.specs.CountOutcomes.{FewKeys, ManyKeys, CountRefusedFor, not-opened, no-space, not-admitted, too-many, Counts, CountOutcome}
+use Rattle.counting.specs.CountPasses.{HasEntry, Countable, OverOne, Passed, NotCounted, Leaves}
 use Rattle.counting.specs.CountLaws.{root-many}
 
 -- ---- the pass with its refusal

@@ -19,7 +19,7 @@ use Rattle.admission_node.specs.declared.Total.{Total}
 use Rattle.admission_node.specs.Entries.{Kept, totalAs, entryIs, orOver}
 use Rattle.admission_node.specs.KeptLaws.{at-set, kept-none, kept-set, kept-lt}
 use Rattle.admission_node.specs.TotalLaws.{total-cases}
-use Rattle.counting.specs.Passes.{CountedAt, HasEntry, ZerosTo, Countable, KeysEntry, OverOne}
+use Rattle.counting.specs.CountPasses.{CountedAt, HasEntry, ZerosTo, Countable, KeysEntry, OverOne}
 use Rattle.counting.proofs.Adding.{keys-by-is}
 
 -- ---- zeros, up to an address

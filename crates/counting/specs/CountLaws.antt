@@ -8,7 +8,7 @@ use Rattle.format.specs.Limits.{maxSum}
 use Rattle.format.specs.Paths.{Fst}
 use Rattle.format.specs.Tables.{keysFrom}
 use Rattle.format.specs.laws.KeysLaws.{over-root, root-over}
-use Rattle.counting.specs.Outcome.{FewKeys, ManyKeys}
+use Rattle.counting.specs.CountOutcomes.{FewKeys, ManyKeys}
 
 pub many-root : {f : Fst} → ManyKeys f → maxSum < keysFrom f (f .root)
 many-root {f} m = over-root f (m .at) (m .in-table) (m .over)

@@ -1,4 +1,4 @@
-pub mod Outcome
-pub mod Passes
+pub mod CountOutcomes
+pub mod CountPasses
 pub mod CountLaws
-pub mod Exactly
+pub mod CountExactly

@@ -11,8 +11,8 @@ use native.Mathlib.Omega.{arith}
 use lib.ListN.{length, take}
 use Rattle.format.specs.Limits.{maxPath}
 use Rattle.format.specs.Strings.{unbounded}
-use Rattle.counting.specs.Outcome.{CountRefusedFor, Counts, CountOutcome}
-use Rattle.counting.specs.Exactly.{counted-filled}
+use Rattle.counting.specs.CountOutcomes.{CountRefusedFor, Counts, CountOutcome}
+use Rattle.counting.specs.CountExactly.{counted-filled}
 use Rattle.counting.specs.declared.Counting.{Counting}
 use Rattle.counting.specs.declared.Counting.the-variants.{Counted as Yes, Refused as NotCounted}
 use Rattle.reading.specs.Reading as R

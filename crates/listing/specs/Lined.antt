@@ -8,7 +8,7 @@ use Prim.Native.Nat.{ℕ, _≤_, _<_}
 use lib.ListN.{length, drop}
 use Rattle.format.specs.Limits.{LARGE}
 use Rattle.format.specs.Strings.{unbounded}
-use Rattle.counting.specs.Outcome.{CountRefusedFor, Counts}
+use Rattle.counting.specs.CountOutcomes.{CountRefusedFor, Counts}
 use Rattle.plain.specs.Plain.{begun, startPlain}
 use Rattle.stream.specs.Plains.{plainIs}
 use Rattle.stream.specs.declared.Started.{Started}

@@ -17,8 +17,8 @@ use Rattle.admission.specs.declared.Admission.the-variants.{Admitted, Refused}
 use Rattle.admission.specs.Outcome.{RefusedFor, not-opened, no-space, no-nodes, too-deep, too-heavy, Outcome}
 use Rattle.counting.specs.declared.Counting.{Counting}
 use Rattle.counting.specs.declared.Counting.the-variants.{Counted, Refused as NotCounted}
-use Rattle.counting.specs.Outcome as C
-use Rattle.counting.specs.Outcome.{CountRefusedFor, not-admitted, too-many, CountOutcome}
+use Rattle.counting.specs.CountOutcomes as C
+use Rattle.counting.specs.CountOutcomes.{CountRefusedFor, not-admitted, too-many, CountOutcome}
 use Rattle.lookup.specs.declared.Answer.{Answer}
 use Rattle.lookup.specs.declared.Answer.the-variants.{Value, None, Refused as NotGot}
 use Rattle.lookup.specs.declared.KeyAnswer.{KeyAnswer}

@@ -8,7 +8,7 @@ ghost use Rattle.format.specs.Opening.{opening};
 ghost use Rattle.format.specs.Lookup as L;
 ghost use Rattle.fst.specs.Open.{checksumIs};
 ghost use Rattle.admission.specs.Outcome.{Outcome};
-ghost use Rattle.counting.specs.Outcome.{CountOutcome};
+ghost use Rattle.counting.specs.CountOutcomes.{CountOutcome};
 ghost use Rattle.oracle_fst.specs.FstTells.{front, checksumNumber, OpenTold, admissionIs, countingIs, GetTold, KeyTold};
 use admission::Admission;
 use counting::Counting;

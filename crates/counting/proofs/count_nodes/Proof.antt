@@ -6,7 +6,7 @@ use mathlib.Core.List.{List}
 use Prim.Native.Nat.{ℕ}
 use denote.Ref.{now}
 use Rattle.format.specs.Paths.{fstWith}
-use Rattle.counting.specs.Passes.{Passed}
+use Rattle.counting.specs.CountPasses.{Passed}
 use Rattle.counting.proofs.Leaving.{over-leaves}
 use borrow.Author.Needs.{needs}
 use Rattle.counting.proofs.count_nodes.Statement.{statement}

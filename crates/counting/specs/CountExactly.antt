@@ -24,7 +24,7 @@ use Rattle.format.specs.laws.BlankLaws.{blank-admitted}
 use Rattle.admission.specs.Exactly.{not-refused}
 use Rattle.counting.specs.declared.Counting.{Counting}
 use Rattle.counting.specs.declared.Counting.the-variants.{Counted, Refused}
-use Rattle.counting.specs.Outcome.{FewKeys, ManyKeys, CountRefusedFor, not-opened, no-space, not-admitted, too-many, Counts, CountOutcome}
+use Rattle.counting.specs.CountOutcomes.{FewKeys, ManyKeys, CountRefusedFor, not-opened, no-space, not-admitted, too-many, Counts, CountOutcome}
 use Rattle.counting.specs.CountLaws.{many-root, root-many, few-not-many}
 
 -- an admitted file, as it opens, in which no reached node has more than 2^64 - 1 keys

@@ -1,4 +1,4 @@
--- What the inner functions ask and promise; what filling the table itself promises is in `Outcome`. Nothing of `Outcome` says how the
+-- What the inner functions ask and promise; what filling the table itself promises is in `CountOutcomes`. Nothing of `CountOutcomes` says how the
 -- reached nodes are found: here it is by the entries of the depths that are not 0.
 --     addedTo                 a sum that may pass the limit, and more
 --     keysBy c final ts       the keys from a node, by the table c: 1 if it is final, and those from its transitions' targets
