@@ -93,8 +93,7 @@ fn converted(
         same("the table of paths", input, ("model", depths), ("ours", our_depths))?;
         same("the table of sums", input, ("model", sums), ("ours", our_sums))?;
     }
-    let mut seen =
-        Seen { answer, vanished: false, root_vanished: false, unused: false, wider: false, pairs: 0 };
+    let mut seen = Seen { answer, vanished: false, root_vanished: false, unused: false, wider: false, pairs: 0 };
     if let Ok(new) = whole {
         read_again(ours_file, file, &new, &mut seen).map_err(|mut difference| {
             difference.input = input();
@@ -126,7 +125,8 @@ fn read_again(
         return Ok(());
     }
     let (before, after) = (given_file::open(file), given_file::open(&new.file));
-    let (before, after) = (before.expect("the Rust opens an admitted file"), after.expect("and what it is converted to"));
+    let (before, after) =
+        (before.expect("the Rust opens an admitted file"), after.expect("and what it is converted to"));
     let chain = after.chain().expect("the Rust reads the nodes of an admitted file");
     let moved: HashMap<usize, usize> = new.table.iter().enumerate().map(|(a, &to)| (a, to as usize)).collect();
     let kept: Vec<_> = old.chain.iter().filter(|(_, node, _)| !vanishes(node)).collect();
@@ -148,10 +148,15 @@ fn read_again(
     let pairs = pairs.expect("the Rust streams an admitted file");
     seen.pairs = pairs.len();
     if let Some(ours) = ours_file {
-        for (key, value) in pairs.iter().take(12) {
+        for (key, value) in &pairs {
             for &bytes in &[file, &new.file[..]] {
                 let mut place = [0];
-                same("a lookup", none, ("the Rust", (0, *value)), ("ours", (ours.get(bytes, key, &mut place), place[0])))?;
+                same(
+                    "a lookup",
+                    none,
+                    ("the Rust", (0, *value)),
+                    ("ours", (ours.get(bytes, key, &mut place), place[0])),
+                )?;
             }
         }
     }
@@ -230,7 +235,8 @@ impl<'a> Run<'a> {
     }
 
     pub fn conversion(&mut self) -> Checked {
-        let roomy = |n: usize| Lent { depths: n + 3, sums: n, out: 5, table: 2, keep: 0xa5a5_5a5a, limit: MAX_LEN as u32 };
+        let roomy =
+            |n: usize| Lent { depths: n + 3, sums: n, out: 5, table: 2, keep: 0xa5a5_5a5a, limit: MAX_LEN as u32 };
         for (name, file, want) in rows() {
             let seen = self.conversion_of(&file, roomy(file.len()))?;
             same("a row", || name.to_string(), ("row", want), ("found", seen.answer))?;
@@ -240,7 +246,12 @@ impl<'a> Run<'a> {
             &[(-1, 0, u32::max_value(), SPACE), (0, -1, u32::max_value(), SPACE), (-1, -1, len as u32 - 1, LARGE)]
         {
             let seen = self.conversion_of(&file, Lent { out, table, limit, ..roomy(file.len()) })?;
-            same("a refused row", || format!("{} {} {}", out, table, limit), ("row", REFUSED + want), ("found", seen.answer))?;
+            same(
+                "a refused row",
+                || format!("{} {} {}", out, table, limit),
+                ("row", REFUSED + want),
+                ("found", seen.answer),
+            )?;
         }
         for i in 0..CONVERSIONS / self.one_in {
             let mut file = match i % 16 {
@@ -298,6 +309,15 @@ impl<'a> Run<'a> {
             ],
             5_000,
         )?;
-        self.require(&["refused, EDITION", "refused, LARGE", "refused, SPACE", "converted, the root vanishes", "converted, and longer than before"], 100)
+        self.require(
+            &[
+                "refused, EDITION",
+                "refused, LARGE",
+                "refused, SPACE",
+                "converted, the root vanishes",
+                "converted, and longer than before",
+            ],
+            100,
+        )
     }
 }
