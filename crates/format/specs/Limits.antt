@@ -69,8 +69,38 @@ RECORD = 10
 abbrev pub STATE : ℕ
 STATE = 11
 
+-- over 255 positions of a pattern
+abbrev pub PATTERN : ℕ
+PATTERN = 12
+
+-- a list to pack that is not one
+abbrev pub LIST : ℕ
+LIST = 13
+
+-- no file, or over eight
+abbrev pub CARDS : ℕ
+CARDS = 14
+
+-- a file to convert that is not of version 1
 abbrev pub EDITION : ℕ
 EDITION = 15
 
+-- a held level that the new file does not have
+abbrev pub CARRY : ℕ
+CARRY = 16
+
+-- a mark's name of a wrong length, or of no mark
+abbrev pub NAME : ℕ
+NAME = 17
+
+-- a seventeenth mark
+abbrev pub FULL : ℕ
+FULL = 18
+
+-- over 2^64 - 1 keys, or a table that cannot be right
 abbrev pub COUNT : ℕ
 COUNT = 19
+
+-- a seat's number over seven, or a seat without a reading
+abbrev pub SEAT : ℕ
+SEAT = 20

@@ -28,9 +28,23 @@ pub const RECORD: u8 = 10;
 
 pub const STATE: u8 = 11;
 
+pub const PATTERN: u8 = 12;
+
+pub const LIST: u8 = 13;
+
+pub const CARDS: u8 = 14;
+
 pub const EDITION: u8 = 15;
 
+pub const CARRY: u8 = 16;
+
+pub const NAME: u8 = 17;
+
+pub const FULL: u8 = 18;
+
 pub const COUNT: u8 = 19;
+
+pub const SEAT: u8 = 20;
 
 // The first byte of a file that a node may take: the header ends before it.
 pub const FIRST_NODE: usize = 16;
@@ -99,9 +113,10 @@ pub fn limits() -> Named
 }
 
 // Each refusal has the number that the definitions give it.
-pub fn refusals() -> [u8; 13]
+pub fn refusals() -> [u8; 20]
     ensures { λ r. ⌜ r ≡ L.SHORT ∷ L.VERSION ∷ L.ROOT ∷ L.LARGE ∷ L.NODE ∷ L.DEEP ∷ L.SUM ∷ L.SPACE
-        ∷ L.BOUND ∷ L.RECORD ∷ L.STATE ∷ L.EDITION ∷ L.COUNT ∷ [] ⌝ }
+        ∷ L.BOUND ∷ L.RECORD ∷ L.STATE ∷ L.PATTERN ∷ L.LIST ∷ L.CARDS ∷ L.EDITION ∷ L.CARRY ∷ L.NAME
+        ∷ L.FULL ∷ L.COUNT ∷ L.SEAT ∷ [] ⌝ }
 {
     [
         SHORT,
@@ -115,7 +130,14 @@ pub fn refusals() -> [u8; 13]
         BOUND,
         RECORD,
         STATE,
+        PATTERN,
+        LIST,
+        CARDS,
         EDITION,
+        CARRY,
+        NAME,
+        FULL,
         COUNT,
+        SEAT,
     ]
 }
