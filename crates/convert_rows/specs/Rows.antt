@@ -84,12 +84,12 @@ E1 = fileIs 1 [] 0
 abbrev pub L1 : List ℕ
 L1 = fileIs 1 (0 ∷ 0 ∷ 0 ∷ []) 18
 
-abbrev metaIs : ℕ → Meta
+abbrev pub metaIs : ℕ → Meta
 metaIs root = record { version = 1; ty = 7; len = 3; root = root; checksum = none }
 
 -- ---- the rows
 
-opens-W : opening W1 ≡ opened (metaIs 27)
+pub opens-W : opening W1 ≡ opened (metaIs 27)
 unfolding bytesOf le metaOf rootTest opening
 opens-W = refl
 
@@ -97,7 +97,7 @@ opens-G : opening G1 ≡ opened (metaIs 22)
 unfolding bytesOf le metaOf rootTest opening
 opens-G = refl
 
-opens-E : opening E1 ≡ opened (metaIs 0)
+pub opens-E : opening E1 ≡ opened (metaIs 0)
 unfolding bytesOf le metaOf rootTest opening
 opens-E = refl
 
@@ -108,17 +108,17 @@ opens-L = refl
 -- ---- the chains
 
 -- final, a/2 to 18, b/0 to 0
-abbrev nodeW : Node
+abbrev pub nodeW : Node
 nodeW = record { first = 19; final = true; finalOutput = 0; transitions = record { inp = 97; out = 2; addr = 18 } ∷ record { inp = 98; out = 0; addr = 0 } ∷ [] }
 
-abbrev plain : ℕ → Bool → ℕ → Node
+abbrev pub plain : ℕ → Bool → ℕ → Node
 plain first final out = record { first = first; final = final; finalOutput = out; transitions = [] }
 
-at-W : (nodeIn (fstOf W1 (metaIs 27)) 27 ≡ sound nodeW) × (nodeIn (fstOf W1 (metaIs 27)) 18 ≡ sound (plain 16 true 0))
+pub at-W : (nodeIn (fstOf W1 (metaIs 27)) 27 ≡ sound nodeW) × (nodeIn (fstOf W1 (metaIs 27)) 18 ≡ sound (plain 16 true 0))
 unfolding bytesOf le headLen inputOf ntransOf sizesByte indexLen sizeOf downFrom bytesDown numbersDown transitionsOf nodeOf soundTest nodeAt
 at-W = (refl, refl)
 
-chain-W : RootChain (fstOf W1 (metaIs 27)) (27 ∷ 18 ∷ [])
+pub chain-W : RootChain (fstOf W1 (metaIs 27)) (27 ∷ 18 ∷ [])
 chain-W = rooted (λ z. omega arith) (next nodeW (at-W .0) (λ z. omega arith) (last (plain 16 true 0) (at-W .1) refl))
 
 at-G : (nodeIn (fstOf G1 (metaIs 22)) 22 ≡ sound (plain 20 true 0)) × (nodeIn (fstOf G1 (metaIs 22)) 19 ≡ sound (plain 16 true 3))
@@ -128,7 +128,7 @@ at-G = (refl, refl)
 chain-G : RootChain (fstOf G1 (metaIs 22)) (22 ∷ 19 ∷ [])
 chain-G = rooted (λ z. omega arith) (next (plain 20 true 0) (at-G .0) (λ z. omega arith) (last (plain 16 true 3) (at-G .1) refl))
 
-chain-E : RootChain (fstOf E1 (metaIs 0)) []
+pub chain-E : RootChain (fstOf E1 (metaIs 0)) []
 chain-E = empty refl
 
 at-L : nodeIn (fstOf L1 (metaIs 18)) 18 ≡ sound (plain 16 false 0)
