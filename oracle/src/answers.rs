@@ -1,5 +1,8 @@
 // The questions that are asked, and the words for their answers. The numbers are those of the exported functions.
 
+use crate::model_pattern;
+use crate::model_reading;
+
 // A node record, as the packer takes it. Any other flag than 0 means final.
 #[derive(Clone, Debug, Default)]
 pub struct Record {
@@ -183,6 +186,8 @@ pub trait ConvertAnswers {
 // The refusals of a bound and of a reading; the others are above.
 pub const BOUND: u64 = 9;
 pub const STATE: u64 = 11;
+// That of a pattern of too many positions.
+pub const PATTERN: u64 = 12;
 // That of a table of keys; filling one answers it too.
 pub const COUNT: u64 = 19;
 
@@ -322,6 +327,16 @@ impl Reading {
     }
 }
 
+// A pattern: below 256 a position is its byte, any other number is any byte. It may state more positions than a reading has room for.
+#[derive(Clone, Debug)]
+pub struct Pattern {
+    pub positions: Vec<u16>,
+    pub rest: bool,
+}
+
+// How many positions a reading has room for.
+pub const POSITIONS: usize = 255;
+
 // What a start answers where it gives a reading.
 pub const STARTED: u64 = 0;
 
@@ -330,7 +345,7 @@ pub const END: u64 = 1000;
 pub const NEXT_REFUSED: u64 = 2000;
 
 // The names of what a start and a next answer, for counts; refusals in the order of their numbers.
-const STARTS: [&str; 12] = [
+const STARTS: [&str; 13] = [
     "starts: a reading",
     "starts, refused: 1 SHORT",
     "starts, refused: 2 VERSION",
@@ -343,6 +358,7 @@ const STARTS: [&str; 12] = [
     "starts, refused: 9 BOUND",
     "starts, refused: 10 RECORD",
     "starts, refused: 11 STATE",
+    "starts, refused: 12 PATTERN",
 ];
 const STARTS_COUNT: &str = "starts, refused: 19 COUNT";
 
@@ -354,7 +370,7 @@ pub fn start_name(number: u64) -> &'static str {
     }
 }
 
-pub const NEXTS: [&str; 12] = [
+pub const NEXTS: [&str; 13] = [
     "nexts: a key or the end",
     "nexts, refused: 1 SHORT",
     "nexts, refused: 2 VERSION",
@@ -367,6 +383,7 @@ pub const NEXTS: [&str; 12] = [
     "nexts, refused: 9 BOUND",
     "nexts, refused: 10 RECORD",
     "nexts, refused: 11 STATE",
+    "nexts, refused: 12 PATTERN",
 ];
 
 // One who answers about readings: our library, or in the self-test the model in its place.
@@ -377,6 +394,24 @@ pub trait ReadingAnswers {
     // The key's length, the key at the front of `key` and its value in `value`; END; or NEXT_REFUSED plus a refusal. `held` has
     // the reading afterwards. Everything else that is lent stays as given.
     fn next(&self, file: &[u8], held: &mut Held, key: &mut [u8], value: &mut [u64; 1]) -> u64;
+
+    // By pattern, as start and next, without a table, and the pattern is lent. Such a reading holds no number of keys to come, and what
+    // stands there stays. In another's place than our library's the model answers.
+    fn start_by(&self, file: &[u8], pattern: &Pattern, lower: &Bound, upper: &Bound, held: &mut Held) -> u64 {
+        match model_pattern::start(file, pattern, lower, upper) {
+            Ok(started) => {
+                held.put(&Reading { keys: held.keys[0], ..started });
+                STARTED
+            }
+            Err(why) => why,
+        }
+    }
+
+    fn next_by(&self, file: &[u8], pattern: &Pattern, held: &mut Held, key: &mut [u8], value: &mut [u64; 1]) -> u64 {
+        let (told, after) = model_pattern::next(file, pattern, &held.reading(), key.len());
+        held.put(&after);
+        model_reading::tell(&told, key, value)
+    }
 
     // How many calls after a start give a key, up to the first that does not and at most so many; none where it is refused.
     // `key` holds what they left there.

@@ -20,6 +20,7 @@ mod made;
 mod numbers;
 mod opening;
 mod packing;
+mod patterns;
 mod ranges;
 mod reading;
 mod sittings;
@@ -120,6 +121,8 @@ const LOOKUPS_DAMAGED: usize = 600_000;
 const RANGES: usize = 150_000;
 const READINGS: usize = 150_000;
 const CONVERSIONS: usize = 60_000;
+const PATTERNED: usize = 150_000;
+const PATTERNED_MADE: usize = 60_000;
 
 // Who is compared on nodes, on whole files, and on readings; nobody where no library is linked.
 pub type Ours<'a> = (Option<&'a dyn Answers>, Option<&'a dyn FileAnswers>, Option<&'a dyn ReadingAnswers>);
@@ -212,6 +215,19 @@ impl<'a> Run<'a> {
                 ("damaged files, and readings that no start gave", Run::made_readings),
                 ("ranges of files of 4,294,967,295 bytes", Run::long_ranges),
                 ("files of no bytes, and of under 36 bytes", Run::little),
+                ("ranges by pattern of admitted files", Run::patterns),
+                ("by pattern: damaged files, and readings that no start gave", Run::made_patterns),
+            ],
+        )
+    }
+
+    // Those by pattern alone.
+    pub fn by_pattern(&mut self, print: bool) -> Checked {
+        self.sections(
+            print,
+            &[
+                ("ranges by pattern of admitted files", Run::patterns),
+                ("by pattern: damaged files, and readings that no start gave", Run::made_patterns),
             ],
         )
     }

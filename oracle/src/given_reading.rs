@@ -38,7 +38,7 @@ pub struct Range<'f> {
     followed: Rc<Cell<u64>>,
 }
 
-fn between<'f, A: Automaton>(all: StreamBuilder<'f, A>, lower: &Bound, upper: &Bound) -> Stream<'f, A> {
+pub fn between<'f, A: Automaton>(all: StreamBuilder<'f, A>, lower: &Bound, upper: &Bound) -> Stream<'f, A> {
     let above = match lower.kind {
         Kind::Included => all.ge(&lower.bytes),
         Kind::Excluded => all.gt(&lower.bytes),

@@ -29,6 +29,7 @@ mod given;
 // some of what they ask is for the benchmark alone
 #[cfg_attr(not(timed), allow(dead_code))]
 mod given_file;
+mod given_pattern;
 #[cfg_attr(not(timed), allow(dead_code))]
 mod given_reading;
 mod hand_made;
@@ -36,6 +37,7 @@ mod listing;
 mod model;
 mod model_convert;
 mod model_file;
+mod model_pattern;
 mod model_reading;
 #[cfg(library)]
 mod ours;
@@ -112,6 +114,17 @@ fn compare(lists: &[String]) -> bool {
 // The comparisons of readings alone.
 fn compare_readings() -> bool {
     match Run::new(library(), 1).readings(true) {
+        Ok(()) => true,
+        Err(difference) => {
+            report(&difference);
+            false
+        }
+    }
+}
+
+// Readings by pattern alone.
+fn compare_patterns() -> bool {
+    match Run::new(library(), 1).by_pattern(true) {
         Ok(()) => true,
         Err(difference) => {
             report(&difference);
@@ -228,6 +241,7 @@ fn main() {
     let right = match args.get(1).map(String::as_str) {
         Some("compare") => compare(&args[2..]),
         Some("readings") => compare_readings(),
+        Some("patterns") => compare_patterns(),
         Some("admission") => compare_admission(),
         Some("convert") => compare_conversions(),
         Some("long") => compare_long(),
@@ -235,7 +249,7 @@ fn main() {
         Some("record") => record(&args[2..]),
         Some("listing") => listing::make(),
         _ => {
-            println!("oracle: compare, readings, admission, convert, long, self-test, record or listing");
+            println!("oracle: compare, readings, patterns, admission, convert, long, self-test, record or listing");
             process::exit(2);
         }
     };

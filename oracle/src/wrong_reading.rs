@@ -1,9 +1,10 @@
 // Wrong answers about readings, to see that the comparisons notice them: documents 01 and 02 with one slip each.
 
 use crate::answers::{
-    Bound, Held, Kind, Level, Meta, Reading, ReadingAnswers, BOUND, BOUND_BYTES, COUNT, DEEP, END, LEVELS, NODE, SPACE,
-    STARTED, STATE, SUM,
+    Bound, Held, Kind, Level, Meta, Pattern, Reading, ReadingAnswers, BOUND, BOUND_BYTES, COUNT, DEEP, END, LARGE, LEVELS,
+    NEXT_REFUSED, NODE, PATTERN, POSITIONS, ROOT, SHORT, SPACE, STARTED, STATE, SUM, VERSION,
 };
+use crate::model::Model;
 use crate::model_file::{judge, open, MAX_PATH, MAX_SUM};
 use crate::model_reading::{cross, passes, tell, Told};
 use crate::wrong::Wrong;
@@ -125,6 +126,19 @@ pub const SLIPS: &[&str] = &[
     "the rest of a next's buffer is cleared",
     "the buffer holds a key past the upper bound",
     "the end writes a value",
+    // by pattern
+    "by pattern: any rest is always taken",
+    "by pattern: no rest is taken",
+    "by pattern: the last position is any byte",
+    "by pattern: any byte is the byte 0",
+    "by pattern: a position more",
+    "by pattern: 256 positions are taken by a start",
+    "by pattern: 256 positions are taken by a next",
+    "by pattern: 12 comes before 11",
+    "by pattern: 12 comes after 8",
+    "by pattern: an empty key that does not fit is handed out",
+    "by pattern: an empty key that does not fit ends the call",
+    "by pattern: a call follows one transition too few",
 ];
 
 impl Wrong {
@@ -693,6 +707,65 @@ impl ReadingAnswers for Wrong {
             *value = [0];
         }
         tell(&told, key, value)
+    }
+
+    fn start_by(&self, file: &[u8], pattern: &Pattern, lower: &Bound, upper: &Bound, held: &mut Held) -> u64 {
+        let mut taken = pattern.clone();
+        if self.slips("by pattern: 256 positions are taken by a start") && taken.positions.len() == 256 {
+            taken.positions.truncate(POSITIONS);
+        }
+        Model.start_by(file, &taken, lower, upper, held)
+    }
+
+    fn next_by(&self, file: &[u8], pattern: &Pattern, held: &mut Held, key: &mut [u8], value: &mut [u64; 1]) -> u64 {
+        let mut taken = pattern.clone();
+        let n = taken.positions.len();
+        if self.slips("by pattern: any rest is always taken") {
+            taken.rest = true;
+        }
+        if self.slips("by pattern: no rest is taken") {
+            taken.rest = false;
+        }
+        match taken.positions.last_mut() {
+            Some(last) if self.slips("by pattern: the last position is any byte") => *last = 256,
+            _ => {}
+        }
+        if self.slips("by pattern: any byte is the byte 0") {
+            taken.positions.iter_mut().filter(|p| **p >= 256).for_each(|p| *p = 0);
+        }
+        if self.slips("by pattern: a position more") && n < POSITIONS {
+            taken.positions.push(256);
+        }
+        if self.slips("by pattern: 256 positions are taken by a next") && n == 256 {
+            taken.positions.truncate(POSITIONS);
+        }
+        let before = held.reading();
+        let opens = open(file).is_ok();
+        if self.slips("by pattern: 12 comes before 11") && opens && n > POSITIONS {
+            return NEXT_REFUSED + PATTERN;
+        }
+        if self.slips("by pattern: 12 comes after 8") && n > POSITIONS {
+            taken.positions.truncate(POSITIONS);
+            let answer = Model.next_by(file, &taken, &mut held.clone(), &mut key.to_vec(), &mut [0]);
+            let earlier = [SHORT, VERSION, ROOT, LARGE, STATE, SPACE].iter().any(|why| answer == NEXT_REFUSED + why);
+            return if earlier { answer } else { NEXT_REFUSED + PATTERN };
+        }
+        let answer = Model.next_by(file, &taken, held, key, value);
+        let dropped = before.pending.is_some() && n > 0 && answer < NEXT_REFUSED && held.reading().level_count > 0;
+        if dropped && self.slips("by pattern: an empty key that does not fit is handed out") {
+            held.put(&Reading { pending: None, ..before });
+            return 0;
+        }
+        if dropped && self.slips("by pattern: an empty key that does not fit ends the call") {
+            let mut ended = Reading { pending: None, ..before };
+            ended.set_levels(Vec::new());
+            held.put(&ended);
+            return END;
+        }
+        if self.slips("by pattern: a call follows one transition too few") && held.head[5] > before.total {
+            held.head[5] -= 1;
+        }
+        answer
     }
 
     fn bare_keys(&self, file: &[u8], lower: &Bound, upper: &Bound, most: u64, key: &mut [u8]) -> u64 {

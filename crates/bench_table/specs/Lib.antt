@@ -4,3 +4,4 @@ pub mod DValues
 pub mod DKeys
 pub mod NumberTable
 pub mod SittingsTable
+pub mod PatternTable

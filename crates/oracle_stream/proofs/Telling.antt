@@ -11,9 +11,8 @@ use Rattle.reading.specs.Reading as R
 use Rattle.reading.specs.Reading.{View, key, end, written}
 use Rattle.plain.specs.Plain as P
 use Rattle.stream_start.specs.declared.Bound.{Bound}
-use Rattle.stream_start.specs.declared.Bound.the-variants.{Included, Excluded, Unbounded}
-use Rattle.stream_start.specs.declared.EmptyOutput.{EmptyOutput}
-use Rattle.stream_start.specs.declared.EmptyOutput.the-variants.{Pending, Absent}
+use Rattle.stream_start.specs.declared.Bound.the-variants.{Unbounded}
+use Rattle.stream_start.specs.declared.EmptyOutput.the-variants.{Pending}
 use Rattle.stream_start.specs.declared.Reading.{Reading}
 use Rattle.stream_start.specs.declared.Started.{Started}
 use Rattle.stream_start.specs.declared.Begins.{Begins}
@@ -28,7 +27,8 @@ use Rattle.stream_start.specs.Views.{boundIs, viewIs, startedIs, beganIs}
 use Rattle.stream_step.specs.Stepped.{answerAs, Stepped}
 use Rattle.stream.specs.Plains.{plainIs, begunIs, PlainStepped}
 use Rattle.stream.specs.Plains as Plains
-use Rattle.oracle_stream.specs.Held.{kindIs, kindNumber, pendingIs, pendingFlag, pendingValue, Held, heldIs, heldAs, heldPlain, PlainPut, StartTold, nextNumber, valueIn, answerNumber, answerValue, Told, NextTold}
+use Rattle.oracle_stream.specs.Held.{kindIs, pendingIs, Held, heldIs, heldAs, heldPlain, PlainPut, StartTold, answerNumber, answerValue, Told, NextTold}
+use Rattle.oracle_stream.specs.HeldLaws.{held-back, number-is, value-is}
 use Rattle.oracle_stream.specs.Runs.{keyTest, onKey, Calls, keysBy, bufferBy, RunTold, bareCalls, KeysTold, BareKeysTold, plainCalls, PlainKeysTold, StartKeysTold}
 
 -- ---- numbers for kinds and pending keys
@@ -41,19 +41,6 @@ kind-other (suc (suc n)) a b = refl
 pub pending-there : (n v : ℕ) → ¬ (n ≡ 0) → Pending v ≡ pendingIs n v
 pending-there zero v a = absurd (a refl)
 pending-there (suc n) v a = refl
-
-kind-back : (k : Bound) → kindIs (kindNumber k) ≡ k
-kind-back Included = refl
-kind-back Excluded = refl
-kind-back Unbounded = refl
-
-pending-back : (e : EmptyOutput) → pendingIs (pendingFlag e) (pendingValue e) ≡ e
-pending-back Absent = refl
-pending-back (Pending v) = refl
-
--- the arrays hold the reading that was put into them
-held-back : (r : Reading) → viewIs (heldIs (heldAs r)) ≡ viewIs r
-held-back r = rw (kind-back (r .kind)) (rw (pending-back (r .«empty_output»)) refl)
 
 plain-back : {p : Plain} {h : Held} {n : List ℕ} → PlainPut p h n → heldPlain h n ≡ plainIs p
 plain-back {p} {h} {n} put =
@@ -93,16 +80,6 @@ module _ {w : P.Begun} (s : Begun) (e : begunIs s ≡ w) where
       })
 
 -- ---- next
-
-number-is : (a : R.Answer) → answerNumber (answerAs a) ≡ nextNumber a
-number-is (key k v) = refl
-number-is end = refl
-number-is (R.Answer.refused n) = refl
-
-value-is : (a : R.Answer) (v : List ℕ) → answerValue (answerAs a) v ≡ valueIn a v
-value-is (key k x) v = refl
-value-is end v = refl
-value-is (R.Answer.refused n) v = refl
 
 -- the reading that is handed on is the one that the arrays hold
 pub next-of : (f : List ℕ) (m : ℕ) (h : Held) (n : List ℕ) {k₀ k : List ℕ} {r : Reading} {s : PlainStep} → r ≡ heldIs h

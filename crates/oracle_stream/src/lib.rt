@@ -23,7 +23,7 @@ use stream_step::Answer;
 // ---- what stands for a kind and for a pending key
 
 // The kind of a bound: 0 included, 1 excluded, any other number unbounded.
-fn kind_of(n: u64) -> Bound
+pub fn kind_of(n: u64) -> Bound
     ensures { λ r. ⌜ r ≡ kindIs n ⌝ }
 {
     if n == 0 {
@@ -76,7 +76,7 @@ fn pending_value(empty: EmptyOutput) -> u64
 // ---- a reading in the arrays
 
 // The reading that the arrays hold.
-fn reading_of(
+pub fn reading_of(
     head: [u64; 7],
     bound: [u8; 255],
     addrs: [u32; 256],
@@ -121,7 +121,7 @@ fn head_of(reading: Reading) -> [u64; 7]
 }
 
 // Puts a reading into the arrays.
-fn put(
+pub fn put(
     reading: Reading,
     head: &mut [u64; 7],
     bound: &mut [u8; 255],
@@ -210,7 +210,7 @@ pub extern "C" fn baxhiso_start(
 // ---- next
 
 // An answer as a number: a key's length, 1000 for the end, or 2000 plus the refusal. A key's value is written.
-fn told(answer: Answer, value: &mut [u64; 1]) -> u64
+pub fn told(answer: Answer, value: &mut [u64; 1]) -> u64
     ensures { λ r. ⌜ Told answer (now (value .entry)) (now (value .exit)) r ⌝ }
 {
     match answer {

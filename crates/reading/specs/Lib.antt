@@ -5,10 +5,12 @@ pub mod VisitLists
 pub mod VisitLaws
 pub mod SeekLaws
 pub mod RunLaws
+pub mod LeftLaws
 pub mod NextLaws
 pub mod Demand
 pub mod WholeRun
 pub mod ProgressLaws
+pub mod CutLaws
 pub mod DemandLaws
 pub mod WholeLaws
 pub mod EndLaws

@@ -37,7 +37,7 @@ module _ (s : List ℕ) (m : Meta) (opens : opening s ≡ opened m) (hi : Bound)
   abbrev pub viewAt : List Level → Option ℕ → ℕ → View
   viewAt levels e n = record { len = length s; bound = hi; boundLen = bl; empty = e; total = capped n; levels = levels }
 
-  state-right : (levels : List Level) (e : Option ℕ) (n : ℕ) → length levels ≤ maxLevels → stateTest (viewAt levels e n) (length s) ≡ true
+  pub state-right : (levels : List Level) (e : Option ℕ) (n : ℕ) → length levels ≤ maxLevels → stateTest (viewAt levels e n) (length s) ≡ true
   state-right levels e n h =
       let a = le-leb (length levels) maxLevels h in
       let b = le-leb bl maxPath short in

@@ -50,7 +50,7 @@ entries-one v e = rw e
 
 -- ---- a fact of each visit, over two lists
 
-all-idle : (hi : Bound) (xs : List Visit) → AllV (Idle hi) xs → AllV (λ v. passesTest hi (v .key) ≡ false) xs
+pub all-idle : (hi : Bound) (xs : List Visit) → AllV (Idle hi) xs → AllV (λ v. passesTest hi (v .key) ≡ false) xs
 all-idle hi [] h = tt
 all-idle hi (x ∷ xs) h = (h .0 .0, all-idle hi xs (h .1))
 

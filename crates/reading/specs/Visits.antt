@@ -2,6 +2,7 @@
 --     Visit, under p o v       a string from a node, with its value and whether it is a key there; the same from further up
 --     row, below, rest         the visits by a list of transitions; below a node; by its transitions from a place on
 --     toCome f levels          the visits that a reading has still to make
+--     left f levels            what a walk has still to do: a pop and a follow both lower it (LeftLaws)
 --     Fine d f a sum           every node from a on is sound, at most d steps down, and every sum from sum on fits 64 bits
 --     Sane f levels            levels whose nodes are fine
 --     AllV, RisingV            a fact of each visit; each string comes before all that follow
@@ -11,7 +12,7 @@ use Prim.{Unit, tt}
 use mathlib.Core.Path.{_≡_}
 use mathlib.Core.Bool.{Bool, true, false, cond}
 use mathlib.Core.List.{List, [], _∷_, _++_, map, List·Memᴰ}
-use Prim.Native.Nat.{ℕ, zero, suc, _+_, _-_, _≤_}
+use Prim.Native.Nat.{ℕ, zero, suc, _+_, _*_, _-_, _≤_}
 use lib.ListN.{length, drop}
 use Rattle.format.specs.declared.Transition.{Transition}
 use Rattle.format.specs.Limits.{maxPath, maxSum}
@@ -59,6 +60,9 @@ rest (suc d) f a p = row (below d f) f (drop p (transitionsAt f a))
 abbrev pub toCome : Fst → List Level → List Visit
 toCome f [] = []
 toCome f (l ∷ s) = map (under (keyOf (l ∷ s)) (l .out)) (rest (maxPath - length s) f (l .addr) (l .trans)) ++ toCome f s
+
+abbrev pub left : Fst → List Level → ℕ
+left f s = length s + 2 * length (toCome f s)
 
 -- ---- files and readings without refusals
 

@@ -28,7 +28,8 @@ use Rattle.reading.specs.RunLaws.{lt-or}
 use Rattle.reading.specs.Demand.{Within, Extra, EmptyExcluded, Entry, entry, handOut, NoneLeft, capped}
 use Rattle.reading.specs.WholeRun.{Runs, run-end, run-key, Whole}
 use Rattle.reading.specs.ProgressLaws.{left, Called, hands, ended, ask-step}
-use Rattle.reading.specs.DemandLaws.{visits, pend, Comes, keysOut, comes-held, comes-rising, comes-none-left, comes-total-ended, start-comes, begun, reading₀, start-given}
+use Rattle.reading.specs.CutLaws.{keysOut}
+use Rattle.reading.specs.DemandLaws.{visits, pend, Comes, comes-held, comes-rising, comes-none-left, comes-total-ended, start-comes, begun, reading₀, start-given}
 
 answered : (o : Step) (a : Answer) → o .answer ≡ a → o ≡ record { answer = a; reading = o .reading }
 answered o a e = ap (λ (x : Answer). record { answer = x; reading = o .reading }) e

@@ -2,7 +2,6 @@
 --     adds-within, adds-past      a sum
 --     found-by, found-past        a key's value with the final output
 --     down-..                     the definition, one law for each way out of a turn
---     pushed-top, pushed-below    the levels after a turn's stores
 -- Assumes nothing.
 use mathlib.Core.Path.{_≡_, sym, _∙_}
 use mathlib.Core.Bool.{true, false, cond}
@@ -11,18 +10,14 @@ use Prim.Native.Nat.{ℕ, suc, _+_, _-_, _<_, _≤_}
 use native.Mathlib.Omega.{arith}
 use borrow.Author.Tests.{le-leb, lt-leb}
 use lib.Dec.{leb}
-use lib.ListN.{length, getD, set, length-set}
-use lib.Seq.{getD-set-same, getD-set-other}
 use Rattle.format.specs.Limits.{maxSum, NODE, DEEP, SUM}
 use Rattle.format.specs.Node.{Node, sound, unsound}
 use Rattle.format.specs.Paths.{Fst, nodeIn}
 use Rattle.format.specs.Strings.{Bound}
-use Rattle.reading.specs.Reading.{Level, levelWith, passesTest, keyOf, counted, Went, found, passed, nextTrans, child, stepped, descend}
+use Rattle.reading.specs.Reading.{Level, passesTest, keyOf, counted, Went, found, passed, nextTrans, child, stepped, descend}
 use Rattle.stream_descend.specs.declared.Down.the-variants.{Found, Halted}
-use Rattle.stream_start.specs.Views.{levelAt, stackIs}
 use Rattle.stream_descend.specs.declared.Added.the-variants.{Within, Past}
 use Rattle.stream_descend.specs.Descent.{foundAt, Adds}
-use Rattle.stream_start.specs.StackLaws.{stack-more, stack-ext}
 
 -- ---- sums
 
@@ -83,37 +78,3 @@ module _ (k : ℕ) (f : Fst) (hi : Bound) (l : Level) (m : Node) (s : List Level
           pub down-on : n .final ≡ false → descend (255 - k) f hi l m s t ≡ descend (255 - (k + 1)) f hi (child l m) n (stepped l ∷ s) (counted t)
           unfolding descend
           down-on b = rw room (simp (fit, e, p, b))
-
--- ---- a level is pushed: the level below it has its place moved on
-
-module _ (k : ℕ) (xs is ps os : List ℕ) (a b p o : ℕ) (hx : k + 1 < length xs) (hi : k + 1 < length is) (hp : k + 1 < length ps) (ho : k + 1 < length os) where
-  pub pushed-top : levelAt (k + 1) (set xs (k + 1) a) (set is (k + 1) b) (set (set ps k p) (k + 1) 0) (set os (k + 1) o) ≡ levelWith a b 0 o
-  pushed-top =
-      let lp : k + 1 < length (set ps k p) = simp length-set hp in
-      simp (
-        getD-set-same xs (k + 1) a 0 hx,
-        getD-set-same is (k + 1) b 0 hi,
-        getD-set-same (set ps k p) (k + 1) 0 0 lp,
-        getD-set-same os (k + 1) o 0 ho,
-      )
-
-  pub pushed-below : stackIs (k + 1) (set xs (k + 1) a) (set is (k + 1) b) (set (set ps k p) (k + 1) 0) (set os (k + 1) o)
-      ≡ levelWith (getD xs k 0) (getD is k 0) p (getD os k 0) ∷ stackIs k xs is ps os
-  pushed-below =
-      let ne : k ≡ k + 1 → ⊥ = λ e. omega arith in
-      let lp : k < length ps = omega arith in
-      let rest : stackIs k (set xs (k + 1) a) (set is (k + 1) b) (set (set ps k p) (k + 1) 0) (set os (k + 1) o) ≡ stackIs k xs is ps os =
-      stack-ext k (set xs (k + 1) a) (set is (k + 1) b) (set (set ps k p) (k + 1) 0) (set os (k + 1) o) xs is ps os
-      (λ j h. getD-set-other xs (k + 1) j a 0 (λ e. omega arith))
-      (λ j h. getD-set-other is (k + 1) j b 0 (λ e. omega arith))
-      (λ j h. getD-set-other (set ps k p) (k + 1) j 0 0 (λ e. omega arith) ∙ getD-set-other ps k j p 0 (λ e. omega arith))
-      (λ j h. getD-set-other os (k + 1) j o 0 (λ e. omega arith)) in
-      stack-more k (set xs (k + 1) a) (set is (k + 1) b) (set (set ps k p) (k + 1) 0) (set os (k + 1) o)
-      ∙ simp (
-        rest,
-        getD-set-other xs (k + 1) k a 0 ne,
-        getD-set-other is (k + 1) k b 0 ne,
-        getD-set-other (set ps k p) (k + 1) k 0 0 ne,
-        getD-set-same ps k p 0 lp,
-        getD-set-other os (k + 1) k o 0 ne,
-      )

@@ -15,9 +15,8 @@ use lib.Seq.{getD-set-same}
 use Rattle.format.specs.Limits.{maxSum, NODE, DEEP, SUM}
 use Rattle.format.specs.Node as F
 use Rattle.format.specs.Node.{sound, unsound, transitionAt}
-use Rattle.format.specs.laws.NodeFacts.{node-zero, node-count}
-use Rattle.format.specs.laws.LiveLaws.{target-below-root, live-below-root}
-use Rattle.format.specs.laws.TransitionLaws.{at-member}
+use Rattle.format.specs.laws.NodeFacts.{node-zero}
+use Rattle.format.specs.laws.LiveLaws.{live-below-root}
 use Rattle.format.specs.Paths.{Fst, fstWith, nodeIn}
 use Rattle.format.specs.Strings.{Bound}
 use Rattle.node.specs.declared.Node.{Node}
@@ -28,9 +27,10 @@ use Rattle.stream_descend.specs.declared.Down.{Down}
 use Rattle.stream_descend.specs.declared.Down.the-variants.{Found, Passed, Halted}
 use Rattle.stream_start.specs.Views.{Arrays, levelAt, stackIs}
 use Rattle.stream_pop.specs.Pops.{Ready}
+use Rattle.stream_pop.specs.ReadyLaws.{ready-place, ready-target}
 use Rattle.stream_descend.specs.Descent.{downFrom, downSeen, downAt, Descends, foundAt}
-use Rattle.stream_start.specs.StackLaws.{key-stack}
-use Rattle.stream_descend.proofs.DescendLaws.{down-deep, down-sum, down-bad, down-passed, down-final, down-on, pushed-top, pushed-below}
+use Rattle.stream_start.specs.StackLaws.{key-stack, pushed-top, pushed-below}
+use Rattle.stream_descend.proofs.DescendLaws.{down-deep, down-sum, down-bad, down-passed, down-final, down-on}
 
 pub record Going (s : List ℕ) (v root : ℕ) (hi : Bound) (want : Went) (xs is ps os : List ℕ) (k : ℕ) (m : Node) (t : ℕ) : Type 0 where
   pub low : k < 256
@@ -79,18 +79,17 @@ module _ {s : List ℕ} {v root : ℕ} {hi : Bound} {want : Went} {xs is ps os :
   -- ---- a turn, with the place of the transition and its output
 
   module _ {i : ℕ} (ei : i ≡ getD ps k 0) where
-    pub place-low : i < m .ntrans
-    place-low = omega (arith, g .ready .next)
+    ready-at : Ready s v root (getD xs k 0) i m
+    ready-at = rw ei (g .ready)
 
-    place-length : i < length (transitionsIn s m)
-    place-length = omega (arith, place-low, length-node-transitions s m (g .ready .readable))
+    pub place-low : i < m .ntrans
+    place-low = ready-at .next
 
     pub place-fits : ((j : ℕ) → getD s j 0 < 256) → i < 256
-    place-fits bytes = omega (arith, place-length, node-count f (getD xs k 0) (meaning s m) (g .ready .node) bytes)
+    place-fits bytes = ready-place ready-at bytes
 
     target-low : transitionAt (transitionsIn s m) i .addr < root
-    target-low =
-        target-below-root f (getD xs k 0) (meaning s m) (transitionAt (transitionsIn s m) i) (g .ready .node) (at-member (transitionsIn s m) i place-length)
+    target-low = ready-target ready-at
 
     pub target-fits : {a : ℕ} → a ≡ transitionAt (transitionsIn s m) i .addr → root < 4294967296 → a < 4294967296
     target-fits ea small = omega (arith, ea, target-low)

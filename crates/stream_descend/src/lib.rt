@@ -27,7 +27,7 @@ pub enum Down {
 }
 
 // A sum, or that it passes 2^64 - 1.
-enum Added {
+pub enum Added {
     Within(u64),
     Past,
 }
@@ -40,7 +40,7 @@ pub fn counted(total: u64) -> u64
 }
 
 // A running sum with one more output.
-fn add(sum: u64, out: u64) -> Added
+pub fn add(sum: u64, out: u64) -> Added
     ensures { λ r. ⌜ Adds sum out r ⌝ }
 {
     if u64::MAX - sum < out {

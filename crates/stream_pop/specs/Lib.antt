@@ -1,1 +1,2 @@
 pub mod Pops
+pub mod ReadyLaws

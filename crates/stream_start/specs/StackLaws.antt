@@ -2,15 +2,16 @@
 --     stack-length, stack-more, stack-suc     its length; its highest level
 --     stack-ext                               what the entries from k on hold does not matter
 --     key-stack                               the key of the levels up to k stands in the bytes after the first
+--     pushed-top, pushed-below                the levels after the stores that push one
 -- Assumes nothing.
 use mathlib.Core.Path.{_≡_, refl, sym, _∙_, ap}
 use mathlib.Core.List.{List, [], _∷_, _++_}
 use Prim.Native.Nat.{ℕ, zero, suc, _+_, _-_, _<_, _≤_}
 use native.Mathlib.Omega.{arith}
 use native.Mathlib.Numerals.{add-one}
-use lib.ListN.{length, getD, take, drop}
-use lib.Seq.{take-suc, take-nil}
-use Rattle.reading.specs.Reading.{Level, pathOf, keyOf}
+use lib.ListN.{length, getD, set, take, drop, length-set}
+use lib.Seq.{take-suc, take-nil, getD-set-same, getD-set-other}
+use Rattle.reading.specs.Reading.{Level, levelWith, pathOf, keyOf}
 use Rattle.stream_start.specs.Views.{levelAt, stackIs}
 
 pub stack-length : (k : ℕ) (xs is ps os : List ℕ) → length (stackIs k xs is ps os) ≡ k
@@ -58,3 +59,37 @@ drop-take k (x ∷ l) = refl
 pub key-stack : (k : ℕ) (xs is ps os : List ℕ) → k + 1 ≤ length is → keyOf (levelAt k xs is ps os ∷ stackIs k xs is ps os) ≡ take k (drop 1 is)
 key-stack k xs is ps os h =
     ap keyOf (sym (stack-more k xs is ps os)) ∙ ap (drop 1) (path-stack (k + 1) xs is ps os h ∙ ap (λ (j : ℕ). take j is) (add-one k)) ∙ drop-take k is
+
+-- ---- a level is pushed: the level below it has its place moved on
+
+module _ (k : ℕ) (xs is ps os : List ℕ) (a b p o : ℕ) (hx : k + 1 < length xs) (hi : k + 1 < length is) (hp : k + 1 < length ps) (ho : k + 1 < length os) where
+  pub pushed-top : levelAt (k + 1) (set xs (k + 1) a) (set is (k + 1) b) (set (set ps k p) (k + 1) 0) (set os (k + 1) o) ≡ levelWith a b 0 o
+  pushed-top =
+      let lp : k + 1 < length (set ps k p) = simp length-set hp in
+      simp (
+        getD-set-same xs (k + 1) a 0 hx,
+        getD-set-same is (k + 1) b 0 hi,
+        getD-set-same (set ps k p) (k + 1) 0 0 lp,
+        getD-set-same os (k + 1) o 0 ho,
+      )
+
+  pub pushed-below : stackIs (k + 1) (set xs (k + 1) a) (set is (k + 1) b) (set (set ps k p) (k + 1) 0) (set os (k + 1) o)
+      ≡ levelWith (getD xs k 0) (getD is k 0) p (getD os k 0) ∷ stackIs k xs is ps os
+  pushed-below =
+      let ne : k ≡ k + 1 → ⊥ = λ e. omega arith in
+      let lp : k < length ps = omega arith in
+      let rest : stackIs k (set xs (k + 1) a) (set is (k + 1) b) (set (set ps k p) (k + 1) 0) (set os (k + 1) o) ≡ stackIs k xs is ps os =
+      stack-ext k (set xs (k + 1) a) (set is (k + 1) b) (set (set ps k p) (k + 1) 0) (set os (k + 1) o) xs is ps os
+      (λ j h. getD-set-other xs (k + 1) j a 0 (λ e. omega arith))
+      (λ j h. getD-set-other is (k + 1) j b 0 (λ e. omega arith))
+      (λ j h. getD-set-other (set ps k p) (k + 1) j 0 0 (λ e. omega arith) ∙ getD-set-other ps k j p 0 (λ e. omega arith))
+      (λ j h. getD-set-other os (k + 1) j o 0 (λ e. omega arith)) in
+      stack-more k (set xs (k + 1) a) (set is (k + 1) b) (set (set ps k p) (k + 1) 0) (set os (k + 1) o)
+      ∙ simp (
+        rest,
+        getD-set-other xs (k + 1) k a 0 ne,
+        getD-set-other is (k + 1) k b 0 ne,
+        getD-set-other (set ps k p) (k + 1) k 0 0 ne,
+        getD-set-same ps k p 0 lp,
+        getD-set-other os (k + 1) k o 0 ne,
+      )

@@ -40,7 +40,7 @@ pub fn describe_reading(reading: &Reading) -> String {
 }
 
 // Entries that carry no meaning, for a reading to be put over.
-fn junk(keep: u64) -> Held {
+pub fn junk(keep: u64) -> Held {
     let n = keep | 1;
     let mut held = Held {
         head: [n; 7],

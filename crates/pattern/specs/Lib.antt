@@ -1,0 +1,4 @@
+pub mod Pattern
+pub mod PatternDemand
+pub mod FitCount
+pub mod laws
