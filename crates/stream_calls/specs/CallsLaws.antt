@@ -43,7 +43,7 @@ use Rattle.stream_calls.specs.Calls.{CodeCall, CallMade, inHand, answere
 -- ---- a call
 
 -- the key's bytes stand at the buffer's first place
-in-hand : (a : R.Answer) (buf : List ℕ) → inHand (answerAs a) (written a buf) ≡ a
+pub in-hand : (a : R.Answer) (buf : List ℕ) → inHand (answerAs a) (written a buf) ≡ a
 in-hand (key k v) buf = ap (λ (x : List ℕ). key x v) (take-append-seam k (drop (length k) buf))
 in-hand end buf = refl
 in-hand (R.Answer.refused n) buf = refl

@@ -1,0 +1,2 @@
+pub mod CallsBy
+pub mod CallsByLaws

@@ -1,0 +1,1 @@
+// Demand 3 by pattern, of the code's own calls (specs/): no code of its own.
