@@ -6,6 +6,7 @@ use std::hint::black_box;
 use std::time::Instant;
 
 use crate::answers::{Answers, At, Bound, FileAnswers, Kind, ReadingAnswers, HELD, NOT_HELD, NO_KEY, SOUND};
+use crate::bench_pattern;
 use crate::builder::Builder;
 use crate::generate_file;
 use crate::given_file::{self, Opened};
@@ -55,7 +56,7 @@ fn times<T>(questions: &[T], ours: impl FnMut(&[T]), rust: impl FnMut(&[T])) -> 
 }
 
 // The same with so many questions at a time.
-fn times_in<T>(questions: &[T], part: usize, mut ours: impl FnMut(&[T]), mut rust: impl FnMut(&[T])) -> (f64, f64) {
+pub fn times_in<T>(questions: &[T], part: usize, mut ours: impl FnMut(&[T]), mut rust: impl FnMut(&[T])) -> (f64, f64) {
     let parts: Vec<&[T]> = questions.chunks(part).collect();
     let n = parts.len();
     let mut least = vec![(f64::INFINITY, f64::INFINITY); n];
@@ -74,7 +75,7 @@ fn times_in<T>(questions: &[T], part: usize, mut ours: impl FnMut(&[T]), mut rus
     (each(least.iter().map(|l| l.0).sum()), each(least.iter().map(|l| l.1).sum()))
 }
 
-fn say(what: &str, (ours, rust): (f64, f64)) {
+pub fn say(what: &str, (ours, rust): (f64, f64)) {
     println!("    {:<28}{:>8.1} {:>8.1} {:>8.2}", what, ours, rust, ours / rust);
 }
 
@@ -329,6 +330,9 @@ pub fn bench(nodes: &dyn Answers, ours: &dyn FileAnswers, readings: &dyn Reading
         say("key of a long reading", reading(readings, &rust, &file, &counts, &whole));
         let short: Vec<Part> = (0..READ / SHORT).map(|_| part(&set.keys, prng.below(n - SHORT), SHORT)).collect();
         say("key of a range of 20", reading(readings, &rust, &file, &counts, &short));
+        if set.name == "part numbers" {
+            bench_pattern::bench(readings, &rust, &file, &set.keys);
+        }
         say("admission, a byte", admitting(ours, &rust, &file));
         println!("    {:<28}{:>8} {:>8} {:>8}", "", "with", "without", "ratio");
         let wholes: Vec<Part> = short.iter().map(|_| whole_part(n)).collect();

@@ -20,6 +20,8 @@ mod error;
 mod answers;
 #[cfg(timed)]
 mod bench;
+#[cfg(timed)]
+mod bench_pattern;
 mod builder;
 mod compare;
 mod generate;
