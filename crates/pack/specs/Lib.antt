@@ -1,0 +1,2 @@
+pub mod Packs
+pub mod PacksLaws

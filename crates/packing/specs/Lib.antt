@@ -1,0 +1,5 @@
+pub mod Lists
+pub mod Registry
+pub mod Packing
+pub mod Promise
+pub mod laws

@@ -1,0 +1,14 @@
+pub mod ListLaws
+pub mod RowLaws
+pub mod FileLaws
+pub mod InternLaws
+pub mod BuildLaws
+pub mod HeldLaws
+pub mod CloseLaws
+pub mod InsertLaws
+pub mod RootLaws
+pub mod TrailerLaws
+pub mod WholeLaws
+pub mod PackLaws
+pub mod AnswerLaws
+pub mod ListedLaws
