@@ -1,2 +1,2 @@
-pub mod Packs
-pub mod PacksLaws
+pub mod PackList
+pub mod PackListLaws

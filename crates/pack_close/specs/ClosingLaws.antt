@@ -1,5 +1,4 @@
 -- Laws of closing: what each function of the crate asks and leaves, from the rows to the definition.
---     finish-node          the record that is interned, by the parts of the tables
 --     finishable           an orderly row can be finished
 --     step-at, step-full   the deepest node is finished, or has no room
 --     closing-none, -step, -full, -all     the loop that closes down to a depth
@@ -13,26 +12,19 @@ use native.Mathlib.Omega.{arith}
 use lib.ListN.{length, getD, take, drop, set, length-append}
 use lib.Seq.{getD-take, getD-drop}
 use Rattle.format.specs.Packed.{BuilderNode}
-use Rattle.node_compile.specs.Compile.{builderWith}
 use Rattle.node_compile.specs.Parts.{RecordFits}
 use Rattle.packing.specs.Registry.{Build, Interned, intern}
 use Rattle.packing.specs.Packing.{Arc, Open, leastAt, recordOf, withArc, finish, closedAs}
 use Rattle.packing.specs.laws.CloseLaws.{Grows}
-use Rattle.packing_rows.specs.Rows.{Tables, tablesWith, rowIn, arcWith, countAt, openAt, levels, leastFrom, Joined, joined, closeInto, Sized, Orderly, SameAbove}
-use Rattle.packing_rows.specs.StackLaws.{closedWith, close-deepest, close-into-grows, finish-into-grows}
-use Rattle.packing_rows.specs.RowLaws.{length-row, open-least, record-row, open-same, withEntry, open-more, same-more, sized-more, room-for-one, orderly-more}
+use Rattle.packing_rows.specs.WorkTables.{Tables, tablesWith, rowIn, arcWith, countAt, openAt, levels, leastFrom, Joined, joined, closeInto, Sized, Orderly, SameAbove}
+use Rattle.packing_rows.specs.OpenLaws.{closedWith, close-deepest, close-into-grows, finish-into-grows}
+use Rattle.packing_rows.specs.WorkTableLaws.{length-row, open-least, record-row, open-same, withEntry, open-more, same-more, sized-more, room-for-one, orderly-more}
 use Rattle.pack_intern.specs.Interning.{buildIs, Ready, internedWith, AtIs}
 use Rattle.pack_close.specs.declared.Closed.{Closed}
 use Rattle.pack_close.specs.declared.Closed.the-variants.{Done, NoRoom}
-use Rattle.pack_close.specs.Closing.{Lessened, AllAtLeast, rowNode, Finishable, Closable, closedTo, StepTo, StepIs, JoinedAt, ClosesTo, ClosingTo}
-use Rattle.pack_close.specs.LeastLaws.{from-each, from-value, length-less, lessened-row, lessened-above}
-
-pub finish-node : (final : Bool) (v : ℕ) (inputs leasts leasts′ targets : List ℕ) (d n base n′ fo : ℕ) → n′ ≡ n → fo ≡ cond final (v - base) 0
-    → Lessened leasts leasts′ (256 * d) n base → 256 * d + n ≤ length leasts
-    → builderWith final fo (take n′ (drop (256 * d) inputs)) (take n′ (drop (256 * d) leasts′)) (take n′ (drop (256 * d) targets)) ≡ rowNode final v inputs leasts targets d n base
-finish-node final v inputs leasts leasts′ targets d n base n′ fo e f s room =
-    ap₂ (λ (k o : ℕ). builderWith final o (rowIn inputs d k) (rowIn leasts′ d k) (rowIn targets d k)) e f
-    ∙ ap (λ (l : List ℕ). builderWith final (cond final (v - base) 0) (rowIn inputs d n) l (rowIn targets d n)) (lessened-row d s room)
+use Rattle.pack_finish.specs.FinishRow.{Lessened, AllAtLeast, rowNode, Finishable}
+use Rattle.pack_close.specs.Closing.{Closable, closedTo, StepTo, StepIs, JoinedAt, ClosesTo, ClosingTo}
+use Rattle.pack_finish.specs.LeastLaws.{from-each, from-value, length-less, lessened-row, lessened-above}
 
 -- ---- the deepest node
 

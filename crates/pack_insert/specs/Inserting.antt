@@ -14,7 +14,7 @@ use lib.ListN.{length, getD, take, drop}
 use Rattle.format.specs.Strings.{Before}
 use Rattle.packing.specs.Registry.{Build}
 use Rattle.packing.specs.Packing.{State, stateWith}
-use Rattle.packing_rows.specs.Rows.{Tables, countAt, openAt, levels}
+use Rattle.packing_rows.specs.WorkTables.{Tables, countAt, openAt, levels}
 use Rattle.pack_intern.specs.Interning.{buildIs}
 use Rattle.pack_close.specs.Closing.{Closable}
 use Rattle.pack_close.specs.declared.Closed.{Closed}

@@ -22,15 +22,15 @@ use Rattle.packing.specs.Registry.{Build}
 use Rattle.packing.specs.Packing.{Arc, Open, withArc, withValue, close, State, stateWith, insert}
 use Rattle.packing.specs.laws.CloseLaws.{Grows}
 use Rattle.packing.specs.laws.InsertLaws.{insert-grows}
-use Rattle.packing_rows.specs.Rows.{Tables, rowIn, zipArcs, countAt, openAt, levels, Joined, joined, join, closeInto, Sized, Orderly, SameAbove}
-use Rattle.packing_rows.specs.StackLaws.{newOpen, levels-new, insert-levels, insert-build}
-use Rattle.packing_rows.specs.RowLaws.{length-row, open-inputs, open-same, row-above}
+use Rattle.packing_rows.specs.WorkTables.{Tables, rowIn, zipArcs, countAt, openAt, levels, Joined, joined, join, closeInto, Sized, Orderly, SameAbove}
+use Rattle.packing_rows.specs.OpenLaws.{newOpen, levels-new, insert-levels, insert-build}
+use Rattle.packing_rows.specs.WorkTableLaws.{length-row, open-inputs, open-same, row-above}
 use Rattle.pack_intern.specs.Interning.{buildIs, Ready}
 use Rattle.pack_close.specs.declared.Closed.{Closed}
 use Rattle.pack_close.specs.declared.Closed.the-variants.{Done, NoRoom}
 use Rattle.pack_close.specs.Closing.{Closable, closedTo, JoinedAt, ClosesTo}
 use Rattle.pack_insert.specs.Inserting.{CommonIs, OpenedTo, Opened, lastKey, stateOf, Between, Follows, Insertable, InsertedAt, Inserts}
-use Rattle.pack_insert.specs.OpeningLaws.{before-rises, before-ends}
+use Rattle.pack_insert.specs.OpenKeyLaws.{before-rises, before-ends}
 
 -- ---- lists that ascend
 

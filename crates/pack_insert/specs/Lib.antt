@@ -1,3 +1,3 @@
 pub mod Inserting
-pub mod OpeningLaws
+pub mod OpenKeyLaws
 pub mod InsertingLaws

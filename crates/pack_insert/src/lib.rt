@@ -4,7 +4,7 @@ ghost use mathlib.Core.List.{List};
 ghost use Prim.Native.Nat.{ℕ, _≤_, _<_};
 ghost use lib.ListN.{length};
 ghost use Rattle.packing.specs.Packing.{insert};
-ghost use Rattle.packing_rows.specs.Rows.{tablesWith, openAt, levels};
+ghost use Rattle.packing_rows.specs.WorkTables.{tablesWith, openAt, levels};
 ghost use Rattle.pack_intern.specs.Interning.{buildIs};
 ghost use Rattle.pack_insert.specs.Inserting.{CommonIs, Opened, Insertable, Inserts};
 use pack_close::Closed;

@@ -1,4 +1,4 @@
 -- Lemmas on plain lists and numbers, for the proofs of this crate.
-mod Comparing
+mod KeyComparing
 mod Ends
 mod Ascents

@@ -18,9 +18,10 @@ use Rattle.packing.specs.Promise.{PackRight}
 use Rattle.packing.specs.laws.ListLaws.{decides-list, list-listed, count-lt}
 use Rattle.packing.specs.laws.PackLaws.{pack-admitted, pack-right}
 use Rattle.pack_intern.specs.Interning.{cellsIs}
-use Rattle.pack.specs.Packs.{answerAs, PacksBy}
-use Rattle.pack.specs.declared.Packed.{Packed}
-use Rattle.pack.specs.declared.Packed.the-variants.{Len, Refused}
+use Rattle.pack_blank.specs.PackBlank.{answerAs}
+use Rattle.pack.specs.PackList.{PacksBy}
+use Rattle.pack_blank.specs.declared.Packed.{Packed}
+use Rattle.pack_blank.specs.declared.Packed.the-variants.{Len, Refused}
 
 pub record PackedList (s : List ℕ) (n : ℕ) (out : List ℕ) (cells : List (List ℕ)) : Type 0 where
   pub list : IsList s

@@ -1,14 +1,14 @@
 pub mod ListLaws
-pub mod RowLaws
+pub mod PackRowLaws
 pub mod FileLaws
 pub mod InternLaws
 pub mod BuildLaws
-pub mod HeldLaws
+pub mod HoldingLaws
 pub mod CloseLaws
 pub mod InsertLaws
 pub mod RootLaws
 pub mod TrailerLaws
-pub mod WholeLaws
+pub mod WholeFileLaws
 pub mod PackLaws
 pub mod AnswerLaws
 pub mod ListedLaws

@@ -1,3 +1,3 @@
-pub mod Rows
-pub mod StackLaws
-pub mod RowLaws
+pub mod WorkTables
+pub mod OpenLaws
+pub mod WorkTableLaws

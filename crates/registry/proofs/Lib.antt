@@ -1,5 +1,5 @@
 -- Lemmas on plain lists and numbers, for the proofs of this crate.
 mod Prime
 mod Hashing
-mod Comparing
-mod Judged
+mod NodeComparing
+mod StoredJudged

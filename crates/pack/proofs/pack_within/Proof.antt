@@ -5,8 +5,9 @@ use Prim.Native.Nat.{ℕ}
 use lib.ListN.{length, replicate, length-replicate}
 use mathlib.Core.List.{List, _∷_, []}
 use Rattle.packing.specs.Packing.{packAnswer}
-use Rattle.pack.specs.Packs.{tablesTest}
-use Rattle.pack.specs.PacksLaws.{packs, zeros-again, answers-as}
+use Rattle.pack_blank.specs.PackBlank.{tablesTest}
+use Rattle.pack_blank.specs.PackBlankLaws.{zeros-again}
+use Rattle.pack.specs.PackListLaws.{packs, answers-as}
 use native.Mathlib.Omega.{arith}
 use borrow.Author.Needs.{needs}
 use denote.Ref.{now}

@@ -1,6 +1,6 @@
 -- `pack::settled` meets its contract.
 -- Assumes nothing.
-use Rattle.pack.specs.PacksLaws.{settled-kept, settled-emptied}
+use Rattle.pack.specs.PackListLaws.{settled-kept, settled-emptied}
 use native.Mathlib.Omega.{arith}
 use borrow.Author.Needs.{needs}
 use denote.Ref.{now}

@@ -4,7 +4,7 @@ use mathlib.Core.Path.{_≡_, ap, _∙_}
 use mathlib.Core.Bool.{false}
 use Prim.Native.Nat.{ℕ, _+_, _-_, _*_, _<_}
 use lib.ListN.{length, getD}
-use Rattle.packing_rows.specs.Rows.{Tables, tablesWith, rowIn, countAt, leastFrom}
+use Rattle.packing_rows.specs.WorkTables.{Tables, tablesWith, rowIn, countAt, leastFrom}
 use Rattle.pack_close.specs.ClosingLaws.{finishable, room, step-full, step-at, step-done, step-no-room}
 use native.Mathlib.Omega.{arith}
 use borrow.Author.Needs.{needs}

@@ -3,7 +3,7 @@
 use mathlib.Core.Path.{_≡_, refl, sym, subst}
 use Prim.Native.Nat.{ℕ, _+_, _-_}
 use lib.ListN.{length}
-use Rattle.packing_rows.specs.Rows.{Tables, tablesWith}
+use Rattle.packing_rows.specs.WorkTables.{Tables, tablesWith}
 use Rattle.pack_intern.specs.Interning.{buildIs}
 use Rattle.pack_close.specs.Closing.{Closable, closedTo, ClosingTo}
 use Rattle.pack_close.specs.ClosingLaws.{closing-none, closing-step, closing-full, closing-all}

@@ -5,7 +5,7 @@ use mathlib.Core.Logic.{inl, inr}
 use Prim.Native.Nat.{_-_}
 use denote.Ref.{now}
 use lib.ListN.{length, getD}
-use Rattle.pack_insert.specs.OpeningLaws.{Along, along-none, along-step, along-common}
+use Rattle.pack_insert.specs.OpenKeyLaws.{Along, along-none, along-step, along-common}
 use borrow.Author.Needs.{needs}
 use native.Mathlib.Omega.{arith}
 use Rattle.pack_insert.proofs.common.Statement.{statement}

@@ -3,7 +3,7 @@
 use mathlib.Core.Path.{_≡_, refl}
 use Prim.Native.Nat.{ℕ, _<_}
 use lib.ListN.{length, getD}
-use Rattle.packing_rows.specs.Rows.{Tables, tablesWith}
+use Rattle.packing_rows.specs.WorkTables.{Tables, tablesWith}
 use Rattle.pack_insert.specs.InsertingLaws.{inserted, insert-done, insert-full}
 use native.Mathlib.Omega.{arith}
 use borrow.Author.Needs.{needs}

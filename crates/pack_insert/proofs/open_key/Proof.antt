@@ -5,7 +5,7 @@ use Prim.Native.Nat.{_-_}
 use denote.Ref.{now}
 use lib.ListN.{length}
 use Rattle.pack_insert.specs.Inserting.{OpenedTo}
-use Rattle.pack_insert.specs.OpeningLaws.{opened-none, opened-step, opened-all}
+use Rattle.pack_insert.specs.OpenKeyLaws.{opened-none, opened-step, opened-all}
 use borrow.Author.Needs.{needs}
 use native.Mathlib.Omega.{arith}
 use Rattle.pack_insert.proofs.open_key.Statement.{statement}

@@ -3,7 +3,7 @@
 use Prim.Native.Nat.{_-_, _<_}
 use denote.Ref.{now}
 use lib.ListN.{length}
-use Rattle.pack_list.proofs.Comparing.{Compares, compares-none, compares-longer, compares-all, compares-lower, compares-higher, compares-step}
+use Rattle.pack_list.proofs.KeyComparing.{Compares, compares-none, compares-longer, compares-all, compares-lower, compares-higher, compares-step}
 use borrow.Author.Needs.{needs}
 use native.Mathlib.Omega.{arith}
 use Rattle.pack_list.proofs.comes_before.Statement.{statement}

@@ -24,7 +24,7 @@ use Rattle.packing.specs.Registry.{transitionsIn, Build, Interned, inter
 use Rattle.packing.specs.Packing.{Arc, Open, leastAt, isSome, finalOut, recordOf, withArc, withValue, Closed, closedAs, finish, finishWith, close}
 use Rattle.packing.specs.laws.FileLaws.{Has, has-less, At}
 use Rattle.packing.specs.laws.BuildLaws.{Entry, InLog, OnLog, BuildOk, Fine, Interning, nothing, first, second, wrote, intern-cases, InternOk, intern-ok}
-use Rattle.packing.specs.laws.HeldLaws.{ArcHolds, OpenHolds, ends, along, StackHolds, OfArc, transition-of-arc, Base, zero-base, least-base, held-open, open-held}
+use Rattle.packing.specs.laws.HoldingLaws.{ArcHolds, OpenHolds, ends, along, StackHolds, OfArc, transition-of-arc, Base, zero-base, least-base, held-open, open-held}
 
 -- ---- what is kept
 

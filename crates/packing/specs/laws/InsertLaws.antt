@@ -25,7 +25,7 @@ use Rattle.packing.specs.Packing.{Arc, Open, withArc, withValue, Closed,
 use Rattle.packing.specs.Promise.{Bytes, PairOk}
 use Rattle.packing.specs.laws.FileLaws.{Has}
 use Rattle.packing.specs.laws.BuildLaws.{Entry, BuildOk}
-use Rattle.packing.specs.laws.HeldLaws.{ArcHolds, OpenHolds, ends, along, StackHolds}
+use Rattle.packing.specs.laws.HoldingLaws.{ArcHolds, OpenHolds, ends, along, StackHolds}
 use Rattle.packing.specs.laws.CloseLaws.{ArcOk, OpenOk, NextOk, StackOk, LastFinal, Shorter, Keeps, open-keeps, Grows, grows-trans, grows-none, has-grown, close-grows, CloseOk, holds-with, with-holds-stack, with-ok, close-ok}
 
 abbrev pub inputs : List Open → List ℕ

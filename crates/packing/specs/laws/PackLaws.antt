@@ -32,7 +32,7 @@ use Rattle.packing.specs.laws.InternLaws.{match-filled}
 use Rattle.packing.specs.laws.BuildLaws.{row-set, Interning, nothing, first, second, wrote, intern-cases}
 use Rattle.packing.specs.laws.RootLaws.{cell-empty}
 use Rattle.packing.specs.laws.TrailerLaws.{length-file, file-has, version-said, type-said, count-said, Placed, file-said, file-opens}
-use Rattle.packing.specs.laws.WholeLaws.{FileOk, run, some-file}
+use Rattle.packing.specs.laws.WholeFileLaws.{FileOk, run, some-file}
 use Rattle.packing.specs.laws.RootLaws.{RootOk}
 use Rattle.packing.specs.laws.BuildLaws.{addrs}
 

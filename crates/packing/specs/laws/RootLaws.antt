@@ -27,7 +27,7 @@ use Rattle.packing.specs.Packing.{Arc, Open, recordOf, withArc, Closed, 
 use Rattle.packing.specs.Promise.{PairOk, Listed, pairWith}
 use Rattle.packing.specs.laws.FileLaws.{Has, At, grown-more}
 use Rattle.packing.specs.laws.BuildLaws.{Entry, InLog, BuildOk, Fine, Interning, nothing, first, second, wrote, intern-cases, InternOk, matched, intern-ok}
-use Rattle.packing.specs.laws.HeldLaws.{OpenHolds, ends, along, StackHolds, zero-base, held-open, open-held}
+use Rattle.packing.specs.laws.HoldingLaws.{OpenHolds, ends, along, StackHolds, zero-base, held-open, open-held}
 use Rattle.packing.specs.laws.CloseLaws.{OpenOk, NextOk, StackOk, LastFinal, Live, Shorter, fine-of, Grows, grows-trans, has-grown, intern-grows, close-grows, CloseOk, holds-with, with-holds-stack, with-ok, close-ok}
 use Rattle.packing.specs.laws.InsertLaws.{Next, BelowFinal, Follows, RunOk, insert-all-ok}
 

@@ -4,7 +4,7 @@ use borrow.Author.Tests.{ne-eqb}
 use denote.Ref.{now}
 use Rattle.format.specs.Packed.{BuilderNode}
 use Rattle.node_compile.specs.Compile.{builderWith}
-use Rattle.registry.proofs.Judged.{unsound-differs, final-differs, output-differs, transitions-decide}
+use Rattle.registry.proofs.StoredJudged.{unsound-differs, final-differs, output-differs, transitions-decide}
 use borrow.Author.Needs.{needs}
 use native.Mathlib.Omega.{arith}
 use Rattle.registry.proofs.same_node.Statement.{statement}

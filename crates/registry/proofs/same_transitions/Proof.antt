@@ -10,7 +10,7 @@ use Rattle.format.specs.Node.{transitionsOf}
 use Rattle.format.specs.laws.TransitionLaws.{length-transitions-of}
 use Rattle.node.specs.Read.{transitionsIn}
 use Rattle.node.specs.ReadLaws.{length-node-transitions}
-use Rattle.registry.proofs.Comparing.{Compared, lengths-differ, compared-none, compared-step, compared-differ, compared-all}
+use Rattle.registry.proofs.NodeComparing.{Compared, lengths-differ, compared-none, compared-step, compared-differ, compared-all}
 use borrow.Author.Needs.{needs}
 use native.Mathlib.Omega.{arith}
 use Rattle.registry.proofs.same_transitions.Statement.{statement}
