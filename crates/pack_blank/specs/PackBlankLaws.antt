@@ -17,10 +17,11 @@ use Rattle.buffers.specs.DecideLaws.{true-of, false-of}
 use Rattle.format.specs.Limits.{LARGE, SPACE}
 use Rattle.format.specs.Bytes.{bytesOf}
 use Rattle.format.specs.laws.BytesLaws.{length-bytes-of}
-use Rattle.packing.specs.Lists.{Pair, LIST, countIn, IsList, listTest, pairsOf}
+use Rattle.packing.specs.Lists.{countIn, IsList, listTest, pairsOf}
 use Rattle.packing.specs.Registry.{Cell, emptyCell, Interned}
 use Rattle.packing.specs.Packing.{packNodes, fileOf, packFile, packCells, Answer, written, refused, packAnswer, outputAfter, cellsAfter}
 use Rattle.packing.specs.laws.ListLaws.{decides-list, length-pairs}
+use Rattle.packing.specs.laws.ListedLaws.{answer-room, answer-over}
 use Rattle.packing.specs.laws.TrailerLaws.{length-file}
 use Rattle.pack_intern.specs.Interning.{nodesIn, cellOf, cellsIs, buildIs, Laid, internedWith}
 use Rattle.pack_intern.specs.InterningLaws.{nodes-length, laid-is}
@@ -36,29 +37,6 @@ refused-not e = let z : _≡_ {A = ℕ} 0 1 = cc in omega arith
 
 pub answer-refused : {A : Answer} {k : ℕ} → A ≡ refused k → (out : List ℕ) (cells : List (List ℕ)) → Answers A out cells (Refused k)
 answer-refused e out cells = record { answer = sym (ap answerAs e); output = λ n q. absurd (refused-not q); cells-left = λ n q. absurd (refused-not q) }
-
--- the order of the refusals: LIST, SPACE, LARGE
-module _ (limit : ℕ) (s : List ℕ) (tables : Bool) (n room : ℕ) where
-  pub list-refused : ¬ IsList s → packAnswer limit s tables n room ≡ refused LIST
-  unfolding packAnswer
-  list-refused ne = rw (false-of (listTest s) (decides-list s) ne)
-
-  pub tables-refused : IsList s → tables ≡ false → packAnswer limit s tables n room ≡ refused SPACE
-  unfolding packAnswer
-  tables-refused ok e = rw (true-of (listTest s) (decides-list s) ok, e)
-
-  pub cells-refused : IsList s → tables ≡ true → n < 2 → packAnswer limit s tables n room ≡ refused SPACE
-  unfolding packAnswer
-  cells-refused ok e few = rw (true-of (listTest s) (decides-list s) ok, e, lt-leb 2 n few)
-
-  answer-room : IsList s → tables ≡ true → 2 ≤ n → room < length (packFile (pairsOf s) n) → packAnswer limit s tables n room ≡ refused SPACE
-  unfolding packAnswer
-  answer-room ok e cells short = rw (true-of (listTest s) (decides-list s) ok, e, le-leb 2 n cells, lt-leb (length (packFile (pairsOf s) n)) room short)
-
-  answer-over : IsList s → tables ≡ true → 2 ≤ n → length (packFile (pairsOf s) n) ≤ room → limit < length (packFile (pairsOf s) n) → packAnswer limit s tables n room ≡ refused LARGE
-  unfolding packAnswer
-  answer-over ok e cells fits over =
-      rw (true-of (listTest s) (decides-list s) ok, e, le-leb 2 n cells, le-leb (length (packFile (pairsOf s) n)) room fits, lt-leb (length (packFile (pairsOf s) n)) limit over)
 
 -- ---- zeros and empty cells
 

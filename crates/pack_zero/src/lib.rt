@@ -41,9 +41,9 @@ pub fn empty_cells(t: &mut [[u64; 2]])
     ensures { λ _. ⌜ now (t .exit) ≡ replicate (length (now (t .entry))) (1 ∷ 0 ∷ []) ⌝ }
 {
     let empty: [u64; 2] = [1, 0];
-    let mut i = 0;
-    while i < t.len() {
-        t[i] = empty;
-        i += 1;
+    let mut at = 0;
+    while at < t.len() {
+        t[at] = empty;
+        at += 1;
     }
 }

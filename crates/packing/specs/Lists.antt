@@ -23,10 +23,6 @@ pub record Pair : Type 0 where
   pub key : List ℕ
   pub value : ℕ
 
--- the refusal of a list
-abbrev pub LIST : ℕ
-LIST = 13
-
 abbrev pub countIn : List ℕ → ℕ
 countIn s = numberAt s 0 4
 

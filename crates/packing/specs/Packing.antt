@@ -18,10 +18,10 @@ use mathlib.Core.List.{List, [], _∷_, _++_, map}
 use Prim.Native.Nat.{ℕ, zero, suc, _+_, _-_, min}
 use lib.Dec.{leb, eqb}
 use lib.ListN.{length, replicate}
-use Rattle.format.specs.Limits.{LARGE, SPACE}
+use Rattle.format.specs.Limits.{LARGE, SPACE, LIST}
 use Rattle.format.specs.Bytes.{bytesOf}
 use Rattle.format.specs.Packed.{BuilderNode}
-use Rattle.packing.specs.Lists.{Pair, LIST, listTest, pairsOf}
+use Rattle.packing.specs.Lists.{Pair, listTest, pairsOf}
 use Rattle.packing.specs.Registry.{Cell, emptyCell, Build, Interned, intern}
 
 -- ---- open nodes

@@ -3,6 +3,7 @@ pub mod PackRowLaws
 pub mod FileLaws
 pub mod InternLaws
 pub mod BuildLaws
+pub mod KeptLaws
 pub mod HoldingLaws
 pub mod CloseLaws
 pub mod InsertLaws

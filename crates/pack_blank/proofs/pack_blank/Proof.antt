@@ -7,9 +7,10 @@ use lib.ListN.{length}
 use Rattle.packing.specs.Lists.{IsList, pairsOf}
 use Rattle.packing.specs.Registry.{Interned}
 use Rattle.packing.specs.Packing.{packNodes}
+use Rattle.packing.specs.laws.ListedLaws.{answer-list, answer-tables, answer-cells}
 use Rattle.pack_run.specs.Running.{RunAt}
 use Rattle.pack_blank.specs.PackBlank.{tablesTest}
-use Rattle.pack_blank.specs.PackBlankLaws.{sizes, list-refused, tables-refused, cells-refused, answer-refused, blank-of, small-answer, full-answer, short-answer, over-answer, done-answer}
+use Rattle.pack_blank.specs.PackBlankLaws.{sizes, answer-refused, blank-of, small-answer, full-answer, short-answer, over-answer, done-answer}
 use native.Mathlib.Omega.{arith}
 use borrow.Author.Needs.{needs}
 use denote.Ref.{now}
@@ -44,7 +45,7 @@ judge-list-requires c κs = search needs
 returns : tie.Need-returns
 returns c =
     let t = s (c .before) in
-    answer-refused (list-refused (t .args .limit) (now (t .args .list)) (tablesTest (length (now (t .args .inputs))) (length (now (t .args .leasts))) (length (now (t .args .targets)))) (length (now (t .args .cells))) (length (now (t .args .output))) (c .before .judge-list .ensures .no (c .if1 .left))) (now (t .args .output)) (now (t .args .cells))
+    answer-refused (answer-list (t .args .limit) (now (t .args .list)) (tablesTest (length (now (t .args .inputs))) (length (now (t .args .leasts))) (length (now (t .args .targets)))) (length (now (t .args .cells))) (length (now (t .args .output))) (c .before .judge-list .ensures .no (c .if1 .left))) (now (t .args .output)) (now (t .args .cells))
 
 tables-fit-requires : tie.Need-tables-fit-requires
 tables-fit-requires c κs = search needs
@@ -53,13 +54,13 @@ returns-2 : tie.Need-returns-2
 returns-2 c =
     let j = c .before .before .before in
     let t = s j in
-    answer-refused (tables-refused (t .args .limit) (now (t .args .list)) (tablesTest (length (now (t .args .inputs))) (length (now (t .args .leasts))) (length (now (t .args .targets)))) (length (now (t .args .cells))) (length (now (t .args .output))) (j .judge-list .ensures .yes (c .before .before .if1 .taken)) (sym (c .before .tables-fit .ensures) ∙ c .if2 .left)) (now (t .args .output)) (now (t .args .cells))
+    answer-refused (answer-tables (t .args .limit) (now (t .args .list)) (tablesTest (length (now (t .args .inputs))) (length (now (t .args .leasts))) (length (now (t .args .targets)))) (length (now (t .args .cells))) (length (now (t .args .output))) (j .judge-list .ensures .yes (c .before .before .if1 .taken)) (sym (c .before .tables-fit .ensures) ∙ c .if2 .left)) (now (t .args .output)) (now (t .args .cells))
 
 returns-3 : tie.Need-returns-3
 returns-3 c =
     let j = c .before .before .before .before in
     let t = s j in
-    answer-refused (cells-refused (t .args .limit) (now (t .args .list)) (tablesTest (length (now (t .args .inputs))) (length (now (t .args .leasts))) (length (now (t .args .targets)))) (length (now (t .args .cells))) (length (now (t .args .output))) (j .judge-list .ensures .yes (c .before .before .before .if1 .taken)) (sym (c .before .before .tables-fit .ensures) ∙ c .before .if2 .taken) (c .if3 .taken)) (now (t .args .output)) (now (t .args .cells))
+    answer-refused (answer-cells (t .args .limit) (now (t .args .list)) (tablesTest (length (now (t .args .inputs))) (length (now (t .args .leasts))) (length (now (t .args .targets)))) (length (now (t .args .cells))) (length (now (t .args .output))) (j .judge-list .ensures .yes (c .before .before .before .if1 .taken)) (sym (c .before .before .tables-fit .ensures) ∙ c .before .if2 .taken) (c .if3 .taken)) (now (t .args .output)) (now (t .args .cells))
 
 returns-4 : tie.Need-returns-4
 returns-4 c =

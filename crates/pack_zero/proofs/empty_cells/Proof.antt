@@ -12,10 +12,10 @@ use Rattle.pack_zero.proofs.empty_cells.Statement.{statement}
 use Rattle.pack_zero.proofs.empty_cells.Tie as tie
 
 abbrev Inv-loop : tie.InvT-loop
-Inv-loop t₀ empty i₀ t i = Filling (1 ∷ 0 ∷ []) t₀ t i
+Inv-loop t₀ empty at₀ t at = Filling (1 ∷ 0 ∷ []) t₀ t at
 
 abbrev μ-loop : tie.MeasureT-loop
-μ-loop t₀ empty i₀ t i = length t₀ - i
+μ-loop t₀ empty at₀ t at = length t₀ - at
 
 loop-holds : tie.Need-loop-holds Inv-loop μ-loop
 loop-holds c = filling-none (1 ∷ 0 ∷ []) (now (c .args .t))
@@ -26,8 +26,8 @@ mul-empty c = search needs
 slice-set-from-empty : tie.Need-slice-set-from-empty Inv-loop μ-loop
 slice-set-from-empty c = search needs
 
-add-i : tie.Need-add-i Inv-loop μ-loop
-add-i c = search needs
+add-at : tie.Need-add-at Inv-loop μ-loop
+add-at c = search needs
 
 loop-less : tie.Need-loop-less Inv-loop μ-loop
 loop-less c =
@@ -54,7 +54,7 @@ empty-cells-spec =
     loop-holds
     mul-empty
     slice-set-from-empty
-    add-i
+    add-at
     loop-less
     loop-again
     same-length

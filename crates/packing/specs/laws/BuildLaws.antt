@@ -151,6 +151,13 @@ intern-cases B b =
     go false p false q true r = second p r
     go false p false q false r = wrote p q r
 
+-- what is added to the log
+abbrev pub addedBy : {B : Build} {b : BuilderNode} {r : Interned} → Interning B b r → List Entry
+addedBy (nothing e) = []
+addedBy (first e f) = []
+addedBy (second e f) = []
+addedBy {B} {b} (wrote e f h) = record { addr = 15 + length (B .nodes ++ packed (16 + length (B .nodes)) b); node = b } ∷ []
+
 -- ---- what is kept
 
 pub record InternOk (B : Build) (b : BuilderNode) (log : List Entry) (r : Interned) : Type 0 where
@@ -161,6 +168,8 @@ pub record InternOk (B : Build) (b : BuilderNode) (log : List Entry) (r : Intern
   pub on : OnLog (r .addr) (added ++ log)
   pub more : List ℕ
   pub nodes-is : r .build .nodes ≡ B .nodes ++ more
+  pub way : Interning B b r
+  pub added-by : added ≡ addedBy way
 
 module _ (B : Build) (log : List Entry) (ok : BuildOk B log) (small : 15 + length (B .nodes) < maxLen) (b : BuilderNode) where
   none-added : (e : Entry) (a : ℕ) → List·Memᴰ e [] → (e .node ≡ b) × (e .addr ≡ a)
@@ -231,7 +240,7 @@ module _ (B : Build) (log : List Entry) (ok : BuildOk B log) (small : 15 + lengt
     abbrev new : Entry
     new = record { addr = 15 + length after; node = b }
 
-    longer : length (B .nodes) + 1 ≤ length after
+    pub longer : length (B .nodes) + 1 ≤ length after
     longer = grown-more (B .nodes) b some (fine .ranges) (fine .ok)
 
     new-stands : Stands after (new ∷ log) new
@@ -321,13 +330,15 @@ module _ (B : Build) (log : List Entry) (ok : BuildOk B log) (small : 15 + lengt
     on = inl refl;
     more = [];
     nodes-is = sym (append-nil (B .nodes));
+    way = nothing z;
+    added-by = refl;
   }
   intern-by fine r (first some e) =
       let w = matched (rowOf (B .cells) b) e in
-      record { added = []; build = ok; added-is = λ e mem. none-added e _ mem; at = w .0; on = inr (w .1); more = []; nodes-is = sym (append-nil (B .nodes)) }
+      record { added = []; build = ok; added-is = λ e mem. none-added e _ mem; at = w .0; on = inr (w .1); more = []; nodes-is = sym (append-nil (B .nodes)); way = first some e; added-by = refl }
   intern-by fine r (second some e) =
       let w = matched (rowOf (B .cells) b + 1) e in
-      record { added = []; build = moved-ok; added-is = λ e mem. none-added e _ mem; at = w .0; on = inr (w .1); more = []; nodes-is = sym (append-nil (B .nodes)) }
+      record { added = []; build = moved-ok; added-is = λ e mem. none-added e _ mem; at = w .0; on = inr (w .1); more = []; nodes-is = sym (append-nil (B .nodes)); way = second some e; added-by = refl }
   intern-by fine r (wrote some no-first no-second) = record {
     added = new fine some ∷ [];
     build = written-ok fine some no-first no-second;
@@ -336,6 +347,8 @@ module _ (B : Build) (log : List Entry) (ok : BuildOk B log) (small : 15 + lengt
     on = inr (record { entry = new fine some; member = List·Memᴰ·head refl; is = refl });
     more = packed (16 + length (B .nodes)) b;
     nodes-is = refl;
+    way = wrote some no-first no-second;
+    added-by = refl;
   }
 
   pub intern-ok : Fine (B .nodes) log b → InternOk B b log (intern B b)

@@ -6,7 +6,7 @@
 --     close-ok                 what is kept, and that nothing held is lost or new
 -- Assumes nothing.
 use mathlib.Core.Path.{_≡_, refl, sym, ap, _∙_, subst}
-use mathlib.Core.Bool.{Bool, true, false}
+use mathlib.Core.Bool.{Bool, true, false, _&&_}
 use mathlib.Core.Logic.{_⊎_, inl, inr, ⊎-elim}
 use mathlib.Core.Option.{Option, none, some}
 use mathlib.Core.List.{List, [], _∷_, _++_, append-nil, append-assoc, map, List·Memᴰ, List·Memᴰ·head, List·Memᴰ·tail, List·Memᴰ·not-nil, List·Memᴰ·cases-cons, List·Memᴰ·append-cases, List·Memᴰ·eq-of-singleton, Memᴰ·append-left, Memᴰ·append-right}
@@ -22,8 +22,10 @@ use Rattle.format.specs.Paths.{Fst, HeldFrom}
 use Rattle.format.specs.laws.TransitionLaws.{ascends-by}
 use Rattle.packing.specs.Registry.{transitionsIn, Build, Interned, intern}
 use Rattle.packing.specs.Packing.{Arc, Open, leastAt, isSome, finalOut, recordOf, withArc, withValue, Closed, closedAs, finish, finishWith, close}
+use Rattle.packing.specs.Kept.{keeps, closeKeeps}
 use Rattle.packing.specs.laws.FileLaws.{Has, has-less, At}
 use Rattle.packing.specs.laws.BuildLaws.{Entry, InLog, OnLog, BuildOk, Fine, Interning, nothing, first, second, wrote, intern-cases, InternOk, intern-ok}
+use Rattle.packing.specs.laws.KeptLaws.{and-assoc, Kept, kept-as, intern-kept}
 use Rattle.packing.specs.laws.HoldingLaws.{ArcHolds, OpenHolds, ends, along, StackHolds, OfArc, transition-of-arc, Base, zero-base, least-base, held-open, open-held}
 
 -- ---- what is kept
@@ -202,8 +204,8 @@ close-grows B o (p ∷ s) =
 -- ---- a node is finished
 
 module _ (g : Fst) (n : ℕ) where
-  -- Held says what the open nodes held
-  pub record CloseOk (o : Open) (Held : List ℕ → ℕ → Type 0) (log : List Entry) (c : Closed) : Type 0 where
+  -- from the build B; y says that no filled cell was overwritten meanwhile, Held what the open nodes held
+  pub record CloseOk (B : Build) (y : Bool) (o : Open) (Held : List ℕ → ℕ → Type 0) (log : List Entry) (c : Closed) : Type 0 where
     pub log′ : List Entry
     pub keeps : Keeps log log′
     pub build : BuildOk (c .build) log′
@@ -212,9 +214,10 @@ module _ (g : Fst) (n : ℕ) where
     pub inp-is : c .arc .inp ≡ o .inp
     pub holds : (k : List ℕ) (v : ℕ) → ArcHolds g (c .arc) (o .inp ∷ k) v → Held k v
     pub back : (k : List ℕ) (v : ℕ) → Held k v → ArcHolds g (c .arc) (o .inp ∷ k) v
+    pub kept : (x : Bool) → Kept B log x → Kept (c .build) log′ (x && y)
 
   pub finish-ok : (B : Build) (o : Open) (log : List Entry) → Has (finish B o .build .nodes) g → BuildOk B log → Shorter g n log → OpenOk log o → o .inp < 256 → Live o
-      → ((k : List ℕ) (v : ℕ) → OpenHolds g o k v → length k < n) → CloseOk o (OpenHolds g o) log (finish B o)
+      → ((k : List ℕ) (v : ℕ) → OpenHolds g o k v → length k < n) → CloseOk B (keeps B (recordOf o (leastAt o))) o (OpenHolds g o) log (finish B o)
   finish-ok B o log has build shorter ok byte live short =
       let base : ℕ = leastAt o in
       let low = least-base o in
@@ -238,10 +241,11 @@ module _ (g : Fst) (n : ℕ) where
         back = λ k v w.
             let h = open-held o base low reads k v w in
             record { rest = k; more = v - base; key-is = refl; value-is = omega (arith, h .0); held = h .1 };
+        kept = intern-kept B log build (omega (arith, has₀ .low, has₀ .high)) (recordOf o base) (fine-of build ok base live) r;
       }
 
   -- the open nodes below have become a transition
-  module _ (o p : Open) (s : List Open) (log : List Entry) (c : Closed) (r : CloseOk p (StackHolds g p s) log c) where
+  module _ {B : Build} {y : Bool} (o p : Open) (s : List Open) (log : List Entry) (c : Closed) (r : CloseOk B y p (StackHolds g p s) log c) where
     with-holds : (k : List ℕ) (v : ℕ) → OpenHolds g (withArc o (c .arc)) k v → StackHolds g o (p ∷ s) k v
     with-holds k v (ends e is) = inl (ends e is)
     with-holds k v (along a mem w) =
@@ -268,8 +272,8 @@ module _ (g : Fst) (n : ℕ) where
     with-ok ok next = with-arc-ok (open-keeps (r .keeps) ok) (r .arc-ok) (λ a mem. omega (arith, next .before a mem, r .inp-is))
 
   pub close-ok : (B : Build) (o : Open) (s : List Open) (log : List Entry) → Has (close B o s .build .nodes) g → BuildOk B log → Shorter g n log → StackOk log o s → o .inp < 256
-      → LastFinal o s → ((k : List ℕ) (v : ℕ) → StackHolds g o s k v → length k < n) → CloseOk o (StackHolds g o s) log (close B o s)
-  unfolding close
+      → LastFinal o s → ((k : List ℕ) (v : ℕ) → StackHolds g o s k v → length k < n) → CloseOk B (closeKeeps B o s) o (StackHolds g o s) log (close B o s)
+  unfolding close closeKeeps
   close-ok B o [] log has build shorter ok byte last short = finish-ok B o log has build shorter ok byte (inl last) short
   close-ok B o (p ∷ s) log has build shorter (ok, next, below) byte last short =
       let c : Closed = close B p s in
@@ -289,4 +293,5 @@ module _ (g : Fst) (n : ℕ) where
         inp-is = f .inp-is;
         holds = λ k v w. with-holds-stack o p s log c r k v (f .holds k v w);
         back = λ k v w. f .back k v (holds-with o p s log c r k v w);
+        kept = λ x w. kept-as (and-assoc x (closeKeeps B p s) (keeps (c .build) (recordOf o′ (leastAt o′)))) (f .kept (x && closeKeeps B p s) (r .kept x w));
       }

@@ -5,7 +5,7 @@
 -- Assumes nothing.
 use Prim.{Unit, tt}
 use mathlib.Core.Path.{_≡_, refl, sym, ap, _∙_, subst}
-use mathlib.Core.Bool.{Bool, true, false, cond}
+use mathlib.Core.Bool.{Bool, true, false, cond, _&&_}
 use mathlib.Core.Logic.{_⊎_, inl, inr, ⊎-elim}
 use mathlib.Core.Option.{Option, none, some}
 use mathlib.Core.List.{List, [], _∷_, _++_, map, List·Memᴰ, List·Memᴰ·head, List·Memᴰ·tail, List·Memᴰ·not-nil, List·Memᴰ·cases-cons, List·Memᴰ·append-cases, List·Memᴰ·eq-of-singleton}
@@ -26,6 +26,8 @@ use Rattle.packing.specs.Promise.{Bytes, PairOk}
 use Rattle.packing.specs.laws.FileLaws.{Has}
 use Rattle.packing.specs.laws.BuildLaws.{Entry, BuildOk}
 use Rattle.packing.specs.laws.HoldingLaws.{ArcHolds, OpenHolds, ends, along, StackHolds}
+use Rattle.packing.specs.Kept.{closeKeeps, insertKeeps, insertAllKeeps}
+use Rattle.packing.specs.laws.KeptLaws.{and-true, and-assoc, Kept, kept-as}
 use Rattle.packing.specs.laws.CloseLaws.{ArcOk, OpenOk, NextOk, StackOk, LastFinal, Shorter, Keeps, open-keeps, Grows, grows-trans, grows-none, has-grown, close-grows, CloseOk, holds-with, with-holds-stack, with-ok, close-ok}
 
 abbrev pub inputs : List Open → List ℕ
@@ -142,7 +144,8 @@ insert-all-grows t (p ∷ ps) = grows-trans (insert-grows (t .build) (t .top) (t
 -- ---- a pair more
 
 module _ (g : Fst) (n : ℕ) where
-  pub record InsertOk (o : Open) (s : List Open) (k : List ℕ) (v : ℕ) (log : List Entry) (t : State) : Type 0 where
+  -- from the build B; y says that no filled cell was overwritten meanwhile
+  pub record InsertOk (B : Build) (y : Bool) (o : Open) (s : List Open) (k : List ℕ) (v : ℕ) (log : List Entry) (t : State) : Type 0 where
     pub log′ : List Entry
     pub keeps : Keeps log log′
     pub build : BuildOk (t .build) log′
@@ -155,10 +158,11 @@ module _ (g : Fst) (n : ℕ) where
     pub holds : (l : List ℕ) (w : ℕ) → StackHolds g (t .top) (t .below) l w → (StackHolds g o s l w) ⊎ ((l ≡ k) × (w ≡ v))
     pub old : (l : List ℕ) (w : ℕ) → StackHolds g o s l w → StackHolds g (t .top) (t .below) l w
     pub new : StackHolds g (t .top) (t .below) k v
+    pub kept : (x : Bool) → Kept B log x → Kept (t .build) log′ (x && y)
 
   -- the first key, and empty
   ending : (B : Build) (o : Open) (v : ℕ) (log : List Entry) → BuildOk B log → Shorter g n log → OpenOk log o → o .value ≡ none → o .arcs ≡ [] → v ≤ maxSum
-      → InsertOk o [] [] v log (stateWith B (withValue o v) [])
+      → InsertOk B true o [] [] v log (stateWith B (withValue o v) [])
   ending B o v log build shorter ok empty bare fits = record {
     log′ = log;
     keeps = λ e mem. mem;
@@ -172,6 +176,7 @@ module _ (g : Fst) (n : ℕ) where
     holds = λ l w h. with-value l w h;
     old = λ l w h. keep l w h;
     new = ends refl refl;
+    kept = λ x w. kept-as (sym (and-true x)) w;
   }
     where
       with-value : (l : List ℕ) (w : ℕ) → OpenHolds g (withValue o v) l w → (OpenHolds g o l w) ⊎ ((l ≡ []) × (w ≡ v))
@@ -184,7 +189,7 @@ module _ (g : Fst) (n : ℕ) where
 
   -- the key leaves the open nodes at o, where all that stood below has been finished
   opening : (B : Build) (o : Open) (b : ℕ) (k : List ℕ) (v : ℕ) (log : List Entry) → BuildOk B log → Shorter g n log → OpenOk log o
-      → ((a : Arc) → List·Memᴰ a (o .arcs) → a .inp < b) → Bytes (b ∷ k) → v ≤ maxSum → InsertOk o [] (b ∷ k) v log (stateWith B o (openKey b k v))
+      → ((a : Arc) → List·Memᴰ a (o .arcs) → a .inp < b) → Bytes (b ∷ k) → v ≤ maxSum → InsertOk B true o [] (b ∷ k) v log (stateWith B o (openKey b k v))
   opening B o b k v log build shorter ok before bytes fits = record {
     log′ = log;
     keeps = λ e mem. mem;
@@ -198,11 +203,12 @@ module _ (g : Fst) (n : ℕ) where
     holds = λ l w h. open-key-holds g o b k v l w h;
     old = λ l w h. open-key-old g o b k v l w h;
     new = open-key-new g o b k v;
+    kept = λ x w. kept-as (sym (and-true x)) w;
   }
 
   -- the key goes on below o
-  going : (o p : Open) (s : List Open) (b : ℕ) (k : List ℕ) (v : ℕ) (log : List Entry) (t : State) → p .inp ≡ b → OpenOk log o → NextOk o p → InsertOk p s k v log t
-      → InsertOk o (p ∷ s) (b ∷ k) v log (under o t)
+  going : {B : Build} {y : Bool} (o p : Open) (s : List Open) (b : ℕ) (k : List ℕ) (v : ℕ) (log : List Entry) (t : State) → p .inp ≡ b → OpenOk log o → NextOk o p → InsertOk B y p s k v log t
+      → InsertOk B y o (p ∷ s) (b ∷ k) v log (under o t)
   going o p s b k v log t e ok next r = record {
     log′ = r .log′;
     keeps = r .keeps;
@@ -216,6 +222,7 @@ module _ (g : Fst) (n : ℕ) where
     holds = λ l w h. holds l w h;
     old = λ l w h. old l w h;
     new = inr (k, ap (λ (x : ℕ). x ∷ k) (sym e ∙ sym (r .inp-is)), r .new);
+    kept = r .kept;
   }
     where
       holds : (l : List ℕ) (w : ℕ) → StackHolds g o (t .top ∷ t .below) l w → (StackHolds g o (p ∷ s) l w) ⊎ ((l ≡ b ∷ k) × (w ≡ v))
@@ -229,9 +236,9 @@ module _ (g : Fst) (n : ℕ) where
       old l w (inr (m, is, h)) = inr (m, is ∙ ap (λ (x : ℕ). x ∷ m) (sym (r .inp-is)), r .old m w h)
 
   -- the nodes below o are finished, and the key leaves there
-  leaving : (o p : Open) (s : List Open) (b : ℕ) (k : List ℕ) (v : ℕ) (log : List Entry) (c : Closed) → p .inp < b → OpenOk log o → NextOk o p → Bytes (b ∷ k) → v ≤ maxSum
-      → CloseOk g n p (StackHolds g p s) log c → InsertOk o (p ∷ s) (b ∷ k) v log (branch o c b k v)
-  leaving o p s b k v log c lower ok next bytes fits r =
+  leaving : {B : Build} {y : Bool} (o p : Open) (s : List Open) (b : ℕ) (k : List ℕ) (v : ℕ) (log : List Entry) (c : Closed) → p .inp < b → OpenOk log o → NextOk o p → Bytes (b ∷ k) → v ≤ maxSum
+      → CloseOk g n B y p (StackHolds g p s) log c → InsertOk B y o (p ∷ s) (b ∷ k) v log (branch o c b k v)
+  leaving {B} {y} o p s b k v log c lower ok next bytes fits r =
       let q = opening (c .build) (withArc o (c .arc)) b k v (r .log′) (r .build) (r .shorter) (with-ok g n o p s log c r ok next)
       (λ a mem.
       ⊎-elim (λ m. omega (arith, next .before a m, lower)) (λ m. omega (arith, ap (λ (x : Arc). x .inp) (List·Memᴰ·eq-of-singleton m), r .inp-is, lower))
@@ -249,12 +256,13 @@ module _ (g : Fst) (n : ℕ) where
         holds = λ l w h. ⊎-elim (λ z. inl (with-holds-stack g n o p s log c r l w z)) (λ z. inr z) (q .holds l w h);
         old = λ l w h. q .old l w (holds-with g n o p s log c r l w h);
         new = q .new;
+        kept = λ x w. kept-as (and-true (x && y)) (q .kept (x && y) (r .kept x w));
       }
 
   pub insert-ok : (B : Build) (o : Open) (s : List Open) (k : List ℕ) (v : ℕ) (log : List Entry) → Has (insert B o s k v .build .nodes) g → BuildOk B log → Shorter g n log
       → StackOk log o s → BelowFinal s → Next o s k → Bytes k → v ≤ maxSum → ((l : List ℕ) (w : ℕ) → StackHolds g o s l w → length l ≤ n)
-      → LastBare o s → InsertOk o s k v log (insert B o s k v)
-  unfolding insert
+      → LastBare o s → InsertOk B (insertKeeps B o s k) o s k v log (insert B o s k v)
+  unfolding insert insertKeeps
   insert-ok B o [] [] v log has build shorter ok below (inl h) bytes fits short bare = absurd (before-nil [] h)
   insert-ok B o [] [] v log has build shorter ok below (inr h) bytes fits short bare = ending B o v log build shorter ok (h .2) bare fits
   insert-ok B o (p ∷ s) [] v log has build shorter ok below (inl h) bytes fits short bare = absurd (before-nil (inputs (p ∷ s)) h)
@@ -270,8 +278,8 @@ module _ (g : Fst) (n : ℕ) where
       after (inr h) = absurd (let e = h .0 in let z : _≡_ {A = ℕ} 0 1 = cc in omega arith)
 
       go : (x : Bool) → eqb (p .inp) b ≡ x → Has (cond x (under o (insert B p s k v)) (branch o (close B p s) b k v) .build .nodes) g
-          → (Has (insert B p s k v .build .nodes) g → Next p s k → InsertOk p s k v log (insert B p s k v))
-          → InsertOk o (p ∷ s) (b ∷ k) v log (cond x (under o (insert B p s k v)) (branch o (close B p s) b k v))
+          → (Has (insert B p s k v .build .nodes) g → Next p s k → InsertOk B (insertKeeps B p s k) p s k v log (insert B p s k v))
+          → InsertOk B (cond x (insertKeeps B p s k) (closeKeeps B p s)) o (p ∷ s) (b ∷ k) v log (cond x (under o (insert B p s k v)) (branch o (close B p s) b k v))
       go true e h rec =
           let is = eqb-true (p .inp) b e in
           going o p s b k v log (insert B p s k v) is ok next-ok (rec h (⊎-elim (λ l. absurd (omega arith)) (λ q. inl (q .1)) (after next)))
@@ -281,7 +289,7 @@ module _ (g : Fst) (n : ℕ) where
 
   -- ---- a list of pairs
 
-  pub record RunOk (t : State) (ps : List Pair) (u : State) : Type 0 where
+  pub record RunOk (t : State) (log₀ : List Entry) (y : Bool) (ps : List Pair) (u : State) : Type 0 where
     pub log : List Entry
     pub build : BuildOk (u .build) log
     pub shorter : Shorter g n log
@@ -291,6 +299,7 @@ module _ (g : Fst) (n : ℕ) where
     pub holds : (l : List ℕ) (w : ℕ) → StackHolds g (u .top) (u .below) l w → (StackHolds g (t .top) (t .below) l w) ⊎ List·Memᴰ (record { key = l; value = w }) ps
     pub old : (l : List ℕ) (w : ℕ) → StackHolds g (t .top) (t .below) l w → StackHolds g (u .top) (u .below) l w
     pub new : (p : Pair) → List·Memᴰ p ps → StackHolds g (u .top) (u .below) (p .key) (p .value)
+    pub kept : (x : Bool) → Kept (t .build) log₀ x → Kept (u .build) log (x && y)
 
   abbrev pub Follows : Open → List Open → List Pair → Type 0
   Follows o s [] = Unit {0}
@@ -298,8 +307,8 @@ module _ (g : Fst) (n : ℕ) where
 
   pub insert-all-ok : (t : State) (ps : List Pair) (log : List Entry) → Has (insertAll t ps .build .nodes) g → BuildOk (t .build) log → Shorter g n log
       → StackOk log (t .top) (t .below) → BelowFinal (t .below) → LastBare (t .top) (t .below) → ((l : List ℕ) (w : ℕ) → StackHolds g (t .top) (t .below) l w → length l ≤ n)
-      → ((p : Pair) → List·Memᴰ p ps → PairOk n p) → Follows (t .top) (t .below) ps → Rising (map (λ (p : Pair). p .key) ps) → RunOk t ps (insertAll t ps)
-  unfolding insertAll
+      → ((p : Pair) → List·Memᴰ p ps → PairOk n p) → Follows (t .top) (t .below) ps → Rising (map (λ (p : Pair). p .key) ps) → RunOk t log (insertAllKeeps t ps) ps (insertAll t ps)
+  unfolding insertAll insertAllKeeps
   insert-all-ok t [] log has build shorter stack final bare short pairs follows rising = record {
     log = log;
     build = build;
@@ -310,6 +319,7 @@ module _ (g : Fst) (n : ℕ) where
     holds = λ l w h. inl h;
     old = λ l w h. h;
     new = λ p mem. absurd (List·Memᴰ·not-nil mem);
+    kept = λ x w. kept-as (sym (and-true x)) w;
   }
   insert-all-ok t (p ∷ ps) log has build shorter stack final bare short pairs follows rising =
       let ok = pairs p (List·Memᴰ·head refl) in
@@ -331,6 +341,9 @@ module _ (g : Fst) (n : ℕ) where
             (λ z. inr (List·Memᴰ·tail z)) (q .holds l w h);
         old = λ l w h. q .old l w (r .old l w h);
         new = λ e mem. ⊎-elim (λ z. rw z (q .old (p .key) (p .value) (r .new))) (λ z. q .new e z) (List·Memᴰ·cases-cons mem);
+        kept = λ x w.
+            let y : Bool = insertKeeps (t .build) (t .top) (t .below) (p .key) in
+            kept-as (and-assoc x y (insertAllKeeps u ps)) (q .kept (x && y) (r .kept x w));
       }
     where
       follow-on : (u : State) → inputs (u .below) ≡ p .key → (ps : List Pair) → AllAfter (p .key) (map (λ (x : Pair). x .key) ps) → Follows (u .top) (u .below) ps

@@ -1,8 +1,7 @@
--- What packing a list of bytes answers, and what the file is then.
+-- What packing a list of bytes answers.
 --     Written              what an answer with a file says
 --     answer-written-means where a file is answered, it is the file of the list's pairs
---     answer-list, answer-space, answer-large    each refusal in its case; with the others, the order: LIST, SPACE, LARGE
---     list-packed          the file that is answered is admitted, and holds exactly the listed pairs
+--     answer-list, answer-tables, answer-cells, answer-room, answer-over   each refusal in its case, and so their order: LIST, SPACE, LARGE
 -- Assumes nothing.
 use mathlib.Core.Path.{_≡_, refl, sym, ap, _∙_, subst}
 use mathlib.Core.Bool.{Bool, true, false, cond, _&&_}
@@ -11,16 +10,13 @@ use Prim.Native.Nat.{ℕ, _≤_, _<_}
 use native.Mathlib.Omega.{arith}
 use borrow.Author.Tests.{leb-true, le-leb, lt-leb}
 use lib.Dec.{leb}
-use lib.ListN.{length, getD}
+use lib.ListN.{length}
 use Rattle.buffers.specs.DecideLaws.{true-of, false-of}
-use Rattle.format.specs.Limits.{maxLen, LARGE, SPACE}
-use Rattle.format.specs.Admitted.{Admitted}
-use Rattle.packing.specs.Lists.{Pair, LIST, IsList, listTest, pairsOf}
+use Rattle.format.specs.Limits.{LARGE, SPACE, LIST}
+use Rattle.packing.specs.Lists.{IsList, listTest, pairsOf}
 use Rattle.packing.specs.Registry.{Cell}
 use Rattle.packing.specs.Packing.{packFile, packCells, Answer, written, refused, packAnswer}
-use Rattle.packing.specs.Promise.{PackRight}
-use Rattle.packing.specs.laws.ListLaws.{decides-list, list-listed, count-lt}
-use Rattle.packing.specs.laws.PackLaws.{pack-admitted, pack-right}
+use Rattle.packing.specs.laws.ListLaws.{decides-list}
 
 pub record Written (limit : ℕ) (s : List ℕ) (tables : Bool) (n room : ℕ) (file : List ℕ) (cells : List Cell) : Type 0 where
   pub list : IsList s
@@ -87,15 +83,3 @@ module _ (limit : ℕ) (s : List ℕ) (tables : Bool) (n room : ℕ) where
   unfolding packAnswer
   answer-over ok e cells fits over =
       rw (true-of (listTest s) (decides-list s) ok, e, le-leb 2 n cells, le-leb (length file₀) room fits, lt-leb (length file₀) limit over)
-
--- ---- the promise, of the bytes
-
-pub record Packed (s : List ℕ) (n : ℕ) : Type 0 where
-  pub admitted : Admitted (packFile (pairsOf s) n)
-  pub right : PackRight (pairsOf s) n admitted
-
-pub list-packed : (s : List ℕ) (n : ℕ) → ((i : ℕ) → getD s i 0 < 256) → IsList s → length (packFile (pairsOf s) n) ≤ maxLen → Packed s n
-list-packed s n bytes ok small =
-    let listed = list-listed s bytes ok in
-    let A = pack-admitted (pairsOf s) n listed small in
-    record { admitted = A; right = pack-right (pairsOf s) n listed small (count-lt s bytes) A }

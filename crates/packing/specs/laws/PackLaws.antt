@@ -1,6 +1,7 @@
 -- The whole: a packed list is admitted, says what it is, and holds exactly the pairs.
 --     no-file              the file of the empty list: one node that is neither final nor has a transition
 --     pack-admitted        the file of every list that is not too large is admitted
+--     pack-kept            whether a filled cell was overwritten is seen from the cells and the nodes
 --     pack-right           it opens as version 2, type 0, with the number of keys; it holds a key with a value exactly where the list has them;
 --                          each cell is empty or has a node's address and hash; where every node still stands in a cell, no two nodes are the same
 -- Assumes nothing.
@@ -11,7 +12,8 @@ use mathlib.Core.Option.{none}
 use mathlib.Core.List.{List, [], _∷_, _++_, List·Memᴰ, List·Memᴰ·head, List·Memᴰ·not-nil, List·Memᴰ·eq-of-singleton}
 use Prim.Native.Nat.{ℕ, _+_, _^_, _≤_, _<_}
 use native.Mathlib.Omega.{arith}
-use lib.ListN.{length, replicate}
+use borrow.Author.Tests.{eq-eqb}
+use lib.ListN.{length, replicate, length-replicate}
 use Rattle.format.specs.declared.Transition.{Transition}
 use Rattle.format.specs.Limits.{maxLen, maxPath, maxSum}
 use Rattle.format.specs.Node.{Node, sound, transitionsOf, Ascending, Useful}
@@ -26,13 +28,15 @@ use Rattle.format.specs.laws.ReachedLaws.{shallow-root, light-root}
 use Rattle.packing.specs.Lists.{Pair}
 use Rattle.packing.specs.Registry.{hashNode, hashOf, Cell, emptyCell, Build, cellAt, rowOf, Interned, intern}
 use Rattle.packing.specs.Packing.{recordOf, start, insertAll, packNodes, packFile, packCells}
+use Rattle.packing.specs.Kept.{keeps, packKeeps, insertAllKeeps, KeptSeen}
 use Rattle.packing.specs.Promise.{Listed, pairWith, SameNodes, InCell, CellOf, PackRight}
 use Rattle.packing.specs.laws.FileLaws.{Has, nodeWith, packed-some, written-reads}
 use Rattle.packing.specs.laws.InternLaws.{match-filled}
 use Rattle.packing.specs.laws.BuildLaws.{row-set, Interning, nothing, first, second, wrote, intern-cases}
 use Rattle.packing.specs.laws.RootLaws.{cell-empty}
 use Rattle.packing.specs.laws.TrailerLaws.{length-file, file-has, version-said, type-said, count-said, Placed, file-said, file-opens}
-use Rattle.packing.specs.laws.WholeFileLaws.{FileOk, run, some-file}
+use Rattle.packing.specs.laws.KeptLaws.{first-set, keeps-wrote}
+use Rattle.packing.specs.laws.WholeFileLaws.{FileOk, run, some-file, some-kept}
 use Rattle.packing.specs.laws.RootLaws.{RootOk}
 use Rattle.packing.specs.laws.BuildLaws.{addrs}
 
@@ -58,16 +62,17 @@ bare-ok small = record {
   final-ok = λ e. refl;
 }
 
-record NoneOk (r : Interned) : Type 0 where
+record NoneOk (m : ℕ) (r : Interned) : Type 0 where
   nodes-is : r .build .nodes ≡ packed 16 bareNode
   addr-is : r .addr ≡ 15 + length (r .build .nodes)
   cells-are : (i : ℕ) → (cellAt (r .build .cells) i ≡ emptyCell) ⊎ (cellAt (r .build .cells) i ≡ record { addr = r .addr; hash = hashOf bareNode })
+  in-cell : 2 ≤ m → InCell (r .build .cells) (r .addr)
 
 module _ (m : ℕ) where
   abbrev blank : Build
   blank = record { nodes = []; cells = replicate m emptyCell }
 
-  none-by : (r : Interned) → Interning blank bareNode r → NoneOk r
+  none-by : (r : Interned) → Interning blank bareNode r → NoneOk m r
   none-by r (nothing e) = absurd (let z : _≡_ {A = ℕ} 0 1 = cc in omega arith)
   none-by r (first e f) = absurd (match-filled [] (omega arith) bareNode _ f (ap (λ (c : Cell). c .addr) (cell-empty m (rowOf (blank .cells) bareNode))))
   none-by r (second e f) = absurd (match-filled [] (omega arith) bareNode _ f (ap (λ (c : Cell). c .addr) (cell-empty m (rowOf (blank .cells) bareNode + 1))))
@@ -77,9 +82,20 @@ module _ (m : ℕ) where
     cells-are =
         row-set (λ (j : ℕ) (c : Cell). (c ≡ emptyCell) ⊎ (c ≡ record { addr = 15 + length (packed 16 bareNode); hash = hashOf bareNode })) (blank .cells) (rowOf (blank .cells) bareNode) _ _
         (inr refl) (inl (cell-empty m (rowOf (blank .cells) bareNode))) (λ j. inl (cell-empty m j));
+    in-cell = λ two. (rowOf (blank .cells) bareNode, ap (λ (c : Cell). c .addr) (first-set (blank .cells) bareNode _ _ (omega (arith, two, length-replicate m emptyCell))));
   }
 
-  none-ok : NoneOk (packNodes [] m)
+  none-keeps : packKeeps [] m ≡ true
+  unfolding packKeeps insertAllKeeps insertAll recordOf keeps
+  none-keeps = none-by-keeps (intern-cases blank bareNode)
+    where
+      none-by-keeps : {r : Interned} → Interning blank bareNode r → keeps blank bareNode ≡ true
+      none-by-keeps (nothing e) = absurd (let z : _≡_ {A = ℕ} 0 1 = cc in omega arith)
+      none-by-keeps (first e f) = absurd (match-filled [] (omega arith) bareNode _ f (ap (λ (c : Cell). c .addr) (cell-empty m (rowOf (blank .cells) bareNode))))
+      none-by-keeps (second e f) = absurd (match-filled [] (omega arith) bareNode _ f (ap (λ (c : Cell). c .addr) (cell-empty m (rowOf (blank .cells) bareNode + 1))))
+      none-by-keeps (wrote e f h) = keeps-wrote blank bareNode e f h ∙ eq-eqb _ 1 (ap (λ (c : Cell). c .addr) (cell-empty m (rowOf (blank .cells) bareNode + 1)))
+
+  none-ok : NoneOk m (packNodes [] m)
   unfolding packNodes insertAll recordOf
   none-ok = none-by (intern blank bareNode) (intern-cases blank bareNode)
 
@@ -149,17 +165,24 @@ module _ (m : ℕ) where
         cell : CellOf g (r .addr ∷ []) (record { addr = r .addr; hash = hashOf bareNode })
         cell = record { node = nodeWith 16 bareNode; on = List·Memᴰ·head refl; judged = read; hash-is = refl }
 
+    pub none-kept : 2 ≤ m → KeptSeen (packKeeps [] m) (packCells [] m) (r .addr ∷ [])
+    none-kept two = record {
+      kept = λ t a mem. subst (InCell (packCells [] m)) (sym (List·Memᴰ·eq-of-singleton mem)) (none-ok .in-cell two);
+      seen = λ all. none-keeps;
+    }
+
 -- ---- every list
 
 pub record PackedOk (ps : List Pair) (m : ℕ) : Type 0 where
   pub chain : List ℕ
   pub file : FileOk ps (packCells ps m) (fstWith (packFile ps m) 2 (packNodes ps m .addr)) chain
   pub place : Placed (length ps) (packNodes ps m)
+  pub kept : 2 ≤ m → KeptSeen (packKeeps ps m) (packCells ps m) chain
 
 pub packed-ok : (ps : List Pair) (m : ℕ) → Listed ps → length (packFile ps m) ≤ maxLen → PackedOk ps m
-packed-ok [] m listed small = record { chain = packNodes [] m .addr ∷ []; file = no-file m small; place = inr (none-ok m .addr-is, some m small) }
+packed-ok [] m listed small = record { chain = packNodes [] m .addr ∷ []; file = no-file m small; place = inr (none-ok m .addr-is, some m small); kept = none-kept m small }
 packed-ok (p ∷ ps) m listed small =
-    record { chain = addrs (run p ps m listed small .log); file = some-file p ps m listed small; place = run p ps m listed small .place }
+    record { chain = addrs (run p ps m listed small .log); file = some-file p ps m listed small; place = run p ps m listed small .place; kept = some-kept p ps m listed small }
 
 module _ (ps : List Pair) (m : ℕ) (listed : Listed ps) (small : length (packFile ps m) ≤ maxLen) where
   ok : PackedOk ps m
@@ -179,6 +202,13 @@ module _ (ps : List Pair) (m : ℕ) (listed : Listed ps) (small : length (packFi
   }
 
   -- however it is admitted
+  pub pack-kept : 2 ≤ m → (A : Admitted (packFile ps m)) → KeptSeen (packKeeps ps m) (packCells ps m) (A .nodes)
+  pack-kept two A =
+      let is : A .meta ≡ metaOf (packFile ps m) = opened-facts (packFile ps m) (A .meta) (A .opens) .is in
+      let g-is : fstWith (packFile ps m) 2 (packNodes ps m .addr) ≡ fstOf (packFile ps m) (A .meta) = said ∙ ap (fstOf (packFile ps m)) (sym is) in
+      let f = subst (λ (g : Fst). FileOk ps (packCells ps m) g (ok .chain)) g-is (ok .file) in
+      subst (KeptSeen (packKeeps ps m) (packCells ps m)) (root-chain-unique (f .nodes .chain) (A .chained .chain)) (ok .kept two)
+
   pub pack-right : length ps < 256 ^ 8 → (A : Admitted (packFile ps m)) → PackRight ps m A
   unfolding metaOf
   pack-right few A =

@@ -4,8 +4,11 @@
 --     falling              values that fall along the keys
 --     shared               two equal nodes are one
 --     one-hash             two different nodes with one hash are both written
+--     three-cells          as two cells
+--     shared-kept, one-hash-lost   whether a filled cell was overwritten
 -- Assumes nothing.
 use mathlib.Core.Path.{_≡_, refl}
+use mathlib.Core.Bool.{true, false}
 use mathlib.Core.List.{List, [], _∷_}
 use Prim.Native.Nat.{ℕ}
 use Rattle.format.specs.Bytes.{le, bytesOf, sizeUpTo, packSize, largest}
@@ -15,6 +18,7 @@ use Rattle.format.specs.Node.{headLen, inputOf, ntransOf, sizesByte, indexLen, 
 use Rattle.packing.specs.Lists.{Pair}
 use Rattle.packing.specs.Registry.{fnvStep, hashTransitions, hashNode, hashOf, rowOf, sameTransitions, matches, intern}
 use Rattle.packing.specs.Packing.{leastOf, leastAt, recordOf, close, openKey, insert, insertAll, packNodes, fileOf, packFile}
+use Rattle.packing.specs.Kept.{keeps, closeKeeps, insertKeeps, insertAllKeeps, packKeeps}
 
 pub hash-row : fnvStep 14695981039346656037 97 ≡ 12638187200555641996
 unfolding fnvStep
@@ -62,3 +66,18 @@ pub one-hash : packFile (pair (49 ∷ 97 ∷ []) 0 ∷ pair (49 ∷ 99 ∷ []) 5
     ≡ (2 ∷ 0 ∷ 0 ∷ 0 ∷ 0 ∷ 0 ∷ 0 ∷ 0 ∷ 0 ∷ 0 ∷ 0 ∷ 0 ∷ 0 ∷ 0 ∷ 0 ∷ 0 ∷ 5 ∷ 0 ∷ 0 ∷ 0 ∷ 99 ∷ 97 ∷ 17 ∷ 2 ∷ 82 ∷ 126 ∷ 163 ∷ 254 ∷ 59 ∷ 2 ∷ 48 ∷ 32 ∷ 0 ∷ 0 ∷ 0 ∷ 0 ∷ 0 ∷ 0 ∷ 0 ∷ 0 ∷ 0 ∷ 0 ∷ 99 ∷ 98 ∷ 24 ∷ 2 ∷ 1 ∷ 23 ∷ 50 ∷ 49 ∷ 16 ∷ 2 ∷ 4 ∷ 0 ∷ 0 ∷ 0 ∷ 0 ∷ 0 ∷ 0 ∷ 0 ∷ 51 ∷ 0 ∷ 0 ∷ 0 ∷ 0 ∷ 0 ∷ 0 ∷ 0 ∷ [])
 unfolding le bytesOf sizeUpTo packSize largest commonInputs commonInputsInv commonIdx commonInput storedNumbers storedBytes placeFrom upFrom indexOf indexBytes outputSize deltaSize inputBytes packedNext packedOne headOf packedAny packed headLen inputOf ntransOf sizesByte indexLen sizeOf downFrom bytesDown numbersDown transitionsOf nodeOf soundTest nodeAt fnvStep hashTransitions hashNode hashOf rowOf sameTransitions matches intern leastOf leastAt recordOf close openKey insert insertAll packNodes fileOf
 one-hash = refl
+
+-- an odd last cell is not used
+pub three-cells : packFile (pair (49 ∷ 97 ∷ []) 0 ∷ pair (49 ∷ 99 ∷ []) 5 ∷ pair (50 ∷ 98 ∷ []) 0 ∷ pair (50 ∷ 99 ∷ []) 2319356264794259026 ∷ []) 3
+    ≡ packFile (pair (49 ∷ 97 ∷ []) 0 ∷ pair (49 ∷ 99 ∷ []) 5 ∷ pair (50 ∷ 98 ∷ []) 0 ∷ pair (50 ∷ 99 ∷ []) 2319356264794259026 ∷ []) 2
+unfolding le bytesOf sizeUpTo packSize largest commonInputs commonInputsInv commonIdx commonInput storedNumbers storedBytes placeFrom upFrom indexOf indexBytes outputSize deltaSize inputBytes packedNext packedOne headOf packedAny packed headLen inputOf ntransOf sizesByte indexLen sizeOf downFrom bytesDown numbersDown transitionsOf nodeOf soundTest nodeAt fnvStep hashTransitions hashNode hashOf rowOf sameTransitions matches intern leastOf leastAt recordOf close openKey insert insertAll packNodes fileOf
+three-cells = refl
+
+-- two nodes fill a row; the third overwrites the first
+pub shared-kept : packKeeps (pair (49 ∷ 97 ∷ []) 0 ∷ pair (49 ∷ 99 ∷ []) 5 ∷ pair (50 ∷ 97 ∷ []) 0 ∷ pair (50 ∷ 99 ∷ []) 5 ∷ []) 2 ≡ true
+unfolding le bytesOf sizeUpTo packSize largest commonInputs commonInputsInv commonIdx commonInput storedNumbers storedBytes placeFrom upFrom indexOf indexBytes outputSize deltaSize inputBytes packedNext packedOne headOf packedAny packed headLen inputOf ntransOf sizesByte indexLen sizeOf downFrom bytesDown numbersDown transitionsOf nodeOf soundTest nodeAt fnvStep hashTransitions hashNode hashOf rowOf sameTransitions matches intern leastOf leastAt recordOf close openKey insert insertAll packNodes fileOf keeps closeKeeps insertKeeps insertAllKeeps packKeeps
+shared-kept = refl
+
+pub one-hash-lost : packKeeps (pair (49 ∷ 97 ∷ []) 0 ∷ pair (49 ∷ 99 ∷ []) 5 ∷ pair (50 ∷ 98 ∷ []) 0 ∷ pair (50 ∷ 99 ∷ []) 2319356264794259026 ∷ []) 2 ≡ false
+unfolding le bytesOf sizeUpTo packSize largest commonInputs commonInputsInv commonIdx commonInput storedNumbers storedBytes placeFrom upFrom indexOf indexBytes outputSize deltaSize inputBytes packedNext packedOne headOf packedAny packed headLen inputOf ntransOf sizesByte indexLen sizeOf downFrom bytesDown numbersDown transitionsOf nodeOf soundTest nodeAt fnvStep hashTransitions hashNode hashOf rowOf sameTransitions matches intern leastOf leastAt recordOf close openKey insert insertAll packNodes fileOf keeps closeKeeps insertKeeps insertAllKeeps packKeeps
+one-hash-lost = refl

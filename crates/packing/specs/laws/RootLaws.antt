@@ -5,7 +5,7 @@
 -- Assumes nothing.
 use Prim.{Unit, tt}
 use mathlib.Core.Path.{_≡_, refl, sym, ap, _∙_, subst}
-use mathlib.Core.Bool.{Bool, true, false, cond}
+use mathlib.Core.Bool.{Bool, true, false, cond, _&&_}
 use mathlib.Core.Logic.{_⊎_, inl, inr, ⊎-elim}
 use mathlib.Core.Option.{Option, none, some}
 use mathlib.Core.List.{List, [], _∷_, _++_, map, List·Memᴰ, List·Memᴰ·head, List·Memᴰ·tail, List·Memᴰ·not-nil, List·Memᴰ·cases-cons}
@@ -13,7 +13,7 @@ use Prim.Native.Nat.{ℕ, zero, suc, _+_, _-_, _≤_, _<_}
 use native.Mathlib.Nat.{zero-add, sub-zero}
 use native.Mathlib.Omega.{arith}
 use borrow.Author.Tests.{leb-true, leb-false, eqb-true}
-use lib.ListN.{length, getD, replicate, length-map, length-append}
+use lib.ListN.{length, getD, replicate, length-map, length-append, length-replicate}
 use lib.Dec.{eqb, leb}
 use Rattle.format.specs.Limits.{maxPath, maxSum}
 use Rattle.format.specs.Node.{Ascending}
@@ -28,6 +28,8 @@ use Rattle.packing.specs.Promise.{PairOk, Listed, pairWith}
 use Rattle.packing.specs.laws.FileLaws.{Has, At, grown-more}
 use Rattle.packing.specs.laws.BuildLaws.{Entry, InLog, BuildOk, Fine, Interning, nothing, first, second, wrote, intern-cases, InternOk, matched, intern-ok}
 use Rattle.packing.specs.laws.HoldingLaws.{OpenHolds, ends, along, StackHolds, zero-base, held-open, open-held}
+use Rattle.packing.specs.Kept.{keeps, closeKeeps, insertAllKeeps, rootKeeps, endKeeps, packKeeps}
+use Rattle.packing.specs.laws.KeptLaws.{and-assoc, Lost, Kept, kept-as, intern-kept}
 use Rattle.packing.specs.laws.CloseLaws.{OpenOk, NextOk, StackOk, LastFinal, Live, Shorter, fine-of, Grows, grows-trans, has-grown, intern-grows, close-grows, CloseOk, holds-with, with-holds-stack, with-ok, close-ok}
 use Rattle.packing.specs.laws.InsertLaws.{Next, BelowFinal, Follows, RunOk, insert-all-ok}
 
@@ -97,12 +99,14 @@ bare-record o e = none-left (o .arcs) (sym (length-map (o .arcs) (λ (a : Arc). 
     none-left (a ∷ arcs) z = absurd (omega arith)
 
 module _ (g : Fst) (n : ℕ) where
-  pub record RootOk (r : Interned) (Holds : List ℕ → ℕ → Type 0) : Type 0 where
+  -- from the build B with the log log₀; y says that no filled cell was overwritten meanwhile
+  pub record RootOk (B : Build) (log₀ : List Entry) (y : Bool) (r : Interned) (Holds : List ℕ → ℕ → Type 0) : Type 0 where
     pub log : List Entry
     pub build : BuildOk (r .build) log
     pub place : ((r .addr ≡ 0) × (length (r .build .nodes) ≡ 0)) ⊎ ((r .addr ≡ 15 + length (r .build .nodes)) × (0 < length (r .build .nodes)))
     pub holds : (k : List ℕ) (v : ℕ) → HeldFrom g (r .addr) k v → Holds k v
     pub back : (k : List ℕ) (v : ℕ) → Holds k v → HeldFrom g (r .addr) k v
+    pub kept : (x : Bool) → Kept B log₀ x → Kept (r .build) log (x && y)
 
   -- a key as long as the longest
   pub record Long (Holds : List ℕ → ℕ → Type 0) : Type 0 where
@@ -113,7 +117,7 @@ module _ (g : Fst) (n : ℕ) where
 
   -- the last node is finished: o with nothing open below it
   root-step : (B : Build) (o : Open) (log : List Entry) → Has (intern B (recordOf o 0) .build .nodes) g → BuildOk B log → Shorter g n log → OpenOk log o → Live o
-      → (o .arcs ≡ [] → B .nodes ≡ []) → Long (OpenHolds g o) → RootOk (intern B (recordOf o 0)) (OpenHolds g o)
+      → (o .arcs ≡ [] → B .nodes ≡ []) → Long (OpenHolds g o) → RootOk B log (keeps B (recordOf o 0)) (intern B (recordOf o 0)) (OpenHolds g o)
   root-step B o log has build less ok live un long =
       let b : BuilderNode = recordOf o 0 in
       let has₀ = has-grown (intern-grows B b) has in
@@ -126,6 +130,7 @@ module _ (g : Fst) (n : ℕ) where
         place = place has₀ fine (intern B b) (intern-cases B b);
         holds = λ k v h. subst (OpenHolds g o k) (zero-add v) (held-open o 0 (zero-base o) reads k v h);
         back = λ k v h. subst (HeldFrom g (intern B b .addr) k) (sub-zero v) (open-held o 0 (zero-base o) reads k v h .1);
+        kept = intern-kept B log build (omega (arith, has₀ .low, has₀ .high)) b fine r;
       }
     where
       -- an earlier node has no key as long
@@ -142,7 +147,7 @@ module _ (g : Fst) (n : ℕ) where
       place has₀ fine r (wrote e m k) = inr (refl, omega (arith, grown-more (B .nodes) (recordOf o 0) e (fine .ranges) (fine .ok)))
 
   pub root-ok : (B : Build) (o : Open) (s : List Open) (log : List Entry) → Has (closeRoot B o s .build .nodes) g → BuildOk B log → Shorter g n log → StackOk log o s
-      → LastFinal o s → Unwritten B s → ((k : List ℕ) (v : ℕ) → StackHolds g o s k v → length k ≤ n) → Long (StackHolds g o s) → RootOk (closeRoot B o s) (StackHolds g o s)
+      → LastFinal o s → Unwritten B s → ((k : List ℕ) (v : ℕ) → StackHolds g o s k v → length k ≤ n) → Long (StackHolds g o s) → RootOk B log (rootKeeps B o s) (closeRoot B o s) (StackHolds g o s)
   root-ok B o [] log has build less ok last un short long = root-step B o log has build less ok (inl last) (λ e. un refl) long
   root-ok B o (p ∷ s) log has build less (ok, next, below) last un short long =
       let c : Closed = close B p s in
@@ -159,6 +164,7 @@ module _ (g : Fst) (n : ℕ) where
         place = f .place;
         holds = λ k v h. with-holds-stack g n o p s log c r k v (f .holds k v h);
         back = λ k v h. f .back k v (holds-with g n o p s log c r k v h);
+        kept = λ x w. kept-as (and-assoc x (closeKeeps B p s) (keeps (c .build) (recordOf o′ 0))) (f .kept (x && closeKeeps B p s) (r .kept x w));
       }
 
 close-root-grows : (B : Build) (o : Open) (s : List Open) → Grows (B .nodes) (closeRoot B o s .build .nodes)
@@ -178,6 +184,14 @@ start-ok m = record {
   chained = λ g h. inl (refl, refl);
   cells-ok = λ i. inl (cell-empty m i);
   minimal = λ d e md me cd ce s. absurd (List·Memᴰ·not-nil md);
+}
+
+pub start-kept : (m : ℕ) → 2 ≤ m → Kept (start (replicate m emptyCell) .build) [] true
+start-kept m two = record {
+  two = omega (arith, two, length-replicate m emptyCell);
+  distinct = λ i j e filled. absurd (filled (ap (λ (c : Cell). c .addr) (cell-empty m i)));
+  all = λ t e mem. absurd (List·Memᴰ·not-nil mem);
+  lost = λ f. absurd (let z : _≡_ {A = ℕ} 0 1 = cc in omega arith);
 }
 
 start-stack : OpenOk [] (record { inp = 0; value = none; arcs = [] })
@@ -201,8 +215,8 @@ some-last p ps (inl e) = absurd (let z : _≡_ {A = ℕ} 0 1 = cc in omega arith
 some-last p ps (inr w) = w
 
 pub run-ok : (g : Fst) (p : Pair) (ps : List Pair) (m : ℕ) → Listed (p ∷ ps) → Has (packNodes (p ∷ ps) m .build .nodes) g
-    → RootOk g (length (longest p ps .pair .key)) (packNodes (p ∷ ps) m) (λ k v. List·Memᴰ (pairWith k v) (p ∷ ps))
-unfolding packNodes
+    → RootOk g (length (longest p ps .pair .key)) (start (replicate m emptyCell) .build) [] (packKeeps (p ∷ ps) m) (packNodes (p ∷ ps) m) (λ k v. List·Memᴰ (pairWith k v) (p ∷ ps))
+unfolding packNodes packKeeps
 run-ok g p ps m listed has =
     let t : State = start (replicate m emptyCell) in
     let u : State = insertAll t (p ∷ ps) in
@@ -223,4 +237,5 @@ run-ok g p ps m listed has =
       place = f .place;
       holds = λ k v h. there k v (f .holds k v h);
       back = λ k v mem. f .back k v (r .new (pairWith k v) mem);
+      kept = λ x w. kept-as {log = f .log} (and-assoc x (insertAllKeeps t (p ∷ ps)) (endKeeps u)) (f .kept (x && insertAllKeeps t (p ∷ ps)) (r .kept x w));
     }

@@ -11,7 +11,7 @@ use mathlib.Core.List.{List, [], _∷_, _++_, map, List·Memᴰ, List·Memᴰ·h
 use Prim.Native.Nat.{ℕ, zero, suc, _+_, _-_, _≤_, _<_}
 use native.Mathlib.Decide.{ℕ-discrete}
 use native.Mathlib.Omega.{arith}
-use lib.ListN.{length, length-append}
+use lib.ListN.{length, replicate, length-append}
 use Rattle.format.specs.declared.Transition.{Transition}
 use Rattle.format.specs.Limits.{maxLen, maxPath, maxSum}
 use Rattle.format.specs.Node.{Node, sound, emptyFinal, nodeAt}
@@ -26,12 +26,14 @@ use Rattle.format.specs.laws.LiveLaws.{FinalFrom, final-zero, live-below-root, 
 use Rattle.format.specs.laws.ReachedLaws.{shallow-root, light-root, held-from, from-held}
 use Rattle.packing.specs.Lists.{Pair}
 use Rattle.packing.specs.Registry.{transitionsIn, hashNode, hashOf, Cell, emptyCell, Build, cellAt, Interned}
-use Rattle.packing.specs.Packing.{fileOf, packNodes, packFile, packCells}
+use Rattle.packing.specs.Packing.{start, fileOf, packNodes, packFile, packCells}
+use Rattle.packing.specs.Kept.{packKeeps, KeptSeen}
 use Rattle.packing.specs.Promise.{PairOk, Listed, pairWith, SameNodes, InCell, CellOf}
 use Rattle.packing.specs.laws.FileLaws.{Has, nodeWith, Reads, At}
 use Rattle.packing.specs.laws.InternLaws.{Alike}
 use Rattle.packing.specs.laws.BuildLaws.{Entry, InLog, OnLog, Filled, CellOk, BuildOk, addrs}
-use Rattle.packing.specs.laws.RootLaws.{longest, RootOk, run-ok}
+use Rattle.packing.specs.laws.KeptLaws.{Lost, Kept}
+use Rattle.packing.specs.laws.RootLaws.{longest, RootOk, start-kept, run-ok}
 use Rattle.packing.specs.laws.TrailerLaws.{length-file, file-has}
 
 pub record FileOk (ps : List Pair) (cells : List Cell) (g : Fst) (l : List ℕ) : Type 0 where
@@ -165,6 +167,18 @@ module _ {B : Build} {log : List Entry} (build : BuildOk B log) (g : Fst) (has :
       ∙ build .minimal (v .entry) (w .entry) (v .member) (w .member) (subst (InCell (B .cells)) (sym (v .is)) (all a ma)) (subst (InCell (B .cells)) (sym (w .is)) (all b mb)) alike
       ∙ w .is
 
+-- ---- what the run kept, seen from outside
+
+log-kept : {B : Build} {log : List Entry} (y : Bool) → Kept B log y → KeptSeen y (B .cells) (addrs log)
+log-kept {B} {log} y w = record {
+  kept = λ t a mem. let v = of-log log a mem in subst (InCell (B .cells)) (v .is) (w .all t (v .entry) (v .member));
+  seen = λ all. go y refl all;
+}
+  where
+    go : (z : Bool) → y ≡ z → ((a : ℕ) → List·Memᴰ a (addrs log) → InCell (B .cells) a) → y ≡ true
+    go true e all = e
+    go false e all = let l = w .lost e in absurd (l .gone (all (l .entry .addr) (log-of (l .member) (l .entry .addr) refl)))
+
 -- ---- address 0 is the same node in every file
 
 zero-held : (f g : Fst) → 0 < length (f .bytes) → 0 < length (g .bytes) → (k : List ℕ) (v : ℕ) → HeldFrom f 0 k v → HeldFrom g 0 k v
@@ -203,7 +217,7 @@ module _ (p : Pair) (ps : List Pair) (m : ℕ) (listed : Listed (p ∷ ps)) (sma
   has₀ : Has (r .build .nodes) g₀
   has₀ = file-has (length (p ∷ ps)) r (15 + length (r .build .nodes)) (omega arith) (omega (arith, small, size))
 
-  pub run : RootOk g₀ (length (longest p ps .pair .key)) r (λ k v. List·Memᴰ (pairWith k v) (p ∷ ps))
+  pub run : RootOk g₀ (length (longest p ps .pair .key)) (start (replicate m emptyCell) .build) [] (packKeeps (p ∷ ps) m) r (λ k v. List·Memᴰ (pairWith k v) (p ∷ ps))
   run = run-ok g₀ p ps m listed has₀
 
   -- with root 0 no node was written
@@ -276,3 +290,6 @@ module _ (p : Pair) (ps : List Pair) (m : ℕ) (listed : Listed (p ∷ ps)) (sma
         cells-of = cells-minimal .0;
         minimal = cells-minimal .1;
       }
+
+  pub some-kept : 2 ≤ m → KeptSeen (packKeeps (p ∷ ps) m) (packCells (p ∷ ps) m) (addrs (run .log))
+  some-kept two = log-kept (packKeeps (p ∷ ps) m) (run .kept true (start-kept m two))
