@@ -20,6 +20,8 @@ mod error;
 mod answers;
 #[cfg(timed)]
 mod bench;
+#[cfg(timed)]
+mod bench_pack;
 mod builder;
 mod compare;
 mod generate;
@@ -234,6 +236,10 @@ fn self_test() -> bool {
 
 #[cfg(timed)]
 fn bench() -> bool {
+    if std::env::args().nth(1).as_deref() == Some("pack") {
+        bench_pack::bench(&ours::Library);
+        return true;
+    }
     bench::bench(&ours::Library, &ours::Library, &ours::Library);
     true
 }

@@ -75,8 +75,7 @@ fn asked(
         let [i, l, t] = lent.tables;
         let (mut inputs, mut leasts, mut targets) =
             (vec![lent.keep as u8; i], vec![lent.keep; l], vec![lent.keep as usize; t]);
-        let said =
-            ours.pack(lent.limit, list, &mut our_out, &mut our_cells, &mut inputs, &mut leasts, &mut targets);
+        let said = ours.pack(lent.limit, list, &mut our_out, &mut our_cells, &mut inputs, &mut leasts, &mut targets);
         same("a packing", input, ("model", answer), ("ours", said))?;
         same("the output", input, ("model", out), ("ours", our_out))?;
         same("the cells", input, ("model", cells), ("ours", our_cells))?;
@@ -354,10 +353,7 @@ impl<'a> Run<'a> {
             }
             self.list_of(&list, lent)?;
         }
-        self.require(
-            &["packed", "packed, and read back by the Rust", "packed, a cell was overwritten"],
-            5_000,
-        )?;
+        self.require(&["packed", "packed, and read back by the Rust", "packed, a cell was overwritten"], 5_000)?;
         self.require(
             &[
                 "packed, with one row",
