@@ -4,7 +4,7 @@ use crate::model_pattern;
 use crate::model_reading;
 
 // A node record, as the packer takes it. Any other flag than 0 means final.
-#[derive(Clone, Debug, Default)]
+#[derive(Clone, Debug, Default, Eq, PartialEq)]
 pub struct Record {
     pub final_flag: u8,
     pub final_output: u64,

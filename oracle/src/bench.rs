@@ -26,12 +26,12 @@ const PARTS: usize = 20;
 // A file as long as words fill 16 MiB.
 const DENSE: usize = 16_777_216;
 
-struct Set {
-    name: &'static str,
-    keys: Vec<Vec<u8>>,
+pub struct Set {
+    pub name: &'static str,
+    pub keys: Vec<Vec<u8>>,
 }
 
-fn sets() -> Vec<Set> {
+pub fn sets() -> Vec<Set> {
     let mut prng = Prng::new(9);
     let words = generate_file::distinct(650_000, || generate_file::word(&mut prng));
     let letters = b"ABCDEFGHJKLMNPQRSTUVWXYZ";

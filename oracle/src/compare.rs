@@ -7,6 +7,7 @@ use std::fmt::Debug;
 use crate::answers::{Answers, At, ConvertAnswers, FileAnswers, ReadingAnswers, Record};
 use crate::generate::INPUTS;
 use crate::given;
+use crate::model_pack::PackAnswers;
 use crate::prng::Prng;
 
 mod admission;
@@ -19,6 +20,7 @@ mod lookup;
 mod made;
 mod numbers;
 mod opening;
+mod pack;
 mod packing;
 mod patterns;
 mod ranges;
@@ -121,6 +123,7 @@ const LOOKUPS_DAMAGED: usize = 600_000;
 const RANGES: usize = 150_000;
 const READINGS: usize = 150_000;
 const CONVERSIONS: usize = 60_000;
+const LISTS: usize = 20_000;
 const PATTERNED: usize = 150_000;
 const PATTERNED_MADE: usize = 60_000;
 
@@ -134,6 +137,8 @@ pub struct Run<'a> {
     ours_reading: Option<&'a dyn ReadingAnswers>,
     // and on conversions
     ours_convert: Option<&'a dyn ConvertAnswers>,
+    // and on lists
+    ours_pack: Option<&'a dyn PackAnswers>,
     // a whole run has every random case, another one in so many
     one_in: usize,
     prng: Prng,
@@ -166,11 +171,17 @@ const DELTA_SIZES: [&str; 9] = [
 impl<'a> Run<'a> {
     pub fn new(ours: Ours<'a>, one_in: usize) -> Run<'a> {
         let (ours, ours_file, ours_reading) = ours;
-        Run { ours, ours_file, ours_reading, ours_convert: None, one_in, prng: Prng::new(2), counts: BTreeMap::new() }
+        let (ours_convert, ours_pack) = (None, None);
+        Run { ours, ours_file, ours_reading, ours_convert, ours_pack, one_in, prng: Prng::new(2), counts: BTreeMap::new() }
     }
 
     pub fn converting(mut self, ours: Option<&'a dyn ConvertAnswers>) -> Run<'a> {
         self.ours_convert = ours;
+        self
+    }
+
+    pub fn packing_lists(mut self, ours: Option<&'a dyn PackAnswers>) -> Run<'a> {
+        self.ours_pack = ours;
         self
     }
 
@@ -198,7 +209,13 @@ impl<'a> Run<'a> {
         self.readings(print)?;
         // last, so that the cases before it stay what they are
         self.sections(print, &[("boundaries of judging", Run::boundaries)])?;
-        self.conversions(print)
+        self.conversions(print)?;
+        self.packs(print)
+    }
+
+    // Those of the packing of lists alone.
+    pub fn packs(&mut self, print: bool) -> Checked {
+        self.sections(print, &[("packing of lists", Run::lists)])
     }
 
     // Those of conversion alone.

@@ -21,6 +21,8 @@ mod answers;
 #[cfg(timed)]
 mod bench;
 #[cfg(timed)]
+mod bench_pack;
+#[cfg(timed)]
 mod bench_pattern;
 mod builder;
 mod compare;
@@ -39,6 +41,7 @@ mod listing;
 mod model;
 mod model_convert;
 mod model_file;
+mod model_pack;
 mod model_pattern;
 mod model_reading;
 #[cfg(library)]
@@ -47,6 +50,8 @@ mod ours;
 mod ours_convert;
 #[cfg(library)]
 mod ours_file;
+#[cfg(library)]
+mod ours_pack;
 #[cfg(library)]
 mod ours_reading;
 mod prng;
@@ -64,6 +69,7 @@ use std::process;
 
 use crate::answers::ConvertAnswers;
 use crate::compare::{Difference, Ours, Run};
+use crate::model_pack::PackAnswers;
 
 #[cfg(library)]
 fn library() -> Ours<'static> {
@@ -85,6 +91,16 @@ fn library_converts() -> Option<&'static dyn ConvertAnswers> {
     None
 }
 
+#[cfg(library)]
+fn library_packs() -> Option<&'static dyn PackAnswers> {
+    Some(&ours::Library)
+}
+
+#[cfg(not(library))]
+fn library_packs() -> Option<&'static dyn PackAnswers> {
+    None
+}
+
 fn report(difference: &Difference) {
     println!("oracle: a difference: {}", difference.what);
     println!("  input: {}", difference.input);
@@ -98,7 +114,7 @@ fn compare(lists: &[String]) -> bool {
     if !listing::kept() {
         return false;
     }
-    let mut run = Run::new(library(), 1).converting(library_converts());
+    let mut run = Run::new(library(), 1).converting(library_converts()).packing_lists(library_packs());
     if let Err(difference) = compare::common_inputs_named().and_then(|()| run.all(true)) {
         report(&difference);
         return false;
@@ -149,6 +165,17 @@ fn compare_admission() -> bool {
 // Conversion alone.
 fn compare_conversions() -> bool {
     match Run::new(library(), 1).converting(library_converts()).conversions(true) {
+        Ok(()) => true,
+        Err(difference) => {
+            report(&difference);
+            false
+        }
+    }
+}
+
+// The packing of lists alone.
+fn compare_packs() -> bool {
+    match Run::new(library(), 1).packing_lists(library_packs()).packs(true) {
         Ok(()) => true,
         Err(difference) => {
             report(&difference);
@@ -211,6 +238,10 @@ fn self_test() -> bool {
 
 #[cfg(timed)]
 fn bench() -> bool {
+    if std::env::args().nth(1).as_deref() == Some("pack") {
+        bench_pack::bench(&ours::Library);
+        return true;
+    }
     bench::bench(&ours::Library, &ours::Library, &ours::Library);
     true
 }
@@ -246,12 +277,13 @@ fn main() {
         Some("patterns") => compare_patterns(),
         Some("admission") => compare_admission(),
         Some("convert") => compare_conversions(),
+        Some("pack") => compare_packs(),
         Some("long") => compare_long(),
         Some("self-test") => self_test(),
         Some("record") => record(&args[2..]),
         Some("listing") => listing::make(),
         _ => {
-            println!("oracle: compare, readings, patterns, admission, convert, long, self-test, record or listing");
+            println!("oracle: compare, readings, patterns, admission, convert, pack, long, self-test, record or listing");
             process::exit(2);
         }
     };

@@ -11,9 +11,9 @@ use lib.ListN.{length}
 use Rattle.format.specs.Limits.{indexThreshold}
 use Rattle.format.specs.Node.{endLen, indexLen}
 use Rattle.format.specs.CommonInputs.{commonIdx}
-use Rattle.format.specs.Packed.{BuilderNode, RecordOk, deltaOf, inputBytes, deltaSize, packedAny}
+use Rattle.format.specs.Packed.{BuilderNode, deltaOf, inputBytes, deltaSize, packedAny}
 use Rattle.format.specs.laws.PackedLaws.{length-deltas, length-index-bytes, length-input-bytes, length-packed-any}
-use Rattle.node_compile.specs.Parts.{anyLen}
+use Rattle.node_compile.specs.Parts.{RecordFits, anyLen}
 
 -- no transition
 pub delta-size-none : (ds : List ℕ) → length ds ≡ 0 → deltaSize ds ≡ 0
@@ -49,7 +49,7 @@ input-bytes-le inp = rw length-input-bytes (cond-le (eqb (commonIdx inp) 0) 1 0 
 
 -- ---- the length of a node of the forms 00 and 01
 
-pub any-len-is : (first : ℕ) (b : BuilderNode) (osize tsize : ℕ) → RecordOk first b
+pub any-len-is : (first : ℕ) (b : BuilderNode) (osize tsize : ℕ) → RecordFits first b
     → anyLen (b .final) (length (b .inputs)) osize tsize ≡ length (packedAny b (map (deltaOf first) (b .targets)) osize tsize)
 any-len-is first b osize tsize ok =
     let all = length-packed-any b (map (deltaOf first) (b .targets)) osize tsize in

@@ -13,9 +13,9 @@ ghost use Rattle.format.specs.Limits.{firstNode, maxTrans};
 ghost use Rattle.format.specs.Bytes.{packSize, largest};
 ghost use Rattle.format.specs.Node.{Ascending, endLen, indexLen};
 ghost use Rattle.format.specs.Packed.{TargetOk, TargetsOk, RecordOk, deltaOf, storedNumbers, storedBytes, indexOf, indexBytes};
-ghost use Rattle.format.specs.Packed.{outputSize, deltaSize, sizesOf, inputBytes, packedNext, packedOne, finalFlag, headOf, lastAddr};
+ghost use Rattle.format.specs.Packed.{outputSize, deltaSize, sizesOf, inputBytes, packed, packedNext, packedOne, finalFlag, headOf, lastAddr};
 ghost use Rattle.node_compile.specs.Compile.{builderWith, Compiles};
-ghost use Rattle.node_compile.specs.Parts.{stateBytes, anyIn, anyBytes, AnyFits, anyLen, Fitted};
+ghost use Rattle.node_compile.specs.Parts.{stateBytes, anyIn, anyBytes, RecordFits, AnyFits, anyLen, Fitted};
 ghost use Rattle.buffers.specs.Put.{PutAt};
 use common_inputs::common_idx;
 use format::FIRST_NODE;
@@ -454,7 +454,7 @@ fn compile_any(
     first: usize,
     out: &mut [u8],
 ) -> Compiled
-    requires { ⌜ RecordOk first (builderWith «is_final» «final_output» (now inputs) (now outputs)
+    requires { ⌜ RecordFits first (builderWith «is_final» «final_output» (now inputs) (now outputs)
         (now targets)) ⌝ }
     ensures { λ r. ⌜ Fitted
         (anyBytes first (builderWith «is_final» «final_output» (now (inputs .entry)) (now (outputs .entry)) (now (targets .entry))))
@@ -483,7 +483,7 @@ fn compile_any(
 // ---- the packer
 
 // Final, with no transitions and output 0.
-fn packs_to_nothing(is_final: bool, n: usize, final_output: u64) -> bool
+pub fn packs_to_nothing(is_final: bool, n: usize, final_output: u64) -> bool
     ensures { λ r. ⌜ r ≡ («is_final» && (eqb n 0 && eqb «final_output» 0)) ⌝ }
 {
     is_final && (n == 0 && final_output == 0)
@@ -515,6 +515,35 @@ fn leads_next(first: usize, target: usize, output: u64) -> bool
     target == last_addr(first) && output == 0
 }
 
+// Packs a record that RECORD would not refuse but for its limit on F: a list is packed past that limit while
+// its output has room.
+pub fn compile_record(
+    is_final: bool,
+    final_output: u64,
+    inputs: &[u8],
+    outputs: &[u64],
+    targets: &[usize],
+    first: usize,
+    out: &mut [u8],
+) -> Compiled
+    requires { ⌜ RecordFits first (builderWith «is_final» «final_output» (now inputs) (now outputs)
+        (now targets)) ⌝ }
+    ensures { λ r. ⌜ Fitted
+        (packed first (builderWith «is_final» «final_output» (now (inputs .entry)) (now (outputs .entry)) (now (targets .entry))))
+        (now (out .entry)) (now (out .exit)) r ⌝ }
+{
+    if packs_to_nothing(is_final, inputs.len(), final_output) {
+        return Compiled::Len(0);
+    }
+    if has_one(is_final, inputs.len()) {
+        if leads_next(first, targets[0], outputs[0]) {
+            return compile_next(inputs[0], out);
+        }
+        return compile_one(first, inputs[0], outputs[0], targets[0], out);
+    }
+    compile_any(is_final, final_output, inputs, outputs, targets, first, out)
+}
+
 // Packs the node record of these parts, whose first byte is to stand at first, into out.
 // The record that is final with no transitions and output 0 packs to no bytes: it is address 0.
 pub fn compile(
@@ -533,14 +562,5 @@ pub fn compile(
     if record_ok(is_final, final_output, inputs, outputs, targets, first) {} else {
         return Compiled::Refused(RECORD);
     }
-    if packs_to_nothing(is_final, inputs.len(), final_output) {
-        return Compiled::Len(0);
-    }
-    if has_one(is_final, inputs.len()) {
-        if leads_next(first, targets[0], outputs[0]) {
-            return compile_next(inputs[0], out);
-        }
-        return compile_one(first, inputs[0], outputs[0], targets[0], out);
-    }
-    compile_any(is_final, final_output, inputs, outputs, targets, first, out)
+    compile_record(is_final, final_output, inputs, outputs, targets, first, out)
 }

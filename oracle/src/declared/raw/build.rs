@@ -4,7 +4,8 @@
 
 use crate::automaton::Automaton;
 use crate::raw::common_inputs::{COMMON_INPUTS, COMMON_INPUTS_INV};
-use crate::raw::{CompiledAddr, Fst, Output, Stream, Transition};
+use crate::raw::registry::{Registry, RegistryEntry};
+use crate::raw::{CompiledAddr, Fst, Output, Stream, Transition, EMPTY_ADDRESS, NONE_ADDRESS};
 
 #[derive(Clone, Debug, Eq, PartialEq)]
 pub struct BuilderNode {
@@ -55,6 +56,31 @@ impl Builder {
         let mut bytes = Vec::new();
         node.compile_to(&mut bytes, last_addr, addr).expect("a Vec takes every byte");
         bytes
+    }
+
+    // A store of nodes over a `Registry` of so many rows of two cells, as the Rust's builder has it: the address of an equal node, or that of
+    // this one, which `compile_to` writes behind the bytes.
+    pub fn store(rows: usize) -> impl FnMut(bool, u64, &[(u8, u64, CompiledAddr)], &mut Vec<u8>) -> CompiledAddr {
+        let mut registry = Registry::new(rows, 2);
+        move |is_final, final_output, transitions, file| {
+            if is_final && final_output == 0 && transitions.is_empty() {
+                return EMPTY_ADDRESS;
+            }
+            let trans =
+                transitions.iter().map(|&(inp, out, addr)| Transition { inp, out: Output::new(out), addr }).collect();
+            let node = BuilderNode { is_final, final_output: Output::new(final_output), trans };
+            match registry.entry(&node) {
+                RegistryEntry::Found(addr) => addr,
+                RegistryEntry::Rejected => unreachable!("there are rows"),
+                RegistryEntry::NotFound(cell) => {
+                    let first = file.len();
+                    let last_addr = if first == 16 { NONE_ADDRESS } else { first - 1 };
+                    node.compile_to(&mut *file, last_addr, first).expect("a Vec takes every byte");
+                    cell.insert(file.len() - 1);
+                    file.len() - 1
+                }
+            }
+        }
     }
 
     // What `Fst::new` read: version, type, count, root and checksum.

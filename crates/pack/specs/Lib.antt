@@ -1,0 +1,2 @@
+pub mod PackList
+pub mod PackListLaws

@@ -1,0 +1,2 @@
+pub mod PackBlank
+pub mod PackBlankLaws

@@ -1,0 +1,3 @@
+pub mod FinishRow
+pub mod LeastLaws
+pub mod FinishRowLaws

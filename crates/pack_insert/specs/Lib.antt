@@ -1,0 +1,3 @@
+pub mod Inserting
+pub mod OpenKeyLaws
+pub mod InsertingLaws

@@ -1,0 +1,2 @@
+pub mod AddKeys
+pub mod AddKeysLaws

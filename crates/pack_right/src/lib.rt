@@ -1,0 +1,1 @@
+// No code: what the contract of `pack` says of a file that it answers with.

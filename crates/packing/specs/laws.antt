@@ -1,0 +1,15 @@
+pub mod ListLaws
+pub mod PackRowLaws
+pub mod FileLaws
+pub mod InternLaws
+pub mod BuildLaws
+pub mod KeptLaws
+pub mod HoldingLaws
+pub mod CloseLaws
+pub mod InsertLaws
+pub mod RootLaws
+pub mod TrailerLaws
+pub mod WholeFileLaws
+pub mod PackLaws
+pub mod AnswerLaws
+pub mod ListedLaws

@@ -1,0 +1,3 @@
+pub mod WorkTables
+pub mod OpenLaws
+pub mod WorkTableLaws
