@@ -1,0 +1,2 @@
+pub mod SeatViews
+pub mod SeatViewsLaws
