@@ -63,6 +63,7 @@ mod replay_rows;
 mod sparse;
 mod wrong;
 mod wrong_file;
+mod wrong_pack;
 mod wrong_reading;
 
 use std::process;
@@ -228,6 +229,26 @@ fn self_test() -> bool {
         match in_small((Some(&wrong), Some(&wrong), Some(&wrong)), readings_alone) {
             Err(difference) => println!("noticed: {}  ({})", slip, difference.what),
             Ok(()) => {
+                println!("oracle: not noticed: {}", slip);
+                return false;
+            }
+        }
+    }
+    self_test_packs()
+}
+
+// The same of the packing of lists.
+fn self_test_packs() -> bool {
+    for &slip in std::iter::once(&"").chain(wrong_pack::SLIPS) {
+        let wrong = wrong::Wrong { slip };
+        match (slip, Run::new((None, None, None), 20).packing_lists(Some(&wrong)).packs(false)) {
+            ("", Ok(())) => {}
+            ("", Err(difference)) => {
+                report(&difference);
+                return false;
+            }
+            (slip, Err(difference)) => println!("noticed: {}  ({})", slip, difference.what),
+            (slip, Ok(())) => {
                 println!("oracle: not noticed: {}", slip);
                 return false;
             }

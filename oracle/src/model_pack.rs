@@ -55,6 +55,11 @@ pub fn list(pairs: &[(Vec<u8>, u64)]) -> Vec<u8> {
 
 // The pairs of a list, or LIST.
 pub fn pairs(list: &[u8]) -> Result<Pairs, u64> {
+    pairs_with(list, "")
+}
+
+// The same with a slip (wrong_pack.rs).
+pub fn pairs_with(list: &[u8], slip: &str) -> Result<Pairs, u64> {
     let number = |at: usize, n: usize| model::number(&list[at..at + n]) as usize;
     if list.len() < 8 {
         return Err(LIST);
@@ -68,14 +73,16 @@ pub fn pairs(list: &[u8]) -> Result<Pairs, u64> {
     for i in 0..n {
         let end = number(8 + 4 * i, 4);
         // an end past the total is one that falls, or a last end that is not the total
-        if end < last || end > total || end - last > 255 {
+        if end < last || end > total || end - last > if slip == "a key of 256 bytes is taken" { 256 } else { 255 } {
             return Err(LIST);
         }
         pairs.push((keys[last..end].to_vec(), model::number(&list[8 + 4 * n + 8 * i..][..8])));
         last = end;
     }
-    let ascend = pairs.windows(2).all(|two| two[0].0 < two[1].0);
+    let ascend =
+        pairs.windows(2).all(|two| two[0].0 < two[1].0 || slip == "equal keys are taken" && two[0].0 == two[1].0);
     if last == total && ascend {
+        pairs.dedup_by(|one, other| one.0 == other.0);
         Ok(pairs)
     } else {
         Err(LIST)
@@ -85,7 +92,13 @@ pub fn pairs(list: &[u8]) -> Result<Pairs, u64> {
 // ---- the nodes
 
 // The address of the node below which these pairs stand, whose keys have their first `depth` bytes in common; outputs are counted from `base`.
-fn node(pairs: &[(Vec<u8>, u64)], depth: usize, base: u64, store: &mut dyn FnMut(Record) -> usize) -> usize {
+fn node(
+    pairs: &[(Vec<u8>, u64)],
+    depth: usize,
+    base: u64,
+    slip: &str,
+    store: &mut dyn FnMut(Record) -> usize,
+) -> usize {
     let mut record =
         Record { final_flag: 0, final_output: 0, inputs: Vec::new(), outputs: Vec::new(), targets: Vec::new() };
     let mut rest = pairs;
@@ -99,8 +112,11 @@ fn node(pairs: &[(Vec<u8>, u64)], depth: usize, base: u64, store: &mut dyn FnMut
     while let Some((key, _)) = rest.first() {
         let input = key[depth];
         let n = rest.iter().take_while(|(key, _)| key[depth] == input).count();
-        let least = rest[..n].iter().map(|&(_, value)| value).min().expect("there is one");
-        let target = node(&rest[..n], depth + 1, least, store);
+        let mut least = rest[..n].iter().map(|&(_, value)| value).min().expect("there is one");
+        if slip == "outputs are not pushed" {
+            least = base;
+        }
+        let target = node(&rest[..n], depth + 1, least, slip, store);
         record.inputs.push(input);
         record.outputs.push(least - base);
         record.targets.push(target);
@@ -114,18 +130,21 @@ pub fn is_empty_final(record: &Record) -> bool {
 }
 
 // The file of these pairs, whose nodes are put behind the bytes by the store, which answers each one's address.
-pub fn file(pairs: &[(Vec<u8>, u64)], store: &mut dyn FnMut(Record, &mut Vec<u8>) -> usize) -> Vec<u8> {
+pub fn file(pairs: &[(Vec<u8>, u64)], slip: &str, store: &mut dyn FnMut(Record, &mut Vec<u8>) -> usize) -> Vec<u8> {
     let mut file = 2u64.to_le_bytes().to_vec();
     file.extend(&0u64.to_le_bytes());
-    let root = node(pairs, 0, 0, &mut |record| store(record, &mut file));
+    let root = node(pairs, 0, 0, slip, &mut |record| store(record, &mut file));
     builder::whole(file, pairs.len() as u64, root, 0)
 }
 
 // ---- the cells
 
-pub fn hash(record: &Record) -> u64 {
+fn hash(record: &Record, slip: &str) -> u64 {
     let step = |h: u64, x: u64| (u128::from(h ^ x) * 1_099_511_628_211 % (1 << 64)) as u64;
-    let mut h = step(step(14_695_981_039_346_656_037, u64::from(record.final_flag)), record.final_output);
+    let mut h = step(14_695_981_039_346_656_037, u64::from(record.final_flag));
+    if slip != "the final output is left out of the hash" {
+        h = step(h, record.final_output);
+    }
     for t in record.transitions() {
         h = step(step(step(h, u64::from(t.inp)), t.out), t.addr as u64);
     }
@@ -151,7 +170,7 @@ pub struct Packed {
 }
 
 // The file, with so many cells, at least two.
-pub fn packed(pairs: &[(Vec<u8>, u64)], n: usize) -> Packed {
+pub fn packed(pairs: &[(Vec<u8>, u64)], n: usize, slip: &str) -> Packed {
     let mut cells = vec![EMPTY; n];
     let mut stored: HashMap<u64, Record> = HashMap::new();
     let mut uses = Uses::default();
@@ -159,13 +178,16 @@ pub fn packed(pairs: &[(Vec<u8>, u64)], n: usize) -> Packed {
         if is_empty_final(&record) {
             return 0;
         }
-        let own = hash(&record);
-        let row = 2 * (own % (n as u64 / 2)) as usize;
+        let own = hash(&record, slip);
+        let mut row = 2 * (own % (n as u64 / 2)) as usize;
+        if slip == "the row is by the number of cells" {
+            row = ((own % n as u64) as usize).min(n - 2);
+        }
         let mut matches = |cell: Cell| {
             if cell == EMPTY || cell[1] != own {
                 return false;
             }
-            let equal = stored[&cell[0]] == record;
+            let equal = stored[&cell[0]] == record || slip == "equal hashes are equal nodes";
             uses.unequal += !equal as usize;
             equal
         };
@@ -173,6 +195,9 @@ pub fn packed(pairs: &[(Vec<u8>, u64)], n: usize) -> Packed {
             uses.first += 1;
         } else if matches(cells[row + 1]) {
             uses.second += 1;
+            if slip == "the second cell stays second" {
+                return cells[row + 1][0] as usize;
+            }
             cells.swap(row, row + 1);
         } else {
             let bytes = model::pack(&record, file.len());
@@ -185,7 +210,7 @@ pub fn packed(pairs: &[(Vec<u8>, u64)], n: usize) -> Packed {
         }
         cells[row][0] as usize
     };
-    let file = file(pairs, &mut store);
+    let file = file(pairs, slip, &mut store);
     let mut nodes: Vec<_> = stored.into_iter().map(|(addr, record)| (addr as usize, record)).collect();
     nodes.sort_by_key(|&(addr, _)| addr);
     Packed { file, cells, nodes, uses }
@@ -193,11 +218,26 @@ pub fn packed(pairs: &[(Vec<u8>, u64)], n: usize) -> Packed {
 
 // The file with its cells, or LIST, then SPACE, then LARGE.
 pub fn pack(list: &[u8], room: usize, cells: usize, tables: bool, limit: usize) -> Result<Packed, u64> {
-    let pairs = pairs(list)?;
+    pack_with(list, room, cells, tables, limit, "")
+}
+
+// The same with a slip.
+pub fn pack_with(
+    list: &[u8],
+    room: usize,
+    cells: usize,
+    tables: bool,
+    limit: usize,
+    slip: &str,
+) -> Result<Packed, u64> {
+    let pairs = pairs_with(list, slip)?;
     if !tables || cells < 2 {
         return Err(SPACE);
     }
-    let done = packed(&pairs, cells);
+    let done = packed(&pairs, cells, slip);
+    if slip == "LARGE comes before SPACE" && done.file.len() > limit {
+        return Err(LARGE);
+    }
     if done.file.len() > room {
         return Err(SPACE);
     }

@@ -100,7 +100,7 @@ fn read_back(ours_file: Option<&dyn FileAnswers>, pairs: &Pairs, done: &Packed, 
     let none = String::new;
     let mut store = Builder::store(cells / 2);
     let built = caught(|| {
-        model_pack::file(pairs, &mut |record, file| {
+        model_pack::file(pairs, "", &mut |record, file| {
             let transitions: Vec<_> = record.transitions().map(|t| (t.inp, t.out, t.addr)).collect();
             store(record.is_final(), record.final_output, &transitions, file)
         })
