@@ -98,14 +98,14 @@ static void put_key(const uint8_t *key, size_t len)
 static const char *name_of(int32_t refusal)
 {
     switch (refusal) {
-    case FST_SHORT:   return "SHORT: the file has 1 to 31 bytes, or under 36 in version 3";
-    case FST_VERSION: return "VERSION: the version is not 1, 2 or 3";
-    case FST_ROOT:    return "ROOT: the root address does not fit the version and the length";
-    case FST_LARGE:   return "LARGE: the file is over 4294967295 bytes";
-    case FST_NODE:    return "NODE: a node is not sound, the chain of nodes is broken, or a target is no node";
-    case FST_DEEP:    return "DEEP: a path has 256 bytes";
-    case FST_SUM:     return "SUM: a sum passes 2^64 - 1";
-    case FST_SPACE:   return "SPACE: a buffer is too short";
+    case FST_ERR_SHORT:   return "SHORT: the file has 1 to 31 bytes, or under 36 in version 3";
+    case FST_ERR_VERSION: return "VERSION: the version is not 1, 2 or 3";
+    case FST_ERR_ROOT:    return "ROOT: the root address does not fit the version and the length";
+    case FST_ERR_LARGE:   return "LARGE: the file is over 4294967295 bytes";
+    case FST_ERR_NODE:    return "NODE: a node is not sound, the chain of nodes is broken, or a target is no node";
+    case FST_ERR_DEEP:    return "DEEP: a path has 256 bytes";
+    case FST_ERR_SUM:     return "SUM: a sum passes 2^64 - 1";
+    case FST_ERR_SPACE:   return "SPACE: a buffer is too short";
     default:          return "a refusal without a name";
     }
 }
@@ -181,7 +181,7 @@ int main(int argc, char **argv)
         return trouble(argv[1]);
     }
     /* A file that says so is refused unread: LARGE is judged by the length alone. */
-    int32_t result = FST_LARGE;
+    int32_t result = FST_ERR_LARGE;
     uint8_t *file = NULL;
     size_t file_len = 0;
     if (!says_too_long(in)) {

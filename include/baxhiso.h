@@ -1,6 +1,6 @@
 /* baxhiso.h: read values by key, and keys by value, from an FST file that is held in memory.
  *
- * Link target/staticlib/libfirmware.a, which `rt staticlib firmware` makes, into a program for x86-64. It calls memcpy
+ * Link target/staticlib/libbaxhiso.a, which `rt staticlib baxhiso` makes, into a program for x86-64. It calls memcpy
  * and memset and nothing else.
  *
  * The library allocates nothing and keeps nothing between calls. The caller lends every buffer, and the library reads and
@@ -10,7 +10,7 @@
  * it. Every file may be handed in, admitted or not, damaged or not.
  *
  * Each function is proved to return on every input, with the result and with what each buffer holds afterwards as said
- * below (crates/firmware/specs/Exports.antt, with the definitions of docs/FORMAT.md). Only tested, by tests/c: that these
+ * below (crates/baxhiso/specs/Exports.antt, with the definitions of docs/FORMAT.md). Only tested, by tests/c: that these
  * declarations fit the library, and NULL with length 0. The stack is not part of the proof; no function calls itself.
  *
  * Admit a file when it is loaded, with two lent tables of an entry for each byte; then each answer by key is exact:
@@ -39,18 +39,66 @@
 extern "C" {
 #endif
 
-/* Results. Negative: an answer that is no error. Positive: a refusal, numbered as in docs/FORMAT.md, "Refusals"; its numbers
- * from 9 on belong to functions that are not exported. */
-#define FST_NONE    (-1) /* no such key or value                                                                   */
-#define FST_OK        0
-#define FST_SHORT     1  /* file of 1 to 31 bytes, or under 36 in version 3                                        */
-#define FST_VERSION   2  /* version not 1, 2 or 3                                                                  */
-#define FST_ROOT      3  /* root address does not fit the version and the file's length                            */
-#define FST_LARGE     4  /* file over FST_MAX_LEN bytes                                                            */
-#define FST_NODE      5  /* a node that is not sound; on admission also a broken chain, or a target that is no node */
-#define FST_DEEP      6  /* a path or a key of 256 bytes                                                           */
-#define FST_SUM       7  /* a sum passes 2^64 - 1                                                                  */
-#define FST_SPACE     8  /* key buffer under FST_KEY_SPACE bytes, work table shorter than the file                 */
+/* The version of this header and its library: MAJOR moves when a program that uses them has to change. */
+#define BAXHISO_VERSION_MAJOR 1
+#define BAXHISO_VERSION_MINOR 0
+#define BAXHISO_VERSION_PATCH 0
+#define BAXHISO_VERSION       "1.0.0"
+
+/* Results. Negative: an answer that is no error. Positive: a refusal, numbered and named as in docs/FORMAT.md, "Refusals". The
+ * functions below answer 1 to 9, 11 and 19; the other numbers belong to functions that are not exported. */
+#define FST_OK            0
+#define FST_NONE        (-1) /* no such key or value                                                                    */
+#define FST_ERR_SHORT     1  /* file of 1 to 31 bytes, or under 36 in version 3                                         */
+#define FST_ERR_VERSION   2  /* version not 1, 2 or 3                                                                   */
+#define FST_ERR_ROOT      3  /* root address does not fit the version and the file's length                             */
+#define FST_ERR_LARGE     4  /* file over FST_MAX_LEN bytes                                                             */
+#define FST_ERR_NODE      5  /* a node that is not sound; on admission also a broken chain, or a target that is no node */
+#define FST_ERR_DEEP      6  /* a path or a key of 256 bytes                                                            */
+#define FST_ERR_SUM       7  /* a sum passes 2^64 - 1                                                                   */
+#define FST_ERR_SPACE     8  /* key buffer under FST_KEY_SPACE bytes, work table shorter than the file                  */
+#define FST_ERR_BOUND     9  /* a bound over 255 bytes                                                                  */
+#define FST_ERR_RECORD   10  /* a node to pack that breaks a rule                                                       */
+#define FST_ERR_STATE    11  /* a reading out of its limits, or of a file of another length                             */
+#define FST_ERR_PATTERN  12  /* a pattern of over 255 positions                                                         */
+#define FST_ERR_LIST     13  /* a list of keys to pack that breaks a rule                                               */
+#define FST_ERR_CARDS    14  /* no files to read as one, or over eight                                                  */
+#define FST_ERR_EDITION  15  /* a file to convert that is not of version 1                                              */
+#define FST_ERR_CARRY    16  /* a reading that does not go on in another file                                           */
+#define FST_ERR_NAME     17  /* a mark's name of no bytes or over 8, or not marked                                      */
+#define FST_ERR_FULL     18  /* a 17th mark                                                                             */
+#define FST_ERR_COUNT    19  /* over 2^64 - 1 keys; at a start, a table of keys whose numbers do not go together        */
+#define FST_ERR_SEAT     20  /* a seat over 7, or one without a reading                                                 */
+
+/* A result's name, without FST_ or FST_ERR_: "OK", "NONE", "NODE". "UNKNOWN" where no result has the number. */
+static inline const char *fst_result_name(int result)
+{
+    switch (result) {
+    case FST_OK:          return "OK";
+    case FST_NONE:        return "NONE";
+    case FST_ERR_SHORT:   return "SHORT";
+    case FST_ERR_VERSION: return "VERSION";
+    case FST_ERR_ROOT:    return "ROOT";
+    case FST_ERR_LARGE:   return "LARGE";
+    case FST_ERR_NODE:    return "NODE";
+    case FST_ERR_DEEP:    return "DEEP";
+    case FST_ERR_SUM:     return "SUM";
+    case FST_ERR_SPACE:   return "SPACE";
+    case FST_ERR_BOUND:   return "BOUND";
+    case FST_ERR_RECORD:  return "RECORD";
+    case FST_ERR_STATE:   return "STATE";
+    case FST_ERR_PATTERN: return "PATTERN";
+    case FST_ERR_LIST:    return "LIST";
+    case FST_ERR_CARDS:   return "CARDS";
+    case FST_ERR_EDITION: return "EDITION";
+    case FST_ERR_CARRY:   return "CARRY";
+    case FST_ERR_NAME:    return "NAME";
+    case FST_ERR_FULL:    return "FULL";
+    case FST_ERR_COUNT:   return "COUNT";
+    case FST_ERR_SEAT:    return "SEAT";
+    default:              return "UNKNOWN";
+    }
+}
 
 #define FST_MAX_LEN   UINT64_C(4294967295) /* the longest file                                 */
 #define FST_KEY_SPACE 255                  /* the shortest key buffer, and the longest key in it */
@@ -73,7 +121,7 @@ typedef struct fst_meta {
  *   file, file_len   the whole file; file may be NULL where file_len is 0
  *   meta             all five numbers set on FST_OK, and left as they were on any other result
  *
- * Returns FST_OK, or the first that holds of FST_SHORT, FST_LARGE, FST_VERSION, FST_SHORT in version 3, FST_ROOT. The other
+ * Returns FST_OK, or the first that holds of FST_ERR_SHORT, FST_ERR_LARGE, FST_ERR_VERSION, FST_ERR_SHORT in version 3, FST_ERR_ROOT. The other
  * functions open the file themselves: there is no need to call this one before them. */
 int32_t fst_open(const uint8_t *file, size_t file_len, fst_meta *meta);
 
@@ -83,10 +131,10 @@ int32_t fst_open(const uint8_t *file, size_t file_len, fst_meta *meta);
  *   key, key_len     the key; any length, also 0
  *   value            set on FST_OK, and left as it was on any other result
  *
- * Returns FST_SHORT, FST_LARGE, FST_VERSION or FST_ROOT, as fst_open. Then FST_NONE if the file has no bytes. Then for each
- * node on the key's path, the last one included: FST_NODE if it is not sound, FST_SUM if the outputs up to it pass
+ * Returns FST_ERR_SHORT, FST_ERR_LARGE, FST_ERR_VERSION or FST_ERR_ROOT, as fst_open. Then FST_NONE if the file has no bytes. Then for each
+ * node on the key's path, the last one included: FST_ERR_NODE if it is not sound, FST_ERR_SUM if the outputs up to it pass
  * 2^64 - 1, FST_NONE if the key does not go on
- * from it. At the key's end FST_NONE if the node is not final, FST_SUM if its final output is too much, else FST_OK.
+ * from it. At the key's end FST_NONE if the node is not final, FST_ERR_SUM if its final output is too much, else FST_OK.
  *
  * On a file that fst_admit admits, FST_OK comes exactly for the keys that the file holds, with their values, and FST_NONE for
  * all others: there is no refusal. */
@@ -100,10 +148,10 @@ int32_t fst_get(const uint8_t *file, size_t file_len, const uint8_t *key, size_t
  *                    result all bytes are left as they were. At least FST_KEY_SPACE bytes
  *   key_len          the key's length, 0 to 255, on FST_OK; left as it was on any other result
  *
- * Returns FST_SHORT, FST_LARGE, FST_VERSION or FST_ROOT, as fst_open, then FST_SPACE, then FST_NONE if the file has no bytes.
- * Then for each node on the way: FST_NODE if it is not sound; FST_OK if nothing is left of the value and it is final;
+ * Returns FST_ERR_SHORT, FST_ERR_LARGE, FST_ERR_VERSION or FST_ERR_ROOT, as fst_open, then FST_ERR_SPACE, then FST_NONE if the file has no bytes.
+ * Then for each node on the way: FST_ERR_NODE if it is not sound; FST_OK if nothing is left of the value and it is final;
  * FST_NONE if no transition fits what is
- * left; FST_DEEP if 255 bytes do not end the key. Final outputs are not counted.
+ * left; FST_ERR_DEEP if 255 bytes do not end the key. Final outputs are not counted.
  *
  * On a numbered file (crates/format/specs/Lookup.antt, Numbered), FST_OK comes exactly when a held key has the value, with
  * that key, and else FST_NONE. On any other admitted file the outputs on a found key's path add up to the value, and a key
@@ -120,12 +168,12 @@ int32_t fst_get_key(const uint8_t *file, size_t file_len, uint64_t value,
  * What both tables hold afterwards, by result:
  *   FST_OK                       at the address of each node that a path from the root reaches, depths has 1 plus its
  *                                longest path and sums its largest sum; 0 at the other entries below file_len
- *   FST_NODE, FST_DEEP, FST_SUM  0 at all entries below file_len
+ *   FST_ERR_NODE, FST_ERR_DEEP, FST_ERR_SUM  0 at all entries below file_len
  *   any other                    what they held before
  * Entries from file_len on are left as they were on every result.
  *
- * Returns FST_SHORT, FST_LARGE, FST_VERSION or FST_ROOT, as fst_open, then FST_SPACE, then FST_NODE, decided over every node,
- * then FST_DEEP and FST_SUM, each decided over all nodes that a path from the root reaches, else FST_OK. */
+ * Returns FST_ERR_SHORT, FST_ERR_LARGE, FST_ERR_VERSION or FST_ERR_ROOT, as fst_open, then FST_ERR_SPACE, then FST_ERR_NODE, decided over every node,
+ * then FST_ERR_DEEP and FST_ERR_SUM, each decided over all nodes that a path from the root reaches, else FST_OK. */
 int32_t fst_admit(const uint8_t *file, size_t file_len,
                   uint16_t *depths, size_t depths_len, uint64_t *sums, size_t sums_len);
 

@@ -193,10 +193,10 @@ static void sparse_rows(uint64_t version)
     get_key_row("sparse, 100", f, 100, FST_OK, "c");
     get_key_row("sparse, 22", f, 22, FST_NONE, NULL);
     get_key_row("sparse, 101", f, 101, FST_NONE, NULL);
-    admit_row("sparse, depths one short", f, n - 1, n, FST_SPACE);
-    admit_row("sparse, sums one short", f, n, n - 1, FST_SPACE);
-    admit_row("sparse, both one short", f, n - 1, n - 1, FST_SPACE);
-    admit_row("sparse, no entries", f, 0, 0, FST_SPACE);
+    admit_row("sparse, depths one short", f, n - 1, n, FST_ERR_SPACE);
+    admit_row("sparse, sums one short", f, n, n - 1, FST_ERR_SPACE);
+    admit_row("sparse, both one short", f, n - 1, n - 1, FST_ERR_SPACE);
+    admit_row("sparse, no entries", f, 0, 0, FST_ERR_SPACE);
     drop(f);
 }
 
@@ -222,20 +222,20 @@ static void long_row(const char *name, size_t len)
         put(f, 0, version, 8);
         put(f, end + 8, end - 1, 8);
         lend(f);
-        open_row(name, f, FST_LARGE, 0, 0);
-        get_row(name, f, "", FST_LARGE, 0);
+        open_row(name, f, FST_ERR_LARGE, 0, 0);
+        get_row(name, f, "", FST_ERR_LARGE, 0);
         drop(f);
     }
 }
 
 int main(void)
 {
-    zeros_row("16,777,216 zeros", 16777216, FST_VERSION);
-    zeros_row("16,777,217 zeros", 16777217, FST_VERSION);
-    zeros_row("4,294,967,295 zeros", 4294967295u, FST_VERSION);
-    zeros_row("4,294,967,296 zeros", 4294967296u, FST_LARGE);
-    zeros_row("4,294,967,332 zeros", 4294967332u, FST_LARGE);
-    zeros_row("8,589,934,592 zeros", 8589934592u, FST_LARGE);
+    zeros_row("16,777,216 zeros", 16777216, FST_ERR_VERSION);
+    zeros_row("16,777,217 zeros", 16777217, FST_ERR_VERSION);
+    zeros_row("4,294,967,295 zeros", 4294967295u, FST_ERR_VERSION);
+    zeros_row("4,294,967,296 zeros", 4294967296u, FST_ERR_LARGE);
+    zeros_row("4,294,967,332 zeros", 4294967332u, FST_ERR_LARGE);
+    zeros_row("8,589,934,592 zeros", 8589934592u, FST_ERR_LARGE);
     expect_number(FST_MAX_LEN, 4294967295u, "FST_MAX_LEN");
     long_row("4,294,967,296 bytes, right root", 4294967296u);
     long_row("4,294,967,332 bytes, right root", 4294967332u);

@@ -1,10 +1,10 @@
--- `firmware::fst_open` meets its contract: what opening answered is the result, and the five numbers where it opened.
+-- `baxhiso::fst_open` meets its contract: what opening answered is the result, and the five numbers where it opened.
 -- Assumes nothing.
 use borrow.Author.Needs.{needs}
 use denote.Ref.{now}
-use Rattle.firmware.proofs.Results.{code-is, open-refused, open-opened}
-use Rattle.firmware.proofs.fst_open.Statement.{statement}
-use Rattle.firmware.proofs.fst_open.Tie as tie
+use Rattle.baxhiso.proofs.Results.{code-is, open-refused, open-opened}
+use Rattle.baxhiso.proofs.fst_open.Statement.{statement}
+use Rattle.baxhiso.proofs.fst_open.Tie as tie
 
 open-requires : tie.Need-open-requires
 open-requires c κs = search needs

@@ -6,7 +6,7 @@ ghost use lib.IntN.{pos};
 ghost use lib.ListN.{length};
 ghost use Rattle.format.specs.Opening.{opening};
 ghost use Rattle.format.specs.Lookup as L;
-ghost use Rattle.firmware.specs.Exports.{checksumNumber, OpenLeaves, GetLeaves, KeyLeaves, AdmitLeaves};
+ghost use Rattle.baxhiso.specs.Exports.{checksumNumber, OpenLeaves, GetLeaves, KeyLeaves, AdmitLeaves};
 ghost use Rattle.fst.specs.Open.{checksumIs};
 use admission::Admission;
 use fst::Checksum;

@@ -1,10 +1,10 @@
--- `firmware::fst_get_key` meets its contract: the search wrote the key, and its length is written where one was found.
+-- `baxhiso::fst_get_key` meets its contract: the search wrote the key, and its length is written where one was found.
 -- Assumes nothing.
 use borrow.Author.Needs.{needs}
 use denote.Ref.{now}
-use Rattle.firmware.proofs.Results.{code-is, key-found, key-none, key-refused}
-use Rattle.firmware.proofs.fst_get_key.Statement.{statement}
-use Rattle.firmware.proofs.fst_get_key.Tie as tie
+use Rattle.baxhiso.proofs.Results.{code-is, key-found, key-none, key-refused}
+use Rattle.baxhiso.proofs.fst_get_key.Statement.{statement}
+use Rattle.baxhiso.proofs.fst_get_key.Tie as tie
 
 get-key-requires : tie.Need-get-key-requires
 get-key-requires c κs = search needs

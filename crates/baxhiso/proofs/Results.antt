@@ -1,4 +1,4 @@
--- From what a function of the port answers to what the firmware's function leaves, for each answer.
+-- From what a function of the port answers to what the function for C leaves, for each answer.
 -- Assumes nothing.
 use mathlib.Core.Path.{_≡_, refl, sym, ap, _∙_, subst}
 use mathlib.Core.List.{List, [], _∷_}
@@ -25,8 +25,8 @@ use Rattle.lookup.specs.Answers.{answerIs, KeyWritten}
 use Rattle.admission.specs.declared.Admission.{Admission}
 use Rattle.admission.specs.declared.Admission.the-variants.{Admitted as Yes, Refused as No}
 use Rattle.admission.specs.Outcome.{RefusedFor, Admits, Outcome}
-use Rattle.firmware.specs.ExportsLaws.{refused-not-0}
-use Rattle.firmware.specs.Exports.{OK, NONE, code, checksumNumber, OpenLeaves, GetLeaves, KeyLeaves, AdmitLeaves}
+use Rattle.baxhiso.specs.ExportsLaws.{refused-not-0}
+use Rattle.baxhiso.specs.Exports.{OK, NONE, code, checksumNumber, OpenLeaves, GetLeaves, KeyLeaves, AdmitLeaves}
 
 -- a result that came from a call is read back from its bits
 pub code-is : (z : ℤ) {n : ℕ} → mag z < 2 ^ hbits w32 → z ≡ code n → toZ w32 (ofZ w32 z) ≡ code n

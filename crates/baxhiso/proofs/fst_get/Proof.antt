@@ -1,10 +1,10 @@
--- `firmware::fst_get` meets its contract: what the lookup answered is the result, and the value is written where there is one.
+-- `baxhiso::fst_get` meets its contract: what the lookup answered is the result, and the value is written where there is one.
 -- Assumes nothing.
 use borrow.Author.Needs.{needs}
 use denote.Ref.{now}
-use Rattle.firmware.proofs.Results.{code-is, get-value, get-none, get-refused}
-use Rattle.firmware.proofs.fst_get.Statement.{statement}
-use Rattle.firmware.proofs.fst_get.Tie as tie
+use Rattle.baxhiso.proofs.Results.{code-is, get-value, get-none, get-refused}
+use Rattle.baxhiso.proofs.fst_get.Statement.{statement}
+use Rattle.baxhiso.proofs.fst_get.Tie as tie
 
 get-requires : tie.Need-get-requires
 get-requires c κs = search needs

@@ -33,7 +33,7 @@ use Rattle.format.specs.laws.LookupHeld.{get-exact}
 use Rattle.format.specs.laws.NumberedLaws.{get-key-exact}
 use Rattle.lookup.specs.Answers.{keyBufferAfter}
 use Rattle.admission.specs.Outcome.{RefusedFor, not-opened, no-space, no-nodes, too-deep, too-heavy}
-use Rattle.firmware.specs.Exports.{OK, NONE, code, checksumNumber, numbersAs, OpenLeaves, getResult, getValue, GetLeaves, keyResult, keyLen, KeyLeaves, AdmitLeaves}
+use Rattle.baxhiso.specs.Exports.{OK, NONE, code, checksumNumber, numbersAs, OpenLeaves, getResult, getValue, GetLeaves, keyResult, keyLen, KeyLeaves, AdmitLeaves}
 
 picked : {A : Type 0} (P : A → Type 0) (t : Bool) {x y : A} → P x → P y → P (cond t x y)
 picked P true px py = px

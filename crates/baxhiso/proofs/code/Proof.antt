@@ -1,11 +1,11 @@
--- `firmware::code` meets its contract: a number of 8 bits is the same number at 32 bits with a sign.
+-- `baxhiso::code` meets its contract: a number of 8 bits is the same number at 32 bits with a sign.
 -- Assumes nothing.
 use borrow.Author.Needs.{needs}
 use lib.IntN.{pos}
 use mir.Syntax.{w32}
 use mir.Facts.{toZ-ofZ}
-use Rattle.firmware.proofs.code.Statement.{statement}
-use Rattle.firmware.proofs.code.Tie as tie
+use Rattle.baxhiso.proofs.code.Statement.{statement}
+use Rattle.baxhiso.proofs.code.Tie as tie
 
 cast-result : tie.Need-cast-result
 cast-result c = search needs

@@ -2,7 +2,7 @@
  *
  * Each row is a call. Every buffer is a block of its own of exactly the length that the call is given, so that valgrind sees
  * a step beyond it. What is not to be written is filled with MARK. Files are made from their nodes' bytes (docs/FORMAT.md).
- * A refusal that a function can give is reached by at least one row, FST_LARGE by those of large.c. */
+ * A refusal that a function can give is reached by at least one row, FST_ERR_LARGE by those of large.c. */
 #include <stdio.h>
 #include <stdlib.h>
 #include <string.h>
@@ -174,7 +174,7 @@ typedef struct entry {
 static void admit_row(const char *name, file f, size_t depths_len, size_t sums_len, int32_t want,
                       const entry *nodes, size_t nodes_len)
 {
-    int wiped = want == FST_OK || want == FST_NODE || want == FST_DEEP || want == FST_SUM;
+    int wiped = want == FST_OK || want == FST_ERR_NODE || want == FST_ERR_DEEP || want == FST_ERR_SUM;
     uint8_t *copy = before(f);
     uint16_t *depths = block(depths_len * sizeof *depths);
     uint64_t *sums = block(sums_len * sizeof *sums);
@@ -218,21 +218,21 @@ static void null_rows(file d, file seven)
     expect_number((uint64_t)fst_open(NULL, 0, &meta), FST_OK, "fst_open, file");
     expect(meta.version == 0 && meta.type == 0 && meta.keys == 0 && meta.root == 0 && meta.checksum == FST_NO_CHECKSUM, "meta");
     expect_number((uint64_t)fst_get(NULL, 0, NULL, 0, &value), (uint64_t)FST_NONE, "fst_get, file and key");
-    expect_number((uint64_t)fst_get_key(NULL, 0, 0, key, 254, &len), FST_SPACE, "fst_get_key, file, 254 bytes");
+    expect_number((uint64_t)fst_get_key(NULL, 0, 0, key, 254, &len), FST_ERR_SPACE, "fst_get_key, file, 254 bytes");
     expect_number((uint64_t)fst_get_key(NULL, 0, 0, key, 255, &len), (uint64_t)FST_NONE, "fst_get_key, file");
     expect_number((uint64_t)fst_get(d.bytes, d.len, NULL, 0, &value), (uint64_t)FST_NONE, "fst_get, key");
     expect_number(value, 6, "value");
     expect_number((uint64_t)fst_get(seven.bytes, seven.len, NULL, 0, &value), FST_OK, "fst_get, the empty key");
     expect_number(value, 7, "value");
-    expect_number((uint64_t)fst_get_key(NULL, 0, 3, NULL, 0, &len), FST_SPACE, "fst_get_key, file and key");
-    expect_number((uint64_t)fst_get_key(d.bytes, d.len, 3, NULL, 0, &len), FST_SPACE, "fst_get_key, key");
+    expect_number((uint64_t)fst_get_key(NULL, 0, 3, NULL, 0, &len), FST_ERR_SPACE, "fst_get_key, file and key");
+    expect_number((uint64_t)fst_get_key(d.bytes, d.len, 3, NULL, 0, &len), FST_ERR_SPACE, "fst_get_key, key");
     expect_number(len, 7, "key_len");
     expect_number((uint64_t)fst_admit(NULL, 0, NULL, 0, NULL, 0), FST_OK, "fst_admit, all");
     memset(depths, MARK, sizeof depths);
     memset(sums, MARK, sizeof sums);
     expect_number((uint64_t)fst_admit(NULL, 0, depths, 64, sums, 64), FST_OK, "fst_admit, file");
-    expect_number((uint64_t)fst_admit(d.bytes, d.len, NULL, 0, sums, 64), FST_SPACE, "fst_admit, depths");
-    expect_number((uint64_t)fst_admit(d.bytes, d.len, depths, 64, NULL, 0), FST_SPACE, "fst_admit, sums");
+    expect_number((uint64_t)fst_admit(d.bytes, d.len, NULL, 0, sums, 64), FST_ERR_SPACE, "fst_admit, depths");
+    expect_number((uint64_t)fst_admit(d.bytes, d.len, depths, 64, NULL, 0), FST_ERR_SPACE, "fst_admit, sums");
     for (int i = 0; i < 64; i++)
         expect(depths[i] == MARK16 && sums[i] == MARK64, "an entry of a table");
 }
@@ -256,6 +256,31 @@ static void address_rows(file d)
     expect_number((uint64_t)fst_get(d.bytes, d.len, d.bytes + 27, 1, &value), FST_OK, "fst_get");
     expect_number(value, 1, "value");
     free(room);
+}
+
+/* ---- the numbers of the refusals and their names, as docs/FORMAT.md has them */
+
+static void name_rows(void)
+{
+    static const struct {
+        int result;
+        const char *name;
+    } names[] = {
+        { FST_NONE, "NONE" }, { FST_OK, "OK" },
+        { FST_ERR_SHORT, "SHORT" }, { FST_ERR_VERSION, "VERSION" }, { FST_ERR_ROOT, "ROOT" }, { FST_ERR_LARGE, "LARGE" },
+        { FST_ERR_NODE, "NODE" }, { FST_ERR_DEEP, "DEEP" }, { FST_ERR_SUM, "SUM" }, { FST_ERR_SPACE, "SPACE" },
+        { FST_ERR_BOUND, "BOUND" }, { FST_ERR_RECORD, "RECORD" }, { FST_ERR_STATE, "STATE" }, { FST_ERR_PATTERN, "PATTERN" },
+        { FST_ERR_LIST, "LIST" }, { FST_ERR_CARDS, "CARDS" }, { FST_ERR_EDITION, "EDITION" }, { FST_ERR_CARRY, "CARRY" },
+        { FST_ERR_NAME, "NAME" }, { FST_ERR_FULL, "FULL" }, { FST_ERR_COUNT, "COUNT" }, { FST_ERR_SEAT, "SEAT" },
+    };
+    row = "names";
+    for (int i = 0; i < (int)(sizeof names / sizeof *names); i++) {
+        expect_number((uint64_t)names[i].result, (uint64_t)(i - 1), names[i].name);
+        expect(strcmp(fst_result_name(names[i].result), names[i].name) == 0, names[i].name);
+    }
+    expect(strcmp(fst_result_name(21), "UNKNOWN") == 0, "21");
+    expect(strcmp(fst_result_name(-100), "UNKNOWN") == 0, "-100");
+    expect(strcmp(fst_result_name(INT32_MAX), "UNKNOWN") == 0, "the largest number");
 }
 
 int main(void)
@@ -327,16 +352,16 @@ int main(void)
     open_row("version 2", two, FST_OK, two_meta);
     open_row("root 0", empty, FST_OK, empty_meta);
     open_row("no bytes", nothing, FST_OK, (fst_meta){ 0, 0, 0, 0, FST_NO_CHECKSUM });
-    open_refused("31 zeros", brief, FST_SHORT);
-    open_refused("35 zeros", longer, FST_VERSION);
+    open_refused("31 zeros", brief, FST_ERR_SHORT);
+    open_refused("35 zeros", longer, FST_ERR_VERSION);
     open_row("version 2, 32 bytes, root 0", old, FST_OK, (fst_meta){ 2, 0, 0, 0, FST_NO_CHECKSUM });
     open_row("version 1, 32 bytes, root 0", older, FST_OK, (fst_meta){ 1, 9, 1, 0, FST_NO_CHECKSUM });
-    open_refused("version 1, 32 bytes, root 16", misrooted, FST_ROOT);
+    open_refused("version 1, 32 bytes, root 16", misrooted, FST_ERR_ROOT);
     cut.len = 35;
-    open_refused("version 3, 35 bytes", cut, FST_SHORT);
+    open_refused("version 3, 35 bytes", cut, FST_ERR_SHORT);
     open_row("version 2, 33 bytes", node_of_1, FST_OK, (fst_meta){ 2, 0, 1, 16, FST_NO_CHECKSUM });
-    open_refused("36 zeros", unversioned, FST_VERSION);
-    open_refused("39 bytes, root 17", rootless, FST_ROOT);
+    open_refused("36 zeros", unversioned, FST_ERR_VERSION);
+    open_refused("39 bytes, root 17", rootless, FST_ERR_ROOT);
     open_row("C1 at 16: no node is read", unsound, FST_OK, (fst_meta){ 3, 0, 1, 16, 0 });
 
     get_row("D, a", d, "a", 1, FST_OK, 1);
@@ -352,24 +377,24 @@ int main(void)
     get_row("256 times a", deep, as, 256, FST_OK, 0);
     get_row("255 times a of 256", deep, as, 255, FST_NONE, 0);
     get_row("257 times a of 256", deep, as, 257, FST_NONE, 0);
-    get_row("31 zeros, a", brief, "a", 1, FST_SHORT, 0);
-    get_row("35 zeros, a", longer, "a", 1, FST_VERSION, 0);
+    get_row("31 zeros, a", brief, "a", 1, FST_ERR_SHORT, 0);
+    get_row("35 zeros, a", longer, "a", 1, FST_ERR_VERSION, 0);
     get_row("no bytes, empty key", nothing, "", 0, FST_NONE, 0);
     get_row("no bytes, a", nothing, "a", 1, FST_NONE, 0);
     get_row("version 2, 32 bytes, empty key", old, "", 0, FST_OK, 0);
     get_row("version 1, 32 bytes, a", older, "a", 1, FST_NONE, 0);
-    get_row("version 2, 33 bytes, empty key", node_of_1, "", 0, FST_NODE, 0);
+    get_row("version 2, 33 bytes, empty key", node_of_1, "", 0, FST_ERR_NODE, 0);
     get_row("version 2, 35 bytes, empty key", no_key, "", 0, FST_NONE, 0);
     get_row("version 2, 35 bytes, a", one_key, "a", 1, FST_OK, 0);
-    get_row("36 zeros, a", unversioned, "a", 1, FST_VERSION, 0);
-    get_row("39 bytes, root 17, a", rootless, "a", 1, FST_ROOT, 0);
-    get_row("C1 at 16, empty key", unsound, "", 0, FST_NODE, 0);
-    get_row("C1 at 16, a", unsound, "a", 1, FST_NODE, 0);
+    get_row("36 zeros, a", unversioned, "a", 1, FST_ERR_VERSION, 0);
+    get_row("39 bytes, root 17, a", rootless, "a", 1, FST_ERR_ROOT, 0);
+    get_row("C1 at 16, empty key", unsound, "", 0, FST_ERR_NODE, 0);
+    get_row("C1 at 16, a", unsound, "a", 1, FST_ERR_NODE, 0);
     get_row("C1 below, empty key", below, "", 0, FST_NONE, 0);
-    get_row("C1 below, a", below, "a", 1, FST_NODE, 0);
+    get_row("C1 below, a", below, "a", 1, FST_ERR_NODE, 0);
     get_row("2^64 - 1, then 1: a", heavy, "a", 1, FST_NONE, 0);
-    get_row("2^64 - 1, then 1: ab", heavy, "ab", 2, FST_SUM, 0);
-    get_row("2^64 - 1, then 1 at the end: a", heavier, "a", 1, FST_SUM, 0);
+    get_row("2^64 - 1, then 1: ab", heavy, "ab", 2, FST_ERR_SUM, 0);
+    get_row("2^64 - 1, then 1 at the end: a", heavier, "a", 1, FST_ERR_SUM, 0);
 
     get_key_row("D, 1", d, 1, 255, FST_OK, "a", 1);
     get_key_row("D, 3", d, 3, 255, FST_OK, "at", 2);
@@ -380,42 +405,43 @@ int main(void)
     get_key_row("root 0, 0", empty, 0, 255, FST_OK, "", 0);
     get_key_row("final outputs are not counted", one, 7, 255, FST_NONE, NULL, 0);
     get_key_row("255 times a", deepest, 0, 255, FST_OK, as, 255);
-    get_key_row("254 bytes of space", d, 3, 254, FST_SPACE, NULL, 0);
-    get_key_row("no space", d, 3, 0, FST_SPACE, NULL, 0);
-    get_key_row("31 zeros before no space", brief, 3, 0, FST_SHORT, NULL, 0);
-    get_key_row("no bytes, no space", nothing, 0, 254, FST_SPACE, NULL, 0);
+    get_key_row("254 bytes of space", d, 3, 254, FST_ERR_SPACE, NULL, 0);
+    get_key_row("no space", d, 3, 0, FST_ERR_SPACE, NULL, 0);
+    get_key_row("31 zeros before no space", brief, 3, 0, FST_ERR_SHORT, NULL, 0);
+    get_key_row("no bytes, no space", nothing, 0, 254, FST_ERR_SPACE, NULL, 0);
     get_key_row("no bytes, 0", nothing, 0, 255, FST_NONE, NULL, 0);
     get_key_row("version 2, 32 bytes, 0", old, 0, 255, FST_OK, "", 0);
     get_key_row("version 2, 35 bytes, 0", one_key, 0, 255, FST_OK, "a", 1);
-    get_key_row("36 zeros, 3", unversioned, 3, 255, FST_VERSION, NULL, 0);
-    get_key_row("39 bytes, root 17, 3", rootless, 3, 255, FST_ROOT, NULL, 0);
-    get_key_row("C1 at 16, 0", unsound, 0, 255, FST_NODE, NULL, 0);
-    get_key_row("C1 below, 2", below, 2, 255, FST_NODE, NULL, 0);
-    get_key_row("256 times a, 0", deep, 0, 255, FST_DEEP, NULL, 0);
+    get_key_row("36 zeros, 3", unversioned, 3, 255, FST_ERR_VERSION, NULL, 0);
+    get_key_row("39 bytes, root 17, 3", rootless, 3, 255, FST_ERR_ROOT, NULL, 0);
+    get_key_row("C1 at 16, 0", unsound, 0, 255, FST_ERR_NODE, NULL, 0);
+    get_key_row("C1 below, 2", below, 2, 255, FST_ERR_NODE, NULL, 0);
+    get_key_row("256 times a, 0", deep, 0, 255, FST_ERR_DEEP, NULL, 0);
 
     admit_row("admit D", d, 50, 50, FST_OK, d_entries, 2);
     admit_row("admit D, longer tables", d, 53, 57, FST_OK, d_entries, 2);
     admit_row("admit version 1", one, 36, 36, FST_OK, seven_entries, 1);
     admit_row("admit root 0", empty, 36, 40, FST_OK, NULL, 0);
     admit_row("admit 255 times a", deepest, deepest.len, deepest.len + 1, FST_OK, deep_entries, 255);
-    admit_refused("admit D, depths one short", d, 49, 50, FST_SPACE);
-    admit_refused("admit D, sums one short", d, 50, 49, FST_SPACE);
+    admit_refused("admit D, depths one short", d, 49, 50, FST_ERR_SPACE);
+    admit_refused("admit D, sums one short", d, 50, 49, FST_ERR_SPACE);
     admit_row("admit no bytes", nothing, 0, 0, FST_OK, NULL, 0);
     admit_row("admit no bytes, longer tables", nothing, 3, 7, FST_OK, NULL, 0);
     admit_row("admit version 2, 32 bytes", old, 32, 33, FST_OK, NULL, 0);
     admit_row("admit version 2, 35 bytes, no key", no_key, 35, 35, FST_OK, no_key_entries, 1);
     admit_row("admit version 2, 35 bytes, a", one_key, 36, 35, FST_OK, one_key_entries, 1);
-    admit_refused("admit version 2, 33 bytes", node_of_1, 33, 33, FST_NODE);
-    admit_refused("admit version 1, 32 bytes, one entry short", older, 31, 32, FST_SPACE);
-    admit_refused("admit 31 zeros", brief, 31, 31, FST_SHORT);
-    admit_refused("admit 36 zeros", unversioned, 36, 36, FST_VERSION);
-    admit_refused("admit 39 bytes, root 17", rootless, 39, 39, FST_ROOT);
-    admit_refused("admit C1 at 16", unsound, 40, 37, FST_NODE);
-    admit_refused("admit C1 below", below, 42, 43, FST_NODE);
-    admit_refused("admit 256 times a", deep, 296, 294, FST_DEEP);
-    admit_refused("admit 2^64 - 1, then 1", heavy, 53, 60, FST_SUM);
-    admit_refused("admit 2^64 - 1, then 1 at the end", heavier, 60, 52, FST_SUM);
+    admit_refused("admit version 2, 33 bytes", node_of_1, 33, 33, FST_ERR_NODE);
+    admit_refused("admit version 1, 32 bytes, one entry short", older, 31, 32, FST_ERR_SPACE);
+    admit_refused("admit 31 zeros", brief, 31, 31, FST_ERR_SHORT);
+    admit_refused("admit 36 zeros", unversioned, 36, 36, FST_ERR_VERSION);
+    admit_refused("admit 39 bytes, root 17", rootless, 39, 39, FST_ERR_ROOT);
+    admit_refused("admit C1 at 16", unsound, 40, 37, FST_ERR_NODE);
+    admit_refused("admit C1 below", below, 42, 43, FST_ERR_NODE);
+    admit_refused("admit 256 times a", deep, 296, 294, FST_ERR_DEEP);
+    admit_refused("admit 2^64 - 1, then 1", heavy, 53, 60, FST_ERR_SUM);
+    admit_refused("admit 2^64 - 1, then 1 at the end", heavier, 60, 52, FST_ERR_SUM);
 
+    name_rows();
     null_rows(d, one);
     address_rows(d);
 

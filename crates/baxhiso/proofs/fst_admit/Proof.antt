@@ -1,9 +1,9 @@
--- `firmware::fst_admit` meets its contract: admission's answer is the result, and the tables are as admission left them.
+-- `baxhiso::fst_admit` meets its contract: admission's answer is the result, and the tables are as admission left them.
 -- Assumes nothing.
 use borrow.Author.Needs.{needs}
-use Rattle.firmware.proofs.Results.{code-is, admit-admitted, admit-refused}
-use Rattle.firmware.proofs.fst_admit.Statement.{statement}
-use Rattle.firmware.proofs.fst_admit.Tie as tie
+use Rattle.baxhiso.proofs.Results.{code-is, admit-admitted, admit-refused}
+use Rattle.baxhiso.proofs.fst_admit.Statement.{statement}
+use Rattle.baxhiso.proofs.fst_admit.Tie as tie
 
 admit-requires : tie.Need-admit-requires
 admit-requires c κs = search needs
