@@ -29,8 +29,11 @@ use Rattle.baxhiso.specs.ExportsLaws.{refused-not-0}
 use Rattle.baxhiso.specs.Exports.{OK, NONE, code, checksumNumber, OpenLeaves, GetLeaves, KeyLeaves, AdmitLeaves}
 
 -- a result that came from a call is read back from its bits
+pub result-back : (z : ℤ) → mag z < 2 ^ hbits w32 → toZ w32 (ofZ w32 z) ≡ z
+result-back z fits = toZ-ofZ {w = w32} (record { sfits = fits })
+
 pub code-is : (z : ℤ) {n : ℕ} → mag z < 2 ^ hbits w32 → z ≡ code n → toZ w32 (ofZ w32 z) ≡ code n
-code-is z fits e = toZ-ofZ {w = w32} (record { sfits = fits }) ∙ e
+code-is z fits e = result-back z fits ∙ e
 
 -- ---- opening
 

@@ -35,13 +35,13 @@ use Rattle.lookup.specs.Answers.{keyBufferAfter}
 use Rattle.admission.specs.Outcome.{RefusedFor, not-opened, no-space, no-nodes, too-deep, too-heavy}
 use Rattle.baxhiso.specs.Exports.{OK, NONE, code, checksumNumber, numbersAs, OpenLeaves, getResult, getValue, GetLeaves, keyResult, keyLen, KeyLeaves, AdmitLeaves}
 
-picked : {A : Type 0} (P : A → Type 0) (t : Bool) {x y : A} → P x → P y → P (cond t x y)
+pub picked : {A : Type 0} (P : A → Type 0) (t : Bool) {x y : A} → P x → P y → P (cond t x y)
 picked P true px py = px
 picked P false px py = py
 
 -- ---- no refusal has the number 0
 
-data OpeningNonzero : Opening → Type 0 where
+pub data OpeningNonzero : Opening → Type 0 where
   opens : (m : Meta) → OpeningNonzero (opened m)
   turns : (n : ℕ) → OpeningNonzero (O.Opening.refused (suc n))
 
@@ -54,10 +54,10 @@ case-nonzero (under-36 low few three) = turns 0
 case-nonzero (wrong-root w ne) = turns 2
 case-nonzero {s} (right-root w is) = opens (metaOf s)
 
-opening-nonzero : (s : List ℕ) → OpeningNonzero (opening s)
+pub opening-nonzero : (s : List ℕ) → OpeningNonzero (opening s)
 opening-nonzero s = case-nonzero (opening-exactly s (opening s) .0 refl)
 
-opening-not-0 : (w : Opening) → OpeningNonzero w → ¬ (w ≡ O.Opening.refused 0)
+pub opening-not-0 : (w : Opening) → OpeningNonzero w → ¬ (w ≡ O.Opening.refused 0)
 opening-not-0 w (opens m) e = let z : _≡_ {A = ℕ} 0 1 = cc in omega arith
 opening-not-0 w (turns n) e = let z : suc n ≡ 0 = cc in omega arith
 
@@ -145,10 +145,10 @@ get-key-nonzero s v space =
 
 -- ---- the answer behind a result
 
-positive-not-0 : (n : ℕ) → ¬ (code (suc n) ≡ OK)
+pub positive-not-0 : (n : ℕ) → ¬ (code (suc n) ≡ OK)
 positive-not-0 n e = let z : suc n ≡ 0 = cc in omega arith
 
-not-none : (n : ℕ) → ¬ (code n ≡ NONE)
+pub not-none : (n : ℕ) → ¬ (code n ≡ NONE)
 not-none n e = let z : _≡_ {A = ℕ} 0 1 = cc in omega arith
 
 none-not-0 : ¬ (NONE ≡ OK)

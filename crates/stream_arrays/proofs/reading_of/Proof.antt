@@ -1,8 +1,8 @@
--- `oracle_stream::reading_of` meets its contract: each field is its part of the arrays.
+-- `stream_arrays::reading_of` meets its contract: each field is its part of the arrays.
 -- Assumes nothing.
 use borrow.Author.Needs.{needs}
-use Rattle.oracle_stream.proofs.reading_of.Statement.{statement}
-use Rattle.oracle_stream.proofs.reading_of.Tie as tie
+use Rattle.stream_arrays.proofs.reading_of.Statement.{statement}
+use Rattle.stream_arrays.proofs.reading_of.Tie as tie
 
 array-read-kind-of : tie.Need-array-read-kind-of
 array-read-kind-of c = search needs

@@ -1,9 +1,9 @@
--- `oracle_stream::put_plain` meets its contract: the arrays hold the reading, and the one beside them its number.
+-- `stream_arrays::put_plain` meets its contract: the arrays hold the reading, and the one beside them its number.
 -- Assumes nothing.
 use mathlib.Core.Path.{refl}
 use borrow.Author.Needs.{needs}
-use Rattle.oracle_stream.proofs.put_plain.Statement.{statement}
-use Rattle.oracle_stream.proofs.put_plain.Tie as tie
+use Rattle.stream_arrays.proofs.put_plain.Statement.{statement}
+use Rattle.stream_arrays.proofs.put_plain.Tie as tie
 
 put-requires : tie.Need-put-requires
 put-requires c κs = search needs

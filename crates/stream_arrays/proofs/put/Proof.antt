@@ -1,8 +1,8 @@
--- `oracle_stream::put` meets its contract: each array holds its part of the reading.
+-- `stream_arrays::put` meets its contract: each array holds its part of the reading.
 -- Assumes nothing.
 use borrow.Author.Needs.{needs}
-use Rattle.oracle_stream.proofs.put.Statement.{statement}
-use Rattle.oracle_stream.proofs.put.Tie as tie
+use Rattle.stream_arrays.proofs.put.Statement.{statement}
+use Rattle.stream_arrays.proofs.put.Tie as tie
 
 head-of-requires : tie.Need-head-of-requires
 head-of-requires c κs = search needs

@@ -1,9 +1,9 @@
--- `oracle_stream::pending_of` meets its contract.
+-- `stream_arrays::pending_of` meets its contract.
 -- Assumes nothing.
 use borrow.Author.Needs.{needs}
-use Rattle.oracle_stream.proofs.Telling.{pending-there}
-use Rattle.oracle_stream.proofs.pending_of.Statement.{statement}
-use Rattle.oracle_stream.proofs.pending_of.Tie as tie
+use Rattle.stream_arrays.proofs.KindNumbers.{pending-there}
+use Rattle.stream_arrays.proofs.pending_of.Statement.{statement}
+use Rattle.stream_arrays.proofs.pending_of.Tie as tie
 
 returns : tie.Need-returns
 returns c = search needs

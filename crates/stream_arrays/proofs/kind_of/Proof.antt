@@ -1,9 +1,9 @@
--- `oracle_stream::kind_of` meets its contract.
+-- `stream_arrays::kind_of` meets its contract.
 -- Assumes nothing.
 use borrow.Author.Needs.{needs}
-use Rattle.oracle_stream.proofs.Telling.{kind-other}
-use Rattle.oracle_stream.proofs.kind_of.Statement.{statement}
-use Rattle.oracle_stream.proofs.kind_of.Tie as tie
+use Rattle.stream_arrays.proofs.KindNumbers.{kind-other}
+use Rattle.stream_arrays.proofs.kind_of.Statement.{statement}
+use Rattle.stream_arrays.proofs.kind_of.Tie as tie
 
 returns : tie.Need-returns
 returns c = search needs
