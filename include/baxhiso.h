@@ -49,6 +49,7 @@ extern "C" {
  * functions below answer 1 to 9, 11 and 19; the other numbers belong to functions that are not exported. */
 #define FST_OK            0
 #define FST_NONE        (-1) /* no such key or value                                                                    */
+#define FST_END         (-2) /* a reading has no more keys                                                              */
 #define FST_ERR_SHORT     1  /* file of 1 to 31 bytes, or under 36 in version 3                                         */
 #define FST_ERR_VERSION   2  /* version not 1, 2 or 3                                                                   */
 #define FST_ERR_ROOT      3  /* root address does not fit the version and the file's length                             */
@@ -76,6 +77,7 @@ static inline const char *fst_result_name(int result)
     switch (result) {
     case FST_OK:          return "OK";
     case FST_NONE:        return "NONE";
+    case FST_END:         return "END";
     case FST_ERR_SHORT:   return "SHORT";
     case FST_ERR_VERSION: return "VERSION";
     case FST_ERR_ROOT:    return "ROOT";
@@ -176,6 +178,113 @@ int32_t fst_get_key(const uint8_t *file, size_t file_len, uint64_t value,
  * then FST_ERR_DEEP and FST_ERR_SUM, each decided over all nodes that a path from the root reaches, else FST_OK. */
 int32_t fst_admit(const uint8_t *file, size_t file_len,
                   uint16_t *depths, size_t depths_len, uint64_t *sums, size_t sums_len);
+
+/* ---- readings: the keys between two bounds, the least first, one a call */
+
+/* Admits a file and fills a third table, from which fst_start works out how many keys are to come.
+ *
+ *   file, file_len       the whole file
+ *   depths, depths_len   work table, at least file_len entries
+ *   sums, sums_len       work table, at least file_len entries
+ *   counts, counts_len   the table of keys, at least file_len entries
+ *
+ * What depths and sums hold afterwards is said at fst_admit. What counts holds, by result:
+ *   FST_OK          at the address of each node that a path from the root reaches, the number of keys from there; 0 at the other
+ *                   entries below file_len
+ *   FST_ERR_COUNT   0 at all entries below file_len; depths and sums are as on FST_OK then
+ *   any other       what it held before
+ * Entries from file_len on are left as they were on every result.
+ *
+ * Returns what fst_admit returns, FST_ERR_SPACE for a third table that is too short too; last FST_ERR_COUNT, where the file
+ * holds more than 2^64 - 1 keys, else FST_OK. */
+int32_t fst_count(const uint8_t *file, size_t file_len, uint16_t *depths, size_t depths_len,
+                  uint64_t *sums, size_t sums_len, uint64_t *counts, size_t counts_len);
+
+/* A bound: keys are compared byte by byte, a key before every longer one that it begins. */
+typedef struct fst_bound {
+    int kind;
+    const uint8_t *key; /* may be NULL where len is 0 */
+    size_t len;         /* at most 255 */
+} fst_bound;
+
+#define FST_INCLUDED  0 /* the key itself lies between the bounds    */
+#define FST_EXCLUDED  1 /* it does not                               */
+#define FST_UNBOUNDED 2 /* as any other number: key and len are not looked at */
+
+/* A reading between two calls. It holds no pointer, and may be copied: the copy goes on from the same key. A caller need not
+ * look into it; whatever it holds, fst_next reads and writes within it alone. */
+typedef struct fst_reading {
+    uint64_t head[7];   /* file length, upper bound's kind and length, pending empty key and its value, transitions followed, levels */
+    uint64_t keys[1];   /* the number of keys to come */
+    uint64_t outs[256]; /* a level's running sum, */
+    uint32_t addrs[256]; /* node address, */
+    uint16_t trans[256]; /* next transition */
+    uint8_t inps[256];  /* and the byte that led there */
+    uint8_t bound[255]; /* the upper bound */
+} fst_reading;
+
+/* What fst_start and fst_next call: each field of a reading is an argument. */
+int32_t fst_start_arrays(const uint8_t *file, size_t file_len,
+                         uint64_t lower_kind, const uint8_t *lower, size_t lower_len,
+                         uint64_t upper_kind, const uint8_t *upper, size_t upper_len,
+                         const uint64_t *counts, size_t counts_len,
+                         uint64_t *head, uint8_t *bound, uint32_t *addrs, uint8_t *inps, uint16_t *trans, uint64_t *outs,
+                         uint64_t *keys);
+int32_t fst_next_arrays(const uint8_t *file, size_t file_len,
+                        uint64_t *head, uint8_t *bound, uint32_t *addrs, uint8_t *inps, uint16_t *trans, uint64_t *outs,
+                        uint64_t *keys, uint8_t *key, size_t key_space, size_t *key_len, uint64_t *value);
+
+/* Starts a reading of the keys between two bounds.
+ *
+ *   file, file_len       the whole file
+ *   lower, upper         the bounds; NULL is unbounded
+ *   counts, counts_len   the table of keys as fst_count left it for this file, at least file_len entries; only read
+ *   reading              holds the reading on FST_OK, and is left as it was on any other result
+ *
+ * Returns FST_ERR_SHORT, FST_ERR_LARGE, FST_ERR_VERSION or FST_ERR_ROOT, as fst_open, then FST_ERR_BOUND, then FST_ERR_SPACE for
+ * the table. Then for each node on the lower bound's path, its last one included: FST_ERR_NODE, then FST_ERR_SUM. Unless the bounds
+ * cross, FST_ERR_NODE for each node on the upper bound's path; then FST_ERR_COUNT for a table whose numbers pass 2^64 - 1 or do
+ * not go together, else FST_OK.
+ *
+ * On a file for which fst_count answered FST_OK, with its table, only FST_ERR_BOUND and FST_ERR_SPACE can come beside FST_OK. */
+static inline int32_t fst_start(const uint8_t *file, size_t file_len, const fst_bound *lower, const fst_bound *upper,
+                                const uint64_t *counts, size_t counts_len, fst_reading *reading)
+{
+    const fst_bound none = { FST_UNBOUNDED, NULL, 0 };
+    const fst_bound lo = lower == NULL ? none : *lower;
+    const fst_bound hi = upper == NULL ? none : *upper;
+    return fst_start_arrays(file, file_len, (uint64_t)lo.kind, lo.key, lo.len, (uint64_t)hi.kind, hi.key, hi.len, counts, counts_len,
+                            reading->head, reading->bound, reading->addrs, reading->inps, reading->trans, reading->outs,
+                            reading->keys);
+}
+
+/* The next key of a reading.
+ *
+ *   file, file_len   the file that the reading was started on
+ *   reading          goes on to the key after; says what it said before on a refusal
+ *   key, key_space   on FST_OK the key stands from key[0] on, and the bytes after it are left as they were; on any other result
+ *                    all bytes are left as they were. At least FST_KEY_SPACE bytes
+ *   key_len, value   the key's length, 0 to 255, and its value, on FST_OK; left as they were on any other result
+ *
+ * Returns FST_ERR_SHORT, FST_ERR_LARGE, FST_ERR_VERSION or FST_ERR_ROOT, as fst_open, then FST_ERR_STATE for a reading with over 256 levels,
+ * a bound over 255 bytes or another file length, then FST_ERR_SPACE. Then FST_OK for a key, FST_END where there is none, or what is
+ * met on the way to it: FST_ERR_NODE, FST_ERR_DEEP, FST_ERR_SUM; last FST_ERR_STATE for a key where none was to come.
+ *
+ * On a file for which fst_count answered FST_OK, with its table at the start: the calls hand out exactly the held keys between the
+ * bounds, ascending, each with its value, and then FST_END for good; a call is refused only for a short key buffer or another file length,
+ * and follows no more transitions than the longest held key has bytes. */
+static inline int32_t fst_next(const uint8_t *file, size_t file_len, fst_reading *reading,
+                               uint8_t *key, size_t key_space, size_t *key_len, uint64_t *value)
+{
+    return fst_next_arrays(file, file_len, reading->head, reading->bound, reading->addrs, reading->inps, reading->trans, reading->outs,
+                           reading->keys, key, key_space, key_len, value);
+}
+
+/* The number of keys that calls of fst_next will still hand out. */
+static inline uint64_t fst_to_come(const fst_reading *reading)
+{
+    return reading->keys[0];
+}
 
 #ifdef __cplusplus
 }

@@ -202,6 +202,182 @@ static void admit_refused(const char *name, file f, size_t depths_len, size_t su
     admit_row(name, f, depths_len, sums_len, want, NULL, 0);
 }
 
+/* What the table of keys is to hold at the address of a node. */
+typedef struct counted {
+    size_t addr;
+    uint64_t keys;
+} counted;
+
+static void count_row(const char *name, file f, size_t depths_len, size_t sums_len, size_t counts_len, int32_t want,
+                      const counted *nodes, size_t nodes_len)
+{
+    int wiped = want == FST_OK || want == FST_ERR_COUNT;
+    uint8_t *copy = before(f);
+    uint16_t *depths = block(depths_len * sizeof *depths), *depths_want = block(depths_len * sizeof *depths);
+    uint64_t *sums = block(sums_len * sizeof *sums), *sums_want = block(sums_len * sizeof *sums);
+    uint64_t *counts = block(counts_len * sizeof *counts);
+    size_t i, n;
+    row = name;
+    calls++;
+    expect_number((uint64_t)fst_count(f.bytes, f.len, depths, depths_len, sums, sums_len, counts, counts_len), (uint64_t)want, "fst_count");
+    for (n = 0; n < nodes_len; n++) {
+        expect_number(counts[nodes[n].addr], nodes[n].keys, "a node's keys");
+        counts[nodes[n].addr] = 0;
+    }
+    for (i = 0; i < counts_len; i++)
+        expect(counts[i] == (wiped && i < f.len ? 0 : MARK64), "another entry of counts");
+    /* the other two are as admission leaves them, but where the third is too short */
+    if (want != FST_ERR_SPACE)
+        fst_admit(f.bytes, f.len, depths_want, depths_len, sums_want, sums_len);
+    expect(depths_len == 0 || memcmp(depths, depths_want, depths_len * sizeof *depths) == 0, "depths");
+    expect(sums_len == 0 || memcmp(sums, sums_want, sums_len * sizeof *sums) == 0, "sums");
+    free(counts);
+    free(sums_want);
+    free(sums);
+    free(depths_want);
+    free(depths);
+    expect_file(f, copy);
+}
+
+/* The table of keys of a file, and MARK where it is not filled. */
+static uint64_t *table(file f)
+{
+    uint16_t *depths = block(f.len * sizeof *depths);
+    uint64_t *sums = block(f.len * sizeof *sums), *counts = block(f.len * sizeof *counts);
+    fst_count(f.bytes, f.len, depths, f.len, sums, f.len, counts, f.len);
+    free(sums);
+    free(depths);
+    return counts;
+}
+
+static void start_row(const char *name, file f, const fst_bound *lower, const fst_bound *upper, size_t counts_len, int32_t want,
+                      uint64_t to_come)
+{
+    uint8_t *copy = before(f);
+    uint64_t *counts = table(f), *lent = block(counts_len * sizeof *lent);
+    fst_reading *reading = block(sizeof *reading), *kept = block(sizeof *kept);
+    size_t i;
+    for (i = 0; i < counts_len; i++)
+        lent[i] = i < f.len ? counts[i] : 0;
+    row = name;
+    calls++;
+    expect_number((uint64_t)fst_start(f.bytes, f.len, lower, upper, lent, counts_len, reading), (uint64_t)want, "fst_start");
+    if (want == FST_OK)
+        expect_number(fst_to_come(reading), to_come, "the number of keys to come");
+    else
+        expect(memcmp(reading, kept, sizeof *reading) == 0, "the reading");
+    for (i = 0; i < counts_len; i++)
+        expect(lent[i] == (i < f.len ? counts[i] : 0), "an entry of counts");
+    free(kept);
+    free(reading);
+    free(lent);
+    free(counts);
+    expect_file(f, copy);
+}
+
+/* One call of next on a reading, which hands out a key, or does not and leaves everything as it is. */
+static void next_row(const char *name, file f, fst_reading *reading, size_t space, int32_t want, const char *key, size_t key_len,
+                     uint64_t value)
+{
+    uint8_t *copy = before(f), *buffer = block(space);
+    size_t *len = block(sizeof *len);
+    uint64_t *got = block(sizeof *got);
+    fst_reading was = *reading;
+    row = name;
+    calls++;
+    expect_number((uint64_t)fst_next(f.bytes, f.len, reading, buffer, space, len, got), (uint64_t)want, "fst_next");
+    if (want != FST_OK)
+        key_len = 0;
+    expect_number(*len, want == FST_OK ? key_len : MARK64, "key_len");
+    expect_number(*got, want == FST_OK ? value : MARK64, "value");
+    expect_number(fst_to_come(reading), fst_to_come(&was) - (want == FST_OK), "the number of keys to come");
+    expect(want == FST_OK || want == FST_END || memcmp(reading, &was, sizeof was) == 0, "the reading");
+    for (size_t i = 0; i < space; i++)
+        expect(buffer[i] == (i < key_len ? (uint8_t)key[i] : MARK), "a byte of the key buffer");
+    free(got);
+    free(len);
+    free(buffer);
+    expect_file(f, copy);
+}
+
+/* ---- readings */
+
+static void reading_rows(file d, file nothing, file one, file unsound, file below, file heavy)
+{
+    static const uint8_t a[] = { 'a' }, at[] = { 'a', 't' }, e[] = { 'e' };
+    uint8_t wide[256];
+    const fst_bound from_at = { FST_INCLUDED, at, 2 }, after_a = { FST_EXCLUDED, a, 1 }, below_e = { FST_EXCLUDED, e, 1 };
+    const fst_bound to_e = { FST_INCLUDED, e, 1 }, open = { 77, wide, 256 }, negative = { -1, wide, 256 };
+    fst_bound too_long = { FST_INCLUDED, wide, 256 }, longest = { FST_EXCLUDED, wide, 255 };
+    fst_bound within = { FST_INCLUDED, d.bytes + 27, 1 };
+    uint64_t *counts = table(d), *no_counts = table(one);
+    fst_reading *reading = block(sizeof *reading), *copy = block(sizeof *copy);
+    file cut = d;
+
+    memset(wide, 'b', sizeof wide);
+    start_row("start D", d, NULL, NULL, 50, FST_OK, 3);
+    start_row("start D, longer table", d, NULL, NULL, 53, FST_OK, 3);
+    start_row("start D from at", d, &from_at, NULL, 50, FST_OK, 2);
+    start_row("start D after a, below e", d, &after_a, &below_e, 50, FST_OK, 1);
+    start_row("start D from at to e", d, &from_at, &to_e, 50, FST_OK, 2);
+    start_row("start D, bounds that cross", d, &below_e, &from_at, 50, FST_OK, 0);
+    start_row("start D, another number for a kind", d, &open, &negative, 50, FST_OK, 3);
+    start_row("start D after 255 bytes", d, &longest, NULL, 50, FST_OK, 1);
+    start_row("start D, a bound within the file", d, &within, NULL, 50, FST_OK, 3);
+    start_row("start D, lower bound of 256 bytes", d, &too_long, NULL, 50, FST_ERR_BOUND, 0);
+    start_row("start D, upper bound of 256 bytes, short table", d, NULL, &too_long, 0, FST_ERR_BOUND, 0);
+    start_row("start D, table one short", d, NULL, NULL, 49, FST_ERR_SPACE, 0);
+    start_row("start no bytes", nothing, NULL, NULL, 0, FST_OK, 0);
+    start_row("start version 1", one, NULL, NULL, 36, FST_OK, 1);
+    start_row("start C1 at 16", unsound, NULL, NULL, 37, FST_ERR_NODE, 0);
+    start_row("start C1 below, from a", below, &(fst_bound){ FST_INCLUDED, a, 1 }, NULL, 42, FST_ERR_NODE, 0);
+    start_row("start 2^64 - 1, then 1, from ab", heavy, &(fst_bound){ FST_INCLUDED, (const uint8_t *)"ab", 2 }, NULL, 53, FST_ERR_SUM, 0);
+    /* a table that says no key for the root: fewer within than before */
+    row = "start D with another table";
+    calls++;
+    expect_number((uint64_t)fst_start(d.bytes, d.len, &from_at, NULL, (const uint64_t[50]){ 0 }, 50, reading), FST_ERR_COUNT, "fst_start");
+
+    row = "read D";
+    fst_start(d.bytes, d.len, NULL, NULL, counts, 50, reading);
+    next_row("read D, 254 bytes of space", d, reading, 254, FST_ERR_SPACE, NULL, 0, 0);
+    next_row("read D, a", d, reading, 255, FST_OK, "a", 1, 1);
+    *copy = *reading;
+    next_row("read D, at", d, reading, 300, FST_OK, "at", 2, 3);
+    cut.len = 49;
+    next_row("read D, cut", cut, reading, 255, FST_ERR_ROOT, NULL, 0, 0);
+    next_row("read D, of another length", one, reading, 255, FST_ERR_STATE, NULL, 0, 0);
+    next_row("read D, no space", d, reading, 0, FST_ERR_SPACE, NULL, 0, 0);
+    next_row("read D, e", d, reading, 255, FST_OK, "e", 1, 4);
+    next_row("read D, end", d, reading, 255, FST_END, NULL, 0, 0);
+    next_row("read D, end again", d, reading, 255, FST_END, NULL, 0, 0);
+    next_row("a copy goes on from where it was made", d, copy, 255, FST_OK, "at", 2, 3);
+    copy->head[6] = 257;
+    next_row("257 levels", d, copy, 255, FST_ERR_STATE, NULL, 0, 0);
+    copy->head[6] = 2;
+    copy->keys[0] = 0;
+    next_row("a key where none is to come", d, copy, 255, FST_ERR_STATE, NULL, 0, 0);
+    fst_start(d.bytes, d.len, &after_a, &below_e, counts, 50, reading);
+    next_row("read D after a", d, reading, 255, FST_OK, "at", 2, 3);
+    next_row("read D below e", d, reading, 255, FST_END, NULL, 0, 0);
+    fst_start(one.bytes, one.len, NULL, NULL, no_counts, 36, reading);
+    next_row("read version 1, the empty key", one, reading, 255, FST_OK, "", 0, 7);
+    next_row("read version 1, end", one, reading, 255, FST_END, NULL, 0, 0);
+    memset(reading, 0, sizeof *reading);
+    reading->head[0] = below.len;
+    reading->head[1] = FST_UNBOUNDED;
+    reading->head[6] = 1;
+    reading->addrs[0] = 21;
+    next_row("C1 below", below, reading, 255, FST_ERR_NODE, NULL, 0, 0);
+    reading->head[0] = heavy.len;
+    reading->addrs[0] = 32;
+    reading->keys[0] = 1;
+    next_row("2^64 - 1, then 1", heavy, reading, 255, FST_ERR_SUM, NULL, 0, 0);
+    free(copy);
+    free(reading);
+    free(no_counts);
+    free(counts);
+}
+
 /* ---- NULL with length 0 */
 
 static void null_rows(file d, file seven)
@@ -211,9 +387,10 @@ static void null_rows(file d, file seven)
     uint64_t value = 6, sums[64];
     uint16_t depths[64];
     size_t len = 7;
+    fst_reading reading;
 
     row = "NULL";
-    calls += 12;
+    calls += 16;
     /* a blank card may be NULL */
     expect_number((uint64_t)fst_open(NULL, 0, &meta), FST_OK, "fst_open, file");
     expect(meta.version == 0 && meta.type == 0 && meta.keys == 0 && meta.root == 0 && meta.checksum == FST_NO_CHECKSUM, "meta");
@@ -233,8 +410,14 @@ static void null_rows(file d, file seven)
     expect_number((uint64_t)fst_admit(NULL, 0, depths, 64, sums, 64), FST_OK, "fst_admit, file");
     expect_number((uint64_t)fst_admit(d.bytes, d.len, NULL, 0, sums, 64), FST_ERR_SPACE, "fst_admit, depths");
     expect_number((uint64_t)fst_admit(d.bytes, d.len, depths, 64, NULL, 0), FST_ERR_SPACE, "fst_admit, sums");
+    expect_number((uint64_t)fst_count(NULL, 0, NULL, 0, NULL, 0, NULL, 0), FST_OK, "fst_count, all");
+    expect_number((uint64_t)fst_count(d.bytes, d.len, depths, 64, sums, 64, NULL, 0), FST_ERR_SPACE, "fst_count, counts");
     for (int i = 0; i < 64; i++)
         expect(depths[i] == MARK16 && sums[i] == MARK64, "an entry of a table");
+    expect_number((uint64_t)fst_start(NULL, 0, NULL, NULL, NULL, 0, &reading), FST_OK, "fst_start, file, bounds and table");
+    expect_number((uint64_t)fst_next(NULL, 0, &reading, NULL, 0, &len, &value), FST_ERR_SPACE, "fst_next, file and key");
+    expect_number((uint64_t)fst_next(NULL, 0, &reading, key, 255, &len, &value), (uint64_t)FST_END, "fst_next, file");
+    expect(len == 7 && value == 7, "key_len or value");
 }
 
 /* ---- a file at an odd address, and a key within the file */
@@ -266,7 +449,7 @@ static void name_rows(void)
         int result;
         const char *name;
     } names[] = {
-        { FST_NONE, "NONE" }, { FST_OK, "OK" },
+        { FST_END, "END" }, { FST_NONE, "NONE" }, { FST_OK, "OK" },
         { FST_ERR_SHORT, "SHORT" }, { FST_ERR_VERSION, "VERSION" }, { FST_ERR_ROOT, "ROOT" }, { FST_ERR_LARGE, "LARGE" },
         { FST_ERR_NODE, "NODE" }, { FST_ERR_DEEP, "DEEP" }, { FST_ERR_SUM, "SUM" }, { FST_ERR_SPACE, "SPACE" },
         { FST_ERR_BOUND, "BOUND" }, { FST_ERR_RECORD, "RECORD" }, { FST_ERR_STATE, "STATE" }, { FST_ERR_PATTERN, "PATTERN" },
@@ -275,7 +458,7 @@ static void name_rows(void)
     };
     row = "names";
     for (int i = 0; i < (int)(sizeof names / sizeof *names); i++) {
-        expect_number((uint64_t)names[i].result, (uint64_t)(i - 1), names[i].name);
+        expect_number((uint64_t)names[i].result, (uint64_t)(i - 2), names[i].name);
         expect(strcmp(fst_result_name(names[i].result), names[i].name) == 0, names[i].name);
     }
     expect(strcmp(fst_result_name(21), "UNKNOWN") == 0, "21");
@@ -305,6 +488,8 @@ int main(void)
     uint8_t deep_nodes[3 + 255] = { 0x00, 0x10, 0x85 };
     entry deep_entries[255];
     char as[257];
+    /* a and b to address 0, then 63 nodes with a and b to the one before: 2^64 keys */
+    uint8_t many_nodes[6 + 63 * 6] = { 0x00, 0x00, 0x62, 0x61, 0x10, 0x02 };
 
     const fst_meta d_meta = { 3, 0, 3, 29, 0 };
     const fst_meta typed_meta = { 3, 6, 3, 29, 4294967295u };
@@ -334,9 +519,14 @@ int main(void)
     file below = make(3, 0, below_nodes, sizeof below_nodes, 1, 21, 0);
     file heavy = make(3, 0, sum_nodes, sizeof sum_nodes, 1, 32, 0);
     file heavier = make(3, 0, final_nodes, sizeof final_nodes, 1, 31, 0);
-    file deep, deepest;
+    file deep, deepest, many;
     size_t i;
 
+    for (i = 1; i < 64; i++) {
+        static const uint8_t both[] = { 0x01, 0x01, 0x62, 0x61, 0x10, 0x02 };
+        memcpy(many_nodes + 6 * i, both, 6);
+    }
+    many = make(3, 0, many_nodes, sizeof many_nodes, 0, 16 + sizeof many_nodes - 1, 0);
     memset(deep_nodes + 3, 0xC5, 255);
     memset(as, 'a', sizeof as);
     deep = make(3, 0, deep_nodes, sizeof deep_nodes, 1, 273, 0);
@@ -441,6 +631,25 @@ int main(void)
     admit_refused("admit 2^64 - 1, then 1", heavy, 53, 60, FST_ERR_SUM);
     admit_refused("admit 2^64 - 1, then 1 at the end", heavier, 60, 52, FST_ERR_SUM);
 
+    count_row("count D", d, 50, 50, 50, FST_OK, (const counted[]){ { 21, 2 }, { 29, 3 } }, 2);
+    count_row("count D, longer tables", d, 51, 52, 53, FST_OK, (const counted[]){ { 21, 2 }, { 29, 3 } }, 2);
+    count_row("count version 1", one, 36, 36, 36, FST_OK, (const counted[]){ { 19, 1 } }, 1);
+    count_row("count root 0", empty, 36, 36, 40, FST_OK, NULL, 0);
+    count_row("count no bytes", nothing, 0, 0, 0, FST_OK, NULL, 0);
+    count_row("count no bytes, longer tables", nothing, 3, 4, 5, FST_OK, NULL, 0);
+    count_row("count version 2, 35 bytes, no key", no_key, 35, 35, 35, FST_OK, NULL, 0);
+    count_row("count D, depths one short", d, 49, 50, 50, FST_ERR_SPACE, NULL, 0);
+    count_row("count D, sums one short", d, 50, 49, 50, FST_ERR_SPACE, NULL, 0);
+    count_row("count D, counts one short", d, 50, 50, 49, FST_ERR_SPACE, NULL, 0);
+    count_row("count 31 zeros, no tables", brief, 0, 0, 0, FST_ERR_SHORT, NULL, 0);
+    count_row("count 36 zeros", unversioned, 36, 36, 36, FST_ERR_VERSION, NULL, 0);
+    count_row("count 39 bytes, root 17", rootless, 39, 39, 39, FST_ERR_ROOT, NULL, 0);
+    count_row("count C1 at 16", unsound, 40, 37, 38, FST_ERR_NODE, NULL, 0);
+    count_row("count 256 times a", deep, deep.len, deep.len, deep.len, FST_ERR_DEEP, NULL, 0);
+    count_row("count 2^64 - 1, then 1", heavy, 53, 53, 60, FST_ERR_SUM, NULL, 0);
+    count_row("count 2^64 keys", many, many.len, many.len, many.len + 1, FST_ERR_COUNT, NULL, 0);
+    reading_rows(d, nothing, one, unsound, below, heavy);
+
     name_rows();
     null_rows(d, one);
     address_rows(d);
@@ -468,6 +677,7 @@ int main(void)
     free(heavier.bytes);
     free(deep.bytes);
     free(deepest.bytes);
+    free(many.bytes);
     printf("%d calls, %d differences\n", calls, differences);
     return differences > 0;
 }

@@ -143,6 +143,29 @@ static void admit_row(const char *name, file f, size_t depths_len, size_t sums_l
     munmap(sums, (sums_len + 1) * sizeof *sums);
 }
 
+/* Refused for the file's length alone: no table, bound or reading is looked at. */
+static void reading_row(const char *name, file f, int32_t want)
+{
+    uint16_t depths[1] = { (uint16_t)MARK };
+    uint64_t sums[1] = { MARK }, counts[1] = { MARK }, value = MARK;
+    uint8_t key[FST_KEY_SPACE];
+    size_t len = (size_t)MARK;
+    fst_reading reading, kept;
+    memset(&reading, (int)(MARK & 0xFF), sizeof reading);
+    kept = reading;
+    row = name;
+    calls += 3;
+    expect_number((uint64_t)fst_count(f.bytes, f.len, depths, 1, sums, 1, counts, 1), (uint64_t)want, "fst_count");
+    expect_number((uint64_t)fst_start(f.bytes, f.len, NULL, NULL, counts, 1, &reading), (uint64_t)want, "fst_start");
+    expect_number((uint64_t)fst_next(f.bytes, f.len, &reading, key, sizeof key, &len, &value), (uint64_t)want, "fst_next");
+    expect_number(depths[0], (uint16_t)MARK, "an entry of depths");
+    expect_number(sums[0] == MARK && counts[0] == MARK && value == MARK && len == (size_t)MARK, 1, "all left as it was");
+    /* a made reading is written back in its plain form: of its kind and its pending key only what counts */
+    reading.head[1] = kept.head[1];
+    reading.head[3] = kept.head[3];
+    expect_number((uint64_t)memcmp(&reading, &kept, sizeof kept), 0, "the reading");
+}
+
 /* ---- the sparse file */
 
 /* A file of the largest length: from 16 up a node that is final with 7 and leads on with x/1 to 0, at 2^31 one that is final
@@ -210,6 +233,7 @@ static void zeros_row(const char *name, size_t len, int32_t want)
     get_row(name, f, "a", want, 0);
     get_key_row(name, f, 3, want, NULL);
     admit_row(name, f, 10, 10, want);
+    reading_row(name, f, want);
     drop(f);
 }
 
