@@ -49,7 +49,8 @@ extern "C" {
  * functions below answer 1 to 9, 11 and 19; the other numbers belong to functions that are not exported. */
 #define FST_OK            0
 #define FST_NONE        (-1) /* no such key or value                                                                    */
-#define FST_END         (-2) /* a reading has no more keys                                                              */
+#define FST_END         (-2) /* no more keys                                                                            */
+#define FST_MORE        (-3) /* as many keys as were asked for; there may be more                                       */
 #define FST_ERR_SHORT     1  /* file of 1 to 31 bytes, or under 36 in version 3                                         */
 #define FST_ERR_VERSION   2  /* version not 1, 2 or 3                                                                   */
 #define FST_ERR_ROOT      3  /* root address does not fit the version and the file's length                             */
@@ -78,6 +79,7 @@ static inline const char *fst_result_name(int result)
     case FST_OK:          return "OK";
     case FST_NONE:        return "NONE";
     case FST_END:         return "END";
+    case FST_MORE:        return "MORE";
     case FST_ERR_SHORT:   return "SHORT";
     case FST_ERR_VERSION: return "VERSION";
     case FST_ERR_ROOT:    return "ROOT";
@@ -179,6 +181,58 @@ int32_t fst_get_key(const uint8_t *file, size_t file_len, uint64_t value,
 int32_t fst_admit(const uint8_t *file, size_t file_len,
                   uint16_t *depths, size_t depths_len, uint64_t *sums, size_t sums_len);
 
+/* ---- a range: the keys between two bounds, the least first, a page a call */
+
+/* A bound: keys are compared byte by byte, a key before every longer one that it begins. */
+typedef struct fst_bound {
+    int kind;
+    const uint8_t *key; /* may be NULL where len is 0 */
+    size_t len;         /* at most 255 */
+} fst_bound;
+
+#define FST_INCLUDED  0 /* the key itself lies between the bounds    */
+#define FST_EXCLUDED  1 /* it does not                               */
+#define FST_UNBOUNDED 2 /* as any other number: key and len are not looked at */
+
+/* A key as a range hands it out. */
+typedef struct fst_row {
+    uint8_t len;
+    uint8_t key[255];
+} fst_row;
+
+/* What fst_range calls. */
+int32_t fst_range_rows(const uint8_t *file, size_t file_len,
+                       uint64_t lower_kind, const uint8_t *lower, size_t lower_len,
+                       uint64_t upper_kind, const uint8_t *upper, size_t upper_len,
+                       size_t most, uint8_t *rows, size_t rows_len, uint64_t *values, size_t values_len, size_t *count);
+
+/* Up to so many keys between two bounds, the least first, each with its value.
+ *
+ *   file, file_len   the whole file
+ *   lower, upper     the bounds; NULL is unbounded
+ *   most             how many keys at most
+ *   rows, values     at least so many of each; row i holds a key, and values[i] its value
+ *   count            how many keys were found: 0 to most, on every result
+ *
+ * Of the first count rows the bytes after the key are left as they were; the other rows and values are left as they were.
+ *
+ * Returns FST_ERR_SHORT, FST_ERR_LARGE, FST_ERR_VERSION or FST_ERR_ROOT, as fst_open, then FST_ERR_BOUND, with no key. Then for each node on
+ * the lower bound's path FST_ERR_NODE, then FST_ERR_SUM, with no key. Then FST_END where fewer keys are left than were asked for, and so
+ * none is left; FST_MORE where there were as many; or FST_ERR_NODE, FST_ERR_DEEP or FST_ERR_SUM for what was met after count keys.
+ *
+ * On a file that fst_admit admits, FST_END or FST_MORE comes, unless a bound is too long: the rows are the first held keys between the
+ * bounds. The next page is asked for with the last key as an excluded lower bound; page after page up to FST_END hands out exactly the held keys
+ * between the bounds, once each, whatever most was in each call, if it was not 0. Nothing is kept between the calls. */
+static inline int32_t fst_range(const uint8_t *file, size_t file_len, const fst_bound *lower, const fst_bound *upper,
+                                size_t most, fst_row *rows, uint64_t *values, size_t *count)
+{
+    const fst_bound none = { FST_UNBOUNDED, NULL, 0 };
+    const fst_bound lo = lower == NULL ? none : *lower;
+    const fst_bound hi = upper == NULL ? none : *upper;
+    return fst_range_rows(file, file_len, (uint64_t)lo.kind, lo.key, lo.len, (uint64_t)hi.kind, hi.key, hi.len,
+                          most, (uint8_t *)rows, most * sizeof *rows, values, most, count);
+}
+
 /* ---- readings: the keys between two bounds, the least first, one a call */
 
 /* Admits a file and fills a third table, from which fst_start works out how many keys are to come.
@@ -199,17 +253,6 @@ int32_t fst_admit(const uint8_t *file, size_t file_len,
  * holds more than 2^64 - 1 keys, else FST_OK. */
 int32_t fst_count(const uint8_t *file, size_t file_len, uint16_t *depths, size_t depths_len,
                   uint64_t *sums, size_t sums_len, uint64_t *counts, size_t counts_len);
-
-/* A bound: keys are compared byte by byte, a key before every longer one that it begins. */
-typedef struct fst_bound {
-    int kind;
-    const uint8_t *key; /* may be NULL where len is 0 */
-    size_t len;         /* at most 255 */
-} fst_bound;
-
-#define FST_INCLUDED  0 /* the key itself lies between the bounds    */
-#define FST_EXCLUDED  1 /* it does not                               */
-#define FST_UNBOUNDED 2 /* as any other number: key and len are not looked at */
 
 /* A reading between two calls. It holds no pointer, and may be copied: the copy goes on from the same key. A caller need not
  * look into it; whatever it holds, fst_next reads and writes within it alone. */

@@ -489,60 +489,37 @@ static int do_info(const options *o, const card *c)
 
 /* ---- a range, by pages */
 
-typedef struct row {
-    uint8_t key[FST_KEY_SPACE];
-    size_t len;
-} row;
-
-typedef struct page {
-    row rows[PAGE];
-    uint64_t values[PAGE];
-    size_t count;
-} page;
-
-enum { MORE = -3 };
-
-/* Up to so many keys from the lower bound on: FST_END where no more are between the bounds, MORE, or a refusal. */
-static int32_t ask(const card *c, const fst_bound *lower, const fst_bound *upper, size_t most, page *p)
-{
-    fst_reading reading;
-    int32_t result = fst_start(c->bytes, c->len, lower, upper, c->counts, c->len, &reading);
-    for (p->count = 0; result == FST_OK && p->count < most; p->count += result == FST_OK) {
-        row *r = &p->rows[p->count];
-        result = fst_next(c->bytes, c->len, &reading, r->key, sizeof r->key, &r->len, &p->values[p->count]);
-    }
-    return result != FST_OK ? result : fst_to_come(&reading) > 0 ? MORE : FST_END;
-}
-
 static int do_range(const options *o, const card *c)
 {
-    static page p;
+    static fst_row rows[PAGE];
+    static uint64_t values[PAGE];
+    size_t count;
     fst_bound lower = o->lower == NULL ? (fst_bound){ FST_UNBOUNDED, NULL, 0 } : *o->lower;
     uint8_t last[FST_KEY_SPACE];
     uint64_t left = o->limit == 0 ? UINT64_MAX : o->limit;
     int found = 0, to_screen = isatty(STDOUT_FILENO);
-    int32_t result = MORE;
+    int32_t result = FST_MORE;
     now_doing(to_screen ? "" : "listing, ");
-    while (result == MORE && left > 0) {
+    while (result == FST_MORE && left > 0) {
         size_t most = left < PAGE ? (size_t)left : PAGE;
-        result = ask(c, &lower, o->upper, most, &p);
+        result = fst_range(c->bytes, c->len, &lower, o->upper, most, rows, values, &count);
         if (to_screen || !found) {
             hide_progress();
             now_doing(to_screen ? "" : "listing, ");
         }
-        for (size_t i = 0; i < p.count; i++) {
-            put_pair(o, p.rows[i].key, p.rows[i].len, p.values[i], 1, 1);
+        for (size_t i = 0; i < count; i++) {
+            put_pair(o, rows[i].key, rows[i].len, values[i], 1, 1);
         }
         if (to_screen) {
             flush_out();
         }
-        if (p.count > 0) {
+        if (count > 0) {
             /* the next page starts after the last key of this one */
             found = 1;
-            memcpy(last, p.rows[p.count - 1].key, p.rows[p.count - 1].len);
-            lower = (fst_bound){ FST_EXCLUDED, last, p.rows[p.count - 1].len };
+            memcpy(last, rows[count - 1].key, rows[count - 1].len);
+            lower = (fst_bound){ FST_EXCLUDED, last, rows[count - 1].len };
         }
-        left -= p.count;
+        left -= count;
     }
     if (result > 0) {
         return refused(o, result, 0);
@@ -696,7 +673,7 @@ int main(int argc, char **argv)
     show_progress();
     result = load(words[0], &c);
     if (result == FST_OK && command != INFO) {
-        result = admit(&c, command == COUNT || command == RANGE || command == LIST);
+        result = admit(&c, command == COUNT);
     }
     if (result != FST_OK) {
         return refused(&o, result, command == CHECK);

@@ -8,9 +8,15 @@ use lib.IntN.{ℤ}
 use Rattle.reading.specs.Reading as R
 use Rattle.reading.specs.Reading.{key, end}
 use Rattle.plain.specs.Plain as P
+use Rattle.paging.specs.Paging as G
+use Rattle.paging.specs.Paging.{Page, ended, more}
 use Rattle.counting.specs.declared.Counting.{Counting}
 use Rattle.counting.specs.declared.Counting.the-variants.{Counted, Refused as No}
 use Rattle.counting.specs.CountOutcomes.{CountRefusedFor, Counts, CountOutcome}
+use Rattle.range.specs.declared.Ranged.{Ranged}
+use Rattle.range.specs.Rows.{stopAs, RangedBy}
+use Rattle.stream_start.specs.declared.Bound.{Bound}
+use Rattle.stream_start.specs.Views.{boundIs}
 use Rattle.stream_start.specs.declared.Begins.the-variants.{Began, Refused as NotStarted}
 use Rattle.stream_step.specs.declared.Answer.{Answer}
 use Rattle.stream_step.specs.declared.Answer.the-variants.{Key, End, Refused}
@@ -18,10 +24,10 @@ use Rattle.stream_step.specs.Stepped.{answerAs}
 use Rattle.stream.specs.declared.Started.{Started}
 use Rattle.stream.specs.declared.Step.{Step}
 use Rattle.stream.specs.Plains.{plainIs, begunIs, beganIs, PlainStepped}
-use Rattle.stream_arrays.specs.Arrays.{Held, PlainPut}
+use Rattle.stream_arrays.specs.Arrays.{kindIs, Held, PlainPut}
 use Rattle.stream_arrays.specs.ArraysLaws.{plain-back}
 use Rattle.baxhiso.specs.Exports.{OK, code}
-use Rattle.baxhiso.specs.Readings.{END, CountLeaves, StartLeaves, nextResult, nextLen, nextValue, resultOf, lenOf, valueOf, AnswerLeaves, NextLeaves}
+use Rattle.baxhiso.specs.Readings.{END, CountLeaves, StartLeaves, nextResult, nextLen, nextValue, resultOf, lenOf, valueOf, AnswerLeaves, NextLeaves, rangeResult, stopOf, RangeLeaves}
 use Rattle.baxhiso.specs.ReadingsLaws.{counted-not-0}
 
 -- ---- the table of keys
@@ -95,3 +101,23 @@ end-leaves a len₀ v₀ is = rw is (record { result = refl; len-is = refl; valu
 
 pub no-leaves : (a : Answer) (n : ℕ) (z : ℤ) (len₀ v₀ : ℕ) → a ≡ Refused n → z ≡ code n → AnswerLeaves a len₀ len₀ v₀ v₀ z
 no-leaves a n z len₀ v₀ is is-z = rw (is, is-z) (record { result = refl; len-is = refl; value-is = refl })
+
+-- ---- a range
+
+-- the bounds are those whose kinds the numbers stand for
+pub range-bounds : (f lo hi : List ℕ) {k l : Bound} (n m most a b : ℕ) {rows₀ rows values₀ values : List ℕ} {g : Ranged} → k ≡ kindIs n → l ≡ kindIs m
+    → RangedBy (G.range f (boundIs k lo) (boundIs l hi) most a b) rows₀ rows values₀ values g
+    → RangedBy (G.range f (boundIs (kindIs n) lo) (boundIs (kindIs m) hi) most a b) rows₀ rows values₀ values g
+range-bounds f lo hi {k} {l} n m most a b {rows₀} {rows} {values₀} {values} {g} p q h =
+    subst (λ x. RangedBy (G.range f (boundIs (kindIs n) lo) (boundIs x hi) most a b) rows₀ rows values₀ values g) q
+    (subst (λ x. RangedBy (G.range f (boundIs x lo) (boundIs l hi) most a b) rows₀ rows values₀ values g) p h)
+
+stop-is : (w : G.Stop) → stopOf (stopAs w) ≡ rangeResult w
+stop-is ended = refl
+stop-is more = refl
+stop-is (G.Stop.refused n) = refl
+
+pub range-leaves : {w : Page} {rows₀ rows values₀ values : List ℕ} {g : Ranged} → RangedBy w rows₀ rows values₀ values g → (r z : ℤ) → r ≡ z
+    → z ≡ stopOf (g .stop) → RangeLeaves w rows₀ rows values₀ values (g .count) r
+range-leaves {w} h r z same is =
+    record { result = same ∙ is ∙ ap stopOf (h .stop) ∙ stop-is (w .stop); count-is = h .count; rows-are = h .rows-are; values-are = h .values-are }

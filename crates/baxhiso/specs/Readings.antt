@@ -4,6 +4,8 @@
 --     CountLeaves s ..        filling the table of keys of the bytes s: the result and the three tables
 --     StartLeaves w ..        a start that answers w: the result and the arrays
 --     NextLeaves w ..         a call of next that answers w: the result, the arrays, the key buffer, the key's length and its value
+--     MORE                    the result of a range that handed out as many keys as asked for
+--     RangeLeaves w ..        a range that answers w: the result, the rows, the values and how many
 -- A name with ₀ is what the caller handed in. Assumes nothing.
 use mathlib.Core.Path.{_≡_}
 use mathlib.Core.List.{List}
@@ -13,8 +15,12 @@ use lib.ListN.{length}
 use Rattle.reading.specs.Reading as R
 use Rattle.reading.specs.Reading.{key, end, written}
 use Rattle.plain.specs.Plain as P
+use Rattle.paging.specs.Paging as G
+use Rattle.paging.specs.Paging.{Page, ended, more, rowsAfter, valuesAfter}
 use Rattle.stream_step.specs.declared.Answer.{Answer}
 use Rattle.stream_step.specs.declared.Answer.the-variants.{Key, End, Refused}
+use Rattle.range.specs.declared.Stop.{Stop}
+use Rattle.range.specs.declared.Stop.the-variants.{End as Ended, More, Refused as Stopped}
 use Rattle.counting.specs.CountOutcomes.{Counts, CountRefusedFor}
 use Rattle.stream_arrays.specs.Arrays.{Held, heldPlain}
 use Rattle.baxhiso.specs.Exports.{OK, code}
@@ -88,3 +94,26 @@ pub record NextLeaves (w : P.PlainStep) (h : Held) (n k₀ k : List ℕ) (len₀
   pub buffer : k ≡ written (w .answer) k₀
   pub len-is : len ≡ nextLen (w .answer) len₀
   pub value-is : v ≡ nextValue (w .answer) v₀
+
+-- ---- a range
+
+abbrev pub MORE : ℤ
+MORE = negsuc 2
+
+abbrev pub rangeResult : G.Stop → ℤ
+rangeResult ended = END
+rangeResult more = MORE
+rangeResult (G.Stop.refused n) = code n
+
+-- the same of a stop of the code
+abbrev pub stopOf : Stop → ℤ
+stopOf Ended = END
+stopOf More = MORE
+stopOf (Stopped n) = code n
+
+-- the keys that were found stand in their rows, also beside a refusal, and the rest as given
+pub record RangeLeaves (w : Page) (rows₀ rows values₀ values : List ℕ) (count : ℕ) (r : ℤ) : Type 0 where
+  pub result : r ≡ rangeResult (w .stop)
+  pub count-is : count ≡ length (w .entries)
+  pub rows-are : rows ≡ rowsAfter (w .entries) rows₀
+  pub values-are : values ≡ valuesAfter (w .entries) values₀

@@ -4,12 +4,15 @@
 --     start-ok                      the answer behind FST_OK of a start
 --     next-ok, next-end             the answers behind FST_OK and FST_END of a next
 --     refused-stays                 after any other result the arrays hold the reading that they held
+--     page-nonzero                  no refusal of a range has the number 0
+--     RangeTells, range-tells       a range on an admitted file, with short bounds and room: FST_END or FST_MORE, and the first keys between the bounds
 -- Assumes nothing.
 use mathlib.Core.Path.{_≡_, refl, sym, ap, _∙_}
 use mathlib.Core.Bool.{Bool, true, false, cond, _&&_}
+use mathlib.Core.Logic.{_⊎_, inl, inr}
 use mathlib.Core.Option.{Option, none, some}
 use mathlib.Core.List.{List, [], _∷_, _++_}
-use Prim.Native.Nat.{ℕ, zero, suc, _+_, _-_}
+use Prim.Native.Nat.{ℕ, zero, suc, _+_, _-_, _*_, _≤_}
 use native.Mathlib.Omega.{arith}
 use lib.Dec.{leb, ltb, eqb}
 use lib.IntN.{ℤ, pos, negsuc}
@@ -18,9 +21,14 @@ use Rattle.format.specs.Limits.{maxSum, maxPath}
 use Rattle.format.specs.Node.{Node, Judgement, sound, unsound, Search, findInput, transitionAt}
 use Rattle.format.specs.Opening.{Meta, Opening, opening}
 use Rattle.format.specs.Paths.{Fst, fstOf, nodeIn}
+use Rattle.format.specs.Admitted.{Admitted}
 use Rattle.format.specs.Strings.{Bound, unbounded, included, excluded}
 use Rattle.reading.specs.Reading as R
 use Rattle.reading.specs.Reading.{View, Level, key, end, onNode, onSearch, onOpened, boundsTest, boundBytes, isInclusive, pendingAt, Sought, got, halted, seek, started, startedAt, Popped, top, used-up, bad, pop, Went, found, passed, descend, afterPop, afterDescend, walk, stateTest, nextTrans, child, stepped, passesTest, keyOf, counted, moved, refuse, lastLevels, levelWith}
+use Rattle.paging.specs.Paging as G
+use Rattle.paging.specs.Paging.{Page, page, ended, more, refusedPage, answered, fold, pageFrom, roomTest, rowLen, rowsAfter, valuesAfter}
+use Rattle.paging.specs.RangeExact.{RangeExact}
+use Rattle.paging.specs.RangeLaws.{range-exact}
 use Rattle.plain.specs.Numbers as N
 use Rattle.plain.specs.Numbers.{Tally, comes-to, plus, less, upTo, within, belowLower, number, noneRead}
 use Rattle.plain.specs.Plain as P
@@ -29,7 +37,7 @@ use Rattle.counting.specs.CountOutcomes.{CountRefusedFor, not-opened, no-space,
 use Rattle.stream_arrays.specs.Arrays.{Held, heldPlain}
 use Rattle.baxhiso.specs.Exports.{OK, NONE, code}
 use Rattle.baxhiso.specs.ExportsLaws.{picked, OpeningNonzero, opens, turns, opening-nonzero, opening-not-0, refused-not-0, positive-not-0}
-use Rattle.baxhiso.specs.Readings.{END, StartLeaves, NextLeaves}
+use Rattle.baxhiso.specs.Readings.{END, MORE, StartLeaves, NextLeaves, rangeResult, RangeLeaves}
 
 -- ---- the table of keys
 
@@ -254,3 +262,63 @@ module _ (s : List ℕ) (p : P.Plain) {h : Held} {n k₀ k : List ℕ} {len₀ l
       go w (hands-out x y q) l = absurd (no-key (l .result))
       go w (comes-to-end q) l = absurd (no-end (l .result))
       go w (leaves i) l = (l .reading, l .buffer, l .len-is, l .value-is)
+
+-- ---- a range
+
+pub data StopNonzero : G.Stop → Type 0 where
+  ended-stop : StopNonzero ended
+  more-stop : StopNonzero more
+  refused-stop : (n : ℕ) → StopNonzero (G.Stop.refused (suc n))
+
+answered-nonzero : (r : View) (o : R.Step) → Tells r o → (rest : Page) → StopNonzero (rest .stop) → StopNonzero (answered (o .answer) rest .stop)
+answered-nonzero r o (hands k v r′) rest h = h
+answered-nonzero r o (ends r′) rest h = ended-stop
+answered-nonzero r o (keeps n) rest h = refused-stop n
+
+fold-nonzero : (s : List ℕ) (r : View) (n : ℕ) → StopNonzero (fold s r n .stop)
+unfolding fold
+fold-nonzero s r zero = more-stop
+fold-nonzero s r (suc n) =
+    answered-nonzero r (R.next s r maxPath) (bare-tells s r maxPath) (fold s (R.next s r maxPath .reading) n) (fold-nonzero s (R.next s r maxPath .reading) n)
+
+from-nonzero : (s : List ℕ) (most : ℕ) (w : R.Started) → StartedNonzero w → StopNonzero (pageFrom s most w .stop)
+from-nonzero s most w (starts v) = fold-nonzero s v most
+from-nonzero s most w (StartedNonzero.refuses n) = refused-stop n
+
+pub page-nonzero : (s : List ℕ) (lo hi : Bound) (most a b : ℕ) → StopNonzero (G.range s lo hi most a b .stop)
+unfolding G.range
+page-nonzero s lo hi most a b =
+    opened-picked (λ (p : Page). StopNonzero (p .stop)) (opening s) (opening-nonzero s) _ _
+    (λ m.
+    picked (λ (p : Page). StopNonzero (p .stop)) (boundsTest lo hi)
+    (picked (λ (p : Page). StopNonzero (p .stop)) (roomTest most a b) (from-nonzero s most (R.start s lo hi) (bare-nonzero s lo hi)) (refused-stop 7))
+    (refused-stop 8))
+    (λ n. refused-stop n)
+
+pub record RangeTells {s : List ℕ} (A : Admitted s) (lo hi : Bound) (most : ℕ) (p : Page) (r : ℤ) : Type 0 where
+  pub answered : (r ≡ END) ⊎ (r ≡ MORE)
+  pub exact : RangeExact A lo hi most p
+  pub end-ended : r ≡ END → p .stop ≡ ended
+  pub more-more : r ≡ MORE → p .stop ≡ more
+
+more-not-end : ¬ (MORE ≡ END)
+more-not-end e = let z : _≡_ {A = ℕ} 0 1 = cc in omega arith
+
+pub range-tells : {s : List ℕ} (A : Admitted s) (lo hi : Bound) (most : ℕ) (rows₀ rows values₀ values : List ℕ) (count : ℕ) (r : ℤ)
+    → length (boundBytes lo) ≤ maxPath → length (boundBytes hi) ≤ maxPath → rowLen * most ≤ length rows₀ → most ≤ length values₀
+    → RangeLeaves (G.range s lo hi most (length rows₀) (length values₀)) rows₀ rows values₀ values count r
+    → RangeTells A lo hi most (G.range s lo hi most (length rows₀) (length values₀)) r
+range-tells {s} A lo hi most rows₀ rows values₀ values count r short-lo short-hi row-room value-room h =
+    by (G.range s lo hi most (length rows₀) (length values₀)) (range-exact A lo hi most (length rows₀) (length values₀) short-lo short-hi row-room value-room) h
+  where
+    of : (p : Page) (w : G.Stop) → p .stop ≡ w → RangeExact A lo hi most p → RangeLeaves p rows₀ rows values₀ values count r → RangeTells A lo hi most p r
+    of p ended is exact l =
+        let e : r ≡ END = l .result ∙ ap rangeResult is in
+        record { answered = inl e; exact = exact; end-ended = λ q. is; more-more = λ q. absurd (more-not-end (sym q ∙ e)) }
+    of p more is exact l =
+        let e : r ≡ MORE = l .result ∙ ap rangeResult is in
+        record { answered = inr e; exact = exact; end-ended = λ q. absurd (more-not-end (sym e ∙ q)); more-more = λ q. is }
+    of p (G.Stop.refused n) is exact l = absurd (exact .not-refused n is)
+
+    by : (p : Page) → RangeExact A lo hi most p → RangeLeaves p rows₀ rows values₀ values count r → RangeTells A lo hi most p r
+    by p exact l = of p (p .stop) refl exact l

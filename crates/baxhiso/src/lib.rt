@@ -1,6 +1,6 @@
 // The functions that the C display firmware calls. include/baxhiso.h declares them for C.
 // A slice is passed as its pointer and then its length, an array as its pointer. Results: 0 for an answer, -1 for none, -2 for the end of a
-// reading, else the number of a refusal. No function asks anything of its arguments' values.
+// reading, -3 for a page that is full, else the number of a refusal. No function asks anything of its arguments' values.
 //
 // A reading stands in the arrays of `stream_arrays`, which C has as one struct: the header's fst_start and fst_next lend each of its fields.
 ghost use mathlib.Core.Path.{_≡_};
@@ -9,8 +9,9 @@ ghost use lib.ListN.{length};
 ghost use Rattle.format.specs.Opening.{opening};
 ghost use Rattle.format.specs.Lookup as L;
 ghost use Rattle.plain.specs.Plain as P;
+ghost use Rattle.paging.specs.Paging as G;
 ghost use Rattle.baxhiso.specs.Exports.{checksumNumber, OpenLeaves, GetLeaves, KeyLeaves, AdmitLeaves};
-ghost use Rattle.baxhiso.specs.Readings.{CountLeaves, StartLeaves, AnswerLeaves, NextLeaves};
+ghost use Rattle.baxhiso.specs.Readings.{CountLeaves, StartLeaves, AnswerLeaves, NextLeaves, stopOf, RangeLeaves};
 ghost use Rattle.fst.specs.Open.{checksumIs};
 ghost use Rattle.stream_start.specs.Views.{boundIs};
 ghost use Rattle.stream_arrays.specs.Arrays.{kindIs, held, heldPlain};
@@ -20,6 +21,7 @@ use fst::Checksum;
 use fst::Opened;
 use lookup::Answer;
 use lookup::KeyAnswer;
+use range::Stop;
 use stream::Plain;
 use stream_arrays::kind_of;
 use stream_arrays::put_plain;
@@ -32,6 +34,8 @@ const OK: i32 = 0;
 const NONE: i32 = -1;
 
 const END: i32 = -2;
+
+const MORE: i32 = -3;
 
 // What stands for the checksum where the version has none: no stored checksum is as large.
 const NO_CHECKSUM: u64 = 4_294_967_296;
@@ -234,4 +238,44 @@ pub extern "C" fn fst_next_arrays(
     put_plain(after, head, bound, addrs, inps, trans, outs, keys);
     let answer = step.answer;
     answered(answer, len, value)
+}
+
+// ---- a range
+
+// Why a range stopped, as a result.
+fn stopped(stop: Stop) -> i32
+    ensures { λ r. ⌜ r ≡ stopOf stop ⌝ }
+{
+    match stop {
+        Stop::End => END,
+        Stop::More => MORE,
+        Stop::Refused(why) => code(why),
+    }
+}
+
+// Up to `most` keys between two bounds, the least first, each in a row of 256 bytes with its value beside it, and how many.
+#[no_mangle]
+pub extern "C" fn fst_range_rows(
+    file: &[u8],
+    lower_kind: u64,
+    lower: &[u8],
+    upper_kind: u64,
+    upper: &[u8],
+    most: usize,
+    rows: &mut [u8],
+    values: &mut [u64],
+    count: &mut usize,
+) -> i32
+    ensures { λ r. ⌜ RangeLeaves (G.range (now (file .entry))
+        (boundIs (kindIs «lower_kind») (now (lower .entry)))
+        (boundIs (kindIs «upper_kind») (now (upper .entry))) most (length (now (rows .entry)))
+        (length (now (values .entry)))) (now (rows .entry)) (now (rows .exit))
+        (now (values .entry)) (now (values .exit)) (now (count .exit)) r ⌝ }
+{
+    let from = kind_of(lower_kind);
+    let to = kind_of(upper_kind);
+    let ranged = range::range(file, from, lower, to, upper, most, rows, values);
+    *count = ranged.count;
+    let stop = ranged.stop;
+    stopped(stop)
 }
