@@ -216,8 +216,8 @@ int32_t fst_range_rows(const uint8_t *file, size_t file_len,
  *
  * Of the first count rows the bytes after the key are left as they were; the other rows and values are left as they were.
  *
- * Returns FST_ERR_SHORT, FST_ERR_LARGE, FST_ERR_VERSION or FST_ERR_ROOT, as fst_open, then FST_ERR_BOUND, with no key. Then for each node on
- * the lower bound's path FST_ERR_NODE, then FST_ERR_SUM, with no key. Then FST_END where fewer keys are left than were asked for, and so
+ * Returns FST_ERR_SHORT, FST_ERR_LARGE, FST_ERR_VERSION or FST_ERR_ROOT, as fst_open, then FST_ERR_BOUND, then FST_ERR_SPACE where
+ * so many rows would pass the address space, then for each node on the lower bound's path FST_ERR_NODE, then FST_ERR_SUM; all with no key. Then FST_END where fewer keys are left than were asked for, and so
  * none is left; FST_MORE where there were as many; or FST_ERR_NODE, FST_ERR_DEEP or FST_ERR_SUM for what was met after count keys.
  *
  * On a file that fst_admit admits, FST_END or FST_MORE comes, unless a bound is too long: the rows are the first held keys between the

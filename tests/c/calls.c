@@ -15,6 +15,8 @@
 
 /* fst_meta stands for an array of five numbers: an error here says that the two differ. */
 typedef char fst_meta_is_five_numbers[sizeof(fst_meta) == 5 * sizeof(uint64_t) ? 1 : -1];
+/* A row is 256 bytes. */
+typedef char fst_row_is_256_bytes[sizeof(fst_row) == 256 ? 1 : -1];
 
 static const char *row;
 static int calls, differences;
@@ -300,6 +302,83 @@ static void next_row(const char *name, file f, fst_reading *reading, size_t spac
     expect_file(f, copy);
 }
 
+/* ---- a range */
+
+typedef struct pair {
+    const char *key;
+    size_t len;
+    uint64_t value;
+} pair;
+
+/* Rows and values are blocks of exactly `room` elements, of which the call is told `most`. */
+static void range_row(const char *name, file f, const fst_bound *lower, const fst_bound *upper, size_t most, size_t room, int32_t want,
+                      const pair *pairs, size_t pairs_len)
+{
+    uint8_t *copy = before(f);
+    fst_row *rows = block(room * sizeof *rows);
+    uint64_t *values = block(room * sizeof *values);
+    size_t *count = block(sizeof *count), i, j;
+    row = name;
+    calls++;
+    expect_number((uint64_t)fst_range(f.bytes, f.len, lower, upper, most, rows, values, count), (uint64_t)want, "fst_range");
+    expect_number(*count, pairs_len, "count");
+    for (i = 0; i < room; i++) {
+        size_t len = i < pairs_len ? pairs[i].len : 0;
+        expect_number(rows[i].len, i < pairs_len ? len : MARK, "a row's length");
+        for (j = 0; j < 255; j++)
+            expect(rows[i].key[j] == (j < len ? (uint8_t)pairs[i].key[j] : MARK), "a byte of a row");
+        expect_number(values[i], i < pairs_len ? pairs[i].value : MARK64, "a value");
+    }
+    free(count);
+    free(values);
+    free(rows);
+    expect_file(f, copy);
+}
+
+static void range_rows(file d, file nothing, file one, file unsound, file below, file heavy, file deepest, const char *as)
+{
+    static const uint8_t a[] = { 'a' }, at[] = { 'a', 't' }, e[] = { 'e' };
+    static const pair all[] = { { "a", 1, 1 }, { "at", 2, 3 }, { "e", 1, 4 } };
+    const pair seven = { "", 0, 7 }, longest_key = { as, 255, 0 };
+    uint8_t wide[256];
+    const fst_bound from_at = { FST_INCLUDED, at, 2 }, after_a = { FST_EXCLUDED, a, 1 }, below_e = { FST_EXCLUDED, e, 1 }, after_none = { FST_EXCLUDED, NULL, 0 };
+    const fst_bound to_at = { FST_INCLUDED, at, 2 }, open = { 77, wide, 256 }, too_long = { FST_INCLUDED, wide, 256 }, longest = { FST_INCLUDED, wide, 255 };
+
+    memset(wide, 'b', sizeof wide);
+    range_row("range D", d, NULL, NULL, 20, 20, FST_END, all, 3);
+    range_row("range D, 3", d, NULL, NULL, 3, 3, FST_MORE, all, 3);
+    range_row("range D, 2", d, NULL, NULL, 2, 3, FST_MORE, all, 2);
+    range_row("range D, 1", d, NULL, NULL, 1, 1, FST_MORE, all, 1);
+    range_row("range D, none asked for", d, NULL, NULL, 0, 2, FST_MORE, NULL, 0);
+    range_row("range D after a, 1", d, &after_a, NULL, 1, 1, FST_MORE, all + 1, 1);
+    range_row("range D after a below e", d, &after_a, &below_e, 2, 2, FST_END, all + 1, 1);
+    range_row("range D from at", d, &from_at, NULL, 20, 20, FST_END, all + 1, 2);
+    range_row("range D to at", d, NULL, &to_at, 20, 20, FST_END, all, 2);
+    range_row("range D, bounds that cross", d, &below_e, &from_at, 20, 20, FST_END, NULL, 0);
+    range_row("range D, another number for a kind", d, &open, &open, 20, 20, FST_END, all, 3);
+    range_row("range D from 255 bytes", d, &longest, NULL, 20, 20, FST_END, all + 2, 1);
+    range_row("range D, lower bound of 256 bytes", d, &too_long, NULL, 20, 20, FST_ERR_BOUND, NULL, 0);
+    range_row("range D, upper bound of 256 bytes", d, NULL, &too_long, 20, 20, FST_ERR_BOUND, NULL, 0);
+    range_row("range D, more rows than there are addresses", d, NULL, NULL, SIZE_MAX / 256 + 1, 1, FST_ERR_SPACE, NULL, 0);
+    range_row("range D, 2^64 - 1 rows", d, NULL, NULL, SIZE_MAX, 1, FST_ERR_SPACE, NULL, 0);
+    range_row("range no bytes", nothing, NULL, NULL, 2, 2, FST_END, NULL, 0);
+    range_row("range version 1, the empty key", one, NULL, NULL, 2, 2, FST_END, &seven, 1);
+    range_row("range version 1, after the empty key", one, &after_none, NULL, 2, 2, FST_END, NULL, 0);
+    range_row("range 255 times a", deepest, NULL, NULL, 2, 2, FST_END, &longest_key, 1);
+    range_row("range C1 at 16", unsound, NULL, NULL, 2, 2, FST_ERR_NODE, NULL, 0);
+    range_row("range C1 below", below, NULL, NULL, 2, 2, FST_ERR_NODE, NULL, 0);
+    range_row("range 2^64 - 1, then 1", heavy, NULL, NULL, 2, 2, FST_ERR_SUM, NULL, 0);
+
+    /* an e that leads to a node that is not sound, behind a and at: what was found stands beside the refusal */
+    row = "range D, damaged behind two keys";
+    {
+        static const uint8_t nodes[] = { 0xC1, 0x00, 0x02, 0x00, 0x74, 0x11, 0x41, 0x04, 0x01, 0x07, 0x01, 0x65, 0x61, 0x11, 0x02 };
+        file f = make(3, 0, nodes, sizeof nodes, 3, 30, 0);
+        range_row("range D, damaged behind two keys", f, NULL, NULL, 5, 5, FST_ERR_NODE, all, 2);
+        free(f.bytes);
+    }
+}
+
 /* ---- readings */
 
 static void reading_rows(file d, file nothing, file one, file unsound, file below, file heavy)
@@ -390,7 +469,7 @@ static void null_rows(file d, file seven)
     fst_reading reading;
 
     row = "NULL";
-    calls += 16;
+    calls += 18;
     /* a blank card may be NULL */
     expect_number((uint64_t)fst_open(NULL, 0, &meta), FST_OK, "fst_open, file");
     expect(meta.version == 0 && meta.type == 0 && meta.keys == 0 && meta.root == 0 && meta.checksum == FST_NO_CHECKSUM, "meta");
@@ -418,6 +497,9 @@ static void null_rows(file d, file seven)
     expect_number((uint64_t)fst_next(NULL, 0, &reading, NULL, 0, &len, &value), FST_ERR_SPACE, "fst_next, file and key");
     expect_number((uint64_t)fst_next(NULL, 0, &reading, key, 255, &len, &value), (uint64_t)FST_END, "fst_next, file");
     expect(len == 7 && value == 7, "key_len or value");
+    expect_number((uint64_t)fst_range(NULL, 0, NULL, NULL, 0, NULL, NULL, &len), (uint64_t)FST_MORE, "fst_range, file, bounds, rows and values");
+    expect_number(len, 0, "count");
+    expect_number((uint64_t)fst_range_rows(d.bytes, d.len, 2, NULL, 0, 2, NULL, 0, 1, NULL, 0, NULL, 0, &len), FST_ERR_SPACE, "fst_range_rows, rows and values");
 }
 
 /* ---- a file at an odd address, and a key within the file */
@@ -449,7 +531,7 @@ static void name_rows(void)
         int result;
         const char *name;
     } names[] = {
-        { FST_END, "END" }, { FST_NONE, "NONE" }, { FST_OK, "OK" },
+        { FST_MORE, "MORE" }, { FST_END, "END" }, { FST_NONE, "NONE" }, { FST_OK, "OK" },
         { FST_ERR_SHORT, "SHORT" }, { FST_ERR_VERSION, "VERSION" }, { FST_ERR_ROOT, "ROOT" }, { FST_ERR_LARGE, "LARGE" },
         { FST_ERR_NODE, "NODE" }, { FST_ERR_DEEP, "DEEP" }, { FST_ERR_SUM, "SUM" }, { FST_ERR_SPACE, "SPACE" },
         { FST_ERR_BOUND, "BOUND" }, { FST_ERR_RECORD, "RECORD" }, { FST_ERR_STATE, "STATE" }, { FST_ERR_PATTERN, "PATTERN" },
@@ -458,7 +540,7 @@ static void name_rows(void)
     };
     row = "names";
     for (int i = 0; i < (int)(sizeof names / sizeof *names); i++) {
-        expect_number((uint64_t)names[i].result, (uint64_t)(i - 2), names[i].name);
+        expect_number((uint64_t)names[i].result, (uint64_t)(i - 3), names[i].name);
         expect(strcmp(fst_result_name(names[i].result), names[i].name) == 0, names[i].name);
     }
     expect(strcmp(fst_result_name(21), "UNKNOWN") == 0, "21");
@@ -648,6 +730,7 @@ int main(void)
     count_row("count 256 times a", deep, deep.len, deep.len, deep.len, FST_ERR_DEEP, NULL, 0);
     count_row("count 2^64 - 1, then 1", heavy, 53, 53, 60, FST_ERR_SUM, NULL, 0);
     count_row("count 2^64 keys", many, many.len, many.len, many.len + 1, FST_ERR_COUNT, NULL, 0);
+    range_rows(d, nothing, one, unsound, below, heavy, deepest, as);
     reading_rows(d, nothing, one, unsound, below, heavy);
 
     name_rows();

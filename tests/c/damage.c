@@ -1,11 +1,11 @@
-/* Calls the functions of readings on damaged files, readings and tables, each so many times (tests/c/README.md):
+/* Calls the functions of ranges and readings on damaged files, readings and tables, each so many times (tests/c/README.md):
  *
  *     damage CALLS FILE...
  *
  * Every buffer that is lent ends at a page without access, and the file may only be read: a step beyond a buffer, or a byte
  * written to the file, ends the program. Of each call is checked that its result is one that the header names, and that what is to
  * stay stayed. Where the file is admitted and the table is its own, the keys have to ascend, to come as often as the number says, and
- * to have the values that fst_get answers. */
+ * to have the values that fst_get answers; and page after page hands out the same keys, whatever the sizes of the pages. */
 #define _DEFAULT_SOURCE
 #include <stdio.h>
 #include <stdlib.h>
@@ -81,7 +81,7 @@ static void writable(region r, int yes)
     }
 }
 
-static region files, depths_at, sums_at, counts_at, readings_at, keys_at, lens_at, values_at, lowers_at, uppers_at;
+static region files, depths_at, sums_at, counts_at, readings_at, keys_at, lens_at, values_at, lowers_at, uppers_at, rows_at, page_values_at;
 
 /* ---- a file, damaged or not */
 
@@ -141,7 +141,7 @@ static int filled(const uint8_t *p, size_t n, uint8_t byte)
     return 1;
 }
 
-static unsigned long counted, started, nexts;
+static unsigned long counted, started, nexts, ranged;
 
 /* Fills the tables; each is as long as the file, or at times one entry shorter or longer. */
 static int32_t count(const uint8_t *file, size_t len, uint64_t **counts, size_t *counts_len)
@@ -221,6 +221,58 @@ static int32_t next(const uint8_t *file, size_t len, fst_reading *reading, uint8
     return result;
 }
 
+#define ROWS ((size_t)12)
+
+/* One page; what is not handed out stays as it was. */
+static int32_t range(const uint8_t *file, size_t len, const fst_bound *lower, const fst_bound *upper, size_t most, fst_row **rows,
+                     uint64_t **values, size_t *count)
+{
+    static const int results[] = { FST_END, FST_MORE, FST_ERR_SHORT, FST_ERR_VERSION, FST_ERR_ROOT, FST_ERR_BOUND, FST_ERR_NODE, FST_ERR_DEEP,
+        FST_ERR_SUM, 100 };
+    int32_t result;
+    *rows = lent(rows_at, most * sizeof **rows);
+    *values = lent(page_values_at, most * sizeof **values);
+    memset(*rows, 0xA5, most * sizeof **rows);
+    memset(*values, 0xA5, most * sizeof **values);
+    ranged++;
+    result = fst_range(file, len, lower, upper, most, *rows, *values, count);
+    expect(among(result, results), "fst_range answers another number");
+    expect(*count <= most && (result != FST_MORE || *count == most) && (result != FST_END || *count < most), "fst_range hands out too many, or ends early");
+    for (size_t i = 0; i < *count; i++)
+        expect(filled((*rows)[i].key + (*rows)[i].len, 255 - (size_t)(*rows)[i].len, 0xA5), "fst_range writes behind a key");
+    expect(filled((uint8_t *)(*rows + *count), (most - *count) * sizeof **rows, 0xA5) &&
+           filled((uint8_t *)(*values + *count), (most - *count) * sizeof **values, 0xA5), "fst_range writes behind the last row");
+    return result;
+}
+
+/* Pages of any size between the bounds, beside the reading of the same bounds: the same keys and values, until either is refused. */
+static void page_on(const uint8_t *file, size_t len, const fst_bound *lower, const fst_bound *upper, fst_reading reading)
+{
+    fst_bound from = lower == NULL ? (fst_bound){ FST_UNBOUNDED, NULL, 0 } : *lower;
+    uint8_t key[255], last[255];
+    size_t key_len, count, pages = 0;
+    uint64_t value;
+    fst_row *rows;
+    uint64_t *values;
+    int32_t result = FST_MORE;
+    while (result == FST_MORE && pages++ < 6) {
+        result = range(file, len, &from, upper, 1 + below(ROWS), &rows, &values, &count);
+        for (size_t i = 0; i < count; i++) {
+            if (fst_next(file, len, &reading, key, 255, &key_len, &value) != FST_OK) {
+                expect(0, "a range hands out a key that the reading does not");
+                return;
+            }
+            expect(key_len == rows[i].len && memcmp(key, rows[i].key, key_len) == 0 && value == values[i], "a range hands out another key than the reading");
+        }
+        if (count > 0) {
+            memcpy(last, rows[count - 1].key, rows[count - 1].len);
+            from = (fst_bound){ FST_EXCLUDED, last, rows[count - 1].len };
+        }
+    }
+    if (result == FST_END)
+        expect(fst_next(file, len, &reading, key, 255, &key_len, &value) == FST_END, "a range ends before the reading");
+}
+
 /* A reading to its end, or so many keys; right says that the file is admitted and the table its own. */
 static void read_on(const uint8_t *file, size_t len, fst_reading *reading, int right)
 {
@@ -289,7 +341,9 @@ int main(int argc, char **argv)
     values_at = map(sizeof(uint64_t));
     lowers_at = map(300);
     uppers_at = map(300);
-    while (counted < calls || started < calls || nexts < calls) {
+    rows_at = map(ROWS * sizeof(fst_row));
+    page_values_at = map(ROWS * sizeof(uint64_t));
+    while (counted < calls || started < calls || nexts < calls || ranged < calls) {
         fst_reading *reading = lent(readings_at, sizeof *reading);
         uint64_t *counts;
         size_t len, counts_len;
@@ -305,7 +359,13 @@ int main(int argc, char **argv)
                 for (size_t j = 0; j < counts_len; j++)
                     counts[j] = one_in(16) ? any() : below(1000);
             }
+            fst_row *rows;
+            uint64_t *values;
+            size_t found;
+            range(file, len, lo, hi, below(ROWS + 1), &rows, &values, &found);
             if (start(file, len, lo, hi, counts, counts_len, reading) == FST_OK) {
+                if (right)
+                    page_on(file, len, lo, hi, *reading);
                 read_on(file, len, reading, right);
                 break; /* the file was exchanged */
             }
@@ -313,8 +373,8 @@ int main(int argc, char **argv)
         file = damaged(&len);
         made(file, len, reading);
     }
-    printf("%lu damaged files, %lu of them admitted: fst_count %lu calls, fst_start %lu, fst_next %lu, %lu differences\n",
-           files_made, admitted, counted, started, nexts, differences);
+    printf("%lu damaged files, %lu of them admitted: fst_count %lu calls, fst_start %lu, fst_next %lu, fst_range %lu, %lu differences\n",
+           files_made, admitted, counted, started, nexts, ranged, differences);
     for (size_t i = 0; i < base_count; i++)
         free(bases[i]);
     free(bases);

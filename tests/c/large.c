@@ -149,12 +149,15 @@ static void reading_row(const char *name, file f, int32_t want)
     uint16_t depths[1] = { (uint16_t)MARK };
     uint64_t sums[1] = { MARK }, counts[1] = { MARK }, value = MARK;
     uint8_t key[FST_KEY_SPACE];
-    size_t len = (size_t)MARK;
+    size_t len = (size_t)MARK, count = (size_t)MARK;
+    fst_row rows[1];
     fst_reading reading, kept;
     memset(&reading, (int)(MARK & 0xFF), sizeof reading);
     kept = reading;
     row = name;
-    calls += 3;
+    calls += 4;
+    expect_number((uint64_t)fst_range(f.bytes, f.len, NULL, NULL, 1, rows, counts, &count), (uint64_t)want, "fst_range");
+    expect_number(count, 0, "count");
     expect_number((uint64_t)fst_count(f.bytes, f.len, depths, 1, sums, 1, counts, 1), (uint64_t)want, "fst_count");
     expect_number((uint64_t)fst_start(f.bytes, f.len, NULL, NULL, counts, 1, &reading), (uint64_t)want, "fst_start");
     expect_number((uint64_t)fst_next(f.bytes, f.len, &reading, key, sizeof key, &len, &value), (uint64_t)want, "fst_next");
