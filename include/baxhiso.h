@@ -1,19 +1,26 @@
-/* baxhiso.h: read values by key, and keys by value, from an FST file that is held in memory.
+/* baxhiso.h: read values by key, keys by value, and the keys between two bounds, from an FST file that is held in memory.
  *
- * Link target/staticlib/libbaxhiso.a, which `rt staticlib baxhiso` makes, into a program for x86-64. It calls memcpy
- * and memset and nothing else.
+ * Link libbaxhiso.a into a program for x86-64: `./install PREFIX` puts it and this header there, or `rt staticlib baxhiso` writes
+ * target/staticlib/libbaxhiso.a. It calls memcpy and memset and nothing else.
  *
- * The library allocates nothing and keeps nothing between calls. The caller lends every buffer, and the library reads and
+ * The library allocates nothing and keeps nothing between calls: any number of threads may call it at the same time, also on one file, as long
+ * as none is lent a buffer that another is lent. The caller lends every buffer, and the library reads and
  * writes only within the lengths it is given: a pointer's length is the argument after it, counted in elements. A pointer
  * whose length is 0 may be NULL; any other must be valid, and aligned for its type. What is only read, as a file and a key,
  * may overlap; what is written must not overlap another argument. A file may stand at any address, and no function changes
  * it. Every file may be handed in, admitted or not, damaged or not.
  *
- * Each function is proved to return on every input, with the result and with what each buffer holds afterwards as said
- * below (crates/baxhiso/specs/Exports.antt, with the definitions of docs/FORMAT.md). Only tested, by tests/c: that these
- * declarations fit the library, and NULL with length 0. The stack is not part of the proof; no function calls itself.
+ * Each function of the library is proved to return on every input, with the result and with what each buffer holds afterwards as said
+ * below (crates/baxhiso/specs/Exports.antt and Readings.antt, with the definitions of docs/FORMAT.md). Only tested, by tests/c: that these
+ * declarations fit the library, the functions that are defined here, and NULL with length 0. The stack is not part of the proof: no function
+ * calls itself, and FST_STACK_OPEN and those after it say what was measured.
  *
- * Admit a file when it is loaded, with two lent tables of an entry for each byte; then each answer by key is exact:
+ * Tables, lent by the caller: admission takes 10 bytes for each byte of the file, the table of keys 8 more. fst_get, fst_get_key and fst_range
+ * take none, fst_start the table of keys. Work of a call: fst_open looks at no node, fst_get at one more than the key has bytes at most, fst_get_key
+ * at 256, fst_next at 511 (the levels it comes up by and those it goes down by), fst_start at 256 a bound, fst_range
+ * at 256 for the lower bound and at 511 for each key and once more; fst_admit and fst_count pass over all nodes a fixed number of times.
+ *
+ * Admit a file when it is loaded, with two lent tables of an entry for each byte; then each answer by key, and each range, is exact:
  *
  *     static uint16_t depths[CARD_MAX];
  *     static uint64_t sums[CARD_MAX];
@@ -106,6 +113,16 @@ static inline const char *fst_result_name(int result)
 
 #define FST_MAX_LEN   UINT64_C(4294967295) /* the longest file                                 */
 #define FST_KEY_SPACE 255                  /* the shortest key buffer, and the longest key in it */
+
+/* The stack that a call takes, in bytes: measured on x86-64 with the kit's compiler (tests/c/stack.c), and rounded up. */
+#define FST_STACK_OPEN     64
+#define FST_STACK_GET      768
+#define FST_STACK_GET_KEY  3840
+#define FST_STACK_ADMIT    576
+#define FST_STACK_COUNT    704
+#define FST_STACK_START    18432
+#define FST_STACK_NEXT     32768
+#define FST_STACK_RANGE    28672
 
 /* What stands for the checksum of a file that has none: larger than any stored checksum. */
 #define FST_NO_CHECKSUM UINT64_C(4294967296)
