@@ -349,12 +349,14 @@ int main(int argc, char **argv)
         size_t len, counts_len;
         uint8_t *file = damaged(&len);
         int32_t result = count(file, len, &counts, &counts_len);
+        int right = result == FST_OK;
         files_made++;
-        admitted += result == FST_OK;
+        admitted += right;
         for (int i = 0; i < 2; i++) {
             fst_bound lower, upper;
             const fst_bound *lo = bound(lowers_at, &lower), *hi = bound(uppers_at, &upper);
-            int right = result == FST_OK && !one_in(8);
+            /* the file's own table, until another is put in its place */
+            right = right && !one_in(8);
             if (!right) {
                 for (size_t j = 0; j < counts_len; j++)
                     counts[j] = one_in(16) ? any() : below(1000);
