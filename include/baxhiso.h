@@ -1,19 +1,26 @@
-/* baxhiso.h: read values by key, and keys by value, from an FST file that is held in memory.
+/* baxhiso.h: read values by key, keys by value, and the keys between two bounds, from an FST file that is held in memory.
  *
- * Link target/staticlib/libfirmware.a, which `rt staticlib firmware` makes, into a program for x86-64. It calls memcpy
- * and memset and nothing else.
+ * Link libbaxhiso.a into a program for x86-64: `./install PREFIX` puts it and this header there, or `rt staticlib baxhiso` writes
+ * target/staticlib/libbaxhiso.a. It calls memcpy and memset and nothing else.
  *
- * The library allocates nothing and keeps nothing between calls. The caller lends every buffer, and the library reads and
+ * The library allocates nothing and keeps nothing between calls: any number of threads may call it at the same time, also on one file, as long
+ * as none is lent a buffer that another is lent. The caller lends every buffer, and the library reads and
  * writes only within the lengths it is given: a pointer's length is the argument after it, counted in elements. A pointer
  * whose length is 0 may be NULL; any other must be valid, and aligned for its type. What is only read, as a file and a key,
  * may overlap; what is written must not overlap another argument. A file may stand at any address, and no function changes
  * it. Every file may be handed in, admitted or not, damaged or not.
  *
- * Each function is proved to return on every input, with the result and with what each buffer holds afterwards as said
- * below (crates/firmware/specs/Exports.antt, with the definitions of docs/FORMAT.md). Only tested, by tests/c: that these
- * declarations fit the library, and NULL with length 0. The stack is not part of the proof; no function calls itself.
+ * Each function of the library is proved to return on every input, with the result and with what each buffer holds afterwards as said
+ * below (crates/baxhiso/specs/Exports.antt and Readings.antt, with the definitions of docs/FORMAT.md). Only tested, by tests/c: that these
+ * declarations fit the library, the functions that are defined here, and NULL with length 0. The stack is not part of the proof: no function
+ * calls itself, and FST_STACK_OPEN and those after it say what was measured.
  *
- * Admit a file when it is loaded, with two lent tables of an entry for each byte; then each answer by key is exact:
+ * Tables, lent by the caller: admission takes 10 bytes for each byte of the file, the table of keys 8 more. fst_get, fst_get_key and fst_range
+ * take none, fst_start the table of keys. Work of a call: fst_open looks at no node, fst_get at one more than the key has bytes at most, fst_get_key
+ * at 256, fst_next at 511 (the levels it comes up by and those it goes down by), fst_start at 256 a bound, fst_range
+ * at 256 for the lower bound and at 511 for each key and once more; fst_admit and fst_count pass over all nodes a fixed number of times.
+ *
+ * Admit a file when it is loaded, with two lent tables of an entry for each byte; then each answer by key, and each range, is exact:
  *
  *     static uint16_t depths[CARD_MAX];
  *     static uint64_t sums[CARD_MAX];
@@ -39,21 +46,83 @@
 extern "C" {
 #endif
 
-/* Results. Negative: an answer that is no error. Positive: a refusal, numbered as in docs/FORMAT.md, "Refusals"; its numbers
- * from 9 on belong to functions that are not exported. */
-#define FST_NONE    (-1) /* no such key or value                                                                   */
-#define FST_OK        0
-#define FST_SHORT     1  /* file of 1 to 31 bytes, or under 36 in version 3                                        */
-#define FST_VERSION   2  /* version not 1, 2 or 3                                                                  */
-#define FST_ROOT      3  /* root address does not fit the version and the file's length                            */
-#define FST_LARGE     4  /* file over FST_MAX_LEN bytes                                                            */
-#define FST_NODE      5  /* a node that is not sound; on admission also a broken chain, or a target that is no node */
-#define FST_DEEP      6  /* a path or a key of 256 bytes                                                           */
-#define FST_SUM       7  /* a sum passes 2^64 - 1                                                                  */
-#define FST_SPACE     8  /* key buffer under FST_KEY_SPACE bytes, work table shorter than the file                 */
+/* The version of this header and its library: MAJOR moves when a program that uses them has to change. */
+#define BAXHISO_VERSION_MAJOR 1
+#define BAXHISO_VERSION_MINOR 0
+#define BAXHISO_VERSION_PATCH 0
+#define BAXHISO_VERSION       "1.0.0"
+
+/* Results. Negative: an answer that is no error. Positive: a refusal, numbered and named as in docs/FORMAT.md, "Refusals". The
+ * functions below answer 1 to 9, 11 and 19; the other numbers belong to functions that are not exported. */
+#define FST_OK            0
+#define FST_NONE        (-1) /* no such key or value                                                                    */
+#define FST_END         (-2) /* no more keys                                                                            */
+#define FST_MORE        (-3) /* as many keys as were asked for; there may be more                                       */
+#define FST_ERR_SHORT     1  /* file of 1 to 31 bytes, or under 36 in version 3                                         */
+#define FST_ERR_VERSION   2  /* version not 1, 2 or 3                                                                   */
+#define FST_ERR_ROOT      3  /* root address does not fit the version and the file's length                             */
+#define FST_ERR_LARGE     4  /* file over FST_MAX_LEN bytes                                                             */
+#define FST_ERR_NODE      5  /* a node that is not sound; on admission also a broken chain, or a target that is no node */
+#define FST_ERR_DEEP      6  /* a path or a key of 256 bytes                                                            */
+#define FST_ERR_SUM       7  /* a sum passes 2^64 - 1                                                                   */
+#define FST_ERR_SPACE     8  /* key buffer under FST_KEY_SPACE bytes, work table shorter than the file                  */
+#define FST_ERR_BOUND     9  /* a bound over 255 bytes                                                                  */
+#define FST_ERR_RECORD   10  /* a node to pack that breaks a rule                                                       */
+#define FST_ERR_STATE    11  /* a reading out of its limits, or of a file of another length                             */
+#define FST_ERR_PATTERN  12  /* a pattern of over 255 positions                                                         */
+#define FST_ERR_LIST     13  /* a list of keys to pack that breaks a rule                                               */
+#define FST_ERR_CARDS    14  /* no files to read as one, or over eight                                                  */
+#define FST_ERR_EDITION  15  /* a file to convert that is not of version 1                                              */
+#define FST_ERR_CARRY    16  /* a reading that does not go on in another file                                           */
+#define FST_ERR_NAME     17  /* a mark's name of no bytes or over 8, or not marked                                      */
+#define FST_ERR_FULL     18  /* a 17th mark                                                                             */
+#define FST_ERR_COUNT    19  /* over 2^64 - 1 keys; at a start, a table of keys whose numbers do not go together        */
+#define FST_ERR_SEAT     20  /* a seat over 7, or one without a reading                                                 */
+
+/* A result's name, without FST_ or FST_ERR_: "OK", "NONE", "NODE". "UNKNOWN" where no result has the number. */
+static inline const char *fst_result_name(int result)
+{
+    switch (result) {
+    case FST_OK:          return "OK";
+    case FST_NONE:        return "NONE";
+    case FST_END:         return "END";
+    case FST_MORE:        return "MORE";
+    case FST_ERR_SHORT:   return "SHORT";
+    case FST_ERR_VERSION: return "VERSION";
+    case FST_ERR_ROOT:    return "ROOT";
+    case FST_ERR_LARGE:   return "LARGE";
+    case FST_ERR_NODE:    return "NODE";
+    case FST_ERR_DEEP:    return "DEEP";
+    case FST_ERR_SUM:     return "SUM";
+    case FST_ERR_SPACE:   return "SPACE";
+    case FST_ERR_BOUND:   return "BOUND";
+    case FST_ERR_RECORD:  return "RECORD";
+    case FST_ERR_STATE:   return "STATE";
+    case FST_ERR_PATTERN: return "PATTERN";
+    case FST_ERR_LIST:    return "LIST";
+    case FST_ERR_CARDS:   return "CARDS";
+    case FST_ERR_EDITION: return "EDITION";
+    case FST_ERR_CARRY:   return "CARRY";
+    case FST_ERR_NAME:    return "NAME";
+    case FST_ERR_FULL:    return "FULL";
+    case FST_ERR_COUNT:   return "COUNT";
+    case FST_ERR_SEAT:    return "SEAT";
+    default:              return "UNKNOWN";
+    }
+}
 
 #define FST_MAX_LEN   UINT64_C(4294967295) /* the longest file                                 */
 #define FST_KEY_SPACE 255                  /* the shortest key buffer, and the longest key in it */
+
+/* The stack that a call takes, in bytes: measured on x86-64 with the kit's compiler (tests/c/stack.c), and rounded up. */
+#define FST_STACK_OPEN     64
+#define FST_STACK_GET      768
+#define FST_STACK_GET_KEY  3840
+#define FST_STACK_ADMIT    576
+#define FST_STACK_COUNT    704
+#define FST_STACK_START    18432
+#define FST_STACK_NEXT     32768
+#define FST_STACK_RANGE    28672
 
 /* What stands for the checksum of a file that has none: larger than any stored checksum. */
 #define FST_NO_CHECKSUM UINT64_C(4294967296)
@@ -73,7 +142,7 @@ typedef struct fst_meta {
  *   file, file_len   the whole file; file may be NULL where file_len is 0
  *   meta             all five numbers set on FST_OK, and left as they were on any other result
  *
- * Returns FST_OK, or the first that holds of FST_SHORT, FST_LARGE, FST_VERSION, FST_SHORT in version 3, FST_ROOT. The other
+ * Returns FST_OK, or the first that holds of FST_ERR_SHORT, FST_ERR_LARGE, FST_ERR_VERSION, FST_ERR_SHORT in version 3, FST_ERR_ROOT. The other
  * functions open the file themselves: there is no need to call this one before them. */
 int32_t fst_open(const uint8_t *file, size_t file_len, fst_meta *meta);
 
@@ -83,10 +152,10 @@ int32_t fst_open(const uint8_t *file, size_t file_len, fst_meta *meta);
  *   key, key_len     the key; any length, also 0
  *   value            set on FST_OK, and left as it was on any other result
  *
- * Returns FST_SHORT, FST_LARGE, FST_VERSION or FST_ROOT, as fst_open. Then FST_NONE if the file has no bytes. Then for each
- * node on the key's path, the last one included: FST_NODE if it is not sound, FST_SUM if the outputs up to it pass
+ * Returns FST_ERR_SHORT, FST_ERR_LARGE, FST_ERR_VERSION or FST_ERR_ROOT, as fst_open. Then FST_NONE if the file has no bytes. Then for each
+ * node on the key's path, the last one included: FST_ERR_NODE if it is not sound, FST_ERR_SUM if the outputs up to it pass
  * 2^64 - 1, FST_NONE if the key does not go on
- * from it. At the key's end FST_NONE if the node is not final, FST_SUM if its final output is too much, else FST_OK.
+ * from it. At the key's end FST_NONE if the node is not final, FST_ERR_SUM if its final output is too much, else FST_OK.
  *
  * On a file that fst_admit admits, FST_OK comes exactly for the keys that the file holds, with their values, and FST_NONE for
  * all others: there is no refusal. */
@@ -100,10 +169,10 @@ int32_t fst_get(const uint8_t *file, size_t file_len, const uint8_t *key, size_t
  *                    result all bytes are left as they were. At least FST_KEY_SPACE bytes
  *   key_len          the key's length, 0 to 255, on FST_OK; left as it was on any other result
  *
- * Returns FST_SHORT, FST_LARGE, FST_VERSION or FST_ROOT, as fst_open, then FST_SPACE, then FST_NONE if the file has no bytes.
- * Then for each node on the way: FST_NODE if it is not sound; FST_OK if nothing is left of the value and it is final;
+ * Returns FST_ERR_SHORT, FST_ERR_LARGE, FST_ERR_VERSION or FST_ERR_ROOT, as fst_open, then FST_ERR_SPACE, then FST_NONE if the file has no bytes.
+ * Then for each node on the way: FST_ERR_NODE if it is not sound; FST_OK if nothing is left of the value and it is final;
  * FST_NONE if no transition fits what is
- * left; FST_DEEP if 255 bytes do not end the key. Final outputs are not counted.
+ * left; FST_ERR_DEEP if 255 bytes do not end the key. Final outputs are not counted.
  *
  * On a numbered file (crates/format/specs/Lookup.antt, Numbered), FST_OK comes exactly when a held key has the value, with
  * that key, and else FST_NONE. On any other admitted file the outputs on a found key's path add up to the value, and a key
@@ -120,14 +189,162 @@ int32_t fst_get_key(const uint8_t *file, size_t file_len, uint64_t value,
  * What both tables hold afterwards, by result:
  *   FST_OK                       at the address of each node that a path from the root reaches, depths has 1 plus its
  *                                longest path and sums its largest sum; 0 at the other entries below file_len
- *   FST_NODE, FST_DEEP, FST_SUM  0 at all entries below file_len
+ *   FST_ERR_NODE, FST_ERR_DEEP, FST_ERR_SUM  0 at all entries below file_len
  *   any other                    what they held before
  * Entries from file_len on are left as they were on every result.
  *
- * Returns FST_SHORT, FST_LARGE, FST_VERSION or FST_ROOT, as fst_open, then FST_SPACE, then FST_NODE, decided over every node,
- * then FST_DEEP and FST_SUM, each decided over all nodes that a path from the root reaches, else FST_OK. */
+ * Returns FST_ERR_SHORT, FST_ERR_LARGE, FST_ERR_VERSION or FST_ERR_ROOT, as fst_open, then FST_ERR_SPACE, then FST_ERR_NODE, decided over every node,
+ * then FST_ERR_DEEP and FST_ERR_SUM, each decided over all nodes that a path from the root reaches, else FST_OK. */
 int32_t fst_admit(const uint8_t *file, size_t file_len,
                   uint16_t *depths, size_t depths_len, uint64_t *sums, size_t sums_len);
+
+/* ---- a range: the keys between two bounds, the least first, a page a call */
+
+/* A bound: keys are compared byte by byte, a key before every longer one that it begins. */
+typedef struct fst_bound {
+    int kind;
+    const uint8_t *key; /* may be NULL where len is 0 */
+    size_t len;         /* at most 255 */
+} fst_bound;
+
+#define FST_INCLUDED  0 /* the key itself lies between the bounds    */
+#define FST_EXCLUDED  1 /* it does not                               */
+#define FST_UNBOUNDED 2 /* as any other number: key and len are not looked at */
+
+/* A key as a range hands it out. */
+typedef struct fst_row {
+    uint8_t len;
+    uint8_t key[255];
+} fst_row;
+
+/* What fst_range calls. */
+int32_t fst_range_rows(const uint8_t *file, size_t file_len,
+                       uint64_t lower_kind, const uint8_t *lower, size_t lower_len,
+                       uint64_t upper_kind, const uint8_t *upper, size_t upper_len,
+                       size_t most, uint8_t *rows, size_t rows_len, uint64_t *values, size_t values_len, size_t *count);
+
+/* Up to so many keys between two bounds, the least first, each with its value.
+ *
+ *   file, file_len   the whole file
+ *   lower, upper     the bounds; NULL is unbounded
+ *   most             how many keys at most
+ *   rows, values     at least so many of each; row i holds a key, and values[i] its value
+ *   count            how many keys were found: 0 to most, on every result
+ *
+ * Of the first count rows the bytes after the key are left as they were; the other rows and values are left as they were.
+ *
+ * Returns FST_ERR_SHORT, FST_ERR_LARGE, FST_ERR_VERSION or FST_ERR_ROOT, as fst_open, then FST_ERR_BOUND, then FST_ERR_SPACE where
+ * so many rows would pass the address space, then for each node on the lower bound's path FST_ERR_NODE, then FST_ERR_SUM; all with no key. Then FST_END where fewer keys are left than were asked for, and so
+ * none is left; FST_MORE where there were as many; or FST_ERR_NODE, FST_ERR_DEEP or FST_ERR_SUM for what was met after count keys.
+ *
+ * On a file that fst_admit admits, FST_END or FST_MORE comes, unless a bound is too long: the rows are the first held keys between the
+ * bounds. The next page is asked for with the last key as an excluded lower bound; page after page up to FST_END hands out exactly the held keys
+ * between the bounds, once each, whatever most was in each call, if it was not 0. Nothing is kept between the calls. */
+static inline int32_t fst_range(const uint8_t *file, size_t file_len, const fst_bound *lower, const fst_bound *upper,
+                                size_t most, fst_row *rows, uint64_t *values, size_t *count)
+{
+    const fst_bound none = { FST_UNBOUNDED, NULL, 0 };
+    const fst_bound lo = lower == NULL ? none : *lower;
+    const fst_bound hi = upper == NULL ? none : *upper;
+    return fst_range_rows(file, file_len, (uint64_t)lo.kind, lo.key, lo.len, (uint64_t)hi.kind, hi.key, hi.len,
+                          most, (uint8_t *)rows, most * sizeof *rows, values, most, count);
+}
+
+/* ---- readings: the keys between two bounds, the least first, one a call */
+
+/* Admits a file and fills a third table, from which fst_start works out how many keys are to come.
+ *
+ *   file, file_len       the whole file
+ *   depths, depths_len   work table, at least file_len entries
+ *   sums, sums_len       work table, at least file_len entries
+ *   counts, counts_len   the table of keys, at least file_len entries
+ *
+ * What depths and sums hold afterwards is said at fst_admit. What counts holds, by result:
+ *   FST_OK          at the address of each node that a path from the root reaches, the number of keys from there; 0 at the other
+ *                   entries below file_len
+ *   FST_ERR_COUNT   0 at all entries below file_len; depths and sums are as on FST_OK then
+ *   any other       what it held before
+ * Entries from file_len on are left as they were on every result.
+ *
+ * Returns what fst_admit returns, FST_ERR_SPACE for a third table that is too short too; last FST_ERR_COUNT, where the file
+ * holds more than 2^64 - 1 keys, else FST_OK. */
+int32_t fst_count(const uint8_t *file, size_t file_len, uint16_t *depths, size_t depths_len,
+                  uint64_t *sums, size_t sums_len, uint64_t *counts, size_t counts_len);
+
+/* A reading between two calls. It holds no pointer, and may be copied: the copy goes on from the same key. A caller need not
+ * look into it; whatever it holds, fst_next reads and writes within it alone. */
+typedef struct fst_reading {
+    uint64_t head[7];   /* file length, upper bound's kind and length, pending empty key and its value, transitions followed, levels */
+    uint64_t keys[1];   /* the number of keys to come */
+    uint64_t outs[256]; /* a level's running sum, */
+    uint32_t addrs[256]; /* node address, */
+    uint16_t trans[256]; /* next transition */
+    uint8_t inps[256];  /* and the byte that led there */
+    uint8_t bound[255]; /* the upper bound */
+} fst_reading;
+
+/* What fst_start and fst_next call: each field of a reading is an argument. */
+int32_t fst_start_arrays(const uint8_t *file, size_t file_len,
+                         uint64_t lower_kind, const uint8_t *lower, size_t lower_len,
+                         uint64_t upper_kind, const uint8_t *upper, size_t upper_len,
+                         const uint64_t *counts, size_t counts_len,
+                         uint64_t *head, uint8_t *bound, uint32_t *addrs, uint8_t *inps, uint16_t *trans, uint64_t *outs,
+                         uint64_t *keys);
+int32_t fst_next_arrays(const uint8_t *file, size_t file_len,
+                        uint64_t *head, uint8_t *bound, uint32_t *addrs, uint8_t *inps, uint16_t *trans, uint64_t *outs,
+                        uint64_t *keys, uint8_t *key, size_t key_space, size_t *key_len, uint64_t *value);
+
+/* Starts a reading of the keys between two bounds.
+ *
+ *   file, file_len       the whole file
+ *   lower, upper         the bounds; NULL is unbounded
+ *   counts, counts_len   the table of keys as fst_count left it for this file, at least file_len entries; only read
+ *   reading              holds the reading on FST_OK, and is left as it was on any other result
+ *
+ * Returns FST_ERR_SHORT, FST_ERR_LARGE, FST_ERR_VERSION or FST_ERR_ROOT, as fst_open, then FST_ERR_BOUND, then FST_ERR_SPACE for
+ * the table. Then for each node on the lower bound's path, its last one included: FST_ERR_NODE, then FST_ERR_SUM. Unless the bounds
+ * cross, FST_ERR_NODE for each node on the upper bound's path; then FST_ERR_COUNT for a table whose numbers pass 2^64 - 1 or do
+ * not go together, else FST_OK.
+ *
+ * On a file for which fst_count answered FST_OK, with its table, only FST_ERR_BOUND and FST_ERR_SPACE can come beside FST_OK. */
+static inline int32_t fst_start(const uint8_t *file, size_t file_len, const fst_bound *lower, const fst_bound *upper,
+                                const uint64_t *counts, size_t counts_len, fst_reading *reading)
+{
+    const fst_bound none = { FST_UNBOUNDED, NULL, 0 };
+    const fst_bound lo = lower == NULL ? none : *lower;
+    const fst_bound hi = upper == NULL ? none : *upper;
+    return fst_start_arrays(file, file_len, (uint64_t)lo.kind, lo.key, lo.len, (uint64_t)hi.kind, hi.key, hi.len, counts, counts_len,
+                            reading->head, reading->bound, reading->addrs, reading->inps, reading->trans, reading->outs,
+                            reading->keys);
+}
+
+/* The next key of a reading.
+ *
+ *   file, file_len   the file that the reading was started on
+ *   reading          goes on to the key after; says what it said before on a refusal
+ *   key, key_space   on FST_OK the key stands from key[0] on, and the bytes after it are left as they were; on any other result
+ *                    all bytes are left as they were. At least FST_KEY_SPACE bytes
+ *   key_len, value   the key's length, 0 to 255, and its value, on FST_OK; left as they were on any other result
+ *
+ * Returns FST_ERR_SHORT, FST_ERR_LARGE, FST_ERR_VERSION or FST_ERR_ROOT, as fst_open, then FST_ERR_STATE for a reading with over 256 levels,
+ * a bound over 255 bytes or another file length, then FST_ERR_SPACE. Then FST_OK for a key, FST_END where there is none, or what is
+ * met on the way to it: FST_ERR_NODE, FST_ERR_DEEP, FST_ERR_SUM; last FST_ERR_STATE for a key where none was to come.
+ *
+ * On a file for which fst_count answered FST_OK, with its table at the start: the calls hand out exactly the held keys between the
+ * bounds, ascending, each with its value, and then FST_END for good; a call is refused only for a short key buffer or another file length,
+ * and follows no more transitions than the longest held key has bytes. */
+static inline int32_t fst_next(const uint8_t *file, size_t file_len, fst_reading *reading,
+                               uint8_t *key, size_t key_space, size_t *key_len, uint64_t *value)
+{
+    return fst_next_arrays(file, file_len, reading->head, reading->bound, reading->addrs, reading->inps, reading->trans, reading->outs,
+                           reading->keys, key, key_space, key_len, value);
+}
+
+/* The number of keys that calls of fst_next will still hand out. */
+static inline uint64_t fst_to_come(const fst_reading *reading)
+{
+    return reading->keys[0];
+}
 
 #ifdef __cplusplus
 }

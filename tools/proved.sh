@@ -54,13 +54,13 @@ make_known() { # NAME FILE...
     (cd "$top" && sha256sum "${@:2}" >"$known.new" && mv "$known.new" "$known") || fail "$known cannot be written"
 }
 
-# Proves the library for C and writes it to target/staticlib/libfirmware.a.
+# Proves the library for C and writes it to target/staticlib/libbaxhiso.a.
 library() {
-    proved firmware
-    if ! made libfirmware; then
+    proved baxhiso
+    if ! made libbaxhiso; then
         announce
-        (cd "$top" && exec rt staticlib firmware) >>"$log" 2>&1 </dev/null || failed "the library for C is not built"
-        make_known libfirmware target/stamp/firmware target/staticlib/libfirmware.a
+        (cd "$top" && exec rt staticlib baxhiso) >>"$log" 2>&1 </dev/null || failed "the library for C is not built"
+        make_known libbaxhiso target/stamp/baxhiso target/staticlib/libbaxhiso.a
     fi
 }
 

@@ -143,6 +143,32 @@ static void admit_row(const char *name, file f, size_t depths_len, size_t sums_l
     munmap(sums, (sums_len + 1) * sizeof *sums);
 }
 
+/* Refused for the file's length alone: no table, bound or reading is looked at. */
+static void reading_row(const char *name, file f, int32_t want)
+{
+    uint16_t depths[1] = { (uint16_t)MARK };
+    uint64_t sums[1] = { MARK }, counts[1] = { MARK }, value = MARK;
+    uint8_t key[FST_KEY_SPACE];
+    size_t len = (size_t)MARK, count = (size_t)MARK;
+    fst_row rows[1];
+    fst_reading reading, kept;
+    memset(&reading, (int)(MARK & 0xFF), sizeof reading);
+    kept = reading;
+    row = name;
+    calls += 4;
+    expect_number((uint64_t)fst_range(f.bytes, f.len, NULL, NULL, 1, rows, counts, &count), (uint64_t)want, "fst_range");
+    expect_number(count, 0, "count");
+    expect_number((uint64_t)fst_count(f.bytes, f.len, depths, 1, sums, 1, counts, 1), (uint64_t)want, "fst_count");
+    expect_number((uint64_t)fst_start(f.bytes, f.len, NULL, NULL, counts, 1, &reading), (uint64_t)want, "fst_start");
+    expect_number((uint64_t)fst_next(f.bytes, f.len, &reading, key, sizeof key, &len, &value), (uint64_t)want, "fst_next");
+    expect_number(depths[0], (uint16_t)MARK, "an entry of depths");
+    expect_number(sums[0] == MARK && counts[0] == MARK && value == MARK && len == (size_t)MARK, 1, "all left as it was");
+    /* a made reading is written back in its plain form: of its kind and its pending key only what counts */
+    reading.head[1] = kept.head[1];
+    reading.head[3] = kept.head[3];
+    expect_number((uint64_t)memcmp(&reading, &kept, sizeof kept), 0, "the reading");
+}
+
 /* ---- the sparse file */
 
 /* A file of the largest length: from 16 up a node that is final with 7 and leads on with x/1 to 0, at 2^31 one that is final
@@ -193,10 +219,10 @@ static void sparse_rows(uint64_t version)
     get_key_row("sparse, 100", f, 100, FST_OK, "c");
     get_key_row("sparse, 22", f, 22, FST_NONE, NULL);
     get_key_row("sparse, 101", f, 101, FST_NONE, NULL);
-    admit_row("sparse, depths one short", f, n - 1, n, FST_SPACE);
-    admit_row("sparse, sums one short", f, n, n - 1, FST_SPACE);
-    admit_row("sparse, both one short", f, n - 1, n - 1, FST_SPACE);
-    admit_row("sparse, no entries", f, 0, 0, FST_SPACE);
+    admit_row("sparse, depths one short", f, n - 1, n, FST_ERR_SPACE);
+    admit_row("sparse, sums one short", f, n, n - 1, FST_ERR_SPACE);
+    admit_row("sparse, both one short", f, n - 1, n - 1, FST_ERR_SPACE);
+    admit_row("sparse, no entries", f, 0, 0, FST_ERR_SPACE);
     drop(f);
 }
 
@@ -210,6 +236,7 @@ static void zeros_row(const char *name, size_t len, int32_t want)
     get_row(name, f, "a", want, 0);
     get_key_row(name, f, 3, want, NULL);
     admit_row(name, f, 10, 10, want);
+    reading_row(name, f, want);
     drop(f);
 }
 
@@ -222,20 +249,20 @@ static void long_row(const char *name, size_t len)
         put(f, 0, version, 8);
         put(f, end + 8, end - 1, 8);
         lend(f);
-        open_row(name, f, FST_LARGE, 0, 0);
-        get_row(name, f, "", FST_LARGE, 0);
+        open_row(name, f, FST_ERR_LARGE, 0, 0);
+        get_row(name, f, "", FST_ERR_LARGE, 0);
         drop(f);
     }
 }
 
 int main(void)
 {
-    zeros_row("16,777,216 zeros", 16777216, FST_VERSION);
-    zeros_row("16,777,217 zeros", 16777217, FST_VERSION);
-    zeros_row("4,294,967,295 zeros", 4294967295u, FST_VERSION);
-    zeros_row("4,294,967,296 zeros", 4294967296u, FST_LARGE);
-    zeros_row("4,294,967,332 zeros", 4294967332u, FST_LARGE);
-    zeros_row("8,589,934,592 zeros", 8589934592u, FST_LARGE);
+    zeros_row("16,777,216 zeros", 16777216, FST_ERR_VERSION);
+    zeros_row("16,777,217 zeros", 16777217, FST_ERR_VERSION);
+    zeros_row("4,294,967,295 zeros", 4294967295u, FST_ERR_VERSION);
+    zeros_row("4,294,967,296 zeros", 4294967296u, FST_ERR_LARGE);
+    zeros_row("4,294,967,332 zeros", 4294967332u, FST_ERR_LARGE);
+    zeros_row("8,589,934,592 zeros", 8589934592u, FST_ERR_LARGE);
     expect_number(FST_MAX_LEN, 4294967295u, "FST_MAX_LEN");
     long_row("4,294,967,296 bytes, right root", 4294967296u);
     long_row("4,294,967,332 bytes, right root", 4294967332u);

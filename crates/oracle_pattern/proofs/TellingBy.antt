@@ -18,8 +18,10 @@ use Rattle.patterned.specs.declared.Pattern.{Pattern}
 use Rattle.patterned.specs.declared.PatternedStart.{PatternedStart}
 use Rattle.patterned.specs.declared.PatternedStep.{PatternedStep}
 use Rattle.patterned.specs.Patterns.{StartedBy, SteppedBy}
-use Rattle.oracle_stream.specs.Held.{kindIs, Held, heldIs, heldAs, answerNumber, answerValue, Told}
-use Rattle.oracle_stream.specs.HeldLaws.{held-back, number-is, value-is}
+use Rattle.stream_arrays.specs.Arrays.{kindIs, Held, heldIs, heldAs}
+use Rattle.stream_arrays.specs.ArraysLaws.{held-back}
+use Rattle.oracle_stream.specs.StreamTells.{answerNumber, answerValue, Told}
+use Rattle.oracle_stream.specs.StreamTellsLaws.{number-is, value-is}
 use Rattle.oracle_pattern.specs.HeldBy.{StartByTold, NextByTold}
 
 -- a start and a step without the pattern

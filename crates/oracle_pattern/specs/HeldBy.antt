@@ -1,5 +1,5 @@
--- What the exported functions by pattern answer: numbers, and what the lent buffers hold afterwards. `Held` of `oracle_stream` has the arrays, and
--- the numbers of an answer; a reading by pattern holds no number of keys to come. The readings themselves are in `reading` and `pattern`.
+-- What the exported functions by pattern answer: numbers, and what the lent buffers hold afterwards. `stream_arrays` has the arrays, and
+-- `StreamTells` of `oracle_stream` the numbers of an answer; a reading by pattern holds no number of keys to come. The readings themselves are in `reading` and `pattern`.
 --     startByNumber w                the number for the answer w to a start
 --     StartByTold w h₀ h r           what is told of the answer w to a start
 --     NextByTold w h k₀ k v₀ v r     what is told of the answer w to a call of next
@@ -10,7 +10,8 @@ use Prim.Native.Nat.{ℕ}
 use Rattle.reading.specs.Reading as R
 use Rattle.reading.specs.Reading.{View, written}
 use Rattle.stream_start.specs.Views.{viewIs}
-use Rattle.oracle_stream.specs.Held.{Held, heldIs, nextNumber, valueIn}
+use Rattle.stream_arrays.specs.Arrays.{Held, heldIs}
+use Rattle.oracle_stream.specs.StreamTells.{nextNumber, valueIn}
 
 -- ---- start: 0 and the reading, or the refusal
 

@@ -2,7 +2,7 @@
 // a caller: each function answers on every input, and its contract says the answer and what the lent buffers hold afterwards. A slice is passed
 // as its pointer and then its length, an array as its pointer.
 //
-// A reading stands in the six arrays of `oracle_stream`; by pattern it holds no number of keys to come. A held pattern stands in two: pattern has
+// A reading stands in the six arrays of `stream_arrays`; by pattern it holds no number of keys to come. A held pattern stands in two: pattern has
 // its length and 0 where no rest may follow, positions its positions.
 ghost use mathlib.Core.Path.{_≡_};
 ghost use lib.Dec.{ltb};
@@ -11,14 +11,14 @@ ghost use Rattle.stream_start.specs.Views.{boundIs, viewIs};
 ghost use Rattle.pattern.specs.Pattern.{startBy, nextBy};
 ghost use Rattle.patterned_fit.specs.Positions.{patternIs};
 ghost use Rattle.patterned.specs.Patterns.{givenIs};
-ghost use Rattle.oracle_stream.specs.Held.{kindIs, held, heldIs};
+ghost use Rattle.stream_arrays.specs.Arrays.{kindIs, held, heldIs};
 ghost use Rattle.oracle_pattern.specs.HeldBy.{StartByTold, NextByTold};
-use oracle_stream::kind_of;
-use oracle_stream::put;
-use oracle_stream::reading_of;
 use oracle_stream::told;
 use patterned::Pattern;
 use patterned::Patterned;
+use stream_arrays::kind_of;
+use stream_arrays::put;
+use stream_arrays::reading_of;
 use stream_start::Begins;
 
 // 0 where a start gives a reading, which stands in the arrays then; else the refusal, the arrays as they were.

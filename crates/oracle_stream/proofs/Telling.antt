@@ -4,16 +4,12 @@ use mathlib.Core.Path.{_≡_, refl, sym, ap, _∙_, subst}
 use mathlib.Core.Bool.{Bool, true, false}
 use mathlib.Core.List.{List, [], _∷_}
 use Prim.Native.Nat.{ℕ, zero, suc, _+_, _-_, _≤_, _<_}
-use lib.ListN.{length, getD}
+use lib.ListN.{length}
 use native.Mathlib.Omega.{arith}
-use Rattle.format.specs.Strings as F
 use Rattle.reading.specs.Reading as R
 use Rattle.reading.specs.Reading.{View, key, end, written}
 use Rattle.plain.specs.Plain as P
 use Rattle.stream_start.specs.declared.Bound.{Bound}
-use Rattle.stream_start.specs.declared.Bound.the-variants.{Unbounded}
-use Rattle.stream_start.specs.declared.EmptyOutput.the-variants.{Pending}
-use Rattle.stream_start.specs.declared.Reading.{Reading}
 use Rattle.stream_start.specs.declared.Started.{Started}
 use Rattle.stream_start.specs.declared.Begins.{Begins}
 use Rattle.stream_start.specs.declared.Begins.the-variants.{Began, Refused as NotStarted}
@@ -27,41 +23,17 @@ use Rattle.stream_start.specs.Views.{boundIs, viewIs, startedIs, beganIs}
 use Rattle.stream_step.specs.Stepped.{answerAs, Stepped}
 use Rattle.stream.specs.Plains.{plainIs, begunIs, PlainStepped}
 use Rattle.stream.specs.Plains as Plains
-use Rattle.oracle_stream.specs.Held.{kindIs, pendingIs, Held, heldIs, heldAs, heldPlain, PlainPut, StartTold, answerNumber, answerValue, Told, NextTold}
-use Rattle.oracle_stream.specs.HeldLaws.{held-back, number-is, value-is}
+use Rattle.stream_arrays.specs.Arrays.{kindIs, Held, heldPlain, PlainPut}
+use Rattle.stream_arrays.specs.ArraysLaws.{plain-back, bounds-of}
+use Rattle.oracle_stream.specs.StreamTells.{StartTold, answerNumber, answerValue, Told, NextTold}
+use Rattle.oracle_stream.specs.StreamTellsLaws.{number-is, value-is}
 use Rattle.oracle_stream.specs.Runs.{keyTest, onKey, Calls, keysBy, bufferBy, RunTold, bareCalls, KeysTold, BareKeysTold, plainCalls, PlainKeysTold, StartKeysTold}
 
--- ---- numbers for kinds and pending keys
-
-pub kind-other : (n : ℕ) → ¬ (n ≡ 0) → ¬ (n ≡ 1) → Unbounded ≡ kindIs n
-kind-other zero a b = absurd (a refl)
-kind-other (suc zero) a b = absurd (b refl)
-kind-other (suc (suc n)) a b = refl
-
-pub pending-there : (n v : ℕ) → ¬ (n ≡ 0) → Pending v ≡ pendingIs n v
-pending-there zero v a = absurd (a refl)
-pending-there (suc n) v a = refl
-
-plain-back : {p : Plain} {h : Held} {n : List ℕ} → PlainPut p h n → heldPlain h n ≡ plainIs p
-plain-back {p} {h} {n} put =
-    ap (λ x. heldPlain x n) (put .reading) ∙ ap (λ x. heldPlain (heldAs (p .reading)) x) (put .keys)
-    ∙ ap (λ v. P.plainWith v (p .keys)) (held-back (p .reading))
-
 -- ---- start
-
--- the bounds are those whose kinds the numbers stand for
-bounds-of : {A : Type 0} {w : A} (start : F.Bound → F.Bound → A) (lo hi : List ℕ) {k l : Bound} (n m : ℕ) → k ≡ kindIs n → l ≡ kindIs m
-    → w ≡ start (boundIs k lo) (boundIs l hi) → w ≡ start (boundIs (kindIs n) lo) (boundIs (kindIs m) hi)
-bounds-of start lo hi {k} {l} n m a b e =
-    e ∙ ap (λ x. start (boundIs x lo) (boundIs l hi)) a ∙ ap (λ x. start (boundIs (kindIs n) lo) (boundIs x hi)) b
 
 pub bare-bounds : {w : R.Started} (f lo hi : List ℕ) {k l : Bound} (n m : ℕ) → k ≡ kindIs n → l ≡ kindIs m
     → w ≡ R.start f (boundIs k lo) (boundIs l hi) → w ≡ R.start f (boundIs (kindIs n) lo) (boundIs (kindIs m) hi)
 bare-bounds f lo hi n m a b e = bounds-of (λ x y. R.start f x y) lo hi n m a b e
-
-pub start-bounds : {w : P.Begun} (f lo hi c : List ℕ) {k l : Bound} (n m : ℕ) → k ≡ kindIs n → l ≡ kindIs m
-    → w ≡ P.startPlain f (boundIs k lo) (boundIs l hi) c → w ≡ P.startPlain f (boundIs (kindIs n) lo) (boundIs (kindIs m) hi) c
-start-bounds f lo hi c n m a b e = bounds-of (λ x y. P.startPlain f x y c) lo hi n m a b e
 
 module _ {w : P.Begun} (s : Begun) (e : begunIs s ≡ w) where
   pub start-refused : (m : ℕ) (h : Held) (n : List ℕ) → s .answer ≡ NotStarted m → StartTold w h n h n m
@@ -80,11 +52,6 @@ module _ {w : P.Begun} (s : Begun) (e : begunIs s ≡ w) where
       })
 
 -- ---- next
-
--- the reading that is handed on is the one that the arrays hold
-pub next-of : (f : List ℕ) (m : ℕ) (h : Held) (n : List ℕ) {k₀ k : List ℕ} {r : Reading} {s : PlainStep} → r ≡ heldIs h
-    → PlainStepped (P.nextPlain f (P.plainWith (viewIs r) (getD n 0 0)) m) k₀ k s → PlainStepped (P.nextPlain f (heldPlain h n) m) k₀ k s
-next-of f m h n {k₀} {k} {r} {s} e st = subst (λ x. PlainStepped (P.nextPlain f (P.plainWith (viewIs x) (getD n 0 0)) m) k₀ k s) e st
 
 pub next-told : {w : P.PlainStep} {k₀ k v₀ v : List ℕ} {s : PlainStep} → PlainStepped w k₀ k s → (h : Held) (n : List ℕ) → PlainPut (s .plain) h n
     → (r : ℕ) → Told (s .answer) v₀ v r → NextTold w h n k₀ k v₀ v r

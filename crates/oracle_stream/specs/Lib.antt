@@ -1,3 +1,3 @@
-pub mod Held
-pub mod HeldLaws
 pub mod Runs
+pub mod StreamTells
+pub mod StreamTellsLaws

@@ -4,7 +4,7 @@ use denote.Ref.{now}
 use lib.Dec.{ltb}
 use lib.ListN.{length, getD}
 use Rattle.patterned_fit.specs.Positions.{patternIs}
-use Rattle.oracle_stream.specs.Held.{held}
+use Rattle.stream_arrays.specs.Arrays.{held}
 use Rattle.oracle_pattern.proofs.TellingBy.{step-by, next-by-told}
 use borrow.Author.Needs.{needs}
 use Rattle.oracle_pattern.proofs.baxhiso_next_by.Statement.{statement}

@@ -2,7 +2,8 @@
 -- Assumes nothing.
 use borrow.Author.Needs.{needs}
 use denote.Ref.{now}
-use Rattle.oracle_stream.proofs.Telling.{start-bounds, keys-refused, keys-told}
+use Rattle.stream_arrays.specs.ArraysLaws.{start-bounds}
+use Rattle.oracle_stream.proofs.Telling.{keys-refused, keys-told}
 use Rattle.oracle_stream.proofs.baxhiso_keys.Statement.{statement}
 use Rattle.oracle_stream.proofs.baxhiso_keys.Tie as tie
 

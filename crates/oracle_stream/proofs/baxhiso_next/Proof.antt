@@ -3,8 +3,9 @@
 use lib.ListN.{length}
 use borrow.Author.Needs.{needs}
 use denote.Ref.{now}
-use Rattle.oracle_stream.proofs.Telling.{next-of, next-told}
-use Rattle.oracle_stream.specs.Held.{held}
+use Rattle.stream_arrays.specs.Arrays.{held}
+use Rattle.stream_arrays.specs.ArraysLaws.{next-of}
+use Rattle.oracle_stream.proofs.Telling.{next-told}
 use Rattle.oracle_stream.proofs.baxhiso_next.Statement.{statement}
 use Rattle.oracle_stream.proofs.baxhiso_next.Tie as tie
 

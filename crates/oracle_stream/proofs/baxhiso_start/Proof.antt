@@ -2,7 +2,8 @@
 -- Assumes nothing.
 use borrow.Author.Needs.{needs}
 use denote.Ref.{now}
-use Rattle.oracle_stream.proofs.Telling.{start-bounds, start-refused, start-told}
+use Rattle.stream_arrays.specs.ArraysLaws.{start-bounds}
+use Rattle.oracle_stream.proofs.Telling.{start-refused, start-told}
 use Rattle.oracle_stream.proofs.baxhiso_start.Statement.{statement}
 use Rattle.oracle_stream.proofs.baxhiso_start.Tie as tie
 

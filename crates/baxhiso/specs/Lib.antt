@@ -1,0 +1,4 @@
+pub mod Exports
+pub mod ExportsLaws
+pub mod Readings
+pub mod ReadingsLaws

@@ -1,0 +1,2 @@
+pub mod CCalls
+pub mod CCallsLaws

@@ -1,0 +1,5 @@
+pub mod Paging
+pub mod RangeExact
+pub mod FoldLaws
+pub mod RangeLaws
+pub mod PagesLaws

@@ -1,0 +1,152 @@
+// A range in one call (src/raw/mod.rs: `range`, `ge` to `lt`, and the loop of `next` over it): up to so many keys between two bounds, each in a row of
+// 256 bytes with its value beside it, on any file, admitted or not.
+ghost use mathlib.Core.Path.{_≡_};
+ghost use Prim.Native.Nat.{_*_, _≤_};
+ghost use lib.ListN.{length};
+ghost use Rattle.reading.specs.Reading as R;
+ghost use Rattle.paging.specs.Paging as P;
+ghost use Rattle.stream_start.specs.Views.{viewIs, boundIs};
+ghost use Rattle.range.specs.Rows.{RangedBy, refusedRange};
+use format::BOUND;
+use format::MAX_KEY;
+use format::SPACE;
+use fst::Opened;
+use range_rows::ROW;
+use range_rows::bounds_right;
+use range_rows::has_room;
+use range_rows::put_row;
+use stream_start::Begins;
+use stream_start::Bound;
+use stream_start::Reading;
+use stream_start::start;
+use stream_step::Answer;
+
+// Why a range stopped: no key is left; as many were handed out as asked for; or the number of a refusal.
+pub enum Stop {
+    End,
+    More,
+    Refused(u8),
+}
+
+// What a range gives back: how many rows and values were written, and why it stopped.
+pub struct Ranged {
+    pub count: usize,
+    pub stop: Stop,
+}
+
+// A range that is refused before any key.
+fn refused(why: u8) -> Ranged
+    ensures { λ r. ⌜ r ≡ refusedRange why ⌝ }
+{
+    Ranged {
+        count: 0,
+        stop: Stop::Refused(why),
+    }
+}
+
+// Up to `most` keys of a reading, each into its row. A refusal stands beside the keys before it.
+fn fill(file: &[u8], reading: Reading, most: usize, rows: &mut [u8], values: &mut [u64]) -> Ranged
+    requires { ⌜ (P.rowLen * most ≤ length (now rows)) × (most ≤ length (now values)) ⌝ }
+    ensures { λ r. ⌜ RangedBy (P.fold (now (file .entry)) (viewIs reading) most)
+        (now (rows .entry)) (now (rows .exit)) (now (values .entry)) (now (values .exit)) r ⌝ }
+{
+    let mut key = [0u8; MAX_KEY];
+    let mut left = reading;
+    let mut count = 0;
+    while count < most {
+        let step = stream_next::next(file, left, &mut key);
+        let answer = step.answer;
+        let after = step.reading;
+        match answer {
+            Answer::End => {
+                return Ranged {
+                    count,
+                    stop: Stop::End,
+                };
+            }
+            Answer::Refused(why) => {
+                return Ranged {
+                    count,
+                    stop: Stop::Refused(why),
+                };
+            }
+            Answer::Key(n, value) => {
+                put_row(&key, n, count * ROW, rows);
+                values[count] = value;
+                left = after;
+                count += 1;
+            }
+        }
+    }
+    Ranged {
+        count,
+        stop: Stop::More,
+    }
+}
+
+// The walk, where the file opens, the bounds are short and the buffers have room.
+fn range_from(
+    file: &[u8],
+    lower_kind: Bound,
+    lower: &[u8],
+    upper_kind: Bound,
+    upper: &[u8],
+    most: usize,
+    rows: &mut [u8],
+    values: &mut [u64],
+) -> Ranged
+    requires { ⌜ (P.rowLen * most ≤ length (now rows)) × (most ≤ length (now values)) ⌝ }
+    ensures { λ r. ⌜ RangedBy (P.pageFrom (now (file .entry)) most (R.start (now (file .entry))
+        (boundIs «lower_kind» (now (lower .entry))) (boundIs «upper_kind» (now (upper .entry)))))
+        (now (rows .entry)) (now (rows .exit)) (now (values .entry)) (now (values .exit)) r ⌝ }
+{
+    let started = start(file, lower_kind, lower, upper_kind, upper);
+    let answer = started.answer;
+    let reading = started.reading;
+    match answer {
+        Begins::Refused(why) => refused(why),
+        Begins::Began => fill(file, reading, most, rows, values),
+    }
+}
+
+// Up to `most` keys between the bounds, the least first: row i is the bytes from 256 * i on, a key's length and its bytes, and values has its value at
+// i. Opening's refusals, BOUND, SPACE where rows or values have no room for `most`, then the walk: the start's other refusals and those of next. What was
+// found before a refusal of next is handed out beside it. Every other byte of rows, and every other value, stays as given.
+pub fn range(
+    file: &[u8],
+    lower_kind: Bound,
+    lower: &[u8],
+    upper_kind: Bound,
+    upper: &[u8],
+    most: usize,
+    rows: &mut [u8],
+    values: &mut [u64],
+) -> Ranged
+    ensures { λ r. ⌜ RangedBy (P.range (now (file .entry))
+        (boundIs «lower_kind» (now (lower .entry))) (boundIs «upper_kind» (now (upper .entry))) most
+        (length (now (rows .entry))) (length (now (values .entry)))) (now (rows .entry))
+        (now (rows .exit)) (now (values .entry)) (now (values .exit)) r ⌝ }
+{
+    let opened = fst::open(file);
+    match opened {
+        Opened::Refused(why) => refused(why),
+        Opened::Meta(_) => {
+            if bounds_right(lower_kind, lower, upper_kind, upper) {} else {
+                return refused(BOUND);
+            }
+            if has_room(most, rows.len(), values.len()) {} else {
+                return refused(SPACE);
+            }
+            range_from(
+                file,
+                lower_kind,
+                lower,
+                upper_kind,
+                upper,
+                most,
+                rows,
+                values,
+            )
+        }
+    }
+}

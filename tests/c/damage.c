@@ -1,0 +1,385 @@
+/* Calls the functions of ranges and readings on damaged files, readings and tables, each so many times (tests/c/README.md):
+ *
+ *     damage CALLS FILE...
+ *
+ * Every buffer that is lent ends at a page without access, and the file may only be read: a step beyond a buffer, or a byte
+ * written to the file, ends the program. Of each call is checked that its result is one that the header names, and that what is to
+ * stay stayed. Where the file is admitted and the table is its own, the keys have to ascend, to come as often as the number says, and
+ * to have the values that fst_get answers; and page after page hands out the same keys, whatever the sizes of the pages. */
+#define _DEFAULT_SOURCE
+#include <stdio.h>
+#include <stdlib.h>
+#include <string.h>
+#include <sys/mman.h>
+
+#include "baxhiso.h"
+
+#define PAGE ((size_t)4096)
+#define LONGEST ((size_t)4100)
+#define TABLE (LONGEST + 8)
+
+static unsigned long differences;
+
+static void expect(int holds, const char *what)
+{
+    if (!holds && differences++ < 20)
+        printf("damage: %s\n", what);
+}
+
+/* ---- numbers that look random, the same in every run */
+
+static uint64_t state = UINT64_C(0x9E3779B97F4A7C15);
+
+static uint64_t any(void)
+{
+    state ^= state << 13;
+    state ^= state >> 7;
+    state ^= state << 17;
+    return state;
+}
+
+static size_t below(size_t n)
+{
+    return (size_t)(any() % n);
+}
+
+static int one_in(size_t n)
+{
+    return below(n) == 0;
+}
+
+/* ---- buffers that end at a page without access */
+
+typedef struct region {
+    uint8_t *start, *end;
+} region;
+
+static region map(size_t bytes)
+{
+    size_t pages = (bytes + PAGE - 1) / PAGE * PAGE;
+    uint8_t *p = mmap(NULL, pages + 2 * PAGE, PROT_READ | PROT_WRITE, MAP_PRIVATE | MAP_ANONYMOUS, -1, 0);
+    region r;
+    if (p == MAP_FAILED || mprotect(p, PAGE, PROT_NONE) != 0 || mprotect(p + PAGE + pages, PAGE, PROT_NONE) != 0) {
+        perror("damage: no guarded buffer");
+        exit(2);
+    }
+    r.start = p + PAGE;
+    r.end = p + PAGE + pages;
+    return r;
+}
+
+static void *lent(region r, size_t bytes)
+{
+    return r.end - bytes;
+}
+
+static void writable(region r, int yes)
+{
+    if (mprotect(r.start, (size_t)(r.end - r.start), yes ? PROT_READ | PROT_WRITE : PROT_READ) != 0) {
+        perror("damage: mprotect");
+        exit(2);
+    }
+}
+
+static region files, depths_at, sums_at, counts_at, readings_at, keys_at, lens_at, values_at, lowers_at, uppers_at, rows_at, page_values_at;
+
+/* ---- a file, damaged or not */
+
+static uint8_t **bases;
+static size_t *base_lens, base_count;
+
+static void load(const char *path)
+{
+    uint8_t bytes[LONGEST];
+    FILE *in = fopen(path, "rb");
+    size_t n = in == NULL ? 0 : fread(bytes, 1, sizeof bytes, in);
+    if (in == NULL || ferror(in)) {
+        perror(path);
+        exit(2);
+    }
+    fclose(in);
+    if (n < sizeof bytes) {
+        bases[base_count] = malloc(n + 1);
+        memcpy(bases[base_count], bytes, n);
+        base_lens[base_count++] = n;
+    }
+}
+
+static uint8_t *damaged(size_t *len)
+{
+    size_t base = below(base_count), n = base_lens[base], changes = one_in(3) ? 0 : 1 + below(4);
+    uint8_t *f;
+    if (one_in(40))
+        n = below(n + 1);
+    writable(files, 1);
+    f = lent(files, n);
+    memcpy(f, bases[base], n);
+    for (; changes > 0 && n > 0; changes--)
+        f[below(n)] = one_in(2) ? (uint8_t)any() : (uint8_t)(1u << below(8));
+    writable(files, 0);
+    *len = n;
+    return f;
+}
+
+/* ---- results */
+
+static int among(int32_t result, const int *results)
+{
+    for (; *results != 100; results++) {
+        if (*results == result)
+            return 1;
+    }
+    return 0;
+}
+
+static int filled(const uint8_t *p, size_t n, uint8_t byte)
+{
+    for (size_t i = 0; i < n; i++) {
+        if (p[i] != byte)
+            return 0;
+    }
+    return 1;
+}
+
+static unsigned long counted, started, nexts, ranged;
+
+/* Fills the tables; each is as long as the file, or at times one entry shorter or longer. */
+static int32_t count(const uint8_t *file, size_t len, uint64_t **counts, size_t *counts_len)
+{
+    static const int results[] = { FST_OK, FST_ERR_SHORT, FST_ERR_VERSION, FST_ERR_ROOT, FST_ERR_NODE, FST_ERR_DEEP, FST_ERR_SUM,
+        FST_ERR_SPACE, FST_ERR_COUNT, 100 };
+    size_t lens[3], i;
+    uint16_t *depths;
+    uint64_t *sums;
+    int32_t result;
+    for (i = 0; i < 3; i++)
+        lens[i] = one_in(30) ? (one_in(2) || len == 0 ? len + 1 : len - 1) : len;
+    depths = lent(depths_at, lens[0] * sizeof *depths);
+    sums = lent(sums_at, lens[1] * sizeof *sums);
+    *counts = lent(counts_at, lens[2] * sizeof **counts);
+    *counts_len = lens[2];
+    memset(depths, 0xA5, lens[0] * sizeof *depths);
+    memset(sums, 0xA5, lens[1] * sizeof *sums);
+    memset(*counts, 0xA5, lens[2] * sizeof **counts);
+    counted++;
+    result = fst_count(file, len, depths, lens[0], sums, lens[1], *counts, lens[2]);
+    expect(among(result, results), "fst_count answers another number");
+    if (result != FST_OK && result != FST_ERR_COUNT) {
+        expect(filled((uint8_t *)*counts, lens[2] * sizeof **counts, 0xA5), "fst_count refuses, and the table of keys is written");
+        if (result != FST_ERR_NODE && result != FST_ERR_DEEP && result != FST_ERR_SUM)
+            expect(filled((uint8_t *)depths, lens[0] * sizeof *depths, 0xA5) && filled((uint8_t *)sums, lens[1] * sizeof *sums, 0xA5),
+                   "fst_count refuses, and a work table is written");
+    }
+    return result;
+}
+
+/* A bound: none, or bytes like those of keys; at times over 255. */
+static const fst_bound *bound(region at, fst_bound *b)
+{
+    static const char likely[] = "abcdefghijklmnopqrstuvwxyz0123456789at";
+    size_t n = one_in(50) ? 250 + below(8) : below(6);
+    uint8_t *key = lent(at, n);
+    for (size_t i = 0; i < n; i++)
+        key[i] = one_in(4) ? (uint8_t)any() : (uint8_t)likely[below(sizeof likely - 1)];
+    b->kind = (int)below(3);
+    b->key = key;
+    b->len = n;
+    return one_in(3) ? NULL : b;
+}
+
+static int32_t start(const uint8_t *file, size_t len, const fst_bound *lower, const fst_bound *upper, const uint64_t *counts, size_t counts_len,
+                     fst_reading *reading)
+{
+    static const int results[] = { FST_OK, FST_ERR_SHORT, FST_ERR_VERSION, FST_ERR_ROOT, FST_ERR_BOUND, FST_ERR_SPACE, FST_ERR_NODE, FST_ERR_SUM,
+        FST_ERR_COUNT, 100 };
+    int32_t result;
+    memset(reading, 0xA5, sizeof *reading);
+    started++;
+    result = fst_start(file, len, lower, upper, counts, counts_len, reading);
+    expect(among(result, results), "fst_start answers another number");
+    expect(result == FST_OK || filled((uint8_t *)reading, sizeof *reading, 0xA5), "fst_start refuses, and the reading is written");
+    return result;
+}
+
+static int32_t next(const uint8_t *file, size_t len, fst_reading *reading, uint8_t *key, size_t space, size_t *key_len, uint64_t *value)
+{
+    static const int results[] = { FST_OK, FST_END, FST_ERR_SHORT, FST_ERR_VERSION, FST_ERR_ROOT, FST_ERR_STATE, FST_ERR_SPACE, FST_ERR_NODE,
+        FST_ERR_DEEP, FST_ERR_SUM, 100 };
+    uint64_t to_come = fst_to_come(reading);
+    int32_t result;
+    memset(key, 0xA5, space);
+    *key_len = 777;
+    *value = 777;
+    nexts++;
+    result = fst_next(file, len, reading, key, space, key_len, value);
+    expect(among(result, results), "fst_next answers another number");
+    if (result == FST_OK)
+        expect(*key_len <= 255 && filled(key + *key_len, space - *key_len, 0xA5) && fst_to_come(reading) + 1 == to_come, "fst_next hands out a key wrongly");
+    else
+        expect(*key_len == 777 && *value == 777 && filled(key, space, 0xA5) && fst_to_come(reading) == to_come,
+               "fst_next hands out no key, and something is written");
+    return result;
+}
+
+#define ROWS ((size_t)12)
+
+/* One page; what is not handed out stays as it was. */
+static int32_t range(const uint8_t *file, size_t len, const fst_bound *lower, const fst_bound *upper, size_t most, fst_row **rows,
+                     uint64_t **values, size_t *count)
+{
+    static const int results[] = { FST_END, FST_MORE, FST_ERR_SHORT, FST_ERR_VERSION, FST_ERR_ROOT, FST_ERR_BOUND, FST_ERR_NODE, FST_ERR_DEEP,
+        FST_ERR_SUM, 100 };
+    int32_t result;
+    *rows = lent(rows_at, most * sizeof **rows);
+    *values = lent(page_values_at, most * sizeof **values);
+    memset(*rows, 0xA5, most * sizeof **rows);
+    memset(*values, 0xA5, most * sizeof **values);
+    ranged++;
+    result = fst_range(file, len, lower, upper, most, *rows, *values, count);
+    expect(among(result, results), "fst_range answers another number");
+    expect(*count <= most && (result != FST_MORE || *count == most) && (result != FST_END || *count < most), "fst_range hands out too many, or ends early");
+    for (size_t i = 0; i < *count; i++)
+        expect(filled((*rows)[i].key + (*rows)[i].len, 255 - (size_t)(*rows)[i].len, 0xA5), "fst_range writes behind a key");
+    expect(filled((uint8_t *)(*rows + *count), (most - *count) * sizeof **rows, 0xA5) &&
+           filled((uint8_t *)(*values + *count), (most - *count) * sizeof **values, 0xA5), "fst_range writes behind the last row");
+    return result;
+}
+
+/* Pages of any size between the bounds, beside the reading of the same bounds: the same keys and values, until either is refused. */
+static void page_on(const uint8_t *file, size_t len, const fst_bound *lower, const fst_bound *upper, fst_reading reading)
+{
+    fst_bound from = lower == NULL ? (fst_bound){ FST_UNBOUNDED, NULL, 0 } : *lower;
+    uint8_t key[255], last[255];
+    size_t key_len, count, pages = 0;
+    uint64_t value;
+    fst_row *rows;
+    uint64_t *values;
+    int32_t result = FST_MORE;
+    while (result == FST_MORE && pages++ < 6) {
+        result = range(file, len, &from, upper, 1 + below(ROWS), &rows, &values, &count);
+        for (size_t i = 0; i < count; i++) {
+            if (fst_next(file, len, &reading, key, 255, &key_len, &value) != FST_OK) {
+                expect(0, "a range hands out a key that the reading does not");
+                return;
+            }
+            expect(key_len == rows[i].len && memcmp(key, rows[i].key, key_len) == 0 && value == values[i], "a range hands out another key than the reading");
+        }
+        if (count > 0) {
+            memcpy(last, rows[count - 1].key, rows[count - 1].len);
+            from = (fst_bound){ FST_EXCLUDED, last, rows[count - 1].len };
+        }
+    }
+    if (result == FST_END)
+        expect(fst_next(file, len, &reading, key, 255, &key_len, &value) == FST_END, "a range ends before the reading");
+}
+
+/* A reading to its end, or so many keys; right says that the file is admitted and the table its own. */
+static void read_on(const uint8_t *file, size_t len, fst_reading *reading, int right)
+{
+    uint8_t last[255];
+    size_t last_len = 0, n = 0, space = one_in(30) ? below(256) : 255 + below(4), *key_len = lent(lens_at, sizeof *key_len);
+    uint8_t *key = lent(keys_at, space);
+    uint64_t *value = lent(values_at, sizeof *value), looked_up, to_come = fst_to_come(reading);
+    int32_t result = FST_OK;
+    for (; n < 40 && result == FST_OK; n++) {
+        result = next(file, len, reading, key, space, key_len, value);
+        if (right && result == FST_OK) {
+            size_t shorter = last_len < *key_len ? last_len : *key_len;
+            int order = memcmp(last, key, shorter);
+            expect(n == 0 || order < 0 || (order == 0 && last_len < *key_len), "keys do not ascend");
+            expect(fst_get(file, len, key, *key_len, &looked_up) == FST_OK && looked_up == *value, "a key has another value than fst_get answers");
+            memcpy(last, key, *key_len);
+            last_len = *key_len;
+        }
+    }
+    if (right && space >= 255)
+        expect(result == FST_END ? n - 1 == to_come : n <= to_come, "keys do not come as often as the number says");
+    /* the same reading with another file */
+    file = damaged(&len);
+    next(file, len, reading, key, space, key_len, value);
+}
+
+/* A reading that no start gave. */
+static void made(const uint8_t *file, size_t len, fst_reading *reading)
+{
+    uint8_t *bytes = (uint8_t *)reading;
+    size_t root = len > 21 ? len - 21 : 0;
+    for (size_t i = 0; i < sizeof *reading; i++)
+        bytes[i] = (uint8_t)any();
+    for (size_t i = 0; i < 256; i++) {
+        reading->addrs[i] = (uint32_t)(one_in(3) ? root : below(len + 2));
+        reading->trans[i] = (uint16_t)(one_in(9) ? any() : below(4));
+        reading->outs[i] = one_in(9) ? any() : below(1000);
+    }
+    reading->head[0] = one_in(20) ? any() : len;
+    reading->head[1] = one_in(2) ? FST_UNBOUNDED : below(4);
+    reading->head[2] = one_in(20) ? any() : below(257);
+    reading->head[3] = below(2);
+    reading->head[6] = one_in(20) ? any() : below(258);
+    reading->keys[0] = one_in(9) ? any() : below(5);
+    read_on(file, len, reading, 0);
+}
+
+int main(int argc, char **argv)
+{
+    unsigned long calls = argc > 1 ? strtoul(argv[1], NULL, 10) : 0, files_made = 0, admitted = 0;
+    bases = calloc((size_t)argc, sizeof *bases);
+    base_lens = calloc((size_t)argc, sizeof *base_lens);
+    for (int i = 2; i < argc; i++)
+        load(argv[i]);
+    if (base_count == 0 || calls == 0) {
+        fprintf(stderr, "usage: damage CALLS FILE...\n");
+        return 2;
+    }
+    files = map(LONGEST);
+    depths_at = map(TABLE * sizeof(uint16_t));
+    sums_at = map(TABLE * sizeof(uint64_t));
+    counts_at = map(TABLE * sizeof(uint64_t));
+    readings_at = map(sizeof(fst_reading));
+    keys_at = map(300);
+    lens_at = map(sizeof(size_t));
+    values_at = map(sizeof(uint64_t));
+    lowers_at = map(300);
+    uppers_at = map(300);
+    rows_at = map(ROWS * sizeof(fst_row));
+    page_values_at = map(ROWS * sizeof(uint64_t));
+    while (counted < calls || started < calls || nexts < calls || ranged < calls) {
+        fst_reading *reading = lent(readings_at, sizeof *reading);
+        uint64_t *counts;
+        size_t len, counts_len;
+        uint8_t *file = damaged(&len);
+        int32_t result = count(file, len, &counts, &counts_len);
+        int right = result == FST_OK;
+        files_made++;
+        admitted += right;
+        for (int i = 0; i < 2; i++) {
+            fst_bound lower, upper;
+            const fst_bound *lo = bound(lowers_at, &lower), *hi = bound(uppers_at, &upper);
+            /* the file's own table, until another is put in its place */
+            right = right && !one_in(8);
+            if (!right) {
+                for (size_t j = 0; j < counts_len; j++)
+                    counts[j] = one_in(16) ? any() : below(1000);
+            }
+            fst_row *rows;
+            uint64_t *values;
+            size_t found;
+            range(file, len, lo, hi, below(ROWS + 1), &rows, &values, &found);
+            if (start(file, len, lo, hi, counts, counts_len, reading) == FST_OK) {
+                if (right)
+                    page_on(file, len, lo, hi, *reading);
+                read_on(file, len, reading, right);
+                break; /* the file was exchanged */
+            }
+        }
+        file = damaged(&len);
+        made(file, len, reading);
+    }
+    printf("%lu damaged files, %lu of them admitted: fst_count %lu calls, fst_start %lu, fst_next %lu, fst_range %lu, %lu differences\n",
+           files_made, admitted, counted, started, nexts, ranged, differences);
+    for (size_t i = 0; i < base_count; i++)
+        free(bases[i]);
+    free(bases);
+    free(base_lens);
+    return differences > 0;
+}

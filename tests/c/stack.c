@@ -1,0 +1,107 @@
+/* Measures the stack that each function of include/baxhiso.h takes, and holds the header's numbers to it:
+ *
+ *     stack FILE...
+ *
+ * Each call is made on a stack of its own, which is painted before and looked at afterwards: from the caller's frame down to the last byte
+ * that was painted over. The files are admitted ones and others, so that the ways through each function are taken. */
+#define _XOPEN_SOURCE 700
+#include <stdio.h>
+#include <stdlib.h>
+#include <string.h>
+#include <ucontext.h>
+
+#include "baxhiso.h"
+
+#define PAINT 0x5C
+#define LONGEST 70000
+
+static uint8_t stack[1 << 20];
+static ucontext_t back, there;
+
+static uint8_t file[LONGEST];
+static size_t file_len;
+static uint16_t depths[LONGEST];
+static uint64_t sums[LONGEST], counts[LONGEST];
+static fst_reading reading;
+static fst_row rows[8];
+static uint64_t values[8];
+static uint8_t key[FST_KEY_SPACE], bound_key[] = { 'a', 't' };
+static size_t len;
+static uint64_t value;
+static fst_meta meta;
+static const fst_bound bound = { FST_EXCLUDED, bound_key, 2 };
+
+static void call_open(void) { fst_open(file, file_len, &meta); }
+static void call_get(void) { fst_get(file, file_len, bound_key, 2, &value); fst_get(file, file_len, key, len, &value); }
+static void call_get_key(void) { fst_get_key(file, file_len, value, key, sizeof key, &len); }
+static void call_admit(void) { fst_admit(file, file_len, depths, file_len, sums, file_len); }
+static void call_count(void) { fst_count(file, file_len, depths, file_len, sums, file_len, counts, file_len); }
+static void call_start(void) { fst_start(file, file_len, NULL, &bound, counts, file_len, &reading); fst_start(file, file_len, &bound, NULL, counts, file_len, &reading); }
+static void call_next(void) { fst_next(file, file_len, &reading, key, sizeof key, &len, &value); }
+static void call_range(void) { fst_range(file, file_len, NULL, &bound, 8, rows, values, &len); fst_range(file, file_len, &bound, NULL, 8, rows, values, &len); }
+
+static void (*to_call)(void);
+static size_t used;
+
+/* On the painted stack: the call, and then at once a look at what lies below. */
+static void measured(void)
+{
+    volatile uint8_t here = 0;
+    size_t i = here;
+    to_call();
+    while (stack[i] == PAINT)
+        i++;
+    used = (size_t)(&here - (stack + i));
+}
+
+static size_t taken(void (*call)(void))
+{
+    to_call = call;
+    memset(stack, PAINT, sizeof stack);
+    getcontext(&there);
+    there.uc_stack.ss_sp = stack;
+    there.uc_stack.ss_size = sizeof stack;
+    there.uc_link = &back;
+    makecontext(&there, measured, 0);
+    swapcontext(&back, &there);
+    return used;
+}
+
+int main(int argc, char **argv)
+{
+    static const struct {
+        const char *name;
+        void (*call)(void);
+        size_t said;
+    } functions[] = {
+        { "fst_open", call_open, FST_STACK_OPEN },    { "fst_get", call_get, FST_STACK_GET },       { "fst_get_key", call_get_key, FST_STACK_GET_KEY },
+        { "fst_admit", call_admit, FST_STACK_ADMIT }, { "fst_count", call_count, FST_STACK_COUNT }, { "fst_start", call_start, FST_STACK_START },
+        { "fst_next", call_next, FST_STACK_NEXT },    { "fst_range", call_range, FST_STACK_RANGE },
+    };
+    size_t most[sizeof functions / sizeof *functions] = { 0 };
+    int differences = 0;
+    for (int i = 1; i < argc; i++) {
+        FILE *in = fopen(argv[i], "rb");
+        if (in == NULL) {
+            perror(argv[i]);
+            return 2;
+        }
+        file_len = fread(file, 1, sizeof file, in);
+        fclose(in);
+        if (file_len == sizeof file)
+            continue;
+        memset(counts, 0, sizeof counts);
+        for (int again = 0; again < 3; again++) {
+            for (size_t f = 0; f < sizeof functions / sizeof *functions; f++) {
+                size_t n = taken(functions[f].call);
+                most[f] = n > most[f] ? n : most[f];
+            }
+        }
+    }
+    for (size_t f = 0; f < sizeof functions / sizeof *functions; f++) {
+        int right = most[f] <= functions[f].said;
+        differences += !right;
+        printf("%s %lu bytes of stack%s\n", functions[f].name, (unsigned long)most[f], right ? "" : ": more than the header says");
+    }
+    return differences > 0;
+}
