@@ -7,6 +7,7 @@ use std::fmt::Debug;
 use crate::answers::{Answers, At, ConvertAnswers, FileAnswers, ReadingAnswers, Record};
 use crate::generate::INPUTS;
 use crate::given;
+use crate::model_range::RangeAnswers;
 use crate::prng::Prng;
 
 mod admission;
@@ -20,6 +21,7 @@ mod made;
 mod numbers;
 mod opening;
 mod packing;
+mod pages;
 mod patterns;
 mod ranges;
 mod reading;
@@ -134,6 +136,8 @@ pub struct Run<'a> {
     ours_reading: Option<&'a dyn ReadingAnswers>,
     // and on conversions
     ours_convert: Option<&'a dyn ConvertAnswers>,
+    // and on ranges in one call
+    ours_range: Option<&'a dyn RangeAnswers>,
     // a whole run has every random case, another one in so many
     one_in: usize,
     prng: Prng,
@@ -166,11 +170,16 @@ const DELTA_SIZES: [&str; 9] = [
 impl<'a> Run<'a> {
     pub fn new(ours: Ours<'a>, one_in: usize) -> Run<'a> {
         let (ours, ours_file, ours_reading) = ours;
-        Run { ours, ours_file, ours_reading, ours_convert: None, one_in, prng: Prng::new(2), counts: BTreeMap::new() }
+        Run { ours, ours_file, ours_reading, ours_convert: None, ours_range: None, one_in, prng: Prng::new(2), counts: BTreeMap::new() }
     }
 
     pub fn converting(mut self, ours: Option<&'a dyn ConvertAnswers>) -> Run<'a> {
         self.ours_convert = ours;
+        self
+    }
+
+    pub fn ranging(mut self, ours: Option<&'a dyn RangeAnswers>) -> Run<'a> {
+        self.ours_range = ours;
         self
     }
 
@@ -198,7 +207,19 @@ impl<'a> Run<'a> {
         self.readings(print)?;
         // last, so that the cases before it stay what they are
         self.sections(print, &[("boundaries of judging", Run::boundaries)])?;
-        self.conversions(print)
+        self.conversions(print)?;
+        self.by_page(print)
+    }
+
+    // Those of ranges in one call alone.
+    pub fn by_page(&mut self, print: bool) -> Checked {
+        self.sections(
+            print,
+            &[
+                ("ranges of admitted files, page after page", Run::pages),
+                ("ranges in one call: damaged files, and buffers of any size", Run::damaged_pages),
+            ],
+        )
     }
 
     // Those of conversion alone.

@@ -38,6 +38,7 @@ mod model;
 mod model_convert;
 mod model_file;
 mod model_pattern;
+mod model_range;
 mod model_reading;
 #[cfg(library)]
 mod ours;
@@ -45,6 +46,8 @@ mod ours;
 mod ours_convert;
 #[cfg(library)]
 mod ours_file;
+#[cfg(library)]
+mod ours_range;
 #[cfg(library)]
 mod ours_reading;
 mod prng;
@@ -56,12 +59,14 @@ mod replay_rows;
 mod sparse;
 mod wrong;
 mod wrong_file;
+mod wrong_range;
 mod wrong_reading;
 
 use std::process;
 
 use crate::answers::ConvertAnswers;
 use crate::compare::{Difference, Ours, Run};
+use crate::model_range::RangeAnswers;
 
 #[cfg(library)]
 fn library() -> Ours<'static> {
@@ -83,6 +88,16 @@ fn library_converts() -> Option<&'static dyn ConvertAnswers> {
     None
 }
 
+#[cfg(library)]
+fn library_ranges() -> Option<&'static dyn RangeAnswers> {
+    Some(&ours::Library)
+}
+
+#[cfg(not(library))]
+fn library_ranges() -> Option<&'static dyn RangeAnswers> {
+    None
+}
+
 fn report(difference: &Difference) {
     println!("oracle: a difference: {}", difference.what);
     println!("  input: {}", difference.input);
@@ -96,7 +111,7 @@ fn compare(lists: &[String]) -> bool {
     if !listing::kept() {
         return false;
     }
-    let mut run = Run::new(library(), 1).converting(library_converts());
+    let mut run = Run::new(library(), 1).converting(library_converts()).ranging(library_ranges());
     if let Err(difference) = compare::common_inputs_named().and_then(|()| run.all(true)) {
         report(&difference);
         return false;
@@ -125,6 +140,17 @@ fn compare_readings() -> bool {
 // Readings by pattern alone.
 fn compare_patterns() -> bool {
     match Run::new(library(), 1).by_pattern(true) {
+        Ok(()) => true,
+        Err(difference) => {
+            report(&difference);
+            false
+        }
+    }
+}
+
+// Ranges in one call alone.
+fn compare_range() -> bool {
+    match Run::new(library(), 1).ranging(library_ranges()).by_page(true) {
         Ok(()) => true,
         Err(difference) => {
             report(&difference);
@@ -204,12 +230,31 @@ fn self_test() -> bool {
             }
         }
     }
+    self_test_range()
+}
+
+// The same of ranges in one call.
+fn self_test_range() -> bool {
+    let in_small = |ours: &dyn RangeAnswers| Run::new((None, None, None), 100).ranging(Some(ours)).by_page(false);
+    if let Err(difference) = in_small(&model::Model) {
+        report(&difference);
+        return false;
+    }
+    for &slip in wrong_range::SLIPS {
+        match in_small(&wrong_range::WrongRange { slip }) {
+            Err(difference) => println!("noticed: {}  ({})", slip, difference.what),
+            Ok(()) => {
+                println!("oracle: not noticed: {}", slip);
+                return false;
+            }
+        }
+    }
     true
 }
 
 #[cfg(timed)]
 fn bench() -> bool {
-    bench::bench(&ours::Library, &ours::Library, &ours::Library);
+    bench::bench(&ours::Library, &ours::Library, &ours::Library, &ours::Library);
     true
 }
 
@@ -242,6 +287,7 @@ fn main() {
         Some("compare") => compare(&args[2..]),
         Some("readings") => compare_readings(),
         Some("patterns") => compare_patterns(),
+        Some("range") => compare_range(),
         Some("admission") => compare_admission(),
         Some("convert") => compare_conversions(),
         Some("long") => compare_long(),
@@ -249,7 +295,7 @@ fn main() {
         Some("record") => record(&args[2..]),
         Some("listing") => listing::make(),
         _ => {
-            println!("oracle: compare, readings, patterns, admission, convert, long, self-test, record or listing");
+            println!("oracle: compare, readings, patterns, range, admission, convert, long, self-test, record or listing");
             process::exit(2);
         }
     };
