@@ -11,6 +11,7 @@ use crate::builder::Builder;
 use crate::generate_file;
 use crate::given_file::{self, Opened};
 use crate::model_file::MAX_PATH;
+use crate::model_range::{RangeAnswers, RANGE_MORE, ROW};
 use crate::prng::Prng;
 use crate::stream::Streamer;
 
@@ -23,6 +24,8 @@ const ROUNDS: usize = 9;
 const READ: usize = 100_000;
 const SHORT: usize = 20;
 const PARTS: usize = 20;
+// A range in one call has room for so many keys.
+const PAGE: usize = 32;
 // A file as long as words fill 16 MiB.
 const DENSE: usize = 16_777_216;
 
@@ -238,6 +241,47 @@ fn reading(ours: &dyn ReadingAnswers, rust: &Opened, file: &[u8], counts: &[u64]
     (by_ours * each, by_the_rust * each)
 }
 
+// The time of a key by ranges in one call, each from the last key of the one before, over ranges that are read whole.
+fn paging(ours: &dyn RangeAnswers, rust: &Opened, file: &[u8], parts: &[Part]) -> (f64, f64) {
+    let (mut rows, mut values) = ([0; ROW * PAGE], [0; PAGE]);
+    let mut read = |part: &Part| {
+        let mut from = part.lower.clone();
+        let mut n = 0;
+        loop {
+            let (count, stop) = ours.range(file, &from, &part.upper, PAGE, &mut rows, &mut values);
+            n += count as usize;
+            if stop != RANGE_MORE {
+                return n;
+            }
+            let last = &rows[ROW * (PAGE - 1)..];
+            from.kind = Kind::Excluded;
+            from.bytes.clear();
+            from.bytes.extend_from_slice(&last[1..1 + usize::from(last[0])]);
+        }
+    };
+    let mut keys = 0;
+    for part in parts {
+        assert_eq!(read(part), part.keys);
+        keys += part.keys;
+    }
+    let (by_ours, by_the_rust) = times_in(
+        parts,
+        1 + parts.len() / PARTS,
+        |parts| {
+            for part in parts {
+                black_box(read(part));
+            }
+        },
+        |parts| {
+            for part in parts {
+                black_box(read_by_the_rust(rust, part));
+            }
+        },
+    );
+    let each = parts.len() as f64 / keys as f64;
+    (by_ours * each, by_the_rust * each)
+}
+
 // The time of a key with the number of keys to come, beside that without it; or of a start alone, where no key is read.
 fn numbered(ours: &dyn ReadingAnswers, file: &[u8], counts: &[u64], parts: &[Part], most: u64) -> (f64, f64) {
     let (mut key, mut other_key) = ([0; MAX_PATH], [0; MAX_PATH]);
@@ -279,7 +323,12 @@ fn whole_part(n: usize) -> Part {
     Part { lower: unbounded(), upper: unbounded(), keys: n }
 }
 
-pub fn bench(nodes: &dyn Answers, ours: &dyn FileAnswers, readings: &dyn ReadingAnswers) {
+pub fn bench(
+    nodes: &dyn Answers,
+    ours: &dyn FileAnswers,
+    readings: &dyn ReadingAnswers,
+    ranges: &dyn RangeAnswers,
+) {
     println!("nanoseconds a lookup, over {} lookups; of readings, nanoseconds a key\n", ASKED);
     for set in sets() {
         let mut prng = Prng::new(10);
@@ -333,6 +382,8 @@ pub fn bench(nodes: &dyn Answers, ours: &dyn FileAnswers, readings: &dyn Reading
         if set.name == "part numbers" {
             bench_pattern::bench(readings, &rust, &file, &set.keys);
         }
+        say("long reading, by range", paging(ranges, &rust, &file, &whole));
+        say("range of 20, by range", paging(ranges, &rust, &file, &short));
         say("admission, a byte", admitting(ours, &rust, &file));
         println!("    {:<28}{:>8} {:>8} {:>8}", "", "with", "without", "ratio");
         let wholes: Vec<Part> = short.iter().map(|_| whole_part(n)).collect();

@@ -8,6 +8,7 @@ use crate::answers::{Answers, At, ConvertAnswers, FileAnswers, ReadingAnswers, R
 use crate::generate::INPUTS;
 use crate::given;
 use crate::model_pack::PackAnswers;
+use crate::model_range::RangeAnswers;
 use crate::prng::Prng;
 
 mod admission;
@@ -22,6 +23,7 @@ mod numbers;
 mod opening;
 mod pack;
 mod packing;
+mod pages;
 mod patterns;
 mod ranges;
 mod reading;
@@ -139,6 +141,8 @@ pub struct Run<'a> {
     ours_convert: Option<&'a dyn ConvertAnswers>,
     // and on lists
     ours_pack: Option<&'a dyn PackAnswers>,
+    // and on ranges in one call
+    ours_range: Option<&'a dyn RangeAnswers>,
     // a whole run has every random case, another one in so many
     one_in: usize,
     prng: Prng,
@@ -171,8 +175,8 @@ const DELTA_SIZES: [&str; 9] = [
 impl<'a> Run<'a> {
     pub fn new(ours: Ours<'a>, one_in: usize) -> Run<'a> {
         let (ours, ours_file, ours_reading) = ours;
-        let (ours_convert, ours_pack) = (None, None);
-        Run { ours, ours_file, ours_reading, ours_convert, ours_pack, one_in, prng: Prng::new(2), counts: BTreeMap::new() }
+        let (ours_convert, ours_pack, ours_range) = (None, None, None);
+        Run { ours, ours_file, ours_reading, ours_convert, ours_pack, ours_range, one_in, prng: Prng::new(2), counts: BTreeMap::new() }
     }
 
     pub fn converting(mut self, ours: Option<&'a dyn ConvertAnswers>) -> Run<'a> {
@@ -182,6 +186,11 @@ impl<'a> Run<'a> {
 
     pub fn packing_lists(mut self, ours: Option<&'a dyn PackAnswers>) -> Run<'a> {
         self.ours_pack = ours;
+        self
+    }
+
+    pub fn ranging(mut self, ours: Option<&'a dyn RangeAnswers>) -> Run<'a> {
+        self.ours_range = ours;
         self
     }
 
@@ -210,12 +219,24 @@ impl<'a> Run<'a> {
         // last, so that the cases before it stay what they are
         self.sections(print, &[("boundaries of judging", Run::boundaries)])?;
         self.conversions(print)?;
-        self.packs(print)
+        self.packs(print)?;
+        self.by_page(print)
     }
 
     // Those of the packing of lists alone.
     pub fn packs(&mut self, print: bool) -> Checked {
         self.sections(print, &[("packing of lists", Run::lists)])
+    }
+
+    // Those of ranges in one call alone.
+    pub fn by_page(&mut self, print: bool) -> Checked {
+        self.sections(
+            print,
+            &[
+                ("ranges of admitted files, page after page", Run::pages),
+                ("ranges in one call: damaged files, and buffers of any size", Run::damaged_pages),
+            ],
+        )
     }
 
     // Those of conversion alone.

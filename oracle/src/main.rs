@@ -43,6 +43,7 @@ mod model_convert;
 mod model_file;
 mod model_pack;
 mod model_pattern;
+mod model_range;
 mod model_reading;
 #[cfg(library)]
 mod ours;
@@ -52,6 +53,8 @@ mod ours_convert;
 mod ours_file;
 #[cfg(library)]
 mod ours_pack;
+#[cfg(library)]
+mod ours_range;
 #[cfg(library)]
 mod ours_reading;
 mod prng;
@@ -64,6 +67,7 @@ mod sparse;
 mod wrong;
 mod wrong_file;
 mod wrong_pack;
+mod wrong_range;
 mod wrong_reading;
 
 use std::process;
@@ -71,6 +75,7 @@ use std::process;
 use crate::answers::ConvertAnswers;
 use crate::compare::{Difference, Ours, Run};
 use crate::model_pack::PackAnswers;
+use crate::model_range::RangeAnswers;
 
 #[cfg(library)]
 fn library() -> Ours<'static> {
@@ -102,6 +107,16 @@ fn library_packs() -> Option<&'static dyn PackAnswers> {
     None
 }
 
+#[cfg(library)]
+fn library_ranges() -> Option<&'static dyn RangeAnswers> {
+    Some(&ours::Library)
+}
+
+#[cfg(not(library))]
+fn library_ranges() -> Option<&'static dyn RangeAnswers> {
+    None
+}
+
 fn report(difference: &Difference) {
     println!("oracle: a difference: {}", difference.what);
     println!("  input: {}", difference.input);
@@ -115,7 +130,7 @@ fn compare(lists: &[String]) -> bool {
     if !listing::kept() {
         return false;
     }
-    let mut run = Run::new(library(), 1).converting(library_converts()).packing_lists(library_packs());
+    let mut run = Run::new(library(), 1).converting(library_converts()).packing_lists(library_packs()).ranging(library_ranges());
     if let Err(difference) = compare::common_inputs_named().and_then(|()| run.all(true)) {
         report(&difference);
         return false;
@@ -144,6 +159,17 @@ fn compare_readings() -> bool {
 // Readings by pattern alone.
 fn compare_patterns() -> bool {
     match Run::new(library(), 1).by_pattern(true) {
+        Ok(()) => true,
+        Err(difference) => {
+            report(&difference);
+            false
+        }
+    }
+}
+
+// Ranges in one call alone.
+fn compare_range() -> bool {
+    match Run::new(library(), 1).ranging(library_ranges()).by_page(true) {
         Ok(()) => true,
         Err(difference) => {
             report(&difference);
@@ -234,7 +260,7 @@ fn self_test() -> bool {
             }
         }
     }
-    self_test_packs()
+    self_test_packs() && self_test_range()
 }
 
 // The same of the packing of lists.
@@ -257,13 +283,32 @@ fn self_test_packs() -> bool {
     true
 }
 
+// The same of ranges in one call.
+fn self_test_range() -> bool {
+    let in_small = |ours: &dyn RangeAnswers| Run::new((None, None, None), 100).ranging(Some(ours)).by_page(false);
+    if let Err(difference) = in_small(&model::Model) {
+        report(&difference);
+        return false;
+    }
+    for &slip in wrong_range::SLIPS {
+        match in_small(&wrong_range::WrongRange { slip }) {
+            Err(difference) => println!("noticed: {}  ({})", slip, difference.what),
+            Ok(()) => {
+                println!("oracle: not noticed: {}", slip);
+                return false;
+            }
+        }
+    }
+    true
+}
+
 #[cfg(timed)]
 fn bench() -> bool {
     if std::env::args().nth(1).as_deref() == Some("pack") {
         bench_pack::bench(&ours::Library);
         return true;
     }
-    bench::bench(&ours::Library, &ours::Library, &ours::Library);
+    bench::bench(&ours::Library, &ours::Library, &ours::Library, &ours::Library);
     true
 }
 
@@ -296,6 +341,7 @@ fn main() {
         Some("compare") => compare(&args[2..]),
         Some("readings") => compare_readings(),
         Some("patterns") => compare_patterns(),
+        Some("range") => compare_range(),
         Some("admission") => compare_admission(),
         Some("convert") => compare_conversions(),
         Some("pack") => compare_packs(),
@@ -304,7 +350,7 @@ fn main() {
         Some("record") => record(&args[2..]),
         Some("listing") => listing::make(),
         _ => {
-            println!("oracle: compare, readings, patterns, admission, convert, pack, long, self-test, record or listing");
+            println!("oracle: compare, readings, patterns, range, admission, convert, pack, long, self-test, record or listing");
             process::exit(2);
         }
     };

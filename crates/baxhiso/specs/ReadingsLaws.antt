@@ -7,7 +7,7 @@
 --     page-nonzero                  no refusal of a range has the number 0
 --     RangeTells, range-tells       a range on an admitted file, with short bounds and room: FST_END or FST_MORE, and the first keys between the bounds
 -- Assumes nothing.
-use mathlib.Core.Path.{_≡_, refl, sym, ap, _∙_}
+use mathlib.Core.Path.{_≡_, refl, sym, ap, subst, _∙_}
 use mathlib.Core.Bool.{Bool, true, false, cond, _&&_}
 use mathlib.Core.Logic.{_⊎_, inl, inr}
 use mathlib.Core.Option.{Option, none, some}
@@ -28,7 +28,8 @@ use Rattle.reading.specs.Reading.{View, Level, key, end, onNode, onSearch, onOp
 use Rattle.paging.specs.Paging as G
 use Rattle.paging.specs.Paging.{Page, page, ended, more, refusedPage, answered, fold, pageFrom, roomTest, rowLen, rowsAfter, valuesAfter}
 use Rattle.paging.specs.RangeExact.{RangeExact}
-use Rattle.paging.specs.RangeLaws.{range-exact}
+use Rattle.paging.specs.RangeLaws.{range-exact, held-short}
+use Rattle.paging.specs.RowLaws.{RowsHold, rows-hold}
 use Rattle.plain.specs.Numbers as N
 use Rattle.plain.specs.Numbers.{Tally, comes-to, plus, less, upTo, within, belowLower, number, noneRead}
 use Rattle.plain.specs.Plain as P
@@ -295,30 +296,58 @@ page-nonzero s lo hi most a b =
     (refused-stop 8))
     (λ n. refused-stop n)
 
-pub record RangeTells {s : List ℕ} (A : Admitted s) (lo hi : Bound) (most : ℕ) (p : Page) (r : ℤ) : Type 0 where
+-- the result, and the page: its keys are the first held ones between the bounds, each stands in its row, byte by byte, and its value in its place
+pub record RangeTells {s : List ℕ} (A : Admitted s) (lo hi : Bound) (most : ℕ) (p : Page) (rows₀ rows values₀ values : List ℕ) (count : ℕ) (r : ℤ) : Type 0 where
   pub answered : (r ≡ END) ⊎ (r ≡ MORE)
   pub exact : RangeExact A lo hi most p
   pub end-ended : r ≡ END → p .stop ≡ ended
   pub more-more : r ≡ MORE → p .stop ≡ more
+  pub count-is : count ≡ length (p .entries)
+  pub rows-are : RowsHold (p .entries) rows₀ rows
+  pub values-are : values ≡ valuesAfter (p .entries) values₀
 
 more-not-end : ¬ (MORE ≡ END)
 more-not-end e = let z : _≡_ {A = ℕ} 0 1 = cc in omega arith
 
-pub range-tells : {s : List ℕ} (A : Admitted s) (lo hi : Bound) (most : ℕ) (rows₀ rows values₀ values : List ℕ) (count : ℕ) (r : ℤ)
-    → length (boundBytes lo) ≤ maxPath → length (boundBytes hi) ≤ maxPath → rowLen * most ≤ length rows₀ → most ≤ length values₀
-    → RangeLeaves (G.range s lo hi most (length rows₀) (length values₀)) rows₀ rows values₀ values count r
-    → RangeTells A lo hi most (G.range s lo hi most (length rows₀) (length values₀)) r
-range-tells {s} A lo hi most rows₀ rows values₀ values count r short-lo short-hi row-room value-room h =
-    by (G.range s lo hi most (length rows₀) (length values₀)) (range-exact A lo hi most (length rows₀) (length values₀) short-lo short-hi row-room value-room) h
-  where
-    of : (p : Page) (w : G.Stop) → p .stop ≡ w → RangeExact A lo hi most p → RangeLeaves p rows₀ rows values₀ values count r → RangeTells A lo hi most p r
-    of p ended is exact l =
-        let e : r ≡ END = l .result ∙ ap rangeResult is in
-        record { answered = inl e; exact = exact; end-ended = λ q. is; more-more = λ q. absurd (more-not-end (sym q ∙ e)) }
-    of p more is exact l =
-        let e : r ≡ MORE = l .result ∙ ap rangeResult is in
-        record { answered = inr e; exact = exact; end-ended = λ q. absurd (more-not-end (sym e ∙ q)); more-more = λ q. is }
-    of p (G.Stop.refused n) is exact l = absurd (exact .not-refused n is)
+module _ {s : List ℕ} (A : Admitted s) (lo hi : Bound) (most : ℕ) (rows₀ rows values₀ values : List ℕ) (count : ℕ) (r : ℤ) (row-room : rowLen * most ≤ length rows₀) where
+  abbrev Told : Page → Type 0
+  Told p = RangeTells A lo hi most p rows₀ rows values₀ values count r
 
-    by : (p : Page) → RangeExact A lo hi most p → RangeLeaves p rows₀ rows values₀ values count r → RangeTells A lo hi most p r
-    by p exact l = of p (p .stop) refl exact l
+  abbrev Left : Page → Type 0
+  Left p = RangeLeaves p rows₀ rows values₀ values count r
+
+  rows-told : (p : Page) → RangeExact A lo hi most p → Left p → RowsHold (p .entries) rows₀ rows
+  rows-told p exact l =
+      subst (RowsHold (p .entries) rows₀) (sym (l .rows-are))
+      (rows-hold (p .entries) rows₀ (λ e on. held-short A (exact .held e on .0)) (omega (arith, exact .at-most, row-room)))
+
+  tells-of : (p : Page) (w : G.Stop) → p .stop ≡ w → RangeExact A lo hi most p → Left p → Told p
+  tells-of p ended is exact l =
+      let e : r ≡ END = l .result ∙ ap rangeResult is in
+      record {
+        answered = inl e;
+        exact = exact;
+        end-ended = λ q. is;
+        more-more = λ q. absurd (more-not-end (sym q ∙ e));
+        count-is = l .count-is;
+        rows-are = rows-told p exact l;
+        values-are = l .values-are;
+      }
+  tells-of p more is exact l =
+      let e : r ≡ MORE = l .result ∙ ap rangeResult is in
+      record {
+        answered = inr e;
+        exact = exact;
+        end-ended = λ q. absurd (more-not-end (sym e ∙ q));
+        more-more = λ q. is;
+        count-is = l .count-is;
+        rows-are = rows-told p exact l;
+        values-are = l .values-are;
+      }
+  tells-of p (G.Stop.refused n) is exact l = absurd (exact .not-refused n is)
+
+  pub range-tells : length (boundBytes lo) ≤ maxPath → length (boundBytes hi) ≤ maxPath → most ≤ length values₀
+      → Left (G.range s lo hi most (length rows₀) (length values₀)) → Told (G.range s lo hi most (length rows₀) (length values₀))
+  range-tells short-lo short-hi value-room h =
+      let p = G.range s lo hi most (length rows₀) (length values₀) in
+      tells-of p (p .stop) refl (range-exact A lo hi most (length rows₀) (length values₀) short-lo short-hi row-room value-room) h

@@ -3,3 +3,4 @@ pub mod RangeExact
 pub mod FoldLaws
 pub mod RangeLaws
 pub mod PagesLaws
+pub mod RowLaws

@@ -1,0 +1,2 @@
+-- A law of the definition, for the proof of this crate.
+mod TellingRange
