@@ -1,18 +1,20 @@
 -- What a reading of an admitted file has still to hand out, as a list, with what a card asks of each step.
 --     Tidy r              where the empty key is pending, there is one level at most
 --     next-right          a key handed out is the key of the levels, on any file and any tidy reading
+--     plain-few           a key leaves at most 256 levels, on any file and any reading
+--     plain-by-room       of a buffer it matters only whether it has room for every key
 --     Ahead s r es        calls with room hand out es, each the key of the levels that it leaves, and then "end"
 --     start-ahead         from the start: the held keys between the bounds, ascending
 -- Assumes nothing.
 use Prim.{Unit, tt}
 use mathlib.Core.Path.{_≡_, refl, sym, _∙_, ap, subst}
-use mathlib.Core.Bool.{Bool, true, false, cond, not}
+use mathlib.Core.Bool.{Bool, true, false, cond, _&&_}
 use mathlib.Core.Option.{Option, none, some}
 use mathlib.Core.Logic.{⊎-elim, _⊎_, inl, inr}
 use mathlib.Core.List.{List, [], _∷_, _++_, List·Memᴰ}
 use Prim.Native.Nat.{ℕ, zero, suc, _+_, _-_, _<_, _≤_}
 use native.Mathlib.Omega.{arith}
-use borrow.Author.Tests.{le-leb}
+use borrow.Author.Tests.{le-leb, leb-true}
 use lib.Dec.{leb, eqb}
 use lib.ListN.{length, drop}
 use Rattle.format.specs.Limits.{maxPath, maxSum, SPACE, STATE, BOUND, SUM, maxLevels}
@@ -104,6 +106,51 @@ next-right s r space h = by (opening s)
     by (opened m) =
         cond-way Right (stateTest r (length s)) (λ _. cond-way Right (leb maxPath space) (λ _. walk-right (fstOf s m) r (r .empty) h) (λ _. tt)) (λ _. tt)
     by (Opening.refused n) = tt
+
+-- ---- a key leaves at most 256 levels, on any file and any reading
+
+abbrev FewBy : View → Answer → Type 0
+FewBy r (key k v) = length (r .levels) ≤ maxLevels
+FewBy r end = Unit {0}
+FewBy r (Answer.refused c) = Unit {0}
+
+abbrev Few : Step → Type 0
+Few o = FewBy (o .reading) (o .answer)
+
+right-few : (r : View) (a : Answer) → RightBy r a → FewBy r a
+right-few r (key k v) h = h .1
+right-few r end h = tt
+right-few r (Answer.refused c) h = tt
+
+walk-few : (f : Fst) (r : View) (o : Option ℕ) → length (r .levels) ≤ maxLevels → Few (walk f r o)
+walk-few f r (some v) h = cond-way Few (passesTest (r .bound) []) (λ _. tt) (λ _. h)
+walk-few f r none h =
+    right-few (afterPop f r (pop f (r .levels)) .reading) (afterPop f r (pop f (r .levels)) .answer) (popped-right f r (pop f (r .levels)))
+
+state-few : (r : View) (n : ℕ) → stateTest r n ≡ true → length (r .levels) ≤ maxLevels
+state-few r n e = leb-true (length (r .levels)) maxLevels (by (leb (length (r .levels)) maxLevels) (leb (r .boundLen) maxPath && eqb (r .len) n) e)
+  where
+    by : (a b : Bool) → (a && b) ≡ true → a ≡ true
+    by true b e = refl
+    by false b e = e
+
+next-few : (s : List ℕ) (r : View) (space : ℕ) → Few (next s r space)
+unfolding next
+next-few s r space = by (opening s)
+  where
+    by : (o : Opening)
+        → Few (onOpened o (λ m. cond (stateTest r (length s)) (cond (leb maxPath space) (walk (fstOf s m) r (r .empty)) (refuse r SPACE)) (refuse r STATE)) (λ n. refuse r n))
+    by (opened m) =
+        cond-way Few (stateTest r (length s))
+        (λ right. cond-way Few (leb maxPath space) (λ _. walk-few (fstOf s m) r (r .empty) (state-few r (length s) right)) (λ _. tt)) (λ _. tt)
+    by (Opening.refused n) = tt
+
+pub plain-few : (s : List ℕ) (p : Plain) (space : ℕ) (k : List ℕ) (v : ℕ) → nextPlain s p space .answer ≡ key k v
+    → length (nextPlain s p space .reading .view .levels) ≤ maxLevels
+plain-few s p space k v e =
+    let w = plain-key p (next s (p .view) space .reading) (next s (p .view) space .answer) k v e in
+    let few : FewBy (next s (p .view) space .reading) (key k v) = subst (FewBy (next s (p .view) space .reading)) (w .0) (next-few s (p .view) space) in
+    subst (λ (r : View). length (r .levels) ≤ maxLevels) (sym (w .1)) few
 
 -- ---- a start leaves a tidy reading
 
@@ -197,8 +244,11 @@ pub next-by-room : (s : List ℕ) (r : View) (a b : ℕ) → leb maxPath a ≡ l
 unfolding next
 next-by-room s r a b h = rw h
 
+pub plain-by-room : (s : List ℕ) (p : Plain) (a b : ℕ) → leb maxPath a ≡ leb maxPath b → nextPlain s p a ≡ nextPlain s p b
+plain-by-room s p a b h = ap (countedStep p) (next-by-room s (p .view) a b h)
+
 pub plain-room : (s : List ℕ) (p : Plain) (space : ℕ) → maxPath ≤ space → nextPlain s p space ≡ nextPlain s p maxPath
-plain-room s p space h = ap (countedStep p) (next-by-room s (p .view) space maxPath (le-leb maxPath space h))
+plain-room s p space h = plain-by-room s p space maxPath (le-leb maxPath space h)
 
 pub record AheadOf {s : List ℕ} (A : Admitted s) (lo hi : Bound) (p : Plain) : Type 0 where
   pub entries : List Entry

@@ -19,7 +19,7 @@ use Rattle.format.specs.Strings.{Before, AllAfter, Rising}
 use Rattle.format.specs.laws.StringLaws.{before-irrefl}
 use Rattle.reading.specs.RunLaws.{lt-or}
 use Rattle.reading.specs.Demand.{Entry, entry}
-use Rattle.ops_spec.specs.Ops.{Indexed, indexed, sameTest, insert, sooner}
+use Rattle.ops_spec.specs.Ops.{Slot, used, holds, ended, Card, cardKey, Indexed, indexed, ifHolds, sameTest, insert, sooner, pairsFrom}
 use Rattle.ops_spec.specs.OpsDemand.{Sooner, SoonerThanAll, InOrder}
 use Rattle.ops_spec.specs.OpsLists.{Lanes, laneKeys, AllRising, valueIn, put, pairsIn}
 use Rattle.ops_spec.specs.OpsListsLaws.{decides-same-key, same-true, same-false}
@@ -181,3 +181,33 @@ pairs-right k L h =
           subst (λ (j : ℕ). HasIn L j k (x .value)) e (w .2);
       all = λ i v w. let z : 0 + i ≡ i = omega arith in subst (λ (y : ℕ). List·Memᴰ (indexed v y) (pairsIn 0 k L)) z (pairs-all 0 L i k v h w);
     }
+
+-- ---- how many there are
+
+insert-length : (x : Indexed) (ps : List Indexed) → length (insert x ps) ≡ suc (length ps)
+unfolding insert
+insert-length x [] = refl
+insert-length x (y ∷ ys) = by (sooner x y) (insert-length x ys)
+  where
+    by : (b : Bool) → length (insert x ys) ≡ suc (length ys) → length (cond b (x ∷ y ∷ ys) (y ∷ insert x ys)) ≡ suc (suc (length ys))
+    by true h = refl
+    by false h = ap suc h
+
+-- a value for each card at most
+pub pairs-most : (i : ℕ) (k : List ℕ) (cs : List Card) → length (pairsFrom i k cs) ≤ length cs
+unfolding pairsFrom
+pairs-most i k [] = omega arith
+pairs-most i k (c ∷ cs) = by (c .slot) (pairs-most (i + 1) k cs)
+  where
+    more : (b : Bool) (v : ℕ) → length (pairsFrom (i + 1) k cs) ≤ length cs
+        → length (cond b (insert (indexed v i) (pairsFrom (i + 1) k cs)) (pairsFrom (i + 1) k cs)) ≤ suc (length cs)
+    more true v h = omega (arith, insert-length (indexed v i) (pairsFrom (i + 1) k cs))
+    more false v h = omega arith
+
+    by : (x : Slot) → length (pairsFrom (i + 1) k cs) ≤ length cs
+        → length
+        (ifHolds x (λ v. cond (sameTest (cardKey c) k) (insert (indexed v i) (pairsFrom (i + 1) k cs)) (pairsFrom (i + 1) k cs)) (pairsFrom (i + 1) k cs))
+        ≤ suc (length cs)
+    by used h = omega arith
+    by (holds v) h = more (sameTest (cardKey c) k) v h
+    by ended h = omega arith
