@@ -184,7 +184,7 @@ pairs-right k L h =
 
 -- ---- how many there are
 
-insert-length : (x : Indexed) (ps : List Indexed) → length (insert x ps) ≡ suc (length ps)
+pub insert-length : (x : Indexed) (ps : List Indexed) → length (insert x ps) ≡ suc (length ps)
 unfolding insert
 insert-length x [] = refl
 insert-length x (y ∷ ys) = by (sooner x y) (insert-length x ys)
