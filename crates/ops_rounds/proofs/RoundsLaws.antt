@@ -10,6 +10,7 @@ use mathlib.Core.Bool.{Bool, true, false, cond}
 use mathlib.Core.List.{List}
 use Prim.Native.Nat.{ℕ, _+_, _<_}
 use native.Mathlib.Omega.{arith}
+use lib.ListN.{length}
 use Rattle.ops_spec.specs.Ops as O
 use Rattle.ops_spec.specs.Ops.{allLeft, stepAll, afterSteps}
 use Rattle.ops_spec.specs.OpsFuelLaws.{HasUsed, roundsBy, rounds-by}
@@ -25,12 +26,13 @@ use Rattle.ops_rounds.specs.Turns.{ItemIs, OnceMore, TurnedAs, TurnedBy,
 pub record Rounds (fs : List (List ℕ)) (o : O.Op) (n space : ℕ) (cs all : List Card) (before : Bool) : Type 0 where
   pub is : roundsBy o space false (cardsIs fs n cs) ≡ roundsBy o space before (cardsIs fs n all)
   pub used : before ≡ true → HasUsed (cardsIs fs n all)
+  pub given : length cs ≡ 8
 
 abbrev pub toDo : List (List ℕ) → ℕ → List Card → Bool → ℕ
 toDo fs n all before = allLeft (cardsIs fs n all) + cond before 0 1
 
-pub rounds-none : (fs : List (List ℕ)) (o : O.Op) (n space : ℕ) (cs : List Card) → Rounds fs o n space cs cs false
-rounds-none fs o n space cs = record { is = refl; used = λ e. let z : _≡_ {A = ℕ} 0 1 = cc in absurd (omega arith) }
+pub rounds-none : (fs : List (List ℕ)) (o : O.Op) (n space : ℕ) (cs : List Card) → length cs ≡ 8 → Rounds fs o n space cs cs false
+rounds-none fs o n space cs len = record { given = len; is = refl; used = λ e. let z : _≡_ {A = ℕ} 0 1 = cc in absurd (omega arith) }
 
 module _ (fs : List (List ℕ)) (o : O.Op) (n space : ℕ) (cs all : List Card) (before : Bool) (R : Rounds fs o n space cs all before) (r : Turned)
     (by : TurnedBy fs o n space before all r) where
@@ -41,7 +43,7 @@ module _ (fs : List (List ℕ)) (o : O.Op) (n space : ℕ) (cs all : List Card) 
   one-round = R .is ∙ rounds-by o space before (cardsIs fs n all)
 
   pub rounds-on : r .turn ≡ T.Again → Rounds fs o n space cs (r .cards) true
-  rounds-on e = let w = as-turn T.Again e in record { is = one-round ∙ w .is (roundsBy o space true); used = λ q. w .used }
+  rounds-on e = let w = as-turn T.Again e in record { is = one-round ∙ w .is (roundsBy o space true); used = λ q. w .used; given = R .given }
 
   pub rounds-less : r .turn ≡ T.Again → toDo fs n (r .cards) true < toDo fs n all before
   rounds-less e = by-before before refl
@@ -53,14 +55,14 @@ module _ (fs : List (List ℕ)) (o : O.Op) (n space : ℕ) (cs all : List Card) 
       by-before true z = omega (arith, w .less (R .used z))
       by-before false z = omega (arith, w .most)
 
-  pub rounds-item : r .turn ≡ T.Item → CalledBy fs n (roundsBy o space false (cardsIs fs n cs)) (record { came = C.Item; key = r .key; pairs = r .pairs; cards = r .cards })
+  pub rounds-item : r .turn ≡ T.Item → CalledBy fs n cs (roundsBy o space false (cardsIs fs n cs)) (record { came = C.Item; key = r .key; pairs = r .pairs; cards = r .cards })
   rounds-item e =
       let w = as-turn T.Item e (roundsBy o space true) in
-      record { is = record { pairs = w .pairs; are = w .are; few = w .few; is = one-round ∙ w .is } }
+      record { is = record { pairs = w .pairs; are = w .are; few = w .few; is = one-round ∙ w .is }; given = R .given }
 
-  pub rounds-end : r .turn ≡ T.End → CalledBy fs n (roundsBy o space false (cardsIs fs n cs)) (record { came = C.End; key = r .key; pairs = r .pairs; cards = r .cards })
-  rounds-end e = record { is = one-round ∙ as-turn T.End e (roundsBy o space true) }
+  pub rounds-end : r .turn ≡ T.End → CalledBy fs n cs (roundsBy o space false (cardsIs fs n cs)) (record { came = C.End; key = r .key; pairs = r .pairs; cards = r .cards })
+  rounds-end e = record { is = one-round ∙ as-turn T.End e (roundsBy o space true); given = R .given }
 
   pub rounds-refused : (c : ℕ) → r .turn ≡ T.Refused c
-      → CalledBy fs n (roundsBy o space false (cardsIs fs n cs)) (record { came = C.Refused c; key = r .key; pairs = r .pairs; cards = r .cards })
-  rounds-refused c e = record { is = one-round ∙ as-turn (T.Refused c) e (roundsBy o space true) }
+      → CalledBy fs n cs (roundsBy o space false (cardsIs fs n cs)) (record { came = C.Refused c; key = r .key; pairs = r .pairs; cards = r .cards })
+  rounds-refused c e = record { is = one-round ∙ as-turn (T.Refused c) e (roundsBy o space true); given = R .given }

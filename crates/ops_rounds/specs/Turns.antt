@@ -1,7 +1,7 @@
 -- The rounds of a call, against `afterSteps` and `rounds` (crate ops_spec).
 --     JudgedBy o n cs r                  r is what the stepped cards come to, whatever another round would answer
 --     TurnedBy fs o n space before cs r  one round
---     CalledBy fs n m r                  the rounds of a call whose definition answers m
+--     CalledBy fs n cs m r               the rounds of a call with the cards cs whose definition answers m
 -- Assumes nothing.
 use mathlib.Core.Path.{_≡_}
 use mathlib.Core.Bool.{Bool, true}
@@ -80,5 +80,7 @@ CalledAs fs n m r C.Item = ItemIs fs n m (r .key) (r .pairs) (r .cards)
 CalledAs fs n m r C.End = m ≡ O.ending (cardsIs fs n (r .cards))
 CalledAs fs n m r (C.Refused c) = m ≡ O.Merged.refused c
 
-pub record CalledBy (fs : List (List ℕ)) (n : ℕ) (m : O.Merged) (r : Called) : Type 0 where
+pub record CalledBy (fs : List (List ℕ)) (n : ℕ) (cs : List Card) (m : O.Merged) (r : Called) : Type 0 where
   pub is : CalledAs fs n m r (r .came)
+  -- the cards given are eight: a caller that holds them in a struct is not told
+  pub given : length cs ≡ 8

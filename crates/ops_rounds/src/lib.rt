@@ -133,7 +133,7 @@ fn one_round(
 // The rounds of a call.
 pub fn rounds(files: [&[u8]; 8], op: Op, count: usize, cards: [Card; 8], space: usize) -> Called
     requires { ⌜ (0 < count) × (count ≤ 8) ⌝ }
-    ensures { λ r. ⌜ CalledBy (map (λ f. now f) (files .entry)) count (roundsBy (opIs op) space false
+    ensures { λ r. ⌜ CalledBy (map (λ f. now f) (files .entry)) count cards (roundsBy (opIs op) space false
         (cardsIs (map (λ f. now f) (files .entry)) count cards)) r ⌝ }
 {
     let mut all = cards;

@@ -23,7 +23,7 @@ abbrev μ-loop : tie.MeasureT-loop
 loop-holds : tie.Need-loop-holds Inv-loop μ-loop
 loop-holds c =
     let a = c .args in
-    rounds-none (map (λ f. now f) (a .files)) (opIs (a .op)) (a .count) (a .space) (a .cards)
+    rounds-none (map (λ f. now f) (a .files)) (opIs (a .op)) (a .count) (a .space) (a .cards) (search needs)
 
 -- src/lib.rt:148:13
 one-round-requires : tie.Need-one-round-requires Inv-loop μ-loop
