@@ -1,0 +1,3 @@
+pub mod OpsCalls
+pub mod OpsLikeLaws
+pub mod OpsCallsLaws

@@ -1,0 +1,206 @@
+-- What a round comes to: a law for each case.
+--     takes-..                          whether a key belongs, by the operation
+--     key-this, key-another             at a key
+--     least-some, least-none            by the least key
+--     first-none, first-less, first-key     by the first card's key
+--     difference-held, difference-over  by the first card
+-- Assumes nothing.
+use mathlib.Core.Path.{_≡_, refl, sym, ap, ap₂, _∙_, subst}
+use mathlib.Core.Bool.{Bool, true, false, cond}
+use mathlib.Core.Option.{Option, none, some}
+use mathlib.Core.Logic.{_⊎_, inl, inr}
+use mathlib.Core.List.{List, [], _∷_, map}
+use Prim.Native.Nat.{ℕ, _+_, _%_, _<_, _≤_}
+use native.Mathlib.Omega.{arith}
+use lib.Dec.{eqb}
+use lib.ListN.{length, drop, getD}
+use Rattle.format.specs.Limits.{maxLevels}
+use Rattle.format.specs.Strings.{beforeTest}
+use Rattle.ops_spec.specs.Ops as O
+use Rattle.ops_spec.specs.Ops.{Indexed, cardKey, ifHolds, leastKey, sameTest, pairsFrom, useUp, onlyFirst, takesTest, atKey, atLeast, atFirst}
+use Rattle.ops_keys.specs.declared.Head.{Head}
+use Rattle.ops_keys.specs.declared.Order.{Order}
+use Rattle.ops_keys.specs.declared.Order.the-variants.{Less, Equal, Greater}
+use Rattle.ops_keys.specs.Heads.{headKey, HeadOf, less?, Compared}
+use Rattle.ops_pairs.specs.declared.Pairs.{Pairs}
+use Rattle.ops_pairs.specs.Pairs.{padded, PairsAre}
+use Rattle.ops_pairs.specs.PairsLaws.{the-files}
+use Rattle.ops_round.specs.declared.Slot.{Slot}
+use Rattle.ops_round.specs.declared.Slot.the-variants.{Used, Holds, Ended}
+use Rattle.ops_round.specs.declared.Card.{Card}
+use Rattle.ops_round.specs.Cards.{slotIs, cardIs, cardsIs, FewBy, Few}
+use Rattle.ops_round.specs.CardsLaws.{cards-length, cards-cons}
+use Rattle.ops_item.specs.declared.Least.{Least}
+use Rattle.ops_item.specs.Items.{ifFound, leastIs, LeastBy, AllUsed, CollectedBy}
+use Rattle.ops_decide.specs.declared.Op.{Op}
+use Rattle.ops_decide.specs.declared.Op.the-variants.{Union, Intersection, Difference, SymmetricDifference}
+use Rattle.ops_decide.specs.declared.Verdict.the-variants.{This, Another}
+use Rattle.ops_decide.specs.declared.Decided.{Decided}
+use Rattle.ops_decide.specs.Verdicts.{opIs, ThisBy, AnotherBy, DecidedBy}
+
+-- ---- whether a key belongs
+
+module _ (op : Op) (n : ℕ) (p : Pairs) (ps : List Indexed) (are : PairsAre ps p) where
+  by-op : (o : Op) → op ≡ o → takesTest (opIs o) n ps ≡ takesTest (opIs op) n ps
+  by-op o e = ap (λ (x : Op). takesTest (opIs x) n ps) (sym e)
+
+  pub takes-union : op ≡ Union → true ≡ takesTest (opIs op) n ps
+  takes-union e = by-op Union e
+
+  pub takes-intersection : op ≡ Intersection → eqb (p .count) n ≡ takesTest (opIs op) n ps
+  takes-intersection e = ap (λ (m : ℕ). eqb m n) (are .count) ∙ by-op Intersection e
+
+  pub takes-odd : op ≡ SymmetricDifference → eqb (p .count % 2) 1 ≡ takesTest (opIs op) n ps
+  takes-odd e = ap (λ (m : ℕ). eqb (m % 2) 1) (are .count) ∙ by-op SymmetricDifference e
+
+  pub takes-one : op ≡ Difference → p .count ≡ 1 → eqb (getD (p .files) 0 0) 0 ≡ takesTest (opIs op) n ps
+  takes-one e one =
+      ap (λ (fs : List ℕ). eqb (getD fs 0 0) 0) (the-files are) ∙ by ps (sym (are .count) ∙ one) ∙ by-op Difference e
+    where
+      by : (qs : List Indexed) → length qs ≡ 1 → eqb (getD (map (λ (x : Indexed). x .index) (padded qs)) 0 0) 0 ≡ onlyFirst qs
+      by [] z = absurd (omega arith)
+      by (x ∷ []) z = refl
+      by (x ∷ y ∷ qs) z = absurd (omega arith)
+
+  pub takes-many : op ≡ Difference → ¬ (p .count ≡ 1) → false ≡ takesTest (opIs op) n ps
+  takes-many e ne = by ps (λ z. ne (are .count ∙ z)) ∙ by-op Difference e
+    where
+      by : (qs : List Indexed) → ¬ (length qs ≡ 1) → false ≡ onlyFirst qs
+      by [] z = refl
+      by (x ∷ []) z = absurd (z refl)
+      by (x ∷ y ∷ qs) z = refl
+
+-- ---- at a key
+
+module _ (op : Op) (n : ℕ) (cs : List Card) (k : Head) (long : n ≤ length cs) (p : Pairs) (after : List Card) (taken : Bool)
+    (collected : CollectedBy n cs k p) (used : AllUsed n cs k false after) (takes : (ps : List Indexed) → PairsAre ps p → taken ≡ takesTest (opIs op) n ps)
+    (fs : List (List ℕ)) where
+  abbrev cards : List O.Card
+  cards = cardsIs fs n cs
+
+  key-test : takesTest (opIs op) (length cards) (pairsFrom 0 (headKey k) cards) ≡ taken
+  key-test =
+      ap (λ (m : ℕ). takesTest (opIs op) m (pairsFrom 0 (headKey k) cards)) (cards-length fs n cs long)
+      ∙ sym (takes (pairsFrom 0 (headKey k) cards) (collected .is fs))
+
+  by-taken : (r : Decided) (b : Bool) → taken ≡ b
+      → DecidedBy fs n
+      (cond b (O.this (headKey k) (pairsFrom 0 (headKey k) cards) (useUp (λ l. sameTest l (headKey k)) cards)) (O.another (useUp (λ l. sameTest l (headKey k)) cards))) r
+      → DecidedBy fs n (atKey (opIs op) (headKey k) cards) r
+  by-taken r b e h =
+      subst
+      (λ (t : Bool).
+      DecidedBy fs n
+      (cond t (O.this (headKey k) (pairsFrom 0 (headKey k) cards) (useUp (λ l. sameTest l (headKey k)) cards)) (O.another (useUp (λ l. sameTest l (headKey k)) cards))) r)
+      (sym (key-test ∙ e)) h
+
+  pub key-this : taken ≡ true → k .levels ≤ maxLevels
+      → DecidedBy fs n (atKey (opIs op) (headKey k) (cardsIs fs n cs)) (record { verdict = This; key = k; pairs = p; cards = after })
+  key-this e few =
+      by-taken (record { verdict = This; key = k; pairs = p; cards = after }) true e
+      (record { verdict = refl; key = refl; few = few; pairs = collected .is fs; cards = sym (used .is fs); eight = used .eight })
+
+  pub key-another : taken ≡ false
+      → DecidedBy fs n (atKey (opIs op) (headKey k) (cardsIs fs n cs)) (record { verdict = Another; key = k; pairs = p; cards = after })
+  key-another e =
+      by-taken (record { verdict = Another; key = k; pairs = p; cards = after }) false e
+      (record { verdict = refl; cards = sym (used .is fs); eight = used .eight })
+
+-- ---- by the least key
+
+module _ (n : ℕ) (cs : List Card) (l : Least) (least : LeastBy n cs l) (fs : List (List ℕ)) where
+  found-is : (b : Bool) → l .found ≡ b → leastKey (cardsIs fs n cs) ≡ ifFound b (headKey (l .key))
+  found-is b e = least .is fs ∙ ap (λ (x : Bool). ifFound x (headKey (l .key))) e
+
+  pub least-some : (op : Op) (r : Decided) → l .found ≡ true → DecidedBy fs n (atKey (opIs op) (headKey (l .key)) (cardsIs fs n cs)) r
+      → DecidedBy fs n (atLeast (opIs op) (leastKey (cardsIs fs n cs)) (cardsIs fs n cs)) r
+  least-some op r e h =
+      subst (λ (o : Option (List ℕ)). DecidedBy fs n (atLeast (opIs op) o (cardsIs fs n cs)) r) (sym (found-is true e)) h
+
+  pub least-none : (op : Op) (r : Decided) → l .found ≡ false → DecidedBy fs n O.no-more r
+      → DecidedBy fs n (atLeast (opIs op) (leastKey (cardsIs fs n cs)) (cardsIs fs n cs)) r
+  least-none op r e h =
+      subst (λ (o : Option (List ℕ)). DecidedBy fs n (atLeast (opIs op) o (cardsIs fs n cs)) r) (sym (found-is false e)) h
+
+  module _ (k : Head) (r : Decided) where
+    pub first-none : l .found ≡ false → DecidedBy fs n O.no-more r → DecidedBy fs n (atFirst (headKey k) (leastKey (cardsIs fs n cs)) (cardsIs fs n cs)) r
+    first-none e h =
+        subst (λ (o : Option (List ℕ)). DecidedBy fs n (atFirst (headKey k) o (cardsIs fs n cs)) r) (sym (found-is false e)) h
+
+    module _ (found : l .found ≡ true) (o : Order) (by : Compared (headKey (l .key)) (headKey k) o) where
+      by-less : (b : Bool) → less? o ≡ b
+          → DecidedBy fs n (cond b (O.another (useUp (λ x. beforeTest x (headKey k)) (cardsIs fs n cs))) (atKey O.difference (headKey k) (cardsIs fs n cs))) r
+          → DecidedBy fs n (atFirst (headKey k) (leastKey (cardsIs fs n cs)) (cardsIs fs n cs)) r
+      by-less b e h =
+          subst (λ (x : Option (List ℕ)). DecidedBy fs n (atFirst (headKey k) x (cardsIs fs n cs)) r) (sym (found-is true found))
+          (subst
+          (λ (t : Bool).
+          DecidedBy fs n (cond t (O.another (useUp (λ x. beforeTest x (headKey k)) (cardsIs fs n cs))) (atKey O.difference (headKey k) (cardsIs fs n cs))) r)
+          (sym (by .less ∙ e)) h)
+
+      pub first-key : less? o ≡ false → DecidedBy fs n (atKey O.difference (headKey k) (cardsIs fs n cs)) r
+          → DecidedBy fs n (atFirst (headKey k) (leastKey (cardsIs fs n cs)) (cardsIs fs n cs)) r
+      first-key e h = by-less false e h
+
+      pub first-less : less? o ≡ true → r .verdict ≡ Another → AllUsed n cs k true (r .cards)
+          → DecidedBy fs n (atFirst (headKey k) (leastKey (cardsIs fs n cs)) (cardsIs fs n cs)) r
+      first-less e v used = by-less true e (record { verdict = v; cards = sym (used .is fs); eight = used .eight })
+
+-- ---- by the first card
+
+first-is : (X : List O.Card) (c : O.Card) (rest : List O.Card) → X ≡ c ∷ rest
+    → O.decide O.difference X ≡ ifHolds (c .slot) (λ v. atFirst (cardKey c) (leastKey X) X) O.no-more
+first-is X c rest e =
+    subst (λ (Y : List O.Card). O.decide O.difference Y ≡ ifHolds (c .slot) (λ v. atFirst (cardKey c) (leastKey Y) Y) O.no-more) (sym e) refl
+
+module _ (n : ℕ) (cs : List Card) (d : Card) (some-card : 0 < n) (long : n ≤ length cs) (fs : List (List ℕ)) (r : Decided) where
+  abbrev first : O.Card
+  first = cardIs (getD fs 0 []) (getD cs 0 d)
+
+  difference-is : O.decide O.difference (cardsIs fs n cs)
+      ≡ ifHolds (slotIs (getD cs 0 d .slot) (getD cs 0 d .value)) (λ v. atFirst (cardKey first) (leastKey (cardsIs fs n cs)) (cardsIs fs n cs)) O.no-more
+  difference-is = first-is (cardsIs fs n cs) first (drop (0 + 1) (cardsIs fs n cs)) (cards-cons fs n cs long 0 some-card d)
+
+  by-slot : (x : Slot) → getD cs 0 d .slot ≡ x
+      → DecidedBy fs n (ifHolds (slotIs x (getD cs 0 d .value)) (λ v. atFirst (cardKey first) (leastKey (cardsIs fs n cs)) (cardsIs fs n cs)) O.no-more) r
+      → DecidedBy fs n (O.decide O.difference (cardsIs fs n cs)) r
+  by-slot x e h =
+      subst (λ (v : O.Verdict). DecidedBy fs n v r) (sym difference-is)
+      (subst
+      (λ (y : Slot).
+      DecidedBy fs n (ifHolds (slotIs y (getD cs 0 d .value)) (λ v. atFirst (cardKey first) (leastKey (cardsIs fs n cs)) (cardsIs fs n cs)) O.no-more) r)
+      (sym e) h)
+
+  pub difference-over : (getD cs 0 d .slot ≡ Used) ⊎ (getD cs 0 d .slot ≡ Ended) → DecidedBy fs n O.no-more r → DecidedBy fs n (O.decide O.difference (cardsIs fs n cs)) r
+  difference-over (inl e) h = by-slot Used e h
+  difference-over (inr e) h = by-slot Ended e h
+
+  pub difference-held : getD cs 0 d .slot ≡ Holds → Few (getD cs 0 d) → (k : Head) → HeadOf (getD cs 0 d .reading) k
+      → DecidedBy fs n (atFirst (headKey k) (leastKey (cardsIs fs n cs)) (cardsIs fs n cs)) r → DecidedBy fs n (O.decide O.difference (cardsIs fs n cs)) r
+  difference-held e few k is h =
+      by-slot Holds e
+      (subst (λ (x : List ℕ). DecidedBy fs n (atFirst x (leastKey (cardsIs fs n cs)) (cardsIs fs n cs)) r)
+      (is .key (subst (λ (x : Slot). FewBy x (getD cs 0 d .reading .reading .levels)) e few)) h)
+
+pub few-first : (cs : List Card) (d : Card) (k : Head) → getD cs 0 d .slot ≡ Holds → Few (getD cs 0 d) → HeadOf (getD cs 0 d .reading) k → k .levels ≤ maxLevels
+few-first cs d k e few is =
+    subst (λ (m : ℕ). m ≤ maxLevels) (sym (is .levels)) (subst (λ (x : Slot). FewBy x (getD cs 0 d .reading .reading .levels)) e few)
+
+-- ---- by the operation
+
+pub least-op : (op o : Op) (fs : List (List ℕ)) (n : ℕ) (X : List O.Card) (r : Decided) → op ≡ o → (o ≡ Union) ⊎ ((o ≡ Intersection) ⊎ (o ≡ SymmetricDifference))
+    → DecidedBy fs n (atLeast (opIs op) (leastKey X) X) r → DecidedBy fs n (O.decide (opIs op) X) r
+least-op op o fs n X r e which = by which
+  where
+    back : (x : Op) → o ≡ x → (DecidedBy fs n (atLeast (opIs x) (leastKey X) X) r → DecidedBy fs n (O.decide (opIs x) X) r)
+        → DecidedBy fs n (atLeast (opIs op) (leastKey X) X) r → DecidedBy fs n (O.decide (opIs op) X) r
+    back x z h = subst (λ (y : Op). DecidedBy fs n (atLeast (opIs y) (leastKey X) X) r → DecidedBy fs n (O.decide (opIs y) X) r) (sym (e ∙ z)) h
+
+    by : (o ≡ Union) ⊎ ((o ≡ Intersection) ⊎ (o ≡ SymmetricDifference)) → DecidedBy fs n (atLeast (opIs op) (leastKey X) X) r → DecidedBy fs n (O.decide (opIs op) X) r
+    by (inl z) = back Union z (λ h. h)
+    by (inr (inl z)) = back Intersection z (λ h. h)
+    by (inr (inr z)) = back SymmetricDifference z (λ h. h)
+
+pub difference-op : (op : Op) (fs : List (List ℕ)) (n : ℕ) (X : List O.Card) (r : Decided) → op ≡ Difference → DecidedBy fs n (O.decide O.difference X) r
+    → DecidedBy fs n (O.decide (opIs op) X) r
+difference-op op fs n X r e h = subst (λ (o : Op). DecidedBy fs n (O.decide (opIs o) X) r) (sym e) h

@@ -1,0 +1,2 @@
+mod CardCases
+mod CardLoops

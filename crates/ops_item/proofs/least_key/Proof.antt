@@ -1,0 +1,82 @@
+-- `ops_item::least_key` meets its contract. The invariant: the least key of the cards from i on is found. The measure is i.
+-- Assumes nothing.
+use mathlib.Core.Path.{_≡_}
+use Prim.Native.Nat.{_≤_}
+use lib.ListN.{length, replicate}
+use Rattle.ops_item.proofs.CardLoops.{Leasting, leasting-none, leasting-on, leasting-all}
+use borrow.Author.Needs.{needs}
+use native.Mathlib.Omega.{arith}
+use Rattle.ops_item.proofs.least_key.Statement.{statement}
+use Rattle.ops_item.proofs.least_key.Tie as tie
+use Rattle.ops_item.proofs.least_key.Reads as reads
+use Rattle.ops_item.proofs.least_key.Lts as lts
+use Rattle.ops_item.proofs.lesser.Reads as lesser-reads
+
+abbrev Inv-loop : tie.InvT-loop
+Inv-loop count cards least₀ i₀ least i = Leasting count cards least i
+
+abbrev μ-loop : tie.MeasureT-loop
+μ-loop count cards least₀ i₀ least i = i
+
+-- src/lib.rt:74:5
+loop-holds : tie.Need-loop-holds Inv-loop μ-loop
+loop-holds c =
+    let a = c .args in
+    let long : length (a .t2) ≡ 8 = search needs in
+    let pre = c .pre in
+    leasting-none (a .count) (a .t2) (omega arith) (record { levels = 0; inps = replicate 256 0 }) (omega arith)
+
+-- src/lib.rt:75:9
+sub-i : tie.Need-sub-i Inv-loop μ-loop
+sub-i c = search needs
+
+-- src/lib.rt:76:20
+mul-card : tie.Need-mul-card Inv-loop μ-loop
+mul-card c = search needs
+
+-- src/lib.rt:76:20
+array-copy-out-card : tie.Need-array-copy-out-card Inv-loop μ-loop
+array-copy-out-card c = search needs
+
+-- src/lib.rt:77:9
+lesser-requires : tie.Need-lesser-requires Inv-loop μ-loop
+lesser-requires c κs =
+    let l = c .before .before .loop in
+    let pre = c .before .before .before .pre in
+    let within = l .inv .within in
+    (l .inv .few, pre .1 _ _ (omega arith))
+
+-- src/lib.rt:74:5
+loop-less : tie.Need-loop-less Inv-loop μ-loop
+loop-less c = search needs
+
+-- src/lib.rt:74:5
+loop-again : tie.Need-loop-again Inv-loop μ-loop
+loop-again c =
+    let l = c .before .before .before .loop in
+    let a = c .before .before .before .before .args in
+    let pre = c .before .before .before .before .pre in
+    let long : length (a .t2) ≡ 8 = search needs in
+    leasting-on (a .count) (a .t2) (l .least) (l .i) _ (c .lesser .result) (omega arith) (c .before .before .loop-test .taken) (l .inv) (c .lesser .ensures)
+
+-- src/lib.rt:62:1
+returns : tie.Need-returns Inv-loop μ-loop
+returns c =
+    let l = c .before .loop in
+    let a = c .before .before .args in
+    leasting-all (a .count) (a .t2) (l .least) (l .i) (omega (arith, c .loop-test .left)) (l .inv)
+
+pub least-key-spec : {M : Type 1} → statement M
+least-key-spec =
+    tie.close
+    (tie.spec
+    Inv-loop
+    μ-loop
+    loop-holds
+    sub-i
+    mul-card
+    array-copy-out-card
+    lesser-requires
+    loop-less
+    loop-again
+    returns)

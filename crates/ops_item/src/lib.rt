@@ -1,0 +1,168 @@
+// What a round looks up in the cards: the least key held, the values of a key, and the cards with some keys used up. Each goes over the cards one by one.
+ghost use mathlib.Core.Path.{_≡_};
+ghost use mathlib.Core.List.{List};
+ghost use Prim.Native.Nat.{ℕ, _≤_, _<_};
+ghost use lib.ListN.{length};
+ghost use Rattle.format.specs.Limits.{maxLevels};
+ghost use Rattle.ops_keys.specs.Heads.{headKey};
+ghost use Rattle.ops_round.specs.Cards.{Few, AllFew};
+ghost use Rattle.ops_item.specs.Items.{orderTest, LesserBy, LeastBy, UsedBy, AllUsed, GatheredBy, CollectedBy};
+use format::LEVELS;
+use ops_keys::Head;
+use ops_keys::Order;
+use ops_keys::compare;
+use ops_keys::head_of;
+use ops_pairs::Pairs;
+use ops_round::Card;
+use ops_round::Slot;
+
+// A key, if one was found, passed by value.
+pub struct Least {
+    pub found: bool,
+    pub key: Head,
+}
+
+// The lesser of a key and the one that a card holds.
+fn lesser(least: Least, card: Card) -> Least
+    requires { ⌜ (least .key .levels ≤ maxLevels) × Few card ⌝ }
+    ensures { λ r. ⌜ LesserBy least card r ⌝ }
+{
+    let slot = card.slot;
+    let found = least.found;
+    let key = least.key;
+    let reading = card.reading;
+    match slot {
+        Slot::Used => least,
+        Slot::Ended => least,
+        Slot::Holds => {
+            let head = head_of(reading);
+            if !found {
+                return Least {
+                    found: true,
+                    key: head,
+                };
+            }
+            let order = compare(key, head);
+            match order {
+                Order::Less => least,
+                Order::Equal => Least {
+                    found: true,
+                    key: head,
+                },
+                Order::Greater => Least {
+                    found: true,
+                    key: head,
+                },
+            }
+        }
+    }
+}
+
+// The least key that the first count cards hold.
+pub fn least_key(count: usize, cards: [Card; 8]) -> Least
+    requires { ⌜ (count ≤ 8) × AllFew count cards ⌝ }
+    ensures { λ r. ⌜ LeastBy count cards r ⌝ }
+{
+    let mut least = Least {
+        found: false,
+        key: Head {
+            levels: 0,
+            inps: [0; LEVELS],
+        },
+    };
+    let mut i = count;
+    while 0 < i {
+        i -= 1;
+        let card = cards[i];
+        least = lesser(least, card);
+    }
+    least
+}
+
+// Whether a key that stands so to another is meant: one that is less, or else the same.
+fn is_meant(order: Order, less: bool) -> bool
+    ensures { λ r. ⌜ r ≡ orderTest less order ⌝ }
+{
+    match order {
+        Order::Less => less,
+        Order::Equal => !less,
+        Order::Greater => false,
+    }
+}
+
+// A card that holds a key less than this one, or the same, is used up.
+fn used_up(card: Card, key: Head, less: bool) -> Card
+    requires { ⌜ (key .levels ≤ maxLevels) × Few card ⌝ }
+    ensures { λ r. ⌜ UsedBy card key less r ⌝ }
+{
+    let slot = card.slot;
+    let reading = card.reading;
+    match slot {
+        Slot::Used => card,
+        Slot::Ended => card,
+        Slot::Holds => {
+            let head = head_of(reading);
+            let order = compare(head, key);
+            if is_meant(order, less) {
+                return Card {
+                    reading,
+                    slot: Slot::Used,
+                    value: 0,
+                };
+            }
+            card
+        }
+    }
+}
+
+// The cards, where those of the first count that hold a key less than this one, or the same, are used up.
+pub fn use_up(count: usize, cards: [Card; 8], key: Head, less: bool) -> [Card; 8]
+    requires { ⌜ (count ≤ 8) × AllFew count cards × (key .levels ≤ maxLevels) ⌝ }
+    ensures { λ r. ⌜ AllUsed count cards key less r ⌝ }
+{
+    let mut all = cards;
+    let mut i = 0;
+    while i < count {
+        let card = all[i];
+        let after = used_up(card, key, less);
+        all[i] = after;
+        i += 1;
+    }
+    all
+}
+
+// The values gathered of a key, with that of a card that holds it.
+fn gather(pairs: Pairs, card: Card, key: Head, file: u8) -> Pairs
+    requires { ⌜ (key .levels ≤ maxLevels) × Few card × (pairs .count < 8) ⌝ }
+    ensures { λ r. ⌜ GatheredBy pairs card key file r ⌝ }
+{
+    let slot = card.slot;
+    let reading = card.reading;
+    match slot {
+        Slot::Used => pairs,
+        Slot::Ended => pairs,
+        Slot::Holds => {
+            let head = head_of(reading);
+            let order = compare(head, key);
+            if is_meant(order, false) {
+                return ops_pairs::insert(pairs, card.value, file);
+            }
+            pairs
+        }
+    }
+}
+
+// The values that the first count cards have of a key, with the numbers of their files.
+pub fn collect(count: usize, cards: [Card; 8], key: Head) -> Pairs
+    requires { ⌜ (count ≤ 8) × AllFew count cards × (key .levels ≤ maxLevels) ⌝ }
+    ensures { λ r. ⌜ CollectedBy count cards key r ⌝ }
+{
+    let mut pairs = ops_pairs::none();
+    let mut i = count;
+    while 0 < i {
+        i -= 1;
+        let card = cards[i];
+        pairs = gather(pairs, card, key, i as u8);
+    }
+    pairs
+}

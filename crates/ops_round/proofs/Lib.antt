@@ -1,0 +1,2 @@
+mod StepCases
+mod RoundLaws

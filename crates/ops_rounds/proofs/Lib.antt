@@ -1,0 +1,2 @@
+mod TurnCases
+mod RoundsLaws

@@ -1,0 +1,12 @@
+pub mod Ops
+pub mod OpsDemand
+pub mod OpsLists
+pub mod OpsListsLaws
+pub mod OpsRoundLaws
+pub mod OpsRunLaws
+pub mod OpsPairsLaws
+pub mod OpsFuelLaws
+pub mod OpsAheadLaws
+pub mod OpsCardsLaws
+pub mod OpsWholeLaws
+pub mod OpsShortLaws
