@@ -1,0 +1,6 @@
+pub mod LevelsPath
+pub mod LevelsPathLaws
+pub mod Alike
+pub mod CarryLevelsLaws
+pub mod CarrySelfLaws
+pub mod AlikeLaws
