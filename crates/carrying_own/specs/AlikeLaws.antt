@@ -91,7 +91,7 @@ module _ {f g : Fst} {ren : ℕ → ℕ} {On : ℕ → Type 0} (mirror : Mirror 
 
   -- ---- start
 
-  abbrev soughtThere : Sought → Sought
+  abbrev pub soughtThere : Sought → Sought
   soughtThere (got s) = got (levelsThere ren s)
   soughtThere (Sought.halted n) = Sought.halted n
 
@@ -104,7 +104,7 @@ module _ {f g : Fst} {ren : ℕ → ℕ} {On : ℕ → Type 0} (mirror : Mirror 
   cond-there true x y x′ y′ h k = h
   cond-there false x y x′ y′ h k = k
 
-  seek-there : (inclusive : Bool) (lo : List ℕ) (a i sum : ℕ) (s : List Level) → On a
+  pub seek-there : (inclusive : Bool) (lo : List ℕ) (a i sum : ℕ) (s : List Level) → On a
       → seek g inclusive (ren a) i sum (levelsThere ren s) lo ≡ soughtThere (seek f inclusive a i sum s lo)
   unfolding seek
   seek-there inclusive [] a i sum s on =
@@ -136,7 +136,7 @@ module _ {f g : Fst} {ren : ℕ → ℕ} {On : ℕ → Type 0} (mirror : Mirror 
           (mirror .closed a m (transitionAt (m .transitions) p) on e (at-member (m .transitions) p (q .0))))
       by m e again (Search.absent p) is = refl
 
-  pending-there : (lo : Bound) → pendingAt lo (nodeIn g (g .root)) ≡ pendingAt lo (nodeIn f (f .root))
+  pub pending-there : (lo : Bound) → pendingAt lo (nodeIn g (g .root)) ≡ pendingAt lo (nodeIn f (f .root))
   pending-there lo =
       let im = mirror .image (f .root) (mirror .root-on) in
       let stands : nodeIn g (g .root) ≡ sound (mirrored ren (im .first) (im .node)) = ap (nodeIn g) (sym (mirror .root-is)) ∙ im .stands in

@@ -4,3 +4,5 @@ pub mod Alike
 pub mod CarryLevelsLaws
 pub mod CarrySelfLaws
 pub mod AlikeLaws
+pub mod CarryOwn
+pub mod CarryOwnLaws
