@@ -8,7 +8,7 @@
 --     and the total after each call are those of the reading that          `total-same`
 --     stayed on the old file;
 --     the limit on a call holds;                                           `limit`
---     the number of keys to come (N11) stays true.                         `keys-to-come`
+--     the number of keys to come (N11) stays true.                         `KeepsCount`, and `keys-same` after each call
 -- Assumes nothing.
 use mathlib.Core.Path.{_≡_, refl}
 use mathlib.Core.Logic.{inl}
@@ -21,7 +21,7 @@ use Rattle.format.specs.Admitted.{Admitted}
 use Rattle.format.specs.Strings.{Bound, NumberOf}
 use Rattle.reading.specs.Reading.{View, started, start}
 use Rattle.reading.specs.Demand.{Call, Allowed, call, readingAfter, answers, unrefused, followed, handedIn}
-use Rattle.plain.specs.Plain.{Plain, begun, startPlain, plainAfter, answersPlain}
+use Rattle.plain.specs.Plain.{Plain, begun, startPlain, callPlain, plainAfter, answersPlain}
 use Rattle.plain.specs.PlainDemand.{keysOut, StillToCome}
 use Rattle.pattern.specs.Pattern.{Pattern, startBy}
 use Rattle.pattern.specs.PatternDemand.{callBy, readingAfterBy, answersBy}
@@ -69,14 +69,31 @@ pub record CarryOwn {s : List ℕ} (A : Admitted s) (lo hi : Bound) (cs : List (
   pub carries : carry s (converted A) (readingAfter reading cs) ≡ carried (readingAfter new-reading cs′)
   pub goes-on : (ds : List (Call s)) (ds′ : List (Call (converted A))) → SameCalls ds ds′ → GoesOn A (readingAfter reading cs) (readingAfter new-reading cs′) ds ds′
 
+-- the same of plain readings, and their numbers of keys to come
+pub record GoesOnPlain {s : List ℕ} (A : Admitted s) (q q′ : Plain) (ds : List (Call s)) (ds′ : List (Call (converted A))) : Type 0 where
+  pub answers-same : unrefused (answersPlain q′ ds′) ≡ unrefused (answersPlain q ds)
+  pub each-call : (c : Call s) (c′ : Call (converted A)) → Allowed c → Allowed c′ → callPlain (plainAfter q′ ds′) c′ .answer ≡ callPlain (plainAfter q ds) c .answer
+  pub total-same : plainAfter q′ ds′ .view .total ≡ plainAfter q ds .view .total
+  pub keys-same : plainAfter q′ ds′ .keys ≡ plainAfter q ds .keys
+  pub limit : (c′ : Call (converted A)) (n : ℕ) → ((k : List ℕ) (v : ℕ) → Held (oldFst A) k v → length k ≤ n) → followed (plainAfter q′ ds′ .view) c′ ≤ n
+
+-- counts is a table of keys for the old file, counts′ one for the new
 pub record CarryOwnPlain {s : List ℕ} (A : Admitted s) (lo hi : Bound) (counts counts′ : List ℕ) (cs : List (Call s)) (cs′ : List (Call (converted A))) : Type 0 where
   pub reading : Plain
   pub starts : startPlain s lo hi counts ≡ begun reading
   pub new-reading : Plain
   pub new-starts : startPlain (converted A) lo hi counts′ ≡ begun new-reading
   pub carries : carryPlain s (converted A) (plainAfter reading cs) ≡ CarriedPlain.carried (plainAfter new-reading cs′)
-  -- the carried number is that of the held keys of the new file that the calls on the old one have not handed out
-  pub keys-to-come : NumberOf (StillToCome (newFst A) lo hi (keysOut (handedIn (answersPlain reading cs)))) (plainAfter new-reading cs′ .keys)
+  pub goes-on : (ds : List (Call s)) (ds′ : List (Call (converted A))) → SameCalls ds ds′ → GoesOnPlain A (plainAfter reading cs) (plainAfter new-reading cs′) ds ds′
+
+-- the number of a carried reading is that of the new file's held keys between the bounds that the calls on the old one have not handed out; no table
+-- of the new file is asked for
+pub record KeepsCount {s : List ℕ} (A : Admitted s) (lo hi : Bound) (counts : List ℕ) (cs : List (Call s)) : Type 0 where
+  pub reading : Plain
+  pub starts : startPlain s lo hi counts ≡ begun reading
+  pub to : Plain
+  pub carries : carryPlain s (converted A) (plainAfter reading cs) ≡ CarriedPlain.carried to
+  pub number : NumberOf (StillToCome (newFst A) lo hi (keysOut (handedIn (answersPlain reading cs)))) (to .keys)
 
 -- as `GoesOn`; a call by pattern may follow any number of transitions
 pub record GoesOnBy {s : List ℕ} (A : Admitted s) (p : Pattern) (r r′ : View) (ds : List (Call s)) (ds′ : List (Call (converted A))) : Type 0 where

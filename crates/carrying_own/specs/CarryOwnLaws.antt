@@ -1,5 +1,5 @@
 -- A reading carried to its file's conversion is the one that the same calls on the new file would have left (document 02, N8).
---     own-calls-same            the same buffers make the same calls
+--     own-calls-same, twin-calls       the same buffers make the same calls; each list of calls has its like on another file
 --     Alike, alike-start, alike-calls, alike-answers, alike-carry      two files of which the one mirrors the other
 --     written-convertible       what `conversion` does not refuse
 --     carry-own                 the claim
@@ -26,11 +26,11 @@ use Rattle.reading.specs.RunLaws.{lt-or}
 use Rattle.converting.specs.Mirror.{Mirror}
 use Rattle.converting.specs.Converting.{vanishes, movedTo, converted, tableOf, Conversion, written, placing, conversion}
 use Rattle.converting.specs.Converted.{oldFst, newFst, OnChain, SameContents}
-use Rattle.converting.specs.laws.ConvertedLaws.{old-has-bytes, length-converted, mirrors-vanished, mirrors-kept}
+use Rattle.converting.specs.laws.ConvertedLaws.{old-has-bytes, length-converted, mirrors-vanished, mirrors-kept, held-both}
 use Rattle.converting.specs.laws.AdmittedLaws.{converted-admitted, converted-holds}
 use Rattle.carrying.specs.Carry.{Carried, carried, carryWith, carry}
 use Rattle.carrying_own.specs.LevelsPath.{Own}
-use Rattle.carrying_own.specs.LevelsPathLaws.{start-own, call-own, call-walks, call-refused}
+use Rattle.carrying_own.specs.LevelsPathLaws.{allowed-or, start-own, call-own, call-walks, call-refused}
 use Rattle.carrying_own.specs.Alike.{viewThere}
 use Rattle.carrying_own.specs.AlikeLaws.{images-there, soughtThere, seek-there, pending-there, stepThere, walk-there}
 use Rattle.carrying_own.specs.CarryLevelsLaws.{carry-there}
@@ -45,6 +45,15 @@ own-calls-same s s′ (n ∷ ns) =
     (⊎-elim (λ (lt : n < maxPath). neither-allowed (λ (h : Allowed (ownCall s n)). omega (arith, h .room)) (λ (h : Allowed (ownCall s′ n)). omega (arith, h .room)))
     (λ (ge : maxPath ≤ n). both-allowed (record { same = refl; room = ge }) (record { same = refl; room = ge })) (lt-or n maxPath))
     (own-calls-same s s′ ns)
+
+-- each list of calls has its like on another file
+pub twin-calls : {s : List ℕ} (s′ : List ℕ) (cs : List (Call s)) → (cs′ : List (Call s′)) × SameCalls cs cs′
+twin-calls s′ [] = ([], no-calls)
+twin-calls s′ (c ∷ cs) =
+    let more = twin-calls s′ cs in
+    ⊎-elim (λ (h : Allowed c). (ownCall s′ maxPath ∷ more .0, and-then (both-allowed h (record { same = refl; room = omega arith })) (more .1)))
+    (λ (out : ¬ Allowed c). (ownCall s′ 0 ∷ more .0, and-then (neither-allowed out (λ (h : Allowed (ownCall s′ 0)). omega (arith, h .room))) (more .1)))
+    (allowed-or c)
 
 -- ---- two files of which the one mirrors the other
 
@@ -179,6 +188,13 @@ module _ {s : List ℕ} (A : Admitted s) (can : Convertible A) where
   pub same-contents : SameContents A new-admitted
   same-contents = converted-holds A has-bytes (can .bytes) (can .small) new-admitted
 
+  -- the same keys with the same values
+  pub held-new : (k : List ℕ) (v : ℕ) → Held (oldFst A) k v → Held (newFst A) k v
+  held-new k v h = held-both A has-bytes (can .bytes) (can .small) k v .0 h
+
+  pub held-old : (k : List ℕ) (v : ℕ) → Held (newFst A) k v → Held (oldFst A) k v
+  held-old k v h = held-both A has-bytes (can .bytes) (can .small) k v .1 h
+
   -- what is shown of every two files of which the one mirrors the other holds of a file and its conversion
   pub by-mirror : (P : Type 0)
       → ((On : ℕ → Type 0) → Mirror (fstOf s (A .meta)) (fstOf (converted A) (new-admitted .meta)) (movedTo A) On → P) → P
@@ -219,31 +235,43 @@ module _ {s : List ℕ} (A : Admitted s) (can : Convertible A) where
         subst (λ (r : View). followed r c ≤ n) (ap (λ (r : View). readingAfter r (cs ++ ds)) same ∙ after-append new-start cs ds)
         (D .limit (cs ++ ds) [] c refl n (λ k v h. long k v (same-contents .back k v h)))
 
-    own-by : (cs : List (Call s)) (cs′ : List (Call (converted A))) → SameCalls cs cs′ → (On : ℕ → Type 0)
-        → Mirror (fstOf s (A .meta)) (fstOf (converted A) (new-admitted .meta)) (movedTo A) On → CarryOwn A lo hi cs cs′
-    own-by cs cs′ same On mirror =
-        let a = alike-calls pair-own mirror same old-start new-start
-        (alike-start pair-own mirror lo hi old-start new-start
-        old-started new-started) in
-        let r : View = readingAfter old-start cs in
-        let r′ : View = readingAfter new-start cs′ in
-        record {
-          reading = old-start;
-          starts = old-started;
-          new-reading = new-start;
-          new-starts = new-started;
-          carries = alike-carry pair-own mirror true refl r r′ a;
-          goes-on = λ ds ds′ more.
-              let b = alike-calls pair-own mirror more r r′ a in
-              record {
-                answers-same = alike-answers pair-own mirror more r r′ a;
-                each-call = λ c c′ h h′.
-                    alike-answer pair-own mirror (readingAfter r ds) (readingAfter r′ ds′) b c c′ h h′;
-                total-same = ap (λ (v : View). v .total) (b .is);
-                limit = λ c′ n long. limit-on cs′ ds′ c′ n long;
-              };
-        }
+    module _ (cs : List (Call s)) (cs′ : List (Call (converted A))) (same : SameCalls cs cs′) where
+      abbrev stayed : View
+      stayed = readingAfter old-start cs
 
-    -- the claim: the carried reading is the one that the same calls on the new file would have left
-    pub carry-own : (cs : List (Call s)) (cs′ : List (Call (converted A))) → SameCalls cs cs′ → CarryOwn A lo hi cs cs′
-    carry-own cs cs′ same = by-mirror (CarryOwn A lo hi cs cs′) (own-by cs cs′ same)
+      abbrev moved-on : View
+      moved-on = readingAfter new-start cs′
+
+      module _ (On : ℕ → Type 0) (mirror : Mirror (fstOf s (A .meta)) (fstOf (converted A) (new-admitted .meta)) (movedTo A) On) where
+        alike-own : Alike pair-own mirror stayed moved-on
+        alike-own = alike-calls pair-own mirror same old-start new-start (alike-start pair-own mirror lo hi old-start new-start old-started new-started)
+
+        carries-by : carry s (converted A) stayed ≡ carried moved-on
+        carries-by = alike-carry pair-own mirror true refl stayed moved-on alike-own
+
+        goes-by : (ds : List (Call s)) (ds′ : List (Call (converted A))) → SameCalls ds ds′ → GoesOn A stayed moved-on ds ds′
+        goes-by ds ds′ more =
+            let a = alike-calls pair-own mirror more stayed moved-on alike-own in
+            record {
+              answers-same = alike-answers pair-own mirror more stayed moved-on alike-own;
+              each-call = λ c c′ h h′. alike-answer pair-own mirror (readingAfter stayed ds) (readingAfter moved-on ds′) a c c′ h h′;
+              total-same = ap (λ (v : View). v .total) (a .is);
+              limit = λ c′ n long. limit-on cs′ ds′ c′ n long;
+            }
+
+      pub carries-at : carry s (converted A) (readingAfter old-start cs) ≡ carried (readingAfter new-start cs′)
+      carries-at = by-mirror (carry s (converted A) stayed ≡ carried moved-on) carries-by
+
+      pub goes-at : (ds : List (Call s)) (ds′ : List (Call (converted A))) → SameCalls ds ds′ → GoesOn A (readingAfter old-start cs) (readingAfter new-start cs′) ds ds′
+      goes-at ds ds′ more = by-mirror (GoesOn A stayed moved-on ds ds′) (λ On mirror. goes-by On mirror ds ds′ more)
+
+      -- the claim: the carried reading is the one that the same calls on the new file would have left
+      pub carry-own : CarryOwn A lo hi cs cs′
+      carry-own = record {
+        reading = old-start;
+        starts = old-started;
+        new-reading = new-start;
+        new-starts = new-started;
+        carries = carries-at;
+        goes-on = goes-at;
+      }

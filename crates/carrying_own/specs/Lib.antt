@@ -6,3 +6,4 @@ pub mod CarrySelfLaws
 pub mod AlikeLaws
 pub mod CarryOwn
 pub mod CarryOwnLaws
+pub mod CarryPlainLaws
