@@ -57,6 +57,9 @@ twin-calls s′ (c ∷ cs) =
 
 -- ---- two files of which the one mirrors the other
 
+pub refused-none : {a : Answer} (n : ℕ) (more : List Answer) → a ≡ Answer.refused n → unrefusedThen a more ≡ more
+refused-none n more is = rw is
+
 -- both files have bytes and open
 pub record Pair (s s′ : List ℕ) (m m′ : Meta) : Type 0 where
   pub opens : opening s ≡ opened m
@@ -124,9 +127,6 @@ module _ {s s′ : List ℕ} {m m′ : Meta} (pair : Pair s s′ m m′) {ren : 
   pub alike-calls : {cs : List (Call s)} {cs′ : List (Call s′)} → SameCalls cs cs′ → (r r′ : View) → Alike r r′ → Alike (readingAfter r cs) (readingAfter r′ cs′)
   alike-calls no-calls r r′ a = a
   alike-calls (and-then {c} {c′} {cs} {cs′} same more) r r′ a = alike-calls more (call r c .reading) (call r′ c′ .reading) (alike-call r r′ a c c′ same)
-
-  refused-none : {a : Answer} (n : ℕ) (more : List Answer) → a ≡ Answer.refused n → unrefusedThen a more ≡ more
-  refused-none n more is = rw is
 
   answer-then : (r r′ : View) → Alike r r′ → (c : Call s) (c′ : Call s′) → Same c c′ → (more : List Answer)
       → unrefusedThen (call r′ c′ .answer) more ≡ unrefusedThen (call r c .answer) more

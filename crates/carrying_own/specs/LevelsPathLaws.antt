@@ -156,7 +156,7 @@ allowed-or {s} c =
 pub file-same : {s : List ℕ} (c : Call s) → Allowed c → c .file ≡ s
 file-same {s} c h = ⊎-elim (λ (e : c .file ≡ s). e) (λ ne. absurd (ne (h .same))) (c .which)
 
-both-left : (a b : Bool) → (a && b) ≡ true → a ≡ true
+pub both-left : (a b : Bool) → (a && b) ≡ true → a ≡ true
 both-left true b h = refl
 both-left false b h = h
 
@@ -219,7 +219,7 @@ module _ (s : List ℕ) (m : Meta) (opens : opening s ≡ opened m) where
 
   -- ---- next
 
-  moved-own : (r : View) → Own s m r → (ls : List Level) (t : ℕ) → LevelsPath (fstOf s m) ls → length ls ≤ maxLevels → Own s m (moved r ls t)
+  pub moved-own : (r : View) → Own s m r → (ls : List Level) (t : ℕ) → LevelsPath (fstOf s m) ls → length ls ≤ maxLevels → Own s m (moved r ls t)
   moved-own r o ls t h le = record { len-is = o .len-is; bound-le = o .bound-le; levels-le = le; path = h }
 
   abbrev OwnStep : Step → Type 0

@@ -7,3 +7,5 @@ pub mod AlikeLaws
 pub mod CarryOwn
 pub mod CarryOwnLaws
 pub mod CarryPlainLaws
+pub mod AlikeByLaws
+pub mod CarryByLaws
