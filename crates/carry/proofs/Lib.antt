@@ -1,0 +1,2 @@
+-- Lemmas on the cases of carrying, for the proofs of this crate.
+mod CarryCases

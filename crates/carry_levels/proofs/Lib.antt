@@ -1,0 +1,2 @@
+-- Lemmas on the levels, for the proofs of this crate.
+mod LevelCases

@@ -1,0 +1,11 @@
+pub mod LevelsPath
+pub mod LevelsPathLaws
+pub mod Alike
+pub mod CarryLevelsLaws
+pub mod CarrySelfLaws
+pub mod AlikeLaws
+pub mod CarryOwn
+pub mod CarryOwnLaws
+pub mod CarryPlainLaws
+pub mod AlikeByLaws
+pub mod CarryByLaws

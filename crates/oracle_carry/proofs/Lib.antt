@@ -1,0 +1,2 @@
+-- What is told of a carried reading, for the proofs of this crate.
+mod TellingCarry
