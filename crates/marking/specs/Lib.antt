@@ -1,0 +1,4 @@
+pub mod MarkCalls
+pub mod MarksDemand
+pub mod NamedLaws
+pub mod MarksLaws
