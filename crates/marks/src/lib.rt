@@ -46,7 +46,7 @@ pub fn none() -> Marks
 }
 
 // Whether a reading and its marks can go on with a file of this length.
-fn state_right(reading: Plain, marks: Marks, len: usize) -> bool
+pub fn state_right(reading: Plain, marks: Marks, len: usize) -> bool
     ensures { λ r. ⌜ r ≡ bothTest (plainIs reading) (marksIs marks) len ⌝ }
 {
     let held = reading.reading;
@@ -60,7 +60,7 @@ fn state_right(reading: Plain, marks: Marks, len: usize) -> bool
 // ---- mark
 
 // A refused mark.
-fn refused(why: u8, marks: Marks) -> Marking
+pub fn refused(why: u8, marks: Marks) -> Marking
     ensures { λ r. ⌜ MarkingTold (M.Marking.refused why) (marksIs marks) r ⌝ }
 {
     Marking {
@@ -70,7 +70,7 @@ fn refused(why: u8, marks: Marks) -> Marking
 }
 
 // The reading put under a name, where reading and marks are right: NAME for a length of 0 or over 8, FULL for a new name with 16 held.
-fn set_mark(reading: Plain, marks: Marks, name: &[u8]) -> Marking
+pub fn set_mark(reading: Plain, marks: Marks, name: &[u8]) -> Marking
     requires { ⌜ marks .count ≤ 16 ⌝ }
     ensures { λ r. ⌜ MarkingTold (setIn (plainIs reading) (marksIs marks) (now (name .entry)))
         (marksIs marks) r ⌝ }
@@ -127,7 +127,7 @@ pub fn mark(file: &[u8], reading: Plain, marks: Marks, name: &[u8]) -> Marking
 // ---- go back
 
 // A refused return.
-fn stay(why: u8, reading: Plain) -> Return
+pub fn stay(why: u8, reading: Plain) -> Return
     ensures { λ r. ⌜ ReturnTold (M.Return.refused why) (plainIs reading) r ⌝ }
 {
     Return {
@@ -137,7 +137,7 @@ fn stay(why: u8, reading: Plain) -> Return
 }
 
 // The reading under a name, where reading and marks are right: NAME for a length of 0 or over 8, and for a name that no mark has.
-fn take_back(reading: Plain, marks: Marks, name: &[u8]) -> Return
+pub fn take_back(reading: Plain, marks: Marks, name: &[u8]) -> Return
     requires { ⌜ marks .count ≤ 16 ⌝ }
     ensures { λ r. ⌜ ReturnTold (backIn (marksIs marks) (now (name .entry))) (plainIs reading) r ⌝ }
 {
