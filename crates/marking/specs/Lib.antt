@@ -1,0 +1,6 @@
+pub mod MarkCalls
+pub mod MarksRight
+pub mod MarksDemand
+pub mod NamedLaws
+pub mod MarksRightLaws
+pub mod MarksLaws

@@ -1,0 +1,2 @@
+-- Lemmas on the cases of the calls, for the proofs of this crate.
+mod MarkByCases

@@ -1,0 +1,2 @@
+pub mod MarkViews
+pub mod MarkViewsLaws

@@ -1,0 +1,2 @@
+pub mod SeatEvents
+pub mod SeatEventsLaws
