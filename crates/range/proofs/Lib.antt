@@ -1,2 +1,3 @@
 -- Laws of the definition, for the proofs of this crate.
 mod RangeCases
+mod FillCases

@@ -2,6 +2,7 @@
 --     Filling w s r most rows₀ values₀ rows values count     `count` rows are written, and the page w goes on from the reading r
 --     filling-none, filling-key                              before the first row, after a row
 --     filled-more, filled-end, filled-refused                the ways out
+--     FilledFrom s r count most ..                           the rest of a page, from row `count` on
 --     ranged-as, refused-by                                  by an equation between pages; a refusal before any key
 -- Assumes nothing.
 use mathlib.Core.Path.{_≡_, refl, sym, ap, ap₂, subst, _∙_}
@@ -90,6 +91,17 @@ module _ {w : Page} {s : List ℕ} {r : View} {most : ℕ} {rows₀ values₀ ro
   pub filled-refused : count < most → (n : ℕ) → next s r maxPath .answer ≡ Answer.refused n
       → RangedBy w rows₀ rows values₀ values (record { count = count; stop = Refused n })
   filled-refused left n is = stops (P.Stop.refused n) (folded-refused (f .folded) (omega arith) n is)
+
+-- whatever page the rows before `count` were part of
+abbrev pub FilledFrom : List ℕ → View → ℕ → ℕ → List ℕ → List ℕ → List ℕ → List ℕ → Ranged → Type 0
+FilledFrom s r count most rows₀ rows values₀ values out =
+    (w : Page) (rs vs : List ℕ) → Filling w s r most rs vs rows₀ values₀ count → RangedBy w rs rows vs values out
+
+-- by an equation between readings
+pub filled-as : {s : List ℕ} {q r : View} {count most : ℕ} {rows₀ rows values₀ values : List ℕ} {out : Ranged} → q ≡ r
+    → FilledFrom s q count most rows₀ rows values₀ values out → FilledFrom s r count most rows₀ rows values₀ values out
+filled-as {s} {q} {r} {count} {most} {rows₀} {rows} {values₀} {values} {out} e h w rs vs f =
+    h w rs vs (subst (λ (x : View). Filling w s x most rs vs rows₀ values₀ count) (sym e) f)
 
 -- by an equation between pages
 pub ranged-as : {v w : Page} {rows₀ rows values₀ values : List ℕ} {r : Ranged} → v ≡ w → RangedBy v rows₀ rows values₀ values r → RangedBy w rows₀ rows values₀ values r

@@ -6,20 +6,24 @@ ghost use lib.ListN.{length};
 ghost use Rattle.reading.specs.Reading as R;
 ghost use Rattle.paging.specs.Paging as P;
 ghost use Rattle.stream_start.specs.Views.{viewIs, boundIs};
-ghost use Rattle.range.specs.Rows.{RangedBy, refusedRange};
+ghost use Rattle.range_turn.specs.StateLaws.{StateRight};
+ghost use Rattle.range.specs.Rows.{OpensAs, unpending, RangedBy, refusedRange};
+ghost use Rattle.range.specs.FillLaws.{FilledFrom};
 use format::BOUND;
-use format::MAX_KEY;
 use format::SPACE;
 use fst::Opened;
 use range_rows::ROW;
 use range_rows::bounds_right;
 use range_rows::has_room;
 use range_rows::put_row;
+use range_turn::Turn;
+use range_turn::step_on;
+use stream_bounds::exceeded;
 use stream_start::Begins;
 use stream_start::Bound;
+use stream_start::EmptyOutput;
 use stream_start::Reading;
 use stream_start::start;
-use stream_step::Answer;
 
 // Why a range stopped: no key is left; as many were handed out as asked for; or the number of a refusal.
 pub enum Stop {
@@ -44,49 +48,122 @@ fn refused(why: u8) -> Ranged
     }
 }
 
-// Up to `most` keys of a reading, each into its row. A refusal stands beside the keys before it.
-fn fill(file: &[u8], reading: Reading, most: usize, rows: &mut [u8], values: &mut [u64]) -> Ranged
+// The keys of a reading with nothing pending, from row `first` on up to `most`. The levels are in local arrays, so a key costs no copy of a reading. A
+// refusal stands beside the keys before it.
+fn fill(
+    file: &[u8],
+    version: u64,
+    root: usize,
+    reading: Reading,
+    first: usize,
+    most: usize,
+    rows: &mut [u8],
+    values: &mut [u64],
+) -> Ranged
     requires { ⌜ (P.rowLen * most ≤ length (now rows)) × (most ≤ length (now values)) ⌝ }
-    ensures { λ r. ⌜ RangedBy (P.fold (now (file .entry)) (viewIs reading) most)
+    requires { ⌜ OpensAs (now file) version root × StateRight (now file) (viewIs reading) ⌝ }
+    ensures { λ r. ⌜ FilledFrom (now (file .entry)) (unpending (viewIs reading)) first most
         (now (rows .entry)) (now (rows .exit)) (now (values .entry)) (now (values .exit)) r ⌝ }
 {
-    let mut key = [0u8; MAX_KEY];
-    let mut left = reading;
-    let mut count = 0;
+    let mut addrs = reading.addrs;
+    let mut inps = reading.inps;
+    let mut trans = reading.trans;
+    let mut outs = reading.outs;
+    let bound = reading.bound;
+    let bound_len = reading.bound_len;
+    let kind = reading.kind;
+    let mut levels = reading.levels;
+    let mut total = reading.total;
+    let mut count = first;
     while count < most {
-        let step = stream_next::next(file, left, &mut key);
-        let answer = step.answer;
-        let after = step.reading;
-        match answer {
-            Answer::End => {
+        match step_on(
+            file,
+            version,
+            root,
+            levels,
+            total,
+            &mut addrs,
+            &mut inps,
+            &mut trans,
+            &mut outs,
+            &bound,
+            bound_len,
+            kind,
+        ) {
+            Turn::End => {
                 return Ranged {
                     count,
                     stop: Stop::End,
                 };
             }
-            Answer::Refused(why) => {
+            Turn::Refused(why) => {
                 return Ranged {
                     count,
                     stop: Stop::Refused(why),
                 };
             }
-            Answer::Key(n, value) => {
-                put_row(&key, n, count * ROW, rows);
+            Turn::Key(k, value, after) => {
+                put_row(&inps[1..], k, count * ROW, rows);
                 values[count] = value;
-                left = after;
+                levels = k + 1;
+                total = after;
                 count += 1;
             }
         }
     }
     Ranged {
         count,
-        stop: Stop::More,
+        stop: Stop::More, // as many as asked for
+    }
+}
+
+// The keys of a reading, up to `most`: a pending empty key comes first, or ends the range where it passes the upper bound.
+fn fill_all(
+    file: &[u8],
+    version: u64,
+    root: usize,
+    reading: Reading,
+    most: usize,
+    rows: &mut [u8],
+    values: &mut [u64],
+) -> Ranged
+    requires { ⌜ (P.rowLen * most ≤ length (now rows)) × (most ≤ length (now values)) ⌝ }
+    requires { ⌜ OpensAs (now file) version root × StateRight (now file) (viewIs reading) ⌝ }
+    ensures { λ r. ⌜ RangedBy (P.fold (now (file .entry)) (viewIs reading) most)
+        (now (rows .entry)) (now (rows .exit)) (now (values .entry)) (now (values .exit)) r ⌝ }
+{
+    if most == 0 {
+        return Ranged {
+            count: 0,
+            stop: Stop::More,
+        };
+    }
+    let empty = reading.empty_output;
+    match empty {
+        EmptyOutput::Absent => fill(file, version, root, reading, 0, most, rows, values),
+        EmptyOutput::Pending(value) => {
+            let inps = reading.inps;
+            let bound = reading.bound;
+            let bound_len = reading.bound_len;
+            let kind = reading.kind;
+            if exceeded(&inps, 0, &bound, bound_len, kind) {
+                return Ranged {
+                    count: 0,
+                    stop: Stop::End,
+                };
+            }
+            put_row(&inps, 0, 0, rows);
+            values[0] = value;
+            fill(file, version, root, reading, 1, most, rows, values)
+        }
     }
 }
 
 // The walk, where the file opens, the bounds are short and the buffers have room.
 fn range_from(
     file: &[u8],
+    version: u64,
+    root: usize,
     lower_kind: Bound,
     lower: &[u8],
     upper_kind: Bound,
@@ -96,6 +173,7 @@ fn range_from(
     values: &mut [u64],
 ) -> Ranged
     requires { ⌜ (P.rowLen * most ≤ length (now rows)) × (most ≤ length (now values)) ⌝ }
+    requires { ⌜ OpensAs (now file) version root ⌝ }
     ensures { λ r. ⌜ RangedBy (P.pageFrom (now (file .entry)) most (R.start (now (file .entry))
         (boundIs «lower_kind» (now (lower .entry))) (boundIs «upper_kind» (now (upper .entry)))))
         (now (rows .entry)) (now (rows .exit)) (now (values .entry)) (now (values .exit)) r ⌝ }
@@ -105,7 +183,7 @@ fn range_from(
     let reading = started.reading;
     match answer {
         Begins::Refused(why) => refused(why),
-        Begins::Began => fill(file, reading, most, rows, values),
+        Begins::Began => fill_all(file, version, root, reading, most, rows, values),
     }
 }
 
@@ -130,7 +208,7 @@ pub fn range(
     let opened = fst::open(file);
     match opened {
         Opened::Refused(why) => refused(why),
-        Opened::Meta(_) => {
+        Opened::Meta(m) => {
             if bounds_right(lower_kind, lower, upper_kind, upper) {} else {
                 return refused(BOUND);
             }
@@ -139,6 +217,8 @@ pub fn range(
             }
             range_from(
                 file,
+                m.version,
+                m.root,
                 lower_kind,
                 lower,
                 upper_kind,

@@ -1,5 +1,5 @@
 -- `range::range` meets its contract: one law for each refusal before the walk, and one for the walk. Assumes nothing.
-use mathlib.Core.Path.{_≡_, sym, ap, _∙_}
+use mathlib.Core.Path.{_≡_, refl, sym, ap, _∙_}
 use mathlib.Core.Bool.{true}
 use Prim.Native.Nat.{_*_}
 use denote.Ref.{now}
@@ -25,7 +25,7 @@ abbrev At : Type 0
 At = tie.After-bounds-right
 
 abbrev begin : At → tie.Start
-begin q = q .before .before .before .before .before .before .before .before .before
+begin q = q .before .before .before .before .before .before .before .before .before .before
 
 abbrev lo : At → S.Bound
 lo q = boundIs (begin q .args .lower-kind) (now (begin q .args .lower))
@@ -34,10 +34,10 @@ abbrev hi : At → S.Bound
 hi q = boundIs (begin q .args .upper-kind) (now (begin q .args .upper))
 
 abbrev meta : At → Meta
-meta q = q .before .enum-told .given .0 .0
+meta q = q .before .before .opened2 .given .0 .0
 
 opens : (q : At) → O.opening (now (begin q .args .file)) ≡ O.opened (metaIs (meta q))
-opens q = sym (q .before .before .before .«open» .ensures) ∙ ap openingIs (q .before .enum-told .given .1)
+opens q = sym (q .before .before .before .before .«open» .ensures) ∙ ap openingIs (q .before .before .opened2 .given .1)
 
 abbrev q-of : tie.After-has-room → At
 q-of w = w .before .before
@@ -54,8 +54,8 @@ enum-known-opened c = search needs
 refused-requires : tie.Need-refused-requires
 refused-requires c κs = search needs
 
-enum-told : tie.Need-enum-told
-enum-told c = search needs
+enum-known-opened-2 : tie.Need-enum-known-opened-2
+enum-known-opened-2 c = search needs
 
 bounds-right-requires : tie.Need-bounds-right-requires
 bounds-right-requires c κs = search needs
@@ -93,13 +93,16 @@ returns-2 c =
 roomy : (v : tie.Then2) → roomTest (begin (q-of (v .before)) .args .most) (length (now (begin (q-of (v .before)) .args .rows))) (length (now (begin (q-of (v .before)) .args .values))) ≡ true
 roomy v = sym (v .before .has-room .ensures) ∙ v .if2 .taken
 
--- the room was tested
+-- the room was tested, and the file opens
 range-from-requires : tie.Need-range-from-requires
 range-from-requires c κs =
     let v = c .before .before in
-    let a = begin (q-of (v .before)) .args in
-    decides-and (leb (rowLen * a .most) (length (now (a .rows)))) (leb (a .most) (length (now (a .values))))
-    (decides-le (rowLen * a .most) (length (now (a .rows)))) (decides-le (a .most) (length (now (a .values)))) .yes (roomy v)
+    let q = q-of (v .before) in
+    let a = begin q .args in (
+      decides-and (leb (rowLen * a .most) (length (now (a .rows)))) (leb (a .most) (length (now (a .values))))
+          (decides-le (rowLen * a .most) (length (now (a .rows)))) (decides-le (a .most) (length (now (a .values)))) .yes (roomy v),
+      record { meta = metaIs (meta q); opens = opens q; version-is = refl; root-is = refl },
+    )
 
 -- the file does not open
 returns-3 : tie.Need-returns-3
@@ -136,7 +139,7 @@ range-spec =
     open-requires
     enum-known-opened
     refused-requires
-    enum-told
+    enum-known-opened-2
     bounds-right-requires
     refused-requires-2
     returns

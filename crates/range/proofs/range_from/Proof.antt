@@ -4,6 +4,7 @@ use denote.Ref.{now}
 use Rattle.reading.specs.Reading as R
 use Rattle.paging.specs.Paging.{pageFrom}
 use Rattle.stream_start.specs.Views.{beganIs, boundIs, viewIs}
+use Rattle.range_turn.specs.StateLaws.{start-state}
 use Rattle.range.specs.FillLaws.{ranged-as, refused-by}
 use borrow.Author.Needs.{needs}
 use Rattle.range.proofs.range_from.Statement.{statement}
@@ -28,8 +29,20 @@ refused-requires c κs = search needs
 enum-told : tie.Need-enum-told
 enum-told c = search needs
 
-fill-requires : tie.Need-fill-requires
-fill-requires c κs = search needs
+-- a reading that a start gave can go on
+fill-all-requires : tie.Need-fill-all-requires
+fill-all-requires c κs =
+    let told = c .before .before in
+    let q = told .before .before .before in
+    let a = begin q .args in
+    let is : answer q ≡ R.started (viewIs (q .start .result .reading)) =
+    sym (q .start .ensures) ∙ ap (λ x. beganIs x (q .start .result .reading)) (told .enum-told .given .1) in (
+      begin q .pre .0,
+      (
+        begin q .pre .1,
+        start-state (now (a .file)) (boundIs (a .lower-kind) (now (a .lower))) (boundIs (a .upper-kind) (now (a .upper))) (viewIs (q .start .result .reading)) is,
+      ),
+    )
 
 -- the start is refused
 returns : tie.Need-returns
@@ -54,7 +67,7 @@ returns-2 c =
     let a = begin q .args in
     let is : answer q ≡ R.started (viewIs (q .start .result .reading)) =
     sym (q .start .ensures) ∙ ap (λ x. beganIs x (q .start .result .reading)) (told .enum-told .given .1) in
-    ranged-as (ap (pageFrom (now (a .file)) (a .most)) (sym is)) (call .fill .ensures)
+    ranged-as (ap (pageFrom (now (a .file)) (a .most)) (sym is)) (call .fill-all .ensures)
 
 pub range-from-spec : {M : Type 1} → statement M
 range-from-spec =
@@ -64,7 +77,7 @@ range-from-spec =
     enum-known-answer
     refused-requires
     enum-told
-    fill-requires
+    fill-all-requires
     returns
     same-length
     same-length-2

@@ -1,0 +1,2 @@
+-- Laws of the definition, for the proof of this crate.
+mod TurnCases
