@@ -77,7 +77,7 @@ marksTest len ms = leb (length ms) 16 && eachRight len ms
 -- ---- the calls
 
 pub data Marking : Type 0 where
-  set : List Mark → Marking
+  has-marks : List Mark → Marking
   refused : ℕ → Marking
 
 -- opening's refusals, STATE, NAME, FULL
@@ -87,7 +87,7 @@ mark s r ms n =
     onOpened (opening s)
     (λ m.
     cond (stateTest (r .view) (length s) && marksTest (length s) ms)
-    (cond (nameTest n) (cond (roomFor n ms) (set (put n r ms)) (refused FULL)) (refused NAME))
+    (cond (nameTest n) (cond (roomFor n ms) (has-marks (put n r ms)) (refused FULL)) (refused NAME))
     (refused STATE))
     (λ c. refused c)
 

@@ -24,7 +24,7 @@ use Rattle.reading.specs.Reading.{Answer}
 use Rattle.reading.specs.Demand.{Call, Allowed, followed, handedIn}
 use Rattle.plain.specs.Plain.{Plain, begun, startPlain, PlainStep, callPlain, plainAfter, answersPlain}
 use Rattle.plain.specs.PlainDemand.{keysOut, StillToCome, DemandPlain}
-use Rattle.marking.specs.MarkCalls.{nameTest, Named, named, marked, isThere, put, roomFor, Mark, Marking, set, mark, Return, at, back, refuseWith, nextMarked}
+use Rattle.marking.specs.MarkCalls.{nameTest, Named, named, marked, isThere, put, roomFor, Mark, Marking, has-marks, mark, Return, at, back, refuseWith, nextMarked}
 
 -- ---- operations
 
@@ -48,7 +48,7 @@ abbrev pub nowIs : Plain → List Mark → Now
 nowIs r ms = record { reading = r; marks = ms }
 
 abbrev pub marksAfter : List Mark → Marking → List Mark
-marksAfter ms (set ms′) = ms′
+marksAfter ms (has-marks ms′) = ms′
 marksAfter ms (Marking.refused c) = ms
 
 abbrev pub readingAt : Plain → Return → Plain
@@ -115,7 +115,7 @@ asMark r m = named (m .name) (plainAfter r (m .held))
 
 -- what a mark answers with the history h, from the start r: each way with its reason, so that it is refused exactly for these
 pub data MarkTold {s : List ℕ} (h : History s) (g : Given s) (n : List ℕ) (w : Now) : Marking → Type 0 where
-  taken : length (g .file) ≡ length s → nameTest n ≡ true → roomFor n (h .noted) ≡ true → MarkTold h g n w (set (put n (w .reading) (w .marks)))
+  taken : length (g .file) ≡ length s → nameTest n ≡ true → roomFor n (h .noted) ≡ true → MarkTold h g n w (has-marks (put n (w .reading) (w .marks)))
   other-file : ¬ (length (g .file) ≡ length s) → (c : ℕ) → MarkTold h g n w (Marking.refused c)
   no-name : length (g .file) ≡ length s → nameTest n ≡ false → MarkTold h g n w (Marking.refused NAME)
   full : length (g .file) ≡ length s → nameTest n ≡ true → roomFor n (h .noted) ≡ false → MarkTold h g n w (Marking.refused FULL)
@@ -167,7 +167,7 @@ pub record MarkedRun {s : List ℕ} (A : Admitted s) (lo hi : Bound) (t : List �
   pub next-keeps : (ds₁ ds₂ : List (Did s)) (c : Call s) → ds ≡ ds₁ ++ (reads c ∷ ds₂)
       → nowFrom first cs (ds₁ ++ (reads c ∷ [])) .marks ≡ nowFrom first cs ds₁ .marks
   pub replaced : (ds₁ ds₂ : List (Did s)) (g : Given s) (n : List ℕ) → ds ≡ ds₁ ++ (marks g n ∷ ds₂) → (ms : List Mark)
-      → markNow (nowFrom first cs ds₁) g n ≡ set ms
+      → markNow (nowFrom first cs ds₁) g n ≡ has-marks ms
       → Replaced n (nowFrom first cs ds₁ .reading) (nowFrom first cs ds₁ .marks) ms
   pub mark-keeps : (ds₁ ds₂ : List (Did s)) (g : Given s) (n : List ℕ) → ds ≡ ds₁ ++ (marks g n ∷ ds₂)
       → nowFrom first cs (ds₁ ++ (marks g n ∷ [])) .reading ≡ nowFrom first cs ds₁ .reading

@@ -28,7 +28,7 @@ use Rattle.plain.specs.Numbers.{TableFits}
 use Rattle.plain.specs.Plain.{Plain, plainWith, Begun, begun, startPlain, PlainStep, countedStep, nextPlain, callPlain, plainAfter, answersPlain}
 use Rattle.plain.specs.PlainDemand.{keysOut, StillToCome, DemandPlain}
 use Rattle.plain.specs.PlainLaws.{right, start-numbered, demand-3-plain}
-use Rattle.marking.specs.MarkCalls.{nameTest, marked, put, roomFor, Mark, eachRight, marksTest, Marking, set, mark, Return, at, found, back, refuseWith, nextMarked}
+use Rattle.marking.specs.MarkCalls.{nameTest, marked, put, roomFor, Mark, eachRight, marksTest, Marking, has-marks, mark, Return, at, found, back, refuseWith, nextMarked}
 use Rattle.marking.specs.MarksDemand.{Given, Did, reads, marks, returns, Now, nowIs, marksAfter, readingAt, nextNow, markNow, backNow, oneMore, nowAfter, nowFrom, History, historyIs, takes, orElse, recorded, recordedAll, historyOf, asMark, MarkTold, BackTold, returned, not-marked, Replaced, MarkedRun}
 use Rattle.marking.specs.NamedLaws.{both-right, both-true, put-this, put-other, put-in-place, put-added, put-few, put-right, same-not, onSome, marked-map, put-map, room-map}
 
@@ -55,7 +55,7 @@ module _ (s : List ℕ) (r : Plain) (ms : List Mark) where
     unfolding nextMarked
     next-right space = rw (opens, right)
 
-    mark-right : (n : List ℕ) → mark s r ms n ≡ cond (nameTest n) (cond (roomFor n ms) (set (put n r ms)) (Marking.refused FULL)) (Marking.refused NAME)
+    mark-right : (n : List ℕ) → mark s r ms n ≡ cond (nameTest n) (cond (roomFor n ms) (has-marks (put n r ms)) (Marking.refused FULL)) (Marking.refused NAME)
     unfolding mark
     mark-right n = rw (opens, state, right)
 
@@ -212,7 +212,7 @@ module _ {s : List ℕ} (A : Admitted s) (lo hi : Bound) (short-lo : length (bou
         (g .which)
       where
         ways : Bool → Bool → Marking
-        ways a b = cond a (cond b (set (put n (w .reading) (w .marks))) (Marking.refused FULL)) (Marking.refused NAME)
+        ways a b = cond a (cond b (has-marks (put n (w .reading) (w .marks))) (Marking.refused FULL)) (Marking.refused NAME)
 
         by : length (g .file) ≡ length s → (a : Bool) → nameTest n ≡ a → (b : Bool) → roomFor n (h .noted) ≡ b → MarkTold h g n w (ways a b)
         by same true p true q = MarkTold.taken same p q
@@ -264,7 +264,7 @@ module _ {s : List ℕ} (A : Admitted s) (lo hi : Bound) (short-lo : length (bou
       kept-told m (MarkTold.taken same name room) =
           let t : takes h g n ≡ true =
           both-true (eqb (length (g .file)) (length s)) _ (eq-eqb (length (g .file)) (length s) same) (both-true (nameTest n) (roomFor n (h .noted)) name room) in
-          subst (λ (t : Bool). Noting t (set (put n (w .reading) (w .marks)))) (sym t)
+          subst (λ (t : Bool). Noting t (has-marks (put n (w .reading) (w .marks)))) (sym t)
           (record {
             reading-is = k .reading-is;
             marks-are =
@@ -329,7 +329,7 @@ module _ {s : List ℕ} (A : Admitted s) (lo hi : Bound) (short-lo : length (bou
   next-at : (cs : List (Call s)) (ds : List (Did s)) (c : Call s) → nextNow (after cs ds) c ≡ callPlain (plainAfter r₀ (historyOf cs ds .calls)) c
   next-at cs ds c = next-as (after cs ds) (historyOf cs ds) (kept cs ds) c ∙ ap (λ (r : Plain). callPlain r c) (kept cs ds .reading-is)
 
-  replaced-at : {h : History s} {g : Given s} {n : List ℕ} {w : Now} (m : Marking) → MarkTold h g n w m → (ms : List Mark) → m ≡ set ms
+  replaced-at : {h : History s} {g : Given s} {n : List ℕ} {w : Now} (m : Marking) → MarkTold h g n w m → (ms : List Mark) → m ≡ has-marks ms
       → Replaced n (w .reading) (w .marks) ms
   replaced-at {h} {g} {n} {w} m (MarkTold.taken same name room) ms is =
       let q : put n (w .reading) (w .marks) ≡ ms = cc in

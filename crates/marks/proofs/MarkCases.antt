@@ -86,7 +86,7 @@ module _ (p : P.Plain) (ms : List M.Mark) (n : List ℕ) where
   set-long e h = marking-as (set-no (name-long n e)) h
 
   module _ (ne : ¬ (length n ≡ 0)) (le : length n ≤ 8) where
-    set-at : (i : ℕ) → SeekTold n ms 0 (At i) → setIn p ms n ≡ M.set (set ms i (named n p))
+    set-at : (i : ℕ) → SeekTold n ms 0 (At i) → setIn p ms n ≡ M.has-marks (set ms i (named n p))
     set-at i t =
         let there : isThere (marked n ms) ≡ true = ap isThere (marked-place n ms i t) in
         rw (name-right n ne le, there, put-place n ms p i t)
@@ -97,7 +97,7 @@ module _ (p : P.Plain) (ms : List M.Mark) (n : List ℕ) where
     set-none-left : SeekTold n ms 0 Nowhere → 16 ≤ length ms → setIn p ms n ≡ M.Marking.refused FULL
     set-none-left t h = rw (name-right n ne le, off t, lt-leb (length ms) 15 (omega arith))
 
-    set-added : SeekTold n ms 0 Nowhere → length ms < 16 → setIn p ms n ≡ M.set (ms ++ (named n p ∷ []))
+    set-added : SeekTold n ms 0 Nowhere → length ms < 16 → setIn p ms n ≡ M.has-marks (ms ++ (named n p ∷ []))
     set-added t h = rw (name-right n ne le, off t, le-leb (length ms) 15 (omega arith), put-added n p ms (off t))
 
 -- of the code's marks

@@ -25,13 +25,13 @@ abbrev pub bothTest : Plain → List M.Mark → ℕ → Bool
 bothTest p ms len = stateTest (p .view) len && marksTest len ms
 
 abbrev pub setIn : Plain → List M.Mark → List ℕ → M.Marking
-setIn p ms n = cond (nameTest n) (cond (roomFor n ms) (M.set (put n p ms)) (M.Marking.refused FULL)) (M.Marking.refused NAME)
+setIn p ms n = cond (nameTest n) (cond (roomFor n ms) (M.has-marks (put n p ms)) (M.Marking.refused FULL)) (M.Marking.refused NAME)
 
 abbrev pub backIn : List M.Mark → List ℕ → M.Return
 backIn ms n = cond (nameTest n) (found (marked n ms)) (M.Return.refused NAME)
 
 abbrev pub markingAs : M.Marking → Change
-markingAs (M.set ms) = Done
+markingAs (M.has-marks ms) = Done
 markingAs (M.Marking.refused n) = Refused n
 
 abbrev pub returnAs : M.Return → Change

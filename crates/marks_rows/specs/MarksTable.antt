@@ -14,7 +14,7 @@ use Rattle.format.specs.Opening.{metaOf, rootTest, opening}
 use Rattle.format.specs.Strings.{unbounded, beforeTest}
 use Rattle.reading.specs.Reading.{pathOf, View, Level, pop, descend, next, levelWith, Answer, key, end}
 use Rattle.plain.specs.Plain.{Plain, plainWith, PlainStep}
-use Rattle.marking.specs.MarkCalls.{sameName, named, marked, put, Mark, eachRight, Marking, set, mark, Return, at, back, nextMarked}
+use Rattle.marking.specs.MarkCalls.{sameName, named, marked, put, Mark, eachRight, Marking, has-marks, mark, Return, at, back, nextMarked}
 use Rattle.bench_table.specs.BenchTable.{D}
 
 -- ---- operations, with the file D
@@ -45,11 +45,11 @@ abbrev pub stepOf : Now → PlainStep
 stepOf w = nextMarked D (w .reading) (w .held) 255
 
 abbrev pub afterMark : List Mark → Marking → List Mark
-afterMark ms (set l) = l
+afterMark ms (has-marks l) = l
 afterMark ms (Marking.refused n) = ms
 
 abbrev pub markSaid : Marking → List Said → List Said
-markSaid (set l) more = more
+markSaid (has-marks l) more = more
 markSaid (Marking.refused n) more = no n ∷ more
 
 abbrev pub afterBack : Plain → Return → Plain
@@ -137,7 +137,7 @@ pub record MarksTable : Type 0 where
   pub twice : Wrong (named x r ∷ named y r ∷ named x r ∷ [])
   pub levels : Wrong (named x (plainWith (view 50 0 (replicate 257 (levelWith 29 0 0 0))) 3) ∷ [])
   pub bound : Wrong (named x (plainWith (view 50 256 []) 3) ∷ [])
-  pub length : Wrong (named x (plainWith (view 51 0 []) 3) ∷ [])
+  pub other-len : Wrong (named x (plainWith (view 51 0 []) 3) ∷ [])
 
 pub marks-table : MarksTable
 unfolding bytesOf commonInputsInv le headLen inputOf ntransOf sizesByte indexLen sizeOf downFrom bytesDown numbersDown transitionsOf nodeOf soundTest nodeAt findFrom metaOf rootTest opening beforeTest pathOf pop descend next sameName marked put eachRight mark back nextMarked
@@ -159,5 +159,5 @@ marks-table = record {
   twice = record { next-refuses = refl; mark-refuses = refl; back-refuses = refl };
   levels = record { next-refuses = refl; mark-refuses = refl; back-refuses = refl };
   bound = record { next-refuses = refl; mark-refuses = refl; back-refuses = refl };
-  length = record { next-refuses = refl; mark-refuses = refl; back-refuses = refl };
+  other-len = record { next-refuses = refl; mark-refuses = refl; back-refuses = refl };
 }
