@@ -7,10 +7,12 @@ use std::fmt::Debug;
 use crate::answers::{Answers, At, ConvertAnswers, FileAnswers, ReadingAnswers, Record};
 use crate::generate::INPUTS;
 use crate::given;
+use crate::model_carry::CarryAnswers;
 use crate::prng::Prng;
 
 mod admission;
 mod boundaries;
+mod carry;
 mod convert;
 mod counting;
 mod little;
@@ -134,6 +136,8 @@ pub struct Run<'a> {
     ours_reading: Option<&'a dyn ReadingAnswers>,
     // and on conversions
     ours_convert: Option<&'a dyn ConvertAnswers>,
+    // and on carries
+    ours_carry: Option<&'a dyn CarryAnswers>,
     // a whole run has every random case, another one in so many
     one_in: usize,
     prng: Prng,
@@ -166,11 +170,16 @@ const DELTA_SIZES: [&str; 9] = [
 impl<'a> Run<'a> {
     pub fn new(ours: Ours<'a>, one_in: usize) -> Run<'a> {
         let (ours, ours_file, ours_reading) = ours;
-        Run { ours, ours_file, ours_reading, ours_convert: None, one_in, prng: Prng::new(2), counts: BTreeMap::new() }
+        Run { ours, ours_file, ours_reading, ours_convert: None, ours_carry: None, one_in, prng: Prng::new(2), counts: BTreeMap::new() }
     }
 
     pub fn converting(mut self, ours: Option<&'a dyn ConvertAnswers>) -> Run<'a> {
         self.ours_convert = ours;
+        self
+    }
+
+    pub fn carrying(mut self, ours: Option<&'a dyn CarryAnswers>) -> Run<'a> {
+        self.ours_carry = ours;
         self
     }
 
@@ -198,7 +207,13 @@ impl<'a> Run<'a> {
         self.readings(print)?;
         // last, so that the cases before it stay what they are
         self.sections(print, &[("boundaries of judging", Run::boundaries)])?;
-        self.conversions(print)
+        self.conversions(print)?;
+        self.all_carries(print)
+    }
+
+    // Those of carried readings alone.
+    pub fn all_carries(&mut self, print: bool) -> Checked {
+        self.sections(print, &[("readings carried to another file", Run::carries)])
     }
 
     // Those of conversion alone.

@@ -35,12 +35,15 @@ mod given_reading;
 mod hand_made;
 mod listing;
 mod model;
+mod model_carry;
 mod model_convert;
 mod model_file;
 mod model_pattern;
 mod model_reading;
 #[cfg(library)]
 mod ours;
+#[cfg(library)]
+mod ours_carry;
 #[cfg(library)]
 mod ours_convert;
 #[cfg(library)]
@@ -62,6 +65,7 @@ use std::process;
 
 use crate::answers::ConvertAnswers;
 use crate::compare::{Difference, Ours, Run};
+use crate::model_carry::CarryAnswers;
 
 #[cfg(library)]
 fn library() -> Ours<'static> {
@@ -83,6 +87,16 @@ fn library_converts() -> Option<&'static dyn ConvertAnswers> {
     None
 }
 
+#[cfg(library)]
+fn library_carries() -> Option<&'static dyn CarryAnswers> {
+    Some(&ours::Library)
+}
+
+#[cfg(not(library))]
+fn library_carries() -> Option<&'static dyn CarryAnswers> {
+    None
+}
+
 fn report(difference: &Difference) {
     println!("oracle: a difference: {}", difference.what);
     println!("  input: {}", difference.input);
@@ -96,7 +110,7 @@ fn compare(lists: &[String]) -> bool {
     if !listing::kept() {
         return false;
     }
-    let mut run = Run::new(library(), 1).converting(library_converts());
+    let mut run = Run::new(library(), 1).converting(library_converts()).carrying(library_carries());
     if let Err(difference) = compare::common_inputs_named().and_then(|()| run.all(true)) {
         report(&difference);
         return false;
@@ -147,6 +161,17 @@ fn compare_admission() -> bool {
 // Conversion alone.
 fn compare_conversions() -> bool {
     match Run::new(library(), 1).converting(library_converts()).conversions(true) {
+        Ok(()) => true,
+        Err(difference) => {
+            report(&difference);
+            false
+        }
+    }
+}
+
+// Carried readings alone.
+fn compare_carries() -> bool {
+    match Run::new(library(), 1).carrying(library_carries()).all_carries(true) {
         Ok(()) => true,
         Err(difference) => {
             report(&difference);
@@ -244,12 +269,13 @@ fn main() {
         Some("patterns") => compare_patterns(),
         Some("admission") => compare_admission(),
         Some("convert") => compare_conversions(),
+        Some("carry") => compare_carries(),
         Some("long") => compare_long(),
         Some("self-test") => self_test(),
         Some("record") => record(&args[2..]),
         Some("listing") => listing::make(),
         _ => {
-            println!("oracle: compare, readings, patterns, admission, convert, long, self-test, record or listing");
+            println!("oracle: compare, readings, patterns, admission, convert, carry, long, self-test, record or listing");
             process::exit(2);
         }
     };
