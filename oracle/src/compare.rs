@@ -7,12 +7,14 @@ use std::fmt::Debug;
 use crate::answers::{Answers, At, ConvertAnswers, FileAnswers, ReadingAnswers, Record};
 use crate::generate::INPUTS;
 use crate::given;
+use crate::model_carry::CarryAnswers;
 use crate::model_pack::PackAnswers;
 use crate::model_range::RangeAnswers;
 use crate::prng::Prng;
 
 mod admission;
 mod boundaries;
+mod carry;
 mod convert;
 mod counting;
 mod little;
@@ -143,6 +145,8 @@ pub struct Run<'a> {
     ours_pack: Option<&'a dyn PackAnswers>,
     // and on ranges in one call
     ours_range: Option<&'a dyn RangeAnswers>,
+    // and on carries
+    ours_carry: Option<&'a dyn CarryAnswers>,
     // a whole run has every random case, another one in so many
     one_in: usize,
     prng: Prng,
@@ -175,8 +179,9 @@ const DELTA_SIZES: [&str; 9] = [
 impl<'a> Run<'a> {
     pub fn new(ours: Ours<'a>, one_in: usize) -> Run<'a> {
         let (ours, ours_file, ours_reading) = ours;
-        let (ours_convert, ours_pack, ours_range) = (None, None, None);
-        Run { ours, ours_file, ours_reading, ours_convert, ours_pack, ours_range, one_in, prng: Prng::new(2), counts: BTreeMap::new() }
+        let (ours_convert, ours_pack, ours_range, ours_carry) = (None, None, None, None);
+        let (prng, counts) = (Prng::new(2), BTreeMap::new());
+        Run { ours, ours_file, ours_reading, ours_convert, ours_pack, ours_range, ours_carry, one_in, prng, counts }
     }
 
     pub fn converting(mut self, ours: Option<&'a dyn ConvertAnswers>) -> Run<'a> {
@@ -194,7 +199,12 @@ impl<'a> Run<'a> {
         self
     }
 
-    // Every comparison, with a line or more for each.
+    pub fn carrying(mut self, ours: Option<&'a dyn CarryAnswers>) -> Run<'a> {
+        self.ours_carry = ours;
+        self
+    }
+
+    // Every comparison of nodes, files, readings and conversions, with a line or more for each. Those after them have runs of their own.
     pub fn all(&mut self, print: bool) -> Checked {
         self.sections(
             print,
@@ -218,9 +228,7 @@ impl<'a> Run<'a> {
         self.readings(print)?;
         // last, so that the cases before it stay what they are
         self.sections(print, &[("boundaries of judging", Run::boundaries)])?;
-        self.conversions(print)?;
-        self.packs(print)?;
-        self.by_page(print)
+        self.conversions(print)
     }
 
     // Those of the packing of lists alone.
@@ -237,6 +245,11 @@ impl<'a> Run<'a> {
                 ("ranges in one call: damaged files, and buffers of any size", Run::damaged_pages),
             ],
         )
+    }
+
+    // Those of carried readings alone.
+    pub fn all_carries(&mut self, print: bool) -> Checked {
+        self.sections(print, &[("readings carried to another file", Run::carries)])
     }
 
     // Those of conversion alone.

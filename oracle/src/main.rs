@@ -39,6 +39,7 @@ mod given_reading;
 mod hand_made;
 mod listing;
 mod model;
+mod model_carry;
 mod model_convert;
 mod model_file;
 mod model_pack;
@@ -47,6 +48,8 @@ mod model_range;
 mod model_reading;
 #[cfg(library)]
 mod ours;
+#[cfg(library)]
+mod ours_carry;
 #[cfg(library)]
 mod ours_convert;
 #[cfg(library)]
@@ -74,6 +77,7 @@ use std::process;
 
 use crate::answers::ConvertAnswers;
 use crate::compare::{Difference, Ours, Run};
+use crate::model_carry::CarryAnswers;
 use crate::model_pack::PackAnswers;
 use crate::model_range::RangeAnswers;
 
@@ -108,6 +112,16 @@ fn library_packs() -> Option<&'static dyn PackAnswers> {
 }
 
 #[cfg(library)]
+fn library_carries() -> Option<&'static dyn CarryAnswers> {
+    Some(&ours::Library)
+}
+
+#[cfg(not(library))]
+fn library_carries() -> Option<&'static dyn CarryAnswers> {
+    None
+}
+
+#[cfg(library)]
 fn library_ranges() -> Option<&'static dyn RangeAnswers> {
     Some(&ours::Library)
 }
@@ -130,7 +144,7 @@ fn compare(lists: &[String]) -> bool {
     if !listing::kept() {
         return false;
     }
-    let mut run = Run::new(library(), 1).converting(library_converts()).packing_lists(library_packs()).ranging(library_ranges());
+    let mut run = Run::new(library(), 1).converting(library_converts());
     if let Err(difference) = compare::common_inputs_named().and_then(|()| run.all(true)) {
         report(&difference);
         return false;
@@ -209,6 +223,22 @@ fn compare_packs() -> bool {
             false
         }
     }
+}
+
+// Carried readings alone.
+fn compare_carries() -> bool {
+    match Run::new(library(), 1).carrying(library_carries()).all_carries(true) {
+        Ok(()) => true,
+        Err(difference) => {
+            report(&difference);
+            false
+        }
+    }
+}
+
+// What has a run of its own, one after the other, beside the whole comparison.
+fn compare_later() -> bool {
+    compare_packs() && compare_range() && compare_carries()
 }
 
 // Files and records past 16 MiB alone.
@@ -339,18 +369,20 @@ fn main() {
     let args: Vec<String> = std::env::args().collect();
     let right = match args.get(1).map(String::as_str) {
         Some("compare") => compare(&args[2..]),
+        Some("later") => compare_later(),
         Some("readings") => compare_readings(),
         Some("patterns") => compare_patterns(),
         Some("range") => compare_range(),
         Some("admission") => compare_admission(),
         Some("convert") => compare_conversions(),
         Some("pack") => compare_packs(),
+        Some("carry") => compare_carries(),
         Some("long") => compare_long(),
         Some("self-test") => self_test(),
         Some("record") => record(&args[2..]),
         Some("listing") => listing::make(),
         _ => {
-            println!("oracle: compare, readings, patterns, range, admission, convert, pack, long, self-test, record or listing");
+            println!("oracle: compare, later, readings, patterns, range, admission, convert, pack, carry, long, self-test, record or listing");
             process::exit(2);
         }
     };
