@@ -1,0 +1,1 @@
+// Worked rows of the operations over several files (specs/); there is no code here.
