@@ -14,7 +14,7 @@ use Rattle.counting.specs.declared.Counting.{Counting}
 use Rattle.counting.specs.declared.Counting.the-variants.{Counted, Refused as No}
 use Rattle.counting.specs.CountOutcomes.{CountRefusedFor, Counts, CountOutcome}
 use Rattle.range.specs.declared.Ranged.{Ranged}
-use Rattle.range.specs.Rows.{stopAs, RangedBy}
+use Rattle.range.specs.RangedRows.{stopAs, RangedBy}
 use Rattle.stream_start.specs.declared.Bound.{Bound}
 use Rattle.stream_start.specs.Views.{boundIs}
 use Rattle.stream_start.specs.declared.Begins.the-variants.{Began, Refused as NotStarted}

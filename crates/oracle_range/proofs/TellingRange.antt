@@ -10,7 +10,7 @@ use Rattle.stream_start.specs.Views.{boundIs}
 use Rattle.range.specs.declared.Stop.{Stop}
 use Rattle.range.specs.declared.Stop.the-variants.{End, More, Refused}
 use Rattle.range.specs.declared.Ranged.{Ranged}
-use Rattle.range.specs.Rows.{stopAs, RangedBy}
+use Rattle.range.specs.RangedRows.{stopAs, RangedBy}
 use Rattle.stream_arrays.specs.Arrays.{kindIs}
 use Rattle.oracle_range.specs.RangeTold.{stopNumber, RangeTold}
 

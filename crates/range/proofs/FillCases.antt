@@ -25,10 +25,10 @@ use Rattle.stream_start.specs.StackLaws.{stack-length}
 use Rattle.range_turn.specs.declared.Turn.{Turn}
 use Rattle.range_turn.specs.declared.Turn.the-variants.{Key, End, Refused}
 use Rattle.range_turn.specs.Turns.{viewAt, stepOf, Turned, goes-on, ends, stops}
-use Rattle.range_turn.specs.StateLaws.{StateRight, next-walk}
+use Rattle.range_turn.specs.StartStateLaws.{StateRight, next-walk}
 use Rattle.range.specs.declared.Stop.the-variants as Why
 use Rattle.range.specs.declared.Ranged.{Ranged}
-use Rattle.range.specs.Rows.{OpensAs, unpending}
+use Rattle.range.specs.RangedRows.{OpensAs, unpending}
 use Rattle.range.specs.FillLaws.{Filling, FilledFrom, filling-key, filled-more, filled-end, filled-refused}
 
 -- ---- a call of next, and a turn

@@ -1,3 +1,3 @@
 -- Lemmas on the levels, for the proofs of this crate.
-mod DescendLaws
-mod GoingLaws
+mod RangeDescent
+mod GoingDown

@@ -10,7 +10,7 @@ use Rattle.format.specs.Limits.{maxPath}
 use Rattle.stream_start.specs.Views.{Arrays, boundIs, stackIs, viewIs}
 use Rattle.stream_start.specs.StackLaws.{stack-length}
 use Rattle.range_turn.specs.Turns.{viewAt}
-use Rattle.range.specs.Rows.{unpending}
+use Rattle.range.specs.RangedRows.{unpending}
 use Rattle.range.specs.FillLaws.{filled-as}
 use Rattle.range.proofs.FillCases.{Going, going-none, going-key, going-end, going-refused, going-more, key-low, inputs-len, inputs-hold, row-within}
 use borrow.Author.Needs.{needs}

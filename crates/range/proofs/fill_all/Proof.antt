@@ -10,7 +10,7 @@ use lib.ListN.{length, set, length-set}
 use Rattle.reading.specs.Reading.{View}
 use Rattle.paging.specs.Paging.{fold}
 use Rattle.stream_start.specs.Views.{emptyIs, viewIs}
-use Rattle.range.specs.Rows.{unpending}
+use Rattle.range.specs.RangedRows.{unpending}
 use Rattle.range.specs.FillLaws.{Filling, filling-none, filling-key, filled-more, filled-end}
 use Rattle.range.proofs.FillCases.{pending-ends, pending-key, pending-reading, absent-same, first-row-len}
 use borrow.Author.Needs.{needs}

@@ -4,7 +4,7 @@ use denote.Ref.{now}
 use Rattle.reading.specs.Reading as R
 use Rattle.paging.specs.Paging.{pageFrom}
 use Rattle.stream_start.specs.Views.{beganIs, boundIs, viewIs}
-use Rattle.range_turn.specs.StateLaws.{start-state}
+use Rattle.range_turn.specs.StartStateLaws.{start-state}
 use Rattle.range.specs.FillLaws.{ranged-as, refused-by}
 use borrow.Author.Needs.{needs}
 use Rattle.range.proofs.range_from.Statement.{statement}

@@ -14,7 +14,7 @@ use Rattle.node.specs.Read.{meaning, Readable}
 use Rattle.node.specs.ReadLaws.{answer-sound, answer-unsound}
 use Rattle.stream_start.specs.Views.{boundIs}
 use Rattle.stream_descend.specs.Descent.{downFrom}
-use Rattle.range_down.proofs.GoingLaws.{Going, going-none, going-deep, place-low, place-fits, target-fits, going-sum, going-bad, going-passed, going-final, going-on}
+use Rattle.range_down.proofs.GoingDown.{Going, going-none, going-deep, place-low, place-fits, target-fits, going-sum, going-bad, going-passed, going-final, going-on}
 use borrow.Author.Needs.{needs}
 use native.Mathlib.Omega.{arith}
 use Rattle.range_down.proofs.descend.Statement.{statement}

@@ -1,7 +1,7 @@
 -- `range_down::found` meets its contract: one law for each answer of `add`.
 -- Assumes nothing.
 use mathlib.Core.Path.{sym}
-use Rattle.range_down.proofs.DescendLaws.{found-by, found-past}
+use Rattle.range_down.proofs.RangeDescent.{found-by, found-past}
 use borrow.Author.Needs.{needs}
 use Rattle.range_down.proofs.found.Statement.{statement}
 use Rattle.range_down.proofs.found.Tie as tie

@@ -31,7 +31,7 @@ use Rattle.stream_pop.specs.ReadyLaws.{ready-place, ready-target}
 use Rattle.stream_descend.specs.Descent.{downFrom, downSeen, downAt, foundAt}
 use Rattle.range_down.specs.Downs.{DescendsOn}
 use Rattle.stream_start.specs.StackLaws.{key-stack, pushed-top, pushed-below}
-use Rattle.range_down.proofs.DescendLaws.{down-deep, down-sum, down-bad, down-passed, down-final, down-on}
+use Rattle.range_down.proofs.RangeDescent.{down-deep, down-sum, down-bad, down-passed, down-final, down-on}
 
 pub record Going (s : List ℕ) (v root : ℕ) (hi : Bound) (want : Went) (xs is ps os : List ℕ) (k : ℕ) (m : Node) (t : ℕ) : Type 0 where
   pub low : k < 256
