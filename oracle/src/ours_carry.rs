@@ -7,7 +7,7 @@ use crate::ours::Library;
 
 #[link(name = "oracle_carry", kind = "static")]
 extern "C" {
-    fn baxhiso_carry(
+    fn oracle_carry(
         old: *const u8,
         old_len: usize,
         new: *const u8,
@@ -21,7 +21,7 @@ extern "C" {
         keys: u64,
     ) -> u64;
 
-    fn baxhiso_carry_by(
+    fn oracle_carry_by(
         old: *const u8,
         old_len: usize,
         new: *const u8,
@@ -44,7 +44,7 @@ impl CarryAnswers for Library {
         let (inps, places, sums) = (held.inps.as_mut_ptr(), held.places.as_mut_ptr(), held.sums.as_mut_ptr());
         unsafe {
             match positions {
-                None => baxhiso_carry(
+                None => oracle_carry(
                     old_at,
                     old.len(),
                     new_at,
@@ -58,7 +58,7 @@ impl CarryAnswers for Library {
                     held.keys[0],
                 ),
                 Some(n) => {
-                    baxhiso_carry_by(old_at, old.len(), new_at, new.len(), n, head, bound, addrs, inps, places, sums)
+                    oracle_carry_by(old_at, old.len(), new_at, new.len(), n, head, bound, addrs, inps, places, sums)
                 }
             }
         }

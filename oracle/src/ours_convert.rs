@@ -6,7 +6,7 @@ use crate::ours::Library;
 
 #[link(name = "oracle_convert", kind = "static")]
 extern "C" {
-    fn baxhiso_convert(
+    fn oracle_convert(
         file: *const u8,
         file_len: usize,
         limit: u32,
@@ -33,7 +33,7 @@ impl ConvertAnswers for Library {
         table: &mut [u32],
     ) -> u64 {
         unsafe {
-            baxhiso_convert(
+            oracle_convert(
                 file.as_ptr(),
                 file.len(),
                 limit,

@@ -6,9 +6,9 @@ use crate::ours::Library;
 
 #[link(name = "oracle_fst", kind = "static")]
 extern "C" {
-    fn baxhiso_open(file: *const u8, file_len: usize, out: *mut u64, out_len: usize) -> u64;
+    fn oracle_open(file: *const u8, file_len: usize, out: *mut u64, out_len: usize) -> u64;
 
-    fn baxhiso_admit(
+    fn oracle_admit(
         file: *const u8,
         file_len: usize,
         depths: *mut u16,
@@ -17,7 +17,7 @@ extern "C" {
         sums_len: usize,
     ) -> u64;
 
-    fn baxhiso_count_keys(
+    fn oracle_count_keys(
         file: *const u8,
         file_len: usize,
         depths: *mut u16,
@@ -28,7 +28,7 @@ extern "C" {
         counts_len: usize,
     ) -> u64;
 
-    fn baxhiso_get(
+    fn oracle_get(
         file: *const u8,
         file_len: usize,
         key: *const u8,
@@ -37,24 +37,24 @@ extern "C" {
         out_len: usize,
     ) -> u64;
 
-    fn baxhiso_get_key(file: *const u8, file_len: usize, value: u64, key: *mut u8, key_len: usize) -> u64;
+    fn oracle_get_key(file: *const u8, file_len: usize, value: u64, key: *mut u8, key_len: usize) -> u64;
 }
 
 // Each slice lives through the call, and a slice that is written is lent to nobody else.
 impl FileAnswers for Library {
     fn open(&self, file: &[u8], out: &mut [u64]) -> u64 {
-        unsafe { baxhiso_open(file.as_ptr(), file.len(), out.as_mut_ptr(), out.len()) }
+        unsafe { oracle_open(file.as_ptr(), file.len(), out.as_mut_ptr(), out.len()) }
     }
 
     fn admit(&self, file: &[u8], depths: &mut [u16], sums: &mut [u64]) -> u64 {
         unsafe {
-            baxhiso_admit(file.as_ptr(), file.len(), depths.as_mut_ptr(), depths.len(), sums.as_mut_ptr(), sums.len())
+            oracle_admit(file.as_ptr(), file.len(), depths.as_mut_ptr(), depths.len(), sums.as_mut_ptr(), sums.len())
         }
     }
 
     fn count_keys(&self, file: &[u8], depths: &mut [u16], sums: &mut [u64], counts: &mut [u64]) -> u64 {
         unsafe {
-            baxhiso_count_keys(
+            oracle_count_keys(
                 file.as_ptr(),
                 file.len(),
                 depths.as_mut_ptr(),
@@ -68,10 +68,10 @@ impl FileAnswers for Library {
     }
 
     fn get(&self, file: &[u8], key: &[u8], out: &mut [u64]) -> u64 {
-        unsafe { baxhiso_get(file.as_ptr(), file.len(), key.as_ptr(), key.len(), out.as_mut_ptr(), out.len()) }
+        unsafe { oracle_get(file.as_ptr(), file.len(), key.as_ptr(), key.len(), out.as_mut_ptr(), out.len()) }
     }
 
     fn get_key(&self, file: &[u8], value: u64, key: &mut [u8]) -> u64 {
-        unsafe { baxhiso_get_key(file.as_ptr(), file.len(), value, key.as_mut_ptr(), key.len()) }
+        unsafe { oracle_get_key(file.as_ptr(), file.len(), value, key.as_mut_ptr(), key.len()) }
     }
 }

@@ -6,7 +6,7 @@ use crate::ours::Library;
 
 #[link(name = "oracle_pack", kind = "static")]
 extern "C" {
-    fn baxhiso_pack(
+    fn oracle_pack(
         limit: u32,
         list: *const u8,
         list_len: usize,
@@ -36,7 +36,7 @@ impl PackAnswers for Library {
         targets: &mut [usize],
     ) -> u64 {
         unsafe {
-            baxhiso_pack(
+            oracle_pack(
                 limit,
                 list.as_ptr(),
                 list.len(),

@@ -7,7 +7,7 @@ use crate::ours::Library;
 
 #[link(name = "oracle_range", kind = "static")]
 extern "C" {
-    fn baxhiso_range(
+    fn oracle_range(
         file: *const u8,
         file_len: usize,
         lower_kind: u64,
@@ -38,7 +38,7 @@ impl RangeAnswers for Library {
     ) -> (u64, u64) {
         let mut count = [u64::max_value()];
         let stop = unsafe {
-            baxhiso_range(
+            oracle_range(
                 file.as_ptr(),
                 file.len(),
                 lower.kind.number(),

@@ -6,7 +6,7 @@ use crate::ours::Library;
 
 #[link(name = "oracle_stream", kind = "static")]
 extern "C" {
-    fn baxhiso_start(
+    fn oracle_start(
         file: *const u8,
         file_len: usize,
         lower_kind: u64,
@@ -26,7 +26,7 @@ extern "C" {
         keys: *mut u64,
     ) -> u64;
 
-    fn baxhiso_next(
+    fn oracle_next(
         file: *const u8,
         file_len: usize,
         head: *mut u64,
@@ -41,7 +41,7 @@ extern "C" {
         value: *mut u64,
     ) -> u64;
 
-    fn baxhiso_keys(
+    fn oracle_keys(
         file: *const u8,
         file_len: usize,
         lower_kind: u64,
@@ -57,7 +57,7 @@ extern "C" {
         key_len: usize,
     ) -> u64;
 
-    fn baxhiso_bare_keys(
+    fn oracle_bare_keys(
         file: *const u8,
         file_len: usize,
         lower_kind: u64,
@@ -74,7 +74,7 @@ extern "C" {
 
 #[link(name = "oracle_pattern", kind = "static")]
 extern "C" {
-    fn baxhiso_start_by(
+    fn oracle_start_by(
         file: *const u8,
         file_len: usize,
         positions: *const u16,
@@ -94,7 +94,7 @@ extern "C" {
         sums: *mut u64,
     ) -> u64;
 
-    fn baxhiso_next_by(
+    fn oracle_next_by(
         file: *const u8,
         file_len: usize,
         pattern: *const u64,
@@ -115,7 +115,7 @@ extern "C" {
 impl ReadingAnswers for Library {
     fn start(&self, file: &[u8], lower: &Bound, upper: &Bound, counts: &[u64], held: &mut Held) -> u64 {
         unsafe {
-            baxhiso_start(
+            oracle_start(
                 file.as_ptr(),
                 file.len(),
                 lower.kind.number(),
@@ -139,7 +139,7 @@ impl ReadingAnswers for Library {
 
     fn next(&self, file: &[u8], held: &mut Held, key: &mut [u8], value: &mut [u64; 1]) -> u64 {
         unsafe {
-            baxhiso_next(
+            oracle_next(
                 file.as_ptr(),
                 file.len(),
                 held.head.as_mut_ptr(),
@@ -158,7 +158,7 @@ impl ReadingAnswers for Library {
 
     fn start_by(&self, file: &[u8], pattern: &Pattern, lower: &Bound, upper: &Bound, held: &mut Held) -> u64 {
         unsafe {
-            baxhiso_start_by(
+            oracle_start_by(
                 file.as_ptr(),
                 file.len(),
                 pattern.positions.as_ptr(),
@@ -187,7 +187,7 @@ impl ReadingAnswers for Library {
         positions[..n].copy_from_slice(&pattern.positions[..n]);
         let lens = [pattern.positions.len() as u64, u64::from(pattern.rest)];
         unsafe {
-            baxhiso_next_by(
+            oracle_next_by(
                 file.as_ptr(),
                 file.len(),
                 lens.as_ptr(),
@@ -207,7 +207,7 @@ impl ReadingAnswers for Library {
 
     fn keys(&self, file: &[u8], lower: &Bound, upper: &Bound, counts: &[u64], most: u64, key: &mut [u8]) -> u64 {
         unsafe {
-            baxhiso_keys(
+            oracle_keys(
                 file.as_ptr(),
                 file.len(),
                 lower.kind.number(),
@@ -227,7 +227,7 @@ impl ReadingAnswers for Library {
 
     fn bare_keys(&self, file: &[u8], lower: &Bound, upper: &Bound, most: u64, key: &mut [u8]) -> u64 {
         unsafe {
-            baxhiso_bare_keys(
+            oracle_bare_keys(
                 file.as_ptr(),
                 file.len(),
                 lower.kind.number(),

@@ -9,15 +9,15 @@ ghost use Rattle.carrying.specs.Carry.{carryPlain, carryBy};
 ghost use Rattle.stream_arrays.specs.Arrays.{held, heldIs, heldPlain};
 ghost use Rattle.oracle_carry.specs.CarryTells.{CarryTold, CarryByTold};
 use carry::Carries;
-use stream_arrays::put;
-use stream_arrays::reading_of;
 use patterned::Pattern;
 use patterned::Patterned;
 use stream::Plain;
+use stream_arrays::put;
+use stream_arrays::reading_of;
 
 // 0 where a plain reading is carried, which stands in the arrays then; else the refusal, the arrays as they were. The number of keys to come is copied.
 #[no_mangle]
-pub extern "C" fn baxhiso_carry(
+pub extern "C" fn oracle_carry(
     old: &[u8],
     new: &[u8],
     head: &mut [u64; 7],
@@ -59,7 +59,7 @@ pub extern "C" fn baxhiso_carry(
 
 // The same of a reading by a pattern of so many positions, whatever they are.
 #[no_mangle]
-pub extern "C" fn baxhiso_carry_by(
+pub extern "C" fn oracle_carry_by(
     old: &[u8],
     new: &[u8],
     len: usize,

@@ -6,7 +6,7 @@ use convert::Converted;
 
 // The length of the new file, or 2^32 plus the refusal.
 #[no_mangle]
-pub extern "C" fn baxhiso_convert(
+pub extern "C" fn oracle_convert(
     file: &[u8],
     limit: u32,
     depths: &mut [u16],

@@ -46,7 +46,7 @@ fn put_five(out: &mut [u64], a: u64, b: u64, c: u64, d: u64, e: u64)
 // 0 for a file that opens, with version, type, count, root and checksum (2^32 for none) at the front of out where it has
 // five places; else the refusal, out as it was.
 #[no_mangle]
-pub extern "C" fn baxhiso_open(file: &[u8], out: &mut [u64]) -> u64
+pub extern "C" fn oracle_open(file: &[u8], out: &mut [u64]) -> u64
     ensures { λ r. ⌜ OpenTold (opening (now (file .entry))) (now (out .entry)) (now (out .exit))
         r ⌝ }
 {
@@ -65,7 +65,7 @@ pub extern "C" fn baxhiso_open(file: &[u8], out: &mut [u64]) -> u64
 
 // 0 for an admitted file, else the refusal; the two tables are left as admission leaves them.
 #[no_mangle]
-pub extern "C" fn baxhiso_admit(file: &[u8], depths: &mut [u16], sums: &mut [u64]) -> u64
+pub extern "C" fn oracle_admit(file: &[u8], depths: &mut [u16], sums: &mut [u64]) -> u64
     ensures { λ r. ⌜ Outcome (now (file .entry)) (now (depths .entry)) (now (sums .entry))
         (now (depths .exit)) (now (sums .exit)) (admissionIs r) ⌝ }
 {
@@ -79,7 +79,7 @@ pub extern "C" fn baxhiso_admit(file: &[u8], depths: &mut [u16], sums: &mut [u64
 
 // 0 where the table of keys is filled, else the refusal; the three tables are left as the filling leaves them.
 #[no_mangle]
-pub extern "C" fn baxhiso_count_keys(
+pub extern "C" fn oracle_count_keys(
     file: &[u8],
     depths: &mut [u16],
     sums: &mut [u64],
@@ -110,7 +110,7 @@ fn put_one(out: &mut [u64], a: u64)
 // 0 for a held key, with its value at the front of out where it has a place; 100 where the key is not held; else the
 // refusal. The rest of out stays.
 #[no_mangle]
-pub extern "C" fn baxhiso_get(file: &[u8], key: &[u8], out: &mut [u64]) -> u64
+pub extern "C" fn oracle_get(file: &[u8], key: &[u8], out: &mut [u64]) -> u64
     ensures { λ r. ⌜ GetTold (L.get (now (file .entry)) (now (key .entry))) (now (out .entry))
         (now (out .exit)) r ⌝ }
 {
@@ -127,7 +127,7 @@ pub extern "C" fn baxhiso_get(file: &[u8], key: &[u8], out: &mut [u64]) -> u64
 // The length of the found key, which stands at the front of key; 1000 where none is found, or 2000 plus the refusal, key
 // as it was.
 #[no_mangle]
-pub extern "C" fn baxhiso_get_key(file: &[u8], value: u64, key: &mut [u8]) -> u64
+pub extern "C" fn oracle_get_key(file: &[u8], value: u64, key: &mut [u8]) -> u64
     ensures { λ r. ⌜ KeyTold (L.getKey (now (file .entry)) value (length (now (key .entry))))
         (now (key .entry)) (now (key .exit)) r ⌝ }
 {

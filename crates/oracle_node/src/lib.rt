@@ -18,7 +18,7 @@ use node_compile::Compiled;
 
 // How many bytes the packer gives n.
 #[no_mangle]
-pub extern "C" fn baxhiso_pack_size(n: u64) -> u8
+pub extern "C" fn oracle_pack_size(n: u64) -> u8
     ensures { λ r. ⌜ r ≡ packSize n ⌝ }
 {
     le_bytes::pack_size(n)
@@ -26,7 +26,7 @@ pub extern "C" fn baxhiso_pack_size(n: u64) -> u8
 
 // The number of the first nbytes bytes of slice, or 0 where they are more than 8 or more than it has.
 #[no_mangle]
-pub extern "C" fn baxhiso_unpack_uint(slice: &[u8], nbytes: usize) -> u64
+pub extern "C" fn oracle_unpack_uint(slice: &[u8], nbytes: usize) -> u64
     ensures { λ r. ⌜ r ≡ unpacked (now (slice .entry)) nbytes ⌝ }
 {
     if 8 < nbytes {
@@ -42,7 +42,7 @@ pub extern "C" fn baxhiso_unpack_uint(slice: &[u8], nbytes: usize) -> u64
 
 // The place of the byte i in the order of frequency.
 #[no_mangle]
-pub extern "C" fn baxhiso_common_inputs(i: u8) -> u8
+pub extern "C" fn oracle_common_inputs(i: u8) -> u8
     ensures { λ r. ⌜ r ≡ getD commonInputs i 0 ⌝ }
 {
     common_inputs::common_inputs_at(i)
@@ -50,7 +50,7 @@ pub extern "C" fn baxhiso_common_inputs(i: u8) -> u8
 
 // The byte at place i in the order of frequency.
 #[no_mangle]
-pub extern "C" fn baxhiso_common_inputs_inv(i: u8) -> u8
+pub extern "C" fn oracle_common_inputs_inv(i: u8) -> u8
     ensures { λ r. ⌜ r ≡ getD commonInputsInv i 0 ⌝ }
 {
     common_inputs::common_inputs_inv_at(i)
@@ -58,7 +58,7 @@ pub extern "C" fn baxhiso_common_inputs_inv(i: u8) -> u8
 
 // What the state byte keeps of the input i.
 #[no_mangle]
-pub extern "C" fn baxhiso_common_idx(i: u8) -> u8
+pub extern "C" fn oracle_common_idx(i: u8) -> u8
     ensures { λ r. ⌜ r ≡ commonIdx i ⌝ }
 {
     common_inputs::common_idx(i)
@@ -69,7 +69,7 @@ pub extern "C" fn baxhiso_common_idx(i: u8) -> u8
 // Packs a node record for F, here `first`, into out: the number of its bytes, which stand at the front of out; or
 // 2^32 plus the refusal, out as it was. Any number but 0 is final.
 #[no_mangle]
-pub extern "C" fn baxhiso_compile(
+pub extern "C" fn oracle_compile(
     is_final: u8,
     final_output: u64,
     inputs: &[u8],
@@ -132,7 +132,7 @@ fn put_three(out: &mut [u64], a: u64, b: u64, c: u64)
 // 1 for a sound node, with F, final (0 or 1), final output and the number of transitions at the front of out where it
 // has four places; 0 for an unsound one. The rest of out stays.
 #[no_mangle]
-pub extern "C" fn baxhiso_node(
+pub extern "C" fn oracle_node(
     file: &[u8],
     version: u64,
     root: usize,
@@ -159,7 +159,7 @@ pub extern "C" fn baxhiso_node(
 // 1, with input, output and target of transition i at the front of out, where the node is sound, has a transition i and
 // out has three places; else 0. The rest of out stays.
 #[no_mangle]
-pub extern "C" fn baxhiso_transition(
+pub extern "C" fn oracle_transition(
     file: &[u8],
     version: u64,
     root: usize,
@@ -187,7 +187,7 @@ pub extern "C" fn baxhiso_transition(
 // The place of the input b among the node's transitions; 256 and the place of the first greater input where it is absent;
 // 513 for an unsound node.
 #[no_mangle]
-pub extern "C" fn baxhiso_find_input(
+pub extern "C" fn oracle_find_input(
     file: &[u8],
     version: u64,
     root: usize,

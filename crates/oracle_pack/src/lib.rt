@@ -9,7 +9,7 @@ use pack_blank::Packed;
 
 // The length of the file, or 2^32 plus the refusal.
 #[no_mangle]
-pub extern "C" fn baxhiso_pack(
+pub extern "C" fn oracle_pack(
     limit: u32,
     list: &[u8],
     output: &mut [u8],

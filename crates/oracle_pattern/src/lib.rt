@@ -23,7 +23,7 @@ use stream_start::Begins;
 
 // 0 where a start gives a reading, which stands in the arrays then; else the refusal, the arrays as they were.
 #[no_mangle]
-pub extern "C" fn baxhiso_start_by(
+pub extern "C" fn oracle_start_by(
     file: &[u8],
     positions: &[u16],
     rest: u64,
@@ -66,7 +66,7 @@ pub extern "C" fn baxhiso_start_by(
 // The length of the next key, which stands at the front of key, with its value; 1000 for the end; or 2000 plus the refusal. The arrays
 // hold the reading afterwards.
 #[no_mangle]
-pub extern "C" fn baxhiso_next_by(
+pub extern "C" fn oracle_next_by(
     file: &[u8],
     pattern: &[u64; 2],
     positions: &[u16; 255],

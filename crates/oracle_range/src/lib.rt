@@ -11,7 +11,7 @@ use stream_arrays::kind_of;
 
 // 1000 where the range ended, 1001 where more may come, or 2000 plus the refusal; count has the number of rows that were written.
 #[no_mangle]
-pub extern "C" fn baxhiso_range(
+pub extern "C" fn oracle_range(
     file: &[u8],
     lower_kind: u64,
     lower: &[u8],

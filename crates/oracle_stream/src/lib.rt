@@ -22,7 +22,7 @@ use stream_step::Answer;
 
 // 0 where a start with this table gives a reading, which stands in the arrays then; else the refusal, the arrays as they were.
 #[no_mangle]
-pub extern "C" fn baxhiso_start(
+pub extern "C" fn oracle_start(
     file: &[u8],
     lower_kind: u64,
     lower: &[u8],
@@ -78,7 +78,7 @@ pub fn told(answer: Answer, value: &mut [u64; 1]) -> u64
 // The length of the next key, which stands at the front of key, with its value; 1000 for the end; or 2000 plus the refusal. The arrays
 // hold the reading afterwards.
 #[no_mangle]
-pub extern "C" fn baxhiso_next(
+pub extern "C" fn oracle_next(
     file: &[u8],
     head: &mut [u64; 7],
     bound: &mut [u8; 255],
@@ -151,7 +151,7 @@ fn keys_from(file: &[u8], plain: Plain, most: u64, key: &mut [u8]) -> u64
 // How many calls after a start with this table hand out a key, up to the first that does not and at most so many; none where the start is
 // refused. The buffer holds what the last of them left there.
 #[no_mangle]
-pub extern "C" fn baxhiso_keys(
+pub extern "C" fn oracle_keys(
     file: &[u8],
     lower_kind: u64,
     lower: &[u8],
@@ -198,9 +198,9 @@ fn bare_keys_from(file: &[u8], reading: Reading, most: u64, key: &mut [u8]) -> u
     n
 }
 
-// As baxhiso_keys, by readings without the number, which take no table.
+// As oracle_keys, by readings without the number, which take no table.
 #[no_mangle]
-pub extern "C" fn baxhiso_bare_keys(
+pub extern "C" fn oracle_bare_keys(
     file: &[u8],
     lower_kind: u64,
     lower: &[u8],
