@@ -1,0 +1,2 @@
+-- Lemmas on the cases of carrying with marks, for the proofs of this crate.
+mod MarkCarryCases

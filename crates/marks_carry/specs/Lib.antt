@@ -1,0 +1,4 @@
+pub mod MarksCarry
+pub mod MarksCarryLaws
+pub mod CarriedRun
+pub mod CarriedRunLaws

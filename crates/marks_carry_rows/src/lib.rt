@@ -1,0 +1,1 @@
+// Worked rows of a reading with marks carried to another file (specs/); there is no code here.
