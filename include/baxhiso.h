@@ -1,6 +1,6 @@
 /* baxhiso.h: read values by key, keys by value, and the keys between two bounds, from an FST file that is held in memory.
  *
- * Link libbaxhiso.a into a program for x86-64: `./install PREFIX` puts it and this header there, or `rt staticlib baxhiso` writes
+ * Link libbaxhiso.a into a program for x86-64: `./install PREFIX` puts it and this header there, or `tools/library.sh` writes
  * target/staticlib/libbaxhiso.a. It calls memcpy and memset and nothing else.
  *
  * The library allocates nothing and keeps nothing between calls: any number of threads may call it at the same time, also on one file, as long
@@ -11,7 +11,7 @@
  * it. Every file may be handed in, admitted or not, damaged or not.
  *
  * Each function of the library is proved to return on every input, with the result and with what each buffer holds afterwards as said
- * below (crates/baxhiso/specs/Exports.antt and Readings.antt, with the definitions of docs/FORMAT.md). Only tested, by tests/c: that these
+ * below (crates/baxhiso/specs/Exports.antt and Readings.antt, crates/baxhiso_files/specs/Files.antt, with the definitions of docs/FORMAT.md). Only tested, by tests/c: that these
  * declarations fit the library, the functions that are defined here, and NULL with length 0. The stack is not part of the proof: no function
  * calls itself, and FST_STACK_OPEN and those after it say what was measured.
  *
@@ -53,7 +53,7 @@ extern "C" {
 #define BAXHISO_VERSION       "1.0.0"
 
 /* Results. Negative: an answer that is no error. Positive: a refusal, numbered and named as in docs/FORMAT.md, "Refusals". The
- * functions below answer 1 to 9, 11 and 19; the other numbers belong to functions that are not exported. */
+ * functions below answer 1 to 9, 11, 15 and 19; the other numbers belong to functions that are not exported. */
 #define FST_OK            0
 #define FST_NONE        (-1) /* no such key or value                                                                    */
 #define FST_END         (-2) /* no more keys                                                                            */
@@ -123,6 +123,7 @@ static inline const char *fst_result_name(int result)
 #define FST_STACK_START    18432
 #define FST_STACK_NEXT     32768
 #define FST_STACK_RANGE    28672
+#define FST_STACK_CONVERT  12288
 
 /* What stands for the checksum of a file that has none: larger than any stored checksum. */
 #define FST_NO_CHECKSUM UINT64_C(4294967296)
@@ -345,6 +346,27 @@ static inline uint64_t fst_to_come(const fst_reading *reading)
 {
     return reading->keys[0];
 }
+
+/* ---- files written */
+
+/* Converts a file of version 1 to version 2: the same nodes, keys and values, and wide nodes with an index, so that lookups in them are faster.
+ *
+ *   file, file_len       the old file, which is admitted first
+ *   depths, sums         work tables of at least file_len entries each; afterwards as fst_admit leaves them, on every result
+ *   out, out_len         on FST_OK the new file from out[0] on
+ *   table, table_len     at least file_len entries; on FST_OK, at the address of each node of the old file, its address in the new one,
+ *                        which is 0 for a node that is not written (final, without transitions, output 0), and 0 at the other entries
+ *                        below file_len
+ *   len                  the new file's length on FST_OK
+ *
+ * Out behind the new file and table from file_len on are left as they were; on any other result out, table and len are all as they were.
+ *
+ * Returns what fst_admit returns, FST_ERR_SPACE for the work tables among it; then FST_ERR_EDITION for a file that is not of version 1, a blank card
+ * too; then FST_ERR_LARGE where the new file would be over FST_MAX_LEN bytes; then FST_ERR_SPACE where out is shorter than the new file, or table than
+ * the old one; else FST_OK. The new file may be longer than the old one; a caller that gets FST_ERR_SPACE may call again with a longer out. It is
+ * admitted, and fst_get and fst_range answer from it as from the old file. */
+int32_t fst_convert(const uint8_t *file, size_t file_len, uint16_t *depths, size_t depths_len, uint64_t *sums, size_t sums_len,
+                    uint8_t *out, size_t out_len, uint32_t *table, size_t table_len, size_t *len);
 
 #ifdef __cplusplus
 }
