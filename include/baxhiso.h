@@ -53,7 +53,7 @@ extern "C" {
 #define BAXHISO_VERSION       "1.0.0"
 
 /* Results. Negative: an answer that is no error. Positive: a refusal, numbered and named as in docs/FORMAT.md, "Refusals". The
- * functions below answer 1 to 9, 11, 15 and 19; the other numbers belong to functions that are not exported. */
+ * functions below answer 1 to 9, 11, 13, 15 and 19; the other numbers belong to functions that are not exported. */
 #define FST_OK            0
 #define FST_NONE        (-1) /* no such key or value                                                                    */
 #define FST_END         (-2) /* no more keys                                                                            */
@@ -124,6 +124,7 @@ static inline const char *fst_result_name(int result)
 #define FST_STACK_NEXT     32768
 #define FST_STACK_RANGE    28672
 #define FST_STACK_CONVERT  12288
+#define FST_STACK_PACK     8192
 
 /* What stands for the checksum of a file that has none: larger than any stored checksum. */
 #define FST_NO_CHECKSUM UINT64_C(4294967296)
@@ -367,6 +368,38 @@ static inline uint64_t fst_to_come(const fst_reading *reading)
  * admitted, and fst_get and fst_range answer from it as from the old file. */
 int32_t fst_convert(const uint8_t *file, size_t file_len, uint16_t *depths, size_t depths_len, uint64_t *sums, size_t sums_len,
                     uint8_t *out, size_t out_len, uint32_t *table, size_t table_len, size_t *len);
+
+/* A cell of fst_pack: a node that was written, and its hash. Empty where the address is 1. A caller need not look into it. */
+typedef struct fst_cell {
+    uint64_t address;
+    uint64_t hash;
+} fst_cell;
+
+#define FST_PACK_TABLE 65536 /* the entries of each working table of fst_pack: 1,114,112 bytes for the three                             */
+#define FST_PACK_CELLS 20000 /* cells that will do for most lists, 320,000 bytes: with more, more equal nodes are found and stored once  */
+
+/* The bytes of a list of so many keys with so many key bytes in all. */
+#define FST_LIST_LEN(keys, key_bytes) ((size_t)8 + (size_t)12 * (size_t)(keys) + (size_t)(key_bytes))
+
+/* Packs a list of keys and values into a file of version 2.
+ *
+ *   list, list_len         every number little-endian: the number of keys n and the total of their bytes, 4 bytes each; n ends, 4 bytes each;
+ *                          n values, 8 bytes each; the key bytes. Key i is the key bytes from the end of the key before, 0 for the first, to its
+ *                          own end. The keys ascend, and none stands twice. FST_LIST_LEN bytes
+ *   out, out_len           on FST_OK the file from out[0] on, and zeros behind it; zeros on any other result
+ *   cells, cells_len       at least two; on FST_OK as the run left them, all empty on any other result
+ *   inputs, leasts, targets   working tables of at least FST_PACK_TABLE entries each; zeros afterwards, on every result
+ *   len                    the file's length on FST_OK, and left as it was on any other result
+ *
+ * What the buffers held before does not matter. Every one is written whole.
+ *
+ * Returns FST_ERR_LIST for bytes that are no list: under 8, another length than FST_LIST_LEN, ends that fall or do not reach the total, a key over 255
+ * bytes, a key that does not come after the one before; then FST_ERR_SPACE for a working table or an output that is too short, or fewer than two cells; then
+ * FST_ERR_LARGE for a file over FST_MAX_LEN bytes; else FST_OK. A caller that gets FST_ERR_SPACE may call again with a longer out.
+ *
+ * The file is admitted, and holds exactly the listed keys, each with its value. */
+int32_t fst_pack(const uint8_t *list, size_t list_len, uint8_t *out, size_t out_len, fst_cell *cells, size_t cells_len,
+                 uint8_t *inputs, size_t inputs_len, uint64_t *leasts, size_t leasts_len, size_t *targets, size_t targets_len, size_t *len);
 
 #ifdef __cplusplus
 }

@@ -159,9 +159,150 @@ static void convert_rows(void)
     free(no_key2.bytes);
 }
 
+/* ---- packing */
+
+typedef struct pair {
+    const char *key;
+    size_t len;
+    uint64_t value;
+} pair;
+
+/* The bytes of a list. */
+static file list_of(const pair *pairs, size_t n)
+{
+    file f;
+    size_t total = 0, end = 0;
+    for (size_t i = 0; i < n; i++)
+        total += pairs[i].len;
+    f.len = FST_LIST_LEN(n, total);
+    f.bytes = block(f.len);
+    put(f.bytes, n, 4);
+    put(f.bytes + 4, total, 4);
+    for (size_t i = 0; i < n; i++) {
+        if (pairs[i].len > 0)
+            memcpy(f.bytes + 8 + 12 * n + end, pairs[i].key, pairs[i].len);
+        end += pairs[i].len;
+        put(f.bytes + 8 + 4 * i, end, 4);
+        put(f.bytes + 8 + 4 * n + 8 * i, pairs[i].value, 8);
+    }
+    return f;
+}
+
+static uint8_t *inputs;
+static uint64_t *leasts;
+static size_t *targets;
+
+/* Every buffer is filled with MARK before: what it held does not matter. On FST_OK each pair is read back, and nothing else is held. */
+static void pack_row(const char *name, file list, size_t cells_len, size_t table_len, size_t out_len, int32_t want, size_t want_len,
+                     const pair *pairs, size_t n)
+{
+    uint8_t *out = block(out_len);
+    fst_cell *cells = block(cells_len * sizeof *cells);
+    size_t *len = block(sizeof *len), i;
+    inputs = block(table_len);
+    leasts = block(table_len * sizeof *leasts);
+    targets = block(table_len * sizeof *targets);
+    row = name;
+    calls++;
+    expect_number((uint64_t)fst_pack(list.bytes, list.len, out, out_len, cells, cells_len, inputs, table_len, leasts, table_len, targets, table_len, len),
+                  (uint64_t)want, "fst_pack");
+    for (i = 0; i < table_len; i++)
+        expect(inputs[i] == 0 && leasts[i] == 0 && targets[i] == 0, "an entry of a working table");
+    if (want == FST_OK) {
+        uint16_t *depths = block(want_len * sizeof *depths);
+        uint64_t *sums = block(want_len * sizeof *sums), *counts = block(want_len * sizeof *counts), value;
+        fst_reading *reading = block(sizeof *reading);
+        expect_number(*len, want_len, "len");
+        for (i = want_len; i < out_len; i++)
+            expect(out[i] == 0, "a byte behind the file");
+        expect_number((uint64_t)fst_count(out, want_len, depths, want_len, sums, want_len, counts, want_len), FST_OK, "fst_count");
+        expect_number((uint64_t)fst_start(out, want_len, NULL, NULL, counts, want_len, reading), FST_OK, "fst_start");
+        expect_number(fst_to_come(reading), n, "the number of keys");
+        for (i = 0; i < n; i++) {
+            expect_number((uint64_t)fst_get(out, want_len, (const uint8_t *)pairs[i].key, pairs[i].len, &value), FST_OK, "fst_get");
+            expect_number(value, pairs[i].value, "a value");
+        }
+        free(reading);
+        free(counts);
+        free(sums);
+        free(depths);
+    } else {
+        expect(untouched(len, sizeof *len), "len");
+        for (i = 0; i < out_len; i++)
+            expect(out[i] == 0, "a byte of the output");
+        for (i = 0; i < cells_len; i++)
+            expect(cells[i].address == 1 && cells[i].hash == 0, "a cell");
+    }
+    free(targets);
+    free(leasts);
+    free(inputs);
+    free(len);
+    free(cells);
+    free(out);
+}
+
+static void pack_rows(void)
+{
+    static const pair d[] = { { "a", 1, 1 }, { "at", 2, 3 }, { "e", 1, 4 } };
+    static const pair empty[] = { { "", 0, 0 } }, seven[] = { { "", 0, 7 } }, a[] = { { "a", 1, 0 } }, a1[] = { { "a", 1, 1 } };
+    static const pair hashes[] = { { "1a", 2, 0 }, { "1c", 2, 5 }, { "2b", 2, 0 }, { "2c", 2, UINT64_C(2319356264794259026) } };
+    static const pair twice[] = { { "a", 1, 1 }, { "a", 1, 1 } }, falling[] = { { "b", 1, 1 }, { "a", 1, 2 } };
+    char wide[256];
+    const pair too_long[] = { { wide, 256, 1 } }, longest[] = { { wide, 255, UINT64_MAX } };
+    const size_t t = FST_PACK_TABLE;
+    file none = list_of(d, 0), list = list_of(d, 3), other;
+    size_t len = 5;
+
+    memset(wide, 'w', sizeof wide);
+    pack_row("pack none", none, 2, t, 35, FST_OK, 35, NULL, 0);
+    other = list_of(empty, 1);
+    pack_row("pack the empty key", other, 2, t, 40, FST_OK, 32, empty, 1);
+    free(other.bytes);
+    other = list_of(seven, 1);
+    pack_row("pack the empty key, 7", other, 2, t, 36, FST_OK, 36, seven, 1);
+    free(other.bytes);
+    other = list_of(a, 1);
+    pack_row("pack a", other, 3, t + 1, 35, FST_OK, 35, a, 1);
+    free(other.bytes);
+    other = list_of(a1, 1);
+    pack_row("pack a, 1", other, 2, t, 36, FST_OK, 36, a1, 1);
+    free(other.bytes);
+    other = list_of(hashes, 4);
+    pack_row("pack two nodes with one hash", other, 2, t, 68, FST_OK, 68, hashes, 4);
+    free(other.bytes);
+    other = list_of(longest, 1);
+    pack_row("pack 255 bytes", other, 20, t, 4000, FST_OK, 299, longest, 1);
+    free(other.bytes);
+    pack_row("pack D", list, 64, t, 100, FST_OK, 46, d, 3);
+    pack_row("pack D, output one short", list, 64, t, 45, FST_ERR_SPACE, 0, NULL, 0);
+    pack_row("pack D, one cell", list, 1, t, 100, FST_ERR_SPACE, 0, NULL, 0);
+    pack_row("pack D, tables one short", list, 64, t - 1, 100, FST_ERR_SPACE, 0, NULL, 0);
+    list.len--;
+    pack_row("pack D, list one short", list, 0, 3, 40, FST_ERR_LIST, 0, NULL, 0);
+    list.len = 7;
+    pack_row("pack 7 bytes", list, 4, t, 40, FST_ERR_LIST, 0, NULL, 0);
+    other = list_of(twice, 2);
+    pack_row("pack a twice", other, 4, t, 40, FST_ERR_LIST, 0, NULL, 0);
+    free(other.bytes);
+    other = list_of(falling, 2);
+    pack_row("pack keys that fall", other, 4, t, 40, FST_ERR_LIST, 0, NULL, 0);
+    free(other.bytes);
+    other = list_of(too_long, 1);
+    pack_row("pack 256 bytes", other, 4, t, 40, FST_ERR_LIST, 0, NULL, 0);
+    free(other.bytes);
+    row = "pack NULL";
+    calls += 2;
+    expect_number((uint64_t)fst_pack(NULL, 0, NULL, 0, NULL, 0, NULL, 0, NULL, 0, NULL, 0, &len), FST_ERR_LIST, "no list");
+    expect_number((uint64_t)fst_pack(none.bytes, none.len, NULL, 0, NULL, 0, NULL, 0, NULL, 0, NULL, 0, &len), FST_ERR_SPACE, "no buffers");
+    expect_number(len, 5, "len");
+    free(list.bytes);
+    free(none.bytes);
+}
+
 int main(void)
 {
     convert_rows();
+    pack_rows();
     printf("files: %d calls, %d differences\n", calls, differences);
     return differences > 0;
 }

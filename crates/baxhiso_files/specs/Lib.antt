@@ -1,2 +1,4 @@
 pub mod Files
 pub mod FilesLaws
+pub mod PackFiles
+pub mod PackFilesLaws
