@@ -53,7 +53,7 @@ extern "C" {
 #define BAXHISO_VERSION       "1.0.0"
 
 /* Results. Negative: an answer that is no error. Positive: a refusal, numbered and named as in docs/FORMAT.md, "Refusals". The
- * functions below answer 1 to 9, 11, 13, 15 and 19; the other numbers belong to functions that are not exported. */
+ * functions below answer 1 to 9, 11, 13, 15, 16 and 19; the other numbers belong to functions that are not exported. */
 #define FST_OK            0
 #define FST_NONE        (-1) /* no such key or value                                                                    */
 #define FST_END         (-2) /* no more keys                                                                            */
@@ -125,6 +125,7 @@ static inline const char *fst_result_name(int result)
 #define FST_STACK_RANGE    28672
 #define FST_STACK_CONVERT  12288
 #define FST_STACK_PACK     8192
+#define FST_STACK_CARRY    16384
 
 /* What stands for the checksum of a file that has none: larger than any stored checksum. */
 #define FST_NO_CHECKSUM UINT64_C(4294967296)
@@ -400,6 +401,30 @@ typedef struct fst_cell {
  * The file is admitted, and holds exactly the listed keys, each with its value. */
 int32_t fst_pack(const uint8_t *list, size_t list_len, uint8_t *out, size_t out_len, fst_cell *cells, size_t cells_len,
                  uint8_t *inputs, size_t inputs_len, uint64_t *leasts, size_t leasts_len, size_t *targets, size_t targets_len, size_t *len);
+
+/* ---- a reading carried to another file */
+
+/* What fst_carry calls: each field of a reading is an argument. */
+int32_t fst_carry_arrays(const uint8_t *old_file, size_t old_len, const uint8_t *new_file, size_t new_len,
+                         uint64_t *head, uint8_t *bound, uint32_t *addrs, uint8_t *inps, uint16_t *trans, uint64_t *outs, uint64_t keys);
+
+/* Carries a reading of a file to the file that fst_convert made of it: fst_next goes on there where it stood.
+ *
+ *   old_file, old_len   the file that the reading was started on
+ *   new_file, new_len   the new file
+ *   reading             a reading of the new file on FST_OK, with as many keys to come; left as it was on any other result
+ *
+ * Returns FST_ERR_SHORT, FST_ERR_LARGE, FST_ERR_VERSION or FST_ERR_ROOT, as fst_open, of the old file, then of the new one; then FST_ERR_STATE, as fst_next on
+ * the old file; then for each level of the reading, from the root on: FST_ERR_NODE for a node of the old file that is not sound; FST_ERR_CARRY where the new
+ * file does not go on with the same byte; FST_ERR_NODE for its node; FST_ERR_CARRY where that node has another number of transitions or another sum; else FST_OK.
+ *
+ * From a file for which fst_count answered FST_OK to the file that fst_convert made of it, a reading that fst_start and fst_next left is carried, and the calls on
+ * the new file hand out the keys and values that the old one had still to hand out. Carrying to any other file may be refused, or answered with that file's keys. */
+static inline int32_t fst_carry(const uint8_t *old_file, size_t old_len, const uint8_t *new_file, size_t new_len, fst_reading *reading)
+{
+    return fst_carry_arrays(old_file, old_len, new_file, new_len, reading->head, reading->bound, reading->addrs, reading->inps, reading->trans,
+                            reading->outs, reading->keys[0]);
+}
 
 #ifdef __cplusplus
 }

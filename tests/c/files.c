@@ -1,4 +1,4 @@
-/* Calls the functions of include/baxhiso.h that write files, and checks the result, and every buffer afterwards.
+/* Calls the functions of include/baxhiso.h that write files or carry a reading to one, and checks the result, and every buffer afterwards.
  *
  * Each buffer is a block of its own of exactly the length that the call is given, so that valgrind sees a step beyond it. What is not to be
  * written is filled with MARK. */
@@ -299,10 +299,79 @@ static void pack_rows(void)
     free(none.bytes);
 }
 
+/* ---- a reading carried */
+
+static void carry_row(const char *name, file old, file new, fst_reading *reading, int32_t want)
+{
+    fst_reading was = *reading;
+    row = name;
+    calls++;
+    expect_number((uint64_t)fst_carry(old.bytes, old.len, new.bytes, new.len, reading), (uint64_t)want, "fst_carry");
+    expect_number(fst_to_come(reading), fst_to_come(&was), "the number of keys to come");
+    expect(want == FST_OK || memcmp(reading, &was, sizeof was) == 0, "the reading");
+}
+
+static void next_is(file f, fst_reading *reading, int32_t want, const char *key, uint64_t value)
+{
+    uint8_t buffer[FST_KEY_SPACE];
+    size_t len = 0;
+    uint64_t got = 0;
+    calls++;
+    expect_number((uint64_t)fst_next(f.bytes, f.len, reading, buffer, sizeof buffer, &len, &got), (uint64_t)want, "fst_next");
+    if (want == FST_OK) {
+        expect(len == strlen(key) && memcmp(buffer, key, len) == 0, "the key");
+        expect_number(got, value, "the value");
+    }
+}
+
+static void carry_rows(void)
+{
+    file v = make(1, v_nodes, sizeof v_nodes, 3), other = make(2, "\0\x10\x85", 3, 1), blank = { NULL, 0 }, brief = { v.bytes, 5 }, converted;
+    uint16_t *depths = block(v.len * sizeof *depths);
+    uint64_t *sums = block(v.len * sizeof *sums), *counts = block(v.len * sizeof *counts);
+    uint32_t *table = block(v.len * sizeof *table);
+    fst_reading reading, half, begun;
+
+    /* half way down the list the file is converted, and the reading goes on in the new file */
+    row = "carry V";
+    converted.bytes = block(100);
+    fst_count(v.bytes, v.len, depths, v.len, sums, v.len, counts, v.len);
+    fst_start(v.bytes, v.len, NULL, NULL, counts, v.len, &reading);
+    begun = reading;
+    next_is(v, &reading, FST_OK, "", 0);
+    next_is(v, &reading, FST_OK, "a", 2);
+    half = reading;
+    expect_number((uint64_t)fst_convert(v.bytes, v.len, depths, v.len, sums, v.len, converted.bytes, 100, table, v.len, &converted.len), FST_OK, "fst_convert");
+    carry_row("carry V after a", v, converted, &reading, FST_OK);
+    expect(reading.head[0] == 41 && reading.head[6] == 2 && reading.addrs[0] == 24 && reading.addrs[1] == 0 && reading.outs[1] == 2, "the levels");
+    next_is(converted, &reading, FST_OK, "b", 0);
+    next_is(converted, &reading, FST_END, NULL, 0);
+    carry_row("carry V just started", v, converted, &begun, FST_OK);
+    next_is(converted, &begun, FST_OK, "", 0);
+    next_is(converted, &begun, FST_OK, "a", 2);
+    next_is(converted, &begun, FST_OK, "b", 0);
+    next_is(converted, &begun, FST_END, NULL, 0);
+    carry_row("carry V after a to itself", v, v, &half, FST_OK);
+    carry_row("carry V after a to another file", v, other, &half, FST_ERR_CARRY);
+    carry_row("carry V after a to a blank card", v, blank, &half, FST_ERR_NODE);
+    carry_row("carry V after a to 5 bytes", v, brief, &half, FST_ERR_SHORT);
+    carry_row("carry of another length", converted, v, &half, FST_ERR_STATE);
+    half.head[6] = 257;
+    carry_row("carry 257 levels", v, converted, &half, FST_ERR_STATE);
+    free(converted.bytes);
+    free(table);
+    free(counts);
+    free(sums);
+    free(depths);
+    free(other.bytes);
+    free(v.bytes);
+}
+
 int main(void)
 {
     convert_rows();
     pack_rows();
+    carry_rows();
     printf("files: %d calls, %d differences\n", calls, differences);
     return differences > 0;
 }

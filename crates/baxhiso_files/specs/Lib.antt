@@ -2,3 +2,4 @@ pub mod Files
 pub mod FilesLaws
 pub mod PackFiles
 pub mod PackFilesLaws
+pub mod CarryArrays
