@@ -1,6 +1,6 @@
 /* baxhiso.h: read values by key, keys by value, and the keys between two bounds, from an FST file that is held in memory.
  *
- * Link libbaxhiso.a into a program for x86-64: `./install PREFIX` puts it and this header there, or `rt staticlib baxhiso` writes
+ * Link libbaxhiso.a into a program for x86-64: `./install PREFIX` puts it and this header there, or `tools/library.sh` writes
  * target/staticlib/libbaxhiso.a. It calls memcpy and memset and nothing else.
  *
  * The library allocates nothing and keeps nothing between calls: any number of threads may call it at the same time, also on one file, as long
@@ -11,7 +11,7 @@
  * it. Every file may be handed in, admitted or not, damaged or not.
  *
  * Each function of the library is proved to return on every input, with the result and with what each buffer holds afterwards as said
- * below (crates/baxhiso/specs/Exports.antt and Readings.antt, with the definitions of docs/FORMAT.md). Only tested, by tests/c: that these
+ * below (crates/baxhiso/specs/Exports.antt and Readings.antt, crates/baxhiso_files/specs/Files.antt, with the definitions of docs/FORMAT.md). Only tested, by tests/c: that these
  * declarations fit the library, the functions that are defined here, and NULL with length 0. The stack is not part of the proof: no function
  * calls itself, and FST_STACK_OPEN and those after it say what was measured.
  *
@@ -53,7 +53,7 @@ extern "C" {
 #define BAXHISO_VERSION       "1.0.0"
 
 /* Results. Negative: an answer that is no error. Positive: a refusal, numbered and named as in docs/FORMAT.md, "Refusals". The
- * functions below answer 1 to 9, 11 and 19; the other numbers belong to functions that are not exported. */
+ * functions below answer 1 to 9, 11, 13, 15, 16 and 19; the other numbers belong to functions that are not exported. */
 #define FST_OK            0
 #define FST_NONE        (-1) /* no such key or value                                                                    */
 #define FST_END         (-2) /* no more keys                                                                            */
@@ -123,6 +123,9 @@ static inline const char *fst_result_name(int result)
 #define FST_STACK_START    18432
 #define FST_STACK_NEXT     32768
 #define FST_STACK_RANGE    28672
+#define FST_STACK_CONVERT  12288
+#define FST_STACK_PACK     8192
+#define FST_STACK_CARRY    16384
 
 /* What stands for the checksum of a file that has none: larger than any stored checksum. */
 #define FST_NO_CHECKSUM UINT64_C(4294967296)
@@ -344,6 +347,83 @@ static inline int32_t fst_next(const uint8_t *file, size_t file_len, fst_reading
 static inline uint64_t fst_to_come(const fst_reading *reading)
 {
     return reading->keys[0];
+}
+
+/* ---- files written */
+
+/* Converts a file of version 1 to version 2: the same nodes, keys and values, and wide nodes with an index, so that lookups in them are faster.
+ *
+ *   file, file_len       the old file, which is admitted first
+ *   depths, sums         work tables of at least file_len entries each; afterwards as fst_admit leaves them, on every result
+ *   out, out_len         on FST_OK the new file from out[0] on
+ *   table, table_len     at least file_len entries; on FST_OK, at the address of each node of the old file, its address in the new one,
+ *                        which is 0 for a node that is not written (final, without transitions, output 0), and 0 at the other entries
+ *                        below file_len
+ *   len                  the new file's length on FST_OK
+ *
+ * Out behind the new file and table from file_len on are left as they were; on any other result out, table and len are all as they were.
+ *
+ * Returns what fst_admit returns, FST_ERR_SPACE for the work tables among it; then FST_ERR_EDITION for a file that is not of version 1, a blank card
+ * too; then FST_ERR_LARGE where the new file would be over FST_MAX_LEN bytes; then FST_ERR_SPACE where out is shorter than the new file, or table than
+ * the old one; else FST_OK. The new file may be longer than the old one; a caller that gets FST_ERR_SPACE may call again with a longer out. It is
+ * admitted, and fst_get and fst_range answer from it as from the old file. */
+int32_t fst_convert(const uint8_t *file, size_t file_len, uint16_t *depths, size_t depths_len, uint64_t *sums, size_t sums_len,
+                    uint8_t *out, size_t out_len, uint32_t *table, size_t table_len, size_t *len);
+
+/* A cell of fst_pack: a node that was written, and its hash. Empty where the address is 1. A caller need not look into it. */
+typedef struct fst_cell {
+    uint64_t address;
+    uint64_t hash;
+} fst_cell;
+
+#define FST_PACK_TABLE 65536 /* the entries of each working table of fst_pack: 1,114,112 bytes for the three                             */
+#define FST_PACK_CELLS 20000 /* cells that will do for most lists, 320,000 bytes: with more, more equal nodes are found and stored once  */
+
+/* The bytes of a list of so many keys with so many key bytes in all. */
+#define FST_LIST_LEN(keys, key_bytes) ((size_t)8 + (size_t)12 * (size_t)(keys) + (size_t)(key_bytes))
+
+/* Packs a list of keys and values into a file of version 2.
+ *
+ *   list, list_len         every number little-endian: the number of keys n and the total of their bytes, 4 bytes each; n ends, 4 bytes each;
+ *                          n values, 8 bytes each; the key bytes. Key i is the key bytes from the end of the key before, 0 for the first, to its
+ *                          own end. The keys ascend, and none stands twice. FST_LIST_LEN bytes
+ *   out, out_len           on FST_OK the file from out[0] on, and zeros behind it; zeros on any other result
+ *   cells, cells_len       at least two; on FST_OK as the run left them, all empty on any other result
+ *   inputs, leasts, targets   working tables of at least FST_PACK_TABLE entries each; zeros afterwards, on every result
+ *   len                    the file's length on FST_OK, and left as it was on any other result
+ *
+ * What the buffers held before does not matter. Every one is written whole.
+ *
+ * Returns FST_ERR_LIST for bytes that are no list: under 8, another length than FST_LIST_LEN, ends that fall or do not reach the total, a key over 255
+ * bytes, a key that does not come after the one before; then FST_ERR_SPACE for a working table or an output that is too short, or fewer than two cells; then
+ * FST_ERR_LARGE for a file over FST_MAX_LEN bytes; else FST_OK. A caller that gets FST_ERR_SPACE may call again with a longer out.
+ *
+ * The file is admitted, and holds exactly the listed keys, each with its value. */
+int32_t fst_pack(const uint8_t *list, size_t list_len, uint8_t *out, size_t out_len, fst_cell *cells, size_t cells_len,
+                 uint8_t *inputs, size_t inputs_len, uint64_t *leasts, size_t leasts_len, size_t *targets, size_t targets_len, size_t *len);
+
+/* ---- a reading carried to another file */
+
+/* What fst_carry calls: each field of a reading is an argument. */
+int32_t fst_carry_arrays(const uint8_t *old_file, size_t old_len, const uint8_t *new_file, size_t new_len,
+                         uint64_t *head, uint8_t *bound, uint32_t *addrs, uint8_t *inps, uint16_t *trans, uint64_t *outs, uint64_t keys);
+
+/* Carries a reading of a file to the file that fst_convert made of it: fst_next goes on there where it stood.
+ *
+ *   old_file, old_len   the file that the reading was started on
+ *   new_file, new_len   the new file
+ *   reading             a reading of the new file on FST_OK, with as many keys to come; left as it was on any other result
+ *
+ * Returns FST_ERR_SHORT, FST_ERR_LARGE, FST_ERR_VERSION or FST_ERR_ROOT, as fst_open, of the old file, then of the new one; then FST_ERR_STATE, as fst_next on
+ * the old file; then for each level of the reading, from the root on: FST_ERR_NODE for a node of the old file that is not sound; FST_ERR_CARRY where the new
+ * file does not go on with the same byte; FST_ERR_NODE for its node; FST_ERR_CARRY where that node has another number of transitions or another sum; else FST_OK.
+ *
+ * From a file for which fst_count answered FST_OK to the file that fst_convert made of it, a reading that fst_start and fst_next left is carried, and the calls on
+ * the new file hand out the keys and values that the old one had still to hand out. Carrying to any other file may be refused, or answered with that file's keys. */
+static inline int32_t fst_carry(const uint8_t *old_file, size_t old_len, const uint8_t *new_file, size_t new_len, fst_reading *reading)
+{
+    return fst_carry_arrays(old_file, old_len, new_file, new_len, reading->head, reading->bound, reading->addrs, reading->inps, reading->trans,
+                            reading->outs, reading->keys[0]);
 }
 
 #ifdef __cplusplus

@@ -1,4 +1,4 @@
-/* baxhiso.c: asks an index file for keys and values, through the C interface and nothing else (./baxhiso --help).
+/* baxhiso.c: asks an index file for keys and values, and writes new ones, through the C interface and nothing else (./baxhiso --help).
  *
  * A file is read whole, and admitted before it is asked: from then on each answer is exact (include/baxhiso.h). The keys of a range
  * come in pages, and the next page starts after the last key of the one before.
@@ -21,7 +21,7 @@ enum { FOUND = 0, NONE = 1, TROUBLE = 2, REFUSED = 3, READER_GONE = 141 };
 enum { PAGE = 256 };
 
 static const char usage_line[] =
-    "usage: baxhiso get FILE KEY | key FILE NUMBER | range FILE [BOUNDS] [--limit N] | list FILE | count FILE [BOUNDS] | check FILE | info FILE\n";
+    "usage: baxhiso get FILE KEY | key FILE NUMBER | range FILE [BOUNDS] [--limit N] | list FILE | count FILE [BOUNDS] | check FILE | info FILE | convert OLD NEW | pack LIST NEW\n";
 
 static const char help_text[] =
     "\n"
@@ -35,9 +35,12 @@ static const char help_text[] =
     "    count FILE         how many keys lie between the bounds, given as for range; all keys where none is given\n"
     "    check FILE         whether the file is admitted, or why not\n"
     "    info FILE          what header and trailer say: size, version, type, keys, root, checksum; read, not judged\n"
+    "    convert OLD NEW    a file of version 1 brought to version 2: the same keys and values, faster to look up in wide nodes\n"
+    "    pack LIST NEW      a file of your own: each line of LIST has a key, a tab and a number, in any order, no key twice\n"
     "\n"
-    "FILE may be -, for standard input. It is admitted first, whole; only info opens it and looks no further. A file has at most\n"
-    "4294967295 bytes; admission takes 10 bytes of memory for each, counting 18.\n"
+    "FILE, OLD and LIST may be -, for standard input. It is admitted first, whole; only info opens it and looks no further. A file has at most\n"
+    "4294967295 bytes; admission takes 10 bytes of memory for each, counting 18, converting 14 and two for the new file.\n"
+    "NEW is written beside its place and put there when it is whole, also over a file that stands there; a refusal writes nothing.\n"
     "\n"
     "Options, after the command's name, in any order:\n"
     "\n"
@@ -51,6 +54,7 @@ static const char help_text[] =
     "    --hex 00ff     any other key, as it may be given back; the empty key is --hex ''\n"
     "    at 3           a key and its value, of range and list\n"
     "    none           no such key or value, no key between the bounds\n"
+    "    size 41        the bytes of the new file\n"
     "    refused 5      the file is not admitted; the refusal's name is on standard error (docs/FORMAT.md, \"Refusals\"), for check beside it\n"
     "\n"
     "A KEY may not begin with --: give it by --hex. By value, final outputs are not counted: in a file that is not numbered (docs/FORMAT.md,\n"
@@ -270,6 +274,8 @@ static const char *meaning(int32_t refusal)
     case FST_ERR_SUM:     return "a sum passes 2^64 - 1";
     case FST_ERR_SPACE:   return "a buffer is too short";
     case FST_ERR_BOUND:   return "a bound is over 255 bytes";
+    case FST_ERR_LIST:    return "the list of keys breaks a rule";
+    case FST_ERR_EDITION: return "the file is not of version 1";
     case FST_ERR_COUNT:   return "the file has more than 2^64 - 1 keys";
     default:              return "the file changed, or memory is at fault";
     }
@@ -487,6 +493,261 @@ static int do_info(const options *o, const card *c)
     return FOUND;
 }
 
+/* ---- files written */
+
+/* The mode of a new file: that of the one in its place, or what the umask leaves. A place that is no regular file is not written over. */
+static mode_t mode_for(const char *path)
+{
+    struct stat about;
+    mode_t mask;
+    if (stat(path, &about) == 0) {
+        if (!S_ISREG(about.st_mode)) {
+            errno = S_ISDIR(about.st_mode) ? EISDIR : EEXIST;
+            exit(trouble(path));
+        }
+        return about.st_mode & 0777;
+    }
+    mask = umask(0);
+    umask(mask);
+    return 0666 & ~mask;
+}
+
+/* Writes the bytes beside the path, and renames them into place when they are on the disk. The program ends where that cannot be done, and what
+ * stood in the place stays. */
+static void put_in_place(const char *path, const uint8_t *bytes, size_t len)
+{
+    static const char tail[] = ".XXXXXX";
+    size_t n = strlen(path);
+    char *beside = malloc(n + sizeof tail);
+    mode_t mode = mode_for(path);
+    FILE *to;
+    int fd;
+    if (beside == NULL) {
+        exit(trouble("no memory for a name"));
+    }
+    memcpy(beside, path, n);
+    memcpy(beside + n, tail, sizeof tail);
+    fd = mkstemp(beside);
+    if (fd < 0) {
+        exit(trouble(path));
+    }
+    now_doing("writing the file, ");
+    to = fdopen(fd, "wb");
+    if (to == NULL || fwrite(bytes, 1, len, to) != len || fflush(to) != 0 || fchmod(fd, mode) != 0 || fsync(fd) != 0 || fclose(to) != 0 ||
+        rename(beside, path) != 0) {
+        int why = errno;
+        unlink(beside);
+        errno = why;
+        exit(trouble(path));
+    }
+    free(beside);
+}
+
+static int do_written(const options *o, const char *path, const uint8_t *bytes, size_t len)
+{
+    put_in_place(path, bytes, len);
+    hide_progress();
+    put_text(o->json ? "{\"size\":" : "size ");
+    put_number(len);
+    put_text(o->json ? "}\n" : "\n");
+    flush_out();
+    return FOUND;
+}
+
+/* Doubles a buffer, up to the longest file. The bytes need not be kept. 0 where it cannot grow. */
+static int grow(uint8_t **buffer, size_t *space)
+{
+    if (*space >= FST_MAX_LEN) {
+        return 0;
+    }
+    *space = *space < FST_MAX_LEN / 2 ? *space * 2 : FST_MAX_LEN;
+    free(*buffer);
+    *buffer = malloc(*space);
+    if (*buffer == NULL) {
+        exit(trouble("no memory for the new file"));
+    }
+    return 1;
+}
+
+static int do_convert(const options *o, const card *c, const char *path)
+{
+    const size_t entries = c->len > 0 ? c->len : 1;
+    uint16_t *depths = malloc(entries * sizeof *depths);
+    uint64_t *sums = malloc(entries * sizeof *sums);
+    uint32_t *table = malloc(entries * sizeof *table);
+    /* an index is 256 bytes more for a node of at least 33 transitions, so twice the length is seldom too little */
+    size_t space = entries, len = 0;
+    uint8_t *bytes = NULL;
+    int32_t result;
+    if (depths == NULL || sums == NULL || table == NULL) {
+        exit(trouble("no memory for the work tables"));
+    }
+    grow(&bytes, &space);
+    now_doing("converting the file, ");
+    do {
+        result = fst_convert(c->bytes, c->len, depths, c->len, sums, c->len, bytes, space, table, c->len, &len);
+    } while (result == FST_ERR_SPACE && grow(&bytes, &space));
+    return result == FST_OK ? do_written(o, path, bytes, len) : refused(o, result, 0);
+}
+
+/* ---- a list of lines packed */
+
+typedef struct line {
+    const uint8_t *key;
+    size_t len, number; /* the line's number, from 1 */
+    uint64_t value;
+} line;
+
+static int by_key(const void *a, const void *b)
+{
+    const line *x = a, *y = b;
+    int order = memcmp(x->key, y->key, x->len < y->len ? x->len : y->len);
+    return order != 0 ? order : (x->len > y->len) - (x->len < y->len);
+}
+
+/* Lines of one key stay in their order. */
+static int by_key_and_number(const void *a, const void *b)
+{
+    const line *x = a, *y = b;
+    int order = by_key(a, b);
+    return order != 0 ? order : (x->number > y->number) - (x->number < y->number);
+}
+
+static void bad_line(size_t number, const char *why)
+{
+    hide_progress();
+    fprintf(stderr, "baxhiso: line %llu: %s\n", (unsigned long long)number, why);
+    exit(TROUBLE);
+}
+
+static int number(const char *digits, uint64_t *value);
+static int key_bytes(char *word, int hex, const uint8_t **key, size_t *len);
+
+/* The lines of the text, whose last byte is a newline. Each is cut at its newline and its last tab, so that a key may have tabs. */
+static line *lines_of(const options *o, char *text, size_t len, size_t *count)
+{
+    size_t n = 0, at = 0;
+    line *lines;
+    for (size_t i = 0; i < len; i++) {
+        n += text[i] == '\n';
+    }
+    lines = malloc((n > 0 ? n : 1) * sizeof *lines);
+    if (lines == NULL) {
+        exit(trouble("no memory for the lines"));
+    }
+    for (size_t i = 0; i < n; i++) {
+        char *from = text + at, *end = memchr(from, '\n', len - at), *tab = end;
+        line *l = &lines[i];
+        at = (size_t)(end - text) + 1;
+        while (tab > from && tab[-1] != '\t') {
+            tab--;
+        }
+        if (tab == from) {
+            bad_line(i + 1, "no tab between a key and a number");
+        }
+        *end = '\0';
+        tab[-1] = '\0';
+        if (strlen(tab) != (size_t)(end - tab) || !number(tab, &l->value)) {
+            bad_line(i + 1, "what follows the tab is no number from 0 to 18446744073709551615");
+        }
+        l->key = (const uint8_t *)from;
+        l->len = (size_t)(tab - 1 - from);
+        l->number = i + 1;
+        if (o->hex && (strlen(from) != l->len || !key_bytes(from, 1, &l->key, &l->len))) {
+            bad_line(i + 1, "the key is not hexadecimal, two digits a byte");
+        }
+        if (l->len > FST_KEY_SPACE) {
+            bad_line(i + 1, "the key is over 255 bytes");
+        }
+    }
+    *count = n;
+    return lines;
+}
+
+/* The lines as fst_pack takes them, their keys ascending. */
+static uint8_t *list_of(const line *lines, size_t n, size_t *len)
+{
+    size_t total = 0, end = 0;
+    uint8_t *list, *ends, *values, *keys;
+    for (size_t i = 0; i < n; i++) {
+        if (i > 0 && by_key(&lines[i - 1], &lines[i]) == 0) {
+            char why[64];
+            snprintf(why, sizeof why, "the key stands twice, first in line %llu", (unsigned long long)lines[i - 1].number);
+            bad_line(lines[i].number, why);
+        }
+        total += lines[i].len;
+    }
+    if (n > UINT32_MAX || total > UINT32_MAX) {
+        errno = EFBIG;
+        exit(trouble("the list"));
+    }
+    *len = FST_LIST_LEN(n, total);
+    list = malloc(*len);
+    if (list == NULL) {
+        exit(trouble("no memory for the list"));
+    }
+    ends = list + 8;
+    values = ends + 4 * n;
+    keys = values + 8 * n;
+    for (int b = 0; b < 4; b++) {
+        list[b] = (uint8_t)(n >> (8 * b));
+        list[4 + b] = (uint8_t)(total >> (8 * b));
+    }
+    for (size_t i = 0; i < n; i++) {
+        memcpy(keys + end, lines[i].key, lines[i].len);
+        end += lines[i].len;
+        for (int b = 0; b < 8; b++) {
+            values[8 * i + (size_t)b] = (uint8_t)(lines[i].value >> (8 * b));
+        }
+        for (int b = 0; b < 4; b++) {
+            ends[4 * i + (size_t)b] = (uint8_t)(end >> (8 * b));
+        }
+    }
+    return list;
+}
+
+static int do_pack(const options *o, card *c, const char *path)
+{
+    const size_t most_cells = (size_t)1 << 22;
+    size_t n, list_len, space, len = 0, cells_len;
+    char *text = (char *)c->bytes;
+    line *lines;
+    uint8_t *list, *bytes = NULL, *inputs = malloc(FST_PACK_TABLE);
+    uint64_t *leasts = malloc(FST_PACK_TABLE * sizeof *leasts);
+    size_t *targets = malloc(FST_PACK_TABLE * sizeof *targets);
+    fst_cell *cells;
+    int32_t result;
+    if (c->len > 0 && text[c->len - 1] != '\n') {
+        text = realloc(text, c->len + 1);
+        if (text == NULL) {
+            exit(trouble("no memory for the list"));
+        }
+        text[c->len++] = '\n';
+    }
+    now_doing("sorting the list, ");
+    lines = lines_of(o, text, c->len, &n);
+    qsort(lines, n, sizeof *lines, by_key_and_number);
+    list = list_of(lines, n, &list_len);
+    /* with a row for each key, hardly a node is stored twice */
+    cells_len = 2 * n < FST_PACK_CELLS ? FST_PACK_CELLS : 2 * n > most_cells ? most_cells : 2 * n;
+    cells = malloc(cells_len * sizeof *cells);
+    if (inputs == NULL || leasts == NULL || targets == NULL || cells == NULL) {
+        exit(trouble("no memory for the work tables"));
+    }
+    space = list_len / 2 + 32;
+    grow(&bytes, &space);
+    now_doing("packing the list, ");
+    do {
+        result = fst_pack(list, list_len, bytes, space, cells, cells_len, inputs, FST_PACK_TABLE, leasts, FST_PACK_TABLE, targets, FST_PACK_TABLE, &len);
+    } while (result == FST_ERR_SPACE && grow(&bytes, &space));
+    if (result == FST_OK) {
+        /* proved, and checked all the same: the file is read by others for years */
+        card made = { bytes, len, NULL };
+        result = admit(&made, 0);
+    }
+    return result == FST_OK ? do_written(o, path, bytes, len) : refused(o, result, 0);
+}
+
 /* ---- a range, by pages */
 
 static int do_range(const options *o, const card *c)
@@ -578,7 +839,7 @@ static int key_bytes(char *word, int hex, const uint8_t **key, size_t *len)
     return n % 2 == 0;
 }
 
-enum { GET, KEY, RANGE, LIST, COUNT, CHECK, INFO, COMMANDS };
+enum { GET, KEY, RANGE, LIST, COUNT, CHECK, INFO, CONVERT, PACK, COMMANDS };
 
 static const struct {
     const char *name;
@@ -586,7 +847,8 @@ static const struct {
     int bounds, limit, keys;
 } commands[COMMANDS] = {
     { "get", 2, 0, 0, 1 },   { "key", 2, 0, 0, 1 },   { "range", 1, 1, 1, 1 }, { "list", 1, 0, 0, 1 },
-    { "count", 1, 1, 0, 1 }, { "check", 1, 0, 0, 0 }, { "info", 1, 0, 0, 0 },
+    { "count", 1, 1, 0, 1 }, { "check", 1, 0, 0, 0 }, { "info", 1, 0, 0, 0 },  { "convert", 2, 0, 0, 0 },
+    { "pack", 2, 0, 0, 1 },
 };
 
 /* What follows an option; NULL where nothing does, or another option. */
@@ -658,7 +920,7 @@ int main(int argc, char **argv)
     }
     /* options may stand behind what they apply to, so keys are read last */
     if (found != commands[command].words || (command == GET && !key_bytes(words[1], o.hex, &key, &key_len)) ||
-        (command == KEY && !number(words[1], &value))) {
+        (command == KEY && !number(words[1], &value)) || ((command == CONVERT || command == PACK) && (words[1][0] == '\0' || strcmp(words[1], "-") == 0))) {
         return usage();
     }
     for (int side = 0; side < 2; side++) {
@@ -672,7 +934,7 @@ int main(int argc, char **argv)
 
     show_progress();
     result = load(words[0], &c);
-    if (result == FST_OK && command != INFO) {
+    if (result == FST_OK && command != INFO && command != CONVERT && command != PACK) {
         result = admit(&c, command == COUNT);
     }
     if (result != FST_OK) {
@@ -684,6 +946,8 @@ int main(int argc, char **argv)
     case COUNT: return do_count(&o, &c);
     case CHECK: return do_check(&o);
     case INFO:  return do_info(&o, &c);
+    case CONVERT: return do_convert(&o, &c, words[1]);
+    case PACK:  return do_pack(&o, &c, words[1]);
     default:    return do_range(&o, &c);
     }
 }

@@ -57,10 +57,11 @@ make_known() { # NAME FILE...
 # Proves the library for C and writes it to target/staticlib/libbaxhiso.a.
 library() {
     proved baxhiso
+    proved baxhiso_files
     if ! made libbaxhiso; then
         announce
-        (cd "$top" && exec rt staticlib baxhiso) >>"$log" 2>&1 </dev/null || failed "the library for C is not built"
-        make_known libbaxhiso target/stamp/baxhiso target/staticlib/libbaxhiso.a
+        bash "$top/tools/library.sh" >>"$log" 2>&1 </dev/null || failed "the library for C is not built"
+        make_known libbaxhiso tools/library.sh target/stamp/baxhiso target/stamp/baxhiso_files target/staticlib/libbaxhiso.a
     fi
 }
 

@@ -22,6 +22,14 @@ static uint8_t file[LONGEST];
 static size_t file_len;
 static uint16_t depths[LONGEST];
 static uint64_t sums[LONGEST], counts[LONGEST];
+static uint8_t out[4 * LONGEST];
+static uint32_t table[LONGEST];
+static fst_cell cells[64];
+static uint8_t inputs[FST_PACK_TABLE];
+static uint64_t leasts[FST_PACK_TABLE];
+static size_t targets[FST_PACK_TABLE];
+/* ax: 1, bx: 3, e: 4; the node behind a is found again behind b */
+static const uint8_t pairs[] = { 3, 0, 0, 0, 5, 0, 0, 0, 2, 0, 0, 0, 4, 0, 0, 0, 5, 0, 0, 0, 1, 0, 0, 0, 0, 0, 0, 0, 3, 0, 0, 0, 0, 0, 0, 0, 4, 0, 0, 0, 0, 0, 0, 0, 'a', 'x', 'b', 'x', 'e' };
 static fst_reading reading;
 static fst_row rows[8];
 static uint64_t values[8];
@@ -39,6 +47,9 @@ static void call_count(void) { fst_count(file, file_len, depths, file_len, sums,
 static void call_start(void) { fst_start(file, file_len, NULL, &bound, counts, file_len, &reading); fst_start(file, file_len, &bound, NULL, counts, file_len, &reading); }
 static void call_next(void) { fst_next(file, file_len, &reading, key, sizeof key, &len, &value); }
 static void call_range(void) { fst_range(file, file_len, NULL, &bound, 8, rows, values, &len); fst_range(file, file_len, &bound, NULL, 8, rows, values, &len); }
+static void call_convert(void) { fst_convert(file, file_len, depths, file_len, sums, file_len, out, sizeof out, table, file_len, &len); }
+static void call_pack(void) { fst_pack(pairs, sizeof pairs, out, 100, cells, 64, inputs, FST_PACK_TABLE, leasts, FST_PACK_TABLE, targets, FST_PACK_TABLE, &len); }
+static void call_carry(void) { fst_carry(file, file_len, file, file_len, &reading); }
 
 static void (*to_call)(void);
 static size_t used;
@@ -77,6 +88,7 @@ int main(int argc, char **argv)
         { "fst_open", call_open, FST_STACK_OPEN },    { "fst_get", call_get, FST_STACK_GET },       { "fst_get_key", call_get_key, FST_STACK_GET_KEY },
         { "fst_admit", call_admit, FST_STACK_ADMIT }, { "fst_count", call_count, FST_STACK_COUNT }, { "fst_start", call_start, FST_STACK_START },
         { "fst_next", call_next, FST_STACK_NEXT },    { "fst_range", call_range, FST_STACK_RANGE },
+        { "fst_convert", call_convert, FST_STACK_CONVERT }, { "fst_pack", call_pack, FST_STACK_PACK },       { "fst_carry", call_carry, FST_STACK_CARRY },
     };
     size_t most[sizeof functions / sizeof *functions] = { 0 };
     int differences = 0;

@@ -1,0 +1,4 @@
+-- What a result is read back as, for the proofs of this crate.
+mod FileResults
+mod PackResults
+mod CarryResults

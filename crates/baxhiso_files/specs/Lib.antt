@@ -1,0 +1,5 @@
+pub mod Files
+pub mod FilesLaws
+pub mod PackFiles
+pub mod PackFilesLaws
+pub mod CarryArrays
