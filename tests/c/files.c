@@ -334,6 +334,7 @@ static void carry_rows(void)
 
     /* half way down the list the file is converted, and the reading goes on in the new file */
     row = "carry V";
+    memset(&reading, MARK, sizeof reading); /* also the byte behind its last field, which is compared */
     converted.bytes = block(100);
     fst_count(v.bytes, v.len, depths, v.len, sums, v.len, counts, v.len);
     fst_start(v.bytes, v.len, NULL, NULL, counts, v.len, &reading);
