@@ -10,6 +10,7 @@ use crate::given;
 use crate::model_carry::CarryAnswers;
 use crate::model_pack::PackAnswers;
 use crate::model_range::RangeAnswers;
+use crate::model_seats::SeatAnswers;
 use crate::prng::Prng;
 
 mod admission;
@@ -29,6 +30,7 @@ mod pages;
 mod patterns;
 mod ranges;
 mod reading;
+mod seats;
 mod sittings;
 mod stored;
 
@@ -147,6 +149,8 @@ pub struct Run<'a> {
     ours_range: Option<&'a dyn RangeAnswers>,
     // and on carries
     ours_carry: Option<&'a dyn CarryAnswers>,
+    // and on seats
+    ours_seats: Option<&'a dyn SeatAnswers>,
     // a whole run has every random case, another one in so many
     one_in: usize,
     prng: Prng,
@@ -179,9 +183,19 @@ const DELTA_SIZES: [&str; 9] = [
 impl<'a> Run<'a> {
     pub fn new(ours: Ours<'a>, one_in: usize) -> Run<'a> {
         let (ours, ours_file, ours_reading) = ours;
-        let (ours_convert, ours_pack, ours_range, ours_carry) = (None, None, None, None);
-        let (prng, counts) = (Prng::new(2), BTreeMap::new());
-        Run { ours, ours_file, ours_reading, ours_convert, ours_pack, ours_range, ours_carry, one_in, prng, counts }
+        Run {
+            ours,
+            ours_file,
+            ours_reading,
+            ours_convert: None,
+            ours_pack: None,
+            ours_range: None,
+            ours_carry: None,
+            ours_seats: None,
+            one_in,
+            prng: Prng::new(2),
+            counts: BTreeMap::new(),
+        }
     }
 
     pub fn converting(mut self, ours: Option<&'a dyn ConvertAnswers>) -> Run<'a> {
@@ -201,6 +215,11 @@ impl<'a> Run<'a> {
 
     pub fn carrying(mut self, ours: Option<&'a dyn CarryAnswers>) -> Run<'a> {
         self.ours_carry = ours;
+        self
+    }
+
+    pub fn seating(mut self, ours: Option<&'a dyn SeatAnswers>) -> Run<'a> {
+        self.ours_seats = ours;
         self
     }
 
@@ -250,6 +269,17 @@ impl<'a> Run<'a> {
     // Those of carried readings alone.
     pub fn all_carries(&mut self, print: bool) -> Checked {
         self.sections(print, &[("readings carried to another file", Run::carries)])
+    }
+
+    // Those of seats alone.
+    pub fn by_seats(&mut self, print: bool) -> Checked {
+        self.sections(
+            print,
+            &[
+                ("eight seats on one index", Run::seat_lists),
+                ("eight seats, with states that no call gives", Run::made_seat_lists),
+            ],
+        )
     }
 
     // Those of conversion alone.

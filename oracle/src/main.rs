@@ -46,6 +46,7 @@ mod model_pack;
 mod model_pattern;
 mod model_range;
 mod model_reading;
+mod model_seats;
 #[cfg(library)]
 mod ours;
 #[cfg(library)]
@@ -60,6 +61,8 @@ mod ours_pack;
 mod ours_range;
 #[cfg(library)]
 mod ours_reading;
+#[cfg(library)]
+mod ours_seats;
 mod prng;
 mod replay;
 mod replay_file;
@@ -80,6 +83,7 @@ use crate::compare::{Difference, Ours, Run};
 use crate::model_carry::CarryAnswers;
 use crate::model_pack::PackAnswers;
 use crate::model_range::RangeAnswers;
+use crate::model_seats::SeatAnswers;
 
 #[cfg(library)]
 fn library() -> Ours<'static> {
@@ -118,6 +122,16 @@ fn library_carries() -> Option<&'static dyn CarryAnswers> {
 
 #[cfg(not(library))]
 fn library_carries() -> Option<&'static dyn CarryAnswers> {
+    None
+}
+
+#[cfg(library)]
+fn library_seats() -> Option<&'static dyn SeatAnswers> {
+    Some(&ours::Library)
+}
+
+#[cfg(not(library))]
+fn library_seats() -> Option<&'static dyn SeatAnswers> {
     None
 }
 
@@ -236,9 +250,20 @@ fn compare_carries() -> bool {
     }
 }
 
+// Eight seats on one index alone.
+fn compare_seats() -> bool {
+    match Run::new(library(), 1).seating(library_seats()).by_seats(true) {
+        Ok(()) => true,
+        Err(difference) => {
+            report(&difference);
+            false
+        }
+    }
+}
+
 // What has a run of its own, one after the other, beside the whole comparison.
 fn compare_later() -> bool {
-    compare_packs() && compare_range() && compare_carries()
+    compare_packs() && compare_range() && compare_carries() && compare_seats()
 }
 
 // Files and records past 16 MiB alone.
@@ -377,12 +402,13 @@ fn main() {
         Some("convert") => compare_conversions(),
         Some("pack") => compare_packs(),
         Some("carry") => compare_carries(),
+        Some("seats") => compare_seats(),
         Some("long") => compare_long(),
         Some("self-test") => self_test(),
         Some("record") => record(&args[2..]),
         Some("listing") => listing::make(),
         _ => {
-            println!("oracle: compare, later, readings, patterns, range, admission, convert, pack, carry, long, self-test, record or listing");
+            println!("oracle: compare, later, readings, patterns, range, admission, convert, pack, carry, seats, long, self-test, record or listing");
             process::exit(2);
         }
     };
