@@ -23,6 +23,7 @@ mod lookup;
 mod made;
 mod numbers;
 mod opening;
+mod ops;
 mod pack;
 mod packing;
 mod pages;
@@ -179,9 +180,18 @@ const DELTA_SIZES: [&str; 9] = [
 impl<'a> Run<'a> {
     pub fn new(ours: Ours<'a>, one_in: usize) -> Run<'a> {
         let (ours, ours_file, ours_reading) = ours;
-        let (ours_convert, ours_pack, ours_range, ours_carry) = (None, None, None, None);
-        let (prng, counts) = (Prng::new(2), BTreeMap::new());
-        Run { ours, ours_file, ours_reading, ours_convert, ours_pack, ours_range, ours_carry, one_in, prng, counts }
+        Run {
+            ours,
+            ours_file,
+            ours_reading,
+            ours_convert: None,
+            ours_pack: None,
+            ours_range: None,
+            ours_carry: None,
+            one_in,
+            prng: Prng::new(2),
+            counts: BTreeMap::new(),
+        }
     }
 
     pub fn converting(mut self, ours: Option<&'a dyn ConvertAnswers>) -> Run<'a> {
@@ -250,6 +260,11 @@ impl<'a> Run<'a> {
     // Those of carried readings alone.
     pub fn all_carries(&mut self, print: bool) -> Checked {
         self.sections(print, &[("readings carried to another file", Run::carries)])
+    }
+
+    // Those of several files as one alone.
+    pub fn all_operations(&mut self, print: bool) -> Checked {
+        self.sections(print, &[("several files as one", Run::operations)])
     }
 
     // Those of conversion alone.

@@ -33,6 +33,7 @@ mod given;
 // some of what they ask is for the benchmark alone
 #[cfg_attr(not(timed), allow(dead_code))]
 mod given_file;
+mod given_ops;
 mod given_pattern;
 #[cfg_attr(not(timed), allow(dead_code))]
 mod given_reading;
@@ -42,6 +43,7 @@ mod model;
 mod model_carry;
 mod model_convert;
 mod model_file;
+mod model_ops;
 mod model_pack;
 mod model_pattern;
 mod model_range;
@@ -236,9 +238,20 @@ fn compare_carries() -> bool {
     }
 }
 
+// Several files as one alone, by the Rust and the model.
+fn compare_ops() -> bool {
+    match Run::new(library(), 1).all_operations(true) {
+        Ok(()) => true,
+        Err(difference) => {
+            report(&difference);
+            false
+        }
+    }
+}
+
 // What has a run of its own, one after the other, beside the whole comparison.
 fn compare_later() -> bool {
-    compare_packs() && compare_range() && compare_carries()
+    compare_packs() && compare_range() && compare_carries() && compare_ops()
 }
 
 // Files and records past 16 MiB alone.
@@ -377,12 +390,13 @@ fn main() {
         Some("convert") => compare_conversions(),
         Some("pack") => compare_packs(),
         Some("carry") => compare_carries(),
+        Some("ops") => compare_ops(),
         Some("long") => compare_long(),
         Some("self-test") => self_test(),
         Some("record") => record(&args[2..]),
         Some("listing") => listing::make(),
         _ => {
-            println!("oracle: compare, later, readings, patterns, range, admission, convert, pack, carry, long, self-test, record or listing");
+            println!("oracle: compare, later, readings, patterns, range, admission, convert, pack, carry, ops, long, self-test, record or listing");
             process::exit(2);
         }
     };
