@@ -8,6 +8,7 @@ use crate::answers::{Answers, At, ConvertAnswers, FileAnswers, ReadingAnswers, R
 use crate::generate::INPUTS;
 use crate::given;
 use crate::model_carry::CarryAnswers;
+use crate::model_ops::OpsAnswers;
 use crate::model_pack::PackAnswers;
 use crate::model_range::RangeAnswers;
 use crate::prng::Prng;
@@ -148,6 +149,8 @@ pub struct Run<'a> {
     ours_range: Option<&'a dyn RangeAnswers>,
     // and on carries
     ours_carry: Option<&'a dyn CarryAnswers>,
+    // and on several files as one
+    ours_ops: Option<&'a dyn OpsAnswers>,
     // a whole run has every random case, another one in so many
     one_in: usize,
     prng: Prng,
@@ -188,6 +191,7 @@ impl<'a> Run<'a> {
             ours_pack: None,
             ours_range: None,
             ours_carry: None,
+            ours_ops: None,
             one_in,
             prng: Prng::new(2),
             counts: BTreeMap::new(),
@@ -211,6 +215,11 @@ impl<'a> Run<'a> {
 
     pub fn carrying(mut self, ours: Option<&'a dyn CarryAnswers>) -> Run<'a> {
         self.ours_carry = ours;
+        self
+    }
+
+    pub fn operating(mut self, ours: Option<&'a dyn OpsAnswers>) -> Run<'a> {
+        self.ours_ops = ours;
         self
     }
 

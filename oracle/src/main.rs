@@ -57,6 +57,8 @@ mod ours_convert;
 #[cfg(library)]
 mod ours_file;
 #[cfg(library)]
+mod ours_ops;
+#[cfg(library)]
 mod ours_pack;
 #[cfg(library)]
 mod ours_range;
@@ -80,6 +82,7 @@ use std::process;
 use crate::answers::ConvertAnswers;
 use crate::compare::{Difference, Ours, Run};
 use crate::model_carry::CarryAnswers;
+use crate::model_ops::OpsAnswers;
 use crate::model_pack::PackAnswers;
 use crate::model_range::RangeAnswers;
 
@@ -130,6 +133,16 @@ fn library_ranges() -> Option<&'static dyn RangeAnswers> {
 
 #[cfg(not(library))]
 fn library_ranges() -> Option<&'static dyn RangeAnswers> {
+    None
+}
+
+#[cfg(library)]
+fn library_operates() -> Option<&'static dyn OpsAnswers> {
+    Some(&ours::Library)
+}
+
+#[cfg(not(library))]
+fn library_operates() -> Option<&'static dyn OpsAnswers> {
     None
 }
 
@@ -238,9 +251,9 @@ fn compare_carries() -> bool {
     }
 }
 
-// Several files as one alone, by the Rust and the model.
+// Several files as one alone.
 fn compare_ops() -> bool {
-    match Run::new(library(), 1).all_operations(true) {
+    match Run::new(library(), 1).operating(library_operates()).all_operations(true) {
         Ok(()) => true,
         Err(difference) => {
             report(&difference);

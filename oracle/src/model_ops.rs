@@ -4,6 +4,7 @@
 use std::collections::BTreeMap;
 
 use crate::answers::Bound;
+use crate::model::Model;
 use crate::model_file::MAX_PATH;
 use crate::model_reading::{self, meets, passes, Told};
 
@@ -19,6 +20,9 @@ pub const OPS: [Op; 4] = [Op::Union, Op::Intersection, Op::Difference, Op::Symme
 
 // The most files of an operation.
 pub const MOST_FILES: usize = 8;
+
+// The refusal of an operation over no file or over more than eight.
+pub const CARDS: u64 = 14;
 
 // A file with the pairs that it was built from, its table of keys, and the bounds that it is read between.
 #[derive(Clone)]
@@ -36,6 +40,24 @@ pub struct Source {
 pub struct Merged {
     pub items: Vec<(Vec<u8>, Vec<(u64, usize)>)>,
     pub totals: Vec<u64>,
+}
+
+// What stands in place of items.
+#[derive(Clone, Copy, Debug, Eq, PartialEq)]
+pub enum Stopped {
+    // there is no room for another item
+    NoRoom,
+    // the files do not follow one another
+    #[cfg_attr(not(library), allow(dead_code))]
+    Layout,
+    // a start is refused, or the begin or a call
+    Start(u64),
+    Refused(u64),
+}
+
+// One who answers whole operations, with room for so many calls.
+pub trait OpsAnswers {
+    fn merged(&self, op: Op, count: usize, sources: &[Source], calls: usize) -> Result<Merged, Stopped>;
 }
 
 impl Source {
@@ -92,4 +114,23 @@ pub fn merged(op: Op, sources: &[Source]) -> Result<Merged, u64> {
         totals.push(source.total(if op == Op::Difference && i > 0 { Some(last) } else { None })?);
     }
     Ok(Merged { items, totals })
+}
+
+impl OpsAnswers for Model {
+    fn merged(&self, op: Op, count: usize, sources: &[Source], calls: usize) -> Result<Merged, Stopped> {
+        for source in sources {
+            if let Err(why) = model_reading::start(&source.file, &source.lower, &source.upper, &source.counts) {
+                return Err(Stopped::Start(why));
+            }
+        }
+        if count == 0 || count > MOST_FILES {
+            return Err(Stopped::Refused(CARDS));
+        }
+        let merged = merged(op, &sources[..count]).map_err(Stopped::Refused)?;
+        // the end is a call too
+        if calls <= merged.items.len() {
+            return Err(Stopped::NoRoom);
+        }
+        Ok(merged)
+    }
 }

@@ -1,17 +1,18 @@
 // Several files as one (document 02, N5): whole operations over one to eight files that share keys and values, with and without bounds, by the Rust's
-// `OpBuilder` and by the model on lists: the items, each with its pairs by value and then by file, and the totals after the end.
+// `OpBuilder`, by the model on lists and by ours: the items, each with its pairs by value and then by file, and the totals after the end.
 
 use std::collections::BTreeMap;
 
 use super::ranges::describe_bound;
 use super::{describe_file, same, Checked, Run};
-use crate::answers::{Bound, Kind, BOUND_BYTES};
+use crate::answers::{Bound, Kind, BOUND_BYTES, SPACE};
 use crate::generate_file::{built_from, keys, Keys, KEYS};
 use crate::generate_reading::bounds;
 use crate::given_file;
 use crate::given_ops;
+use crate::model::Model;
 use crate::model_file;
-use crate::model_ops::{self, Merged, Op, Source, MOST_FILES, OPS};
+use crate::model_ops::{self, Merged, Op, OpsAnswers, Source, Stopped, CARDS, MOST_FILES, OPS};
 use crate::prng::Prng;
 
 // Sets of files; each is asked for the four operations.
@@ -35,7 +36,7 @@ fn unbounded() -> Bound {
     Bound { kind: Kind::Unbounded, bytes: Vec::new() }
 }
 
-// A bound of at most 255 bytes.
+// A bound that the exported function has room for.
 fn fitting(mut bound: Bound) -> Bound {
     let room = if bound.kind == Kind::Unbounded { 0 } else { BOUND_BYTES };
     bound.bytes.truncate(room);
@@ -126,7 +127,7 @@ impl<'a> Run<'a> {
     }
 
     // One operation, by each.
-    fn operation(&mut self, op: Op, sources: &[Source]) -> Checked {
+    fn operation(&mut self, op: Op, sources: &[Source], ours: &dyn OpsAnswers) -> Checked {
         let input = || describe(op, sources);
         let wanted = model_ops::merged(op, sources);
         same("an operation on admitted files is not refused", input, ("wanted", true), ("model", wanted.is_ok()))?;
@@ -140,6 +141,9 @@ impl<'a> Run<'a> {
             self.count("operations by the Rust");
             self.count_more("totals by the Rust", sources.len());
         }
+        let calls = wanted.items.len() + 1;
+        let found = ours.merged(op, sources.len(), sources, calls);
+        same("items and totals", input, ("model", Ok(&wanted)), ("ours", found.as_ref().map_err(|&why| why)))?;
         self.count(OP_NAMES[op as usize]);
         self.count(COUNT_NAMES[sources.len() - 1]);
         self.count_more("items", wanted.items.len());
@@ -158,11 +162,54 @@ impl<'a> Run<'a> {
         Ok(())
     }
 
+    // What is refused, and what has no room.
+    fn not_whole(&mut self, op: Op, sources: &[Source], ours: &dyn OpsAnswers) -> Checked {
+        let items = match model_ops::merged(op, sources) {
+            Ok(merged) => merged.items.len(),
+            Err(_) => return Ok(()),
+        };
+        let (mut count, mut calls, mut asked) = (sources.len(), items + 1, sources.to_vec());
+        let (name, wanted) = match self.prng.below(4) {
+            0 => {
+                calls = self.prng.below(items + 1);
+                ("no room for the next call", Stopped::NoRoom)
+            }
+            1 => {
+                count = 0;
+                ("no file: CARDS", Stopped::Refused(CARDS))
+            }
+            2 => {
+                count = self.prng.pick(&[9, 10, usize::max_value()]);
+                ("more than eight files: CARDS", Stopped::Refused(CARDS))
+            }
+            _ => {
+                let last = &mut asked[sources.len() - 1];
+                if last.counts.pop().is_none() {
+                    return Ok(());
+                }
+                ("a table one entry short: SPACE", Stopped::Start(SPACE))
+            }
+        };
+        let input = || format!("{}, {}", name, describe(op, &asked));
+        same(name, input, ("wanted", Err(wanted)), ("model", Model.merged(op, count, &asked, calls)))?;
+        same(name, input, ("wanted", Err(wanted)), ("ours", ours.merged(op, count, &asked, calls)))?;
+        self.count(name);
+        Ok(())
+    }
+
     pub fn operations(&mut self) -> Checked {
+        let ours: &dyn OpsAnswers = match self.ours_ops {
+            Some(ours) => ours,
+            None => &Model,
+        };
         for _ in 0..SETS / self.one_in {
             let sources = self.sources();
             for &op in &OPS {
-                self.operation(op, &sources)?;
+                self.operation(op, &sources, ours)?;
+            }
+            if self.prng.one_in(4) {
+                let op = self.prng.pick(&OPS);
+                self.not_whole(op, &sources, ours)?;
             }
         }
         self.require(&["operations by the Rust"], 50_000)?;
@@ -170,6 +217,16 @@ impl<'a> Run<'a> {
         self.require(&COUNT_NAMES, 5_000)?;
         self.require(&VERSION_NAMES, 5_000)?;
         self.require(&["sets of files with bounds", "sets of files without bounds", "items with equal values"], 5_000)?;
-        self.require(&["files of no bytes", "items: the empty key"], 200)
+        self.require(
+            &[
+                "files of no bytes",
+                "items: the empty key",
+                "no room for the next call",
+                "no file: CARDS",
+                "more than eight files: CARDS",
+                "a table one entry short: SPACE",
+            ],
+            200,
+        )
     }
 }
