@@ -8,6 +8,7 @@ use crate::answers::{Answers, At, ConvertAnswers, FileAnswers, ReadingAnswers, R
 use crate::generate::INPUTS;
 use crate::given;
 use crate::model_carry::CarryAnswers;
+use crate::model_ops::OpsAnswers;
 use crate::model_pack::PackAnswers;
 use crate::model_range::RangeAnswers;
 use crate::model_seats::SeatAnswers;
@@ -24,6 +25,7 @@ mod lookup;
 mod made;
 mod numbers;
 mod opening;
+mod ops;
 mod pack;
 mod packing;
 mod pages;
@@ -151,6 +153,8 @@ pub struct Run<'a> {
     ours_carry: Option<&'a dyn CarryAnswers>,
     // and on seats
     ours_seats: Option<&'a dyn SeatAnswers>,
+    // and on several files as one
+    ours_ops: Option<&'a dyn OpsAnswers>,
     // a whole run has every random case, another one in so many
     one_in: usize,
     prng: Prng,
@@ -192,6 +196,7 @@ impl<'a> Run<'a> {
             ours_range: None,
             ours_carry: None,
             ours_seats: None,
+            ours_ops: None,
             one_in,
             prng: Prng::new(2),
             counts: BTreeMap::new(),
@@ -220,6 +225,11 @@ impl<'a> Run<'a> {
 
     pub fn seating(mut self, ours: Option<&'a dyn SeatAnswers>) -> Run<'a> {
         self.ours_seats = ours;
+        self
+    }
+
+    pub fn operating(mut self, ours: Option<&'a dyn OpsAnswers>) -> Run<'a> {
+        self.ours_ops = ours;
         self
     }
 
@@ -280,6 +290,11 @@ impl<'a> Run<'a> {
                 ("eight seats, with states that no call gives", Run::made_seat_lists),
             ],
         )
+    }
+
+    // Those of several files as one alone.
+    pub fn all_operations(&mut self, print: bool) -> Checked {
+        self.sections(print, &[("several files as one", Run::operations)])
     }
 
     // Those of conversion alone.

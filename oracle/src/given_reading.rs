@@ -90,6 +90,11 @@ impl<'f> Range<'f> {
         self.followed.get()
     }
 
+    // The stream, and what counts its transitions.
+    pub fn apart(self) -> (Stream<'f, Counting>, Rc<Cell<u64>>) {
+        (self.stream, self.followed)
+    }
+
     pub fn pending(&self) -> Option<u64> {
         Builder::stack(&self.stream).1
     }

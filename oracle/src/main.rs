@@ -33,6 +33,7 @@ mod given;
 // some of what they ask is for the benchmark alone
 #[cfg_attr(not(timed), allow(dead_code))]
 mod given_file;
+mod given_ops;
 mod given_pattern;
 #[cfg_attr(not(timed), allow(dead_code))]
 mod given_reading;
@@ -42,6 +43,7 @@ mod model;
 mod model_carry;
 mod model_convert;
 mod model_file;
+mod model_ops;
 mod model_pack;
 mod model_pattern;
 mod model_range;
@@ -55,6 +57,8 @@ mod ours_carry;
 mod ours_convert;
 #[cfg(library)]
 mod ours_file;
+#[cfg(library)]
+mod ours_ops;
 #[cfg(library)]
 mod ours_pack;
 #[cfg(library)]
@@ -81,6 +85,7 @@ use std::process;
 use crate::answers::ConvertAnswers;
 use crate::compare::{Difference, Ours, Run};
 use crate::model_carry::CarryAnswers;
+use crate::model_ops::OpsAnswers;
 use crate::model_pack::PackAnswers;
 use crate::model_range::RangeAnswers;
 use crate::model_seats::SeatAnswers;
@@ -142,6 +147,16 @@ fn library_ranges() -> Option<&'static dyn RangeAnswers> {
 
 #[cfg(not(library))]
 fn library_ranges() -> Option<&'static dyn RangeAnswers> {
+    None
+}
+
+#[cfg(library)]
+fn library_operates() -> Option<&'static dyn OpsAnswers> {
+    Some(&ours::Library)
+}
+
+#[cfg(not(library))]
+fn library_operates() -> Option<&'static dyn OpsAnswers> {
     None
 }
 
@@ -261,9 +276,20 @@ fn compare_seats() -> bool {
     }
 }
 
+// Several files as one alone.
+fn compare_ops() -> bool {
+    match Run::new(library(), 1).operating(library_operates()).all_operations(true) {
+        Ok(()) => true,
+        Err(difference) => {
+            report(&difference);
+            false
+        }
+    }
+}
+
 // What has a run of its own, one after the other, beside the whole comparison.
 fn compare_later() -> bool {
-    compare_packs() && compare_range() && compare_carries() && compare_seats()
+    compare_packs() && compare_range() && compare_carries() && compare_ops() && compare_seats()
 }
 
 // Files and records past 16 MiB alone.
@@ -403,12 +429,13 @@ fn main() {
         Some("pack") => compare_packs(),
         Some("carry") => compare_carries(),
         Some("seats") => compare_seats(),
+        Some("ops") => compare_ops(),
         Some("long") => compare_long(),
         Some("self-test") => self_test(),
         Some("record") => record(&args[2..]),
         Some("listing") => listing::make(),
         _ => {
-            println!("oracle: compare, later, readings, patterns, range, admission, convert, pack, carry, seats, long, self-test, record or listing");
+            println!("oracle: compare, later, readings, patterns, range, admission, convert, pack, carry, ops, seats, long, self-test, record or listing");
             process::exit(2);
         }
     };
