@@ -56,12 +56,15 @@ make_known() { # NAME FILE...
 
 # Proves the library for C and writes it to target/staticlib/libbaxhiso.a.
 library() {
-    proved baxhiso
-    proved baxhiso_files
+    local crate stamps=()
+    while read -r crate; do
+        proved "$crate"
+        stamps+=("target/stamp/$crate")
+    done <"$top/tools/library.txt"
     if ! made libbaxhiso; then
         announce
         bash "$top/tools/library.sh" >>"$log" 2>&1 </dev/null || failed "the library for C is not built"
-        make_known libbaxhiso tools/library.sh target/stamp/baxhiso target/stamp/baxhiso_files target/staticlib/libbaxhiso.a
+        make_known libbaxhiso tools/library.sh tools/library.txt "${stamps[@]}" target/staticlib/libbaxhiso.a
     fi
 }
 
