@@ -11,7 +11,7 @@
  * it. Every file may be handed in, admitted or not, damaged or not.
  *
  * Each function of the library is proved to return on every input, with the result and with what each buffer holds afterwards as said
- * below (crates/baxhiso/specs/Exports.antt and Readings.antt, crates/baxhiso_files/specs/Files.antt, with the definitions of docs/FORMAT.md). Only tested, by tests/c: that these
+ * below (crates/baxhiso/specs/Exports.antt, crates/baxhiso_readings/specs/Readings.antt, crates/baxhiso_files/specs/Files.antt, with the definitions of docs/FORMAT.md). Only tested, by tests/c: that these
  * declarations fit the library, the functions that are defined here, and NULL with length 0. The stack is not part of the proof: no function
  * calls itself, and FST_STACK_OPEN and those after it say what was measured.
  *

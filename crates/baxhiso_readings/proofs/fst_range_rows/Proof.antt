@@ -1,12 +1,12 @@
--- `baxhiso::fst_range_rows` meets its contract: what range answered is the definition's answer, its stop the result and its count written.
+-- `baxhiso_readings::fst_range_rows` meets its contract: what range answered is the definition's answer, its stop the result and its count written.
 -- Assumes nothing.
 use lib.ListN.{length}
 use borrow.Author.Needs.{needs}
 use denote.Ref.{now}
-use Rattle.baxhiso.proofs.Results.{result-back}
-use Rattle.baxhiso.proofs.ReadingResults.{range-bounds, range-leaves}
-use Rattle.baxhiso.proofs.fst_range_rows.Statement.{statement}
-use Rattle.baxhiso.proofs.fst_range_rows.Tie as tie
+use Rattle.baxhiso.specs.ResultLaws.{result-back}
+use Rattle.baxhiso_readings.proofs.ReadingResults.{range-bounds, range-leaves}
+use Rattle.baxhiso_readings.proofs.fst_range_rows.Statement.{statement}
+use Rattle.baxhiso_readings.proofs.fst_range_rows.Tie as tie
 
 kind-of-requires : tie.Need-kind-of-requires
 kind-of-requires c κs = search needs

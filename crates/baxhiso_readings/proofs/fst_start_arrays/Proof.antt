@@ -1,12 +1,12 @@
--- `baxhiso::fst_start_arrays` meets its contract: what start answered is the definition's answer, and the arrays hold its reading.
+-- `baxhiso_readings::fst_start_arrays` meets its contract: what start answered is the definition's answer, and the arrays hold its reading.
 -- Assumes nothing.
 use borrow.Author.Needs.{needs}
 use denote.Ref.{now}
 use Rattle.stream_arrays.specs.ArraysLaws.{start-bounds}
-use Rattle.baxhiso.proofs.Results.{code-is}
-use Rattle.baxhiso.proofs.ReadingResults.{start-refused, start-began}
-use Rattle.baxhiso.proofs.fst_start_arrays.Statement.{statement}
-use Rattle.baxhiso.proofs.fst_start_arrays.Tie as tie
+use Rattle.baxhiso.specs.ResultLaws.{code-is}
+use Rattle.baxhiso_readings.proofs.ReadingResults.{start-refused, start-began}
+use Rattle.baxhiso_readings.proofs.fst_start_arrays.Statement.{statement}
+use Rattle.baxhiso_readings.proofs.fst_start_arrays.Tie as tie
 
 kind-of-requires : tie.Need-kind-of-requires
 kind-of-requires c κs = search needs

@@ -26,9 +26,9 @@ use Rattle.stream.specs.declared.Step.{Step}
 use Rattle.stream.specs.Plains.{plainIs, begunIs, beganIs, PlainStepped}
 use Rattle.stream_arrays.specs.Arrays.{kindIs, Held, PlainPut}
 use Rattle.stream_arrays.specs.ArraysLaws.{plain-back}
 use Rattle.baxhiso.specs.Exports.{OK, code}
-use Rattle.baxhiso.specs.Readings.{END, CountLeaves, StartLeaves, nextResult, nextLen, nextValue, resultOf, lenOf, valueOf, AnswerLeaves, NextLeaves, rangeResult, stopOf, RangeLeaves}
-use Rattle.baxhiso.specs.ReadingsLaws.{counted-not-0}
+use Rattle.baxhiso_readings.specs.Readings.{END, CountLeaves, StartLeaves, nextResult, nextLen, nextValue, resultOf, lenOf, valueOf, AnswerLeaves, NextLeaves, rangeResult, stopOf, RangeLeaves}
+use Rattle.baxhiso_readings.specs.ReadingsLaws.{counted-not-0}
 
 -- ---- the table of keys
 

@@ -1,14 +1,14 @@
--- `baxhiso::fst_next_arrays` meets its contract: what next answered is the definition's answer, and the arrays hold its reading.
+-- `baxhiso_readings::fst_next_arrays` meets its contract: what next answered is the definition's answer, and the arrays hold its reading.
 -- Assumes nothing.
 use lib.ListN.{length}
 use borrow.Author.Needs.{needs}
 use denote.Ref.{now}
 use Rattle.stream_arrays.specs.Arrays.{held}
 use Rattle.stream_arrays.specs.ArraysLaws.{next-of}
-use Rattle.baxhiso.proofs.Results.{result-back}
-use Rattle.baxhiso.proofs.ReadingResults.{next-leaves}
-use Rattle.baxhiso.proofs.fst_next_arrays.Statement.{statement}
-use Rattle.baxhiso.proofs.fst_next_arrays.Tie as tie
+use Rattle.baxhiso.specs.ResultLaws.{result-back}
+use Rattle.baxhiso_readings.proofs.ReadingResults.{next-leaves}
+use Rattle.baxhiso_readings.proofs.fst_next_arrays.Statement.{statement}
+use Rattle.baxhiso_readings.proofs.fst_next_arrays.Tie as tie
 
 reading-of-requires : tie.Need-reading-of-requires
 reading-of-requires c κs = search needs

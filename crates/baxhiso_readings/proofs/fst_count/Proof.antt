@@ -1,10 +1,10 @@
--- `baxhiso::fst_count` meets its contract: filling's answer is the result, and the tables are as it left them.
+-- `baxhiso_readings::fst_count` meets its contract: filling's answer is the result, and the tables are as it left them.
 -- Assumes nothing.
 use borrow.Author.Needs.{needs}
-use Rattle.baxhiso.proofs.Results.{code-is}
-use Rattle.baxhiso.proofs.ReadingResults.{count-counted, count-refused}
-use Rattle.baxhiso.proofs.fst_count.Statement.{statement}
-use Rattle.baxhiso.proofs.fst_count.Tie as tie
+use Rattle.baxhiso.specs.ResultLaws.{code-is}
+use Rattle.baxhiso_readings.proofs.ReadingResults.{count-counted, count-refused}
+use Rattle.baxhiso_readings.proofs.fst_count.Statement.{statement}
+use Rattle.baxhiso_readings.proofs.fst_count.Tie as tie
 
 count-keys-requires : tie.Need-count-keys-requires
 count-keys-requires c κs = search needs

@@ -1,10 +1,10 @@
--- `baxhiso::answered` meets its contract: the result, the length and the value are those of the answer.
+-- `baxhiso_readings::answered` meets its contract: the result, the length and the value are those of the answer.
 -- Assumes nothing.
 use borrow.Author.Needs.{needs}
-use Rattle.baxhiso.proofs.Results.{code-is}
-use Rattle.baxhiso.proofs.ReadingResults.{key-leaves, end-leaves, no-leaves}
-use Rattle.baxhiso.proofs.answered.Statement.{statement}
-use Rattle.baxhiso.proofs.answered.Tie as tie
+use Rattle.baxhiso.specs.ResultLaws.{code-is}
+use Rattle.baxhiso_readings.proofs.ReadingResults.{key-leaves, end-leaves, no-leaves}
+use Rattle.baxhiso_readings.proofs.answered.Statement.{statement}
+use Rattle.baxhiso_readings.proofs.answered.Tie as tie
 
 enum-known-answer : tie.Need-enum-known-answer
 enum-known-answer c = search needs

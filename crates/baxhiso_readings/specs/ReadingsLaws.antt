@@ -36,9 +36,9 @@ use Rattle.plain.specs.Plain as P
 use Rattle.admission.specs.Outcome.{RefusedFor}
 use Rattle.counting.specs.CountOutcomes.{CountRefusedFor, not-opened, no-space, not-admitted, too-many}
 use Rattle.stream_arrays.specs.Arrays.{Held, heldPlain}
 use Rattle.baxhiso.specs.Exports.{OK, NONE, code}
 use Rattle.baxhiso.specs.ExportsLaws.{picked, OpeningNonzero, opens, turns, opening-nonzero, opening-not-0, refused-not-0, positive-not-0}
-use Rattle.baxhiso.specs.Readings.{END, MORE, StartLeaves, NextLeaves, rangeResult, RangeLeaves}
+use Rattle.baxhiso_readings.specs.Readings.{END, MORE, StartLeaves, NextLeaves, rangeResult, RangeLeaves}
 
 -- ---- the table of keys
 
