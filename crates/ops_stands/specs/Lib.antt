@@ -1,0 +1,2 @@
+pub mod OpsStands
+pub mod StandingLaws
