@@ -1,2 +1,3 @@
 pub mod OpsStands
 pub mod StandingLaws
+pub mod CardsStandLaws
