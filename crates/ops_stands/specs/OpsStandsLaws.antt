@@ -3,7 +3,7 @@
 --     Going, Ready       the cards of a round before its steps and after them
 --     decide-stands      what a round comes to
 --     call-stands        one call
---     ops-stands         any calls from the starts of one to eight admitted files, or more
+--     ops-stands         any calls from the starts of admitted files; where they are more than eight every call is refused
 -- Assumes nothing.
 use Prim.{Unit, tt}
 use mathlib.Core.Path.{_≡_, refl, sym, ap, _∙_, subst}

@@ -16,8 +16,7 @@ use Rattle.format.specs.Strings.{Before, NumberOf}
 use Rattle.format.specs.laws.NumberOfLaws.{number-iff}
 use Rattle.reading.specs.Reading.{View, boundBytes, Answer, key, end}
 use Rattle.reading.specs.RunLaws.{lt-or}
-use Rattle.reading.specs.Demand as R
-use Rattle.reading.specs.Demand.{Within, Extra, EmptyExcluded, capped, Call, Allowed, Entry, entry, handOut, handedThen, handedIn, NotAfterLast, unrefusedThen, unrefused, Demand3}
+use Rattle.reading.specs.Demand.{Within, Extra, EmptyExcluded, capped, Call, Allowed, Entry, entry, handOut, handedIn, NotAfterLast, answers, readingAfter, unrefused}
 use Rattle.reading.specs.CutLaws.{snoc-mem}
 use Rattle.plain.specs.Plain.{Plain, PlainStep, nextPlain, callPlain, plainAfter, answersPlain}
 use Rattle.plain.specs.PlainDemand.{DemandPlain}
@@ -165,40 +164,51 @@ demand-own c calls =
         let z : _≡_ {A = ℕ} 0 1 = cc in
         omega arith
 
+module _ (c : Source) (Stop : List ℕ → Type 0) (at : Option (List ℕ)) (q : Plain) (w : Called (c .file) Stop (c .reading) at q)
+    (D : DemandPlain (c .admitted) (c .lower) (c .upper) (c .table) (w .calls)) (same : D .reading ≡ c .reading) where
+  abbrev Counted : List ℕ → Type 0
+  Counted x = Within (fstIn c) (c .lower) (c .upper) x
+
+  total-is : (n : ℕ) → readingAfter (D .demand .reading) (w .calls) .total ≡ n → q .view .total ≡ n
+  total-is n e =
+      ap (λ (p : Plain). p .view .total) (w .left ∙ ap (λ (p : Plain). plainAfter p (w .calls)) (sym same)) ∙ ap (λ (r : View). r .total) (D .same-readings) ∙ e
+
+  told : answersPlain (c .reading) (w .calls) ≡ answers (D .demand .reading) (w .calls)
+  told = ap (λ (p : Plain). answersPlain p (w .calls)) (sym same) ∙ D .same-answers
+
+  ends : D .demand .ends ≡ endsAt at
+  ends =
+      sym (ends-out (D .demand .handed) (D .demand .ends)) ∙ ap endsIn (sym (D .demand .one-a-call)) ∙ ends-unrefused (answers (D .demand .reading) (w .calls))
+      ∙ ap endsIn (sym told) ∙ up-to-ends (w .up-to)
+
+  counted-at : (k : List ℕ) → at ≡ some k → (n : ℕ) → NumberOf (λ x. Counted x × NotAfterLast (D .demand .handed) x) n → NumberOf (λ x. Counted x × ¬ Before k x) n
+  counted-at k e n h =
+      let l = up-to-last (w .up-to) k e in
+      let handed : D .demand .handed ≡ l .0 ++ (entry k (l .1 .0) ∷ []) = sym (handed-of (D .demand)) ∙ ap handedIn (sym told) ∙ l .1 .1 in
+      number-iff (λ x. Counted x × NotAfterLast (D .demand .handed) x) (λ x. Counted x × ¬ Before k x) n
+      (λ x a. (a .0, not-after-to (D .demand .handed) (l .0) k (l .1 .0) handed x (a .1)))
+      (λ x a. (a .0, record { before = l .0; last = entry k (l .1 .0); is-last = handed; not-after = a .1 })) h
+
+  called-stands : StandsAt c Stop q
+  called-stands =
+      record {
+        calls = w .calls;
+        allowed = w .allowed;
+        at = at;
+        up-to = w .up-to;
+        left = w .left;
+        total-at = λ k e. let n = D .demand .total-before (ends ∙ ap endsAt e) in (n .0, counted-at k e (n .0) (n .1), total-is (capped (n .0)) (n .2));
+        total-ended = λ e not-excluded.
+            let one : D .demand .ends ≡ 1 = ends ∙ ap endsAt e in
+            let n = D .demand .total-ended not-excluded (omega arith) in
+            (n .0, n .1, n .2, n .3, total-is (capped (n .0 + n .1)) (n .4));
+        total-excluded = λ h. total-is 0 (D .demand .total-excluded h);
+      }
+
 pub until-stands : (c : Source) (Stop : List ℕ → Type 0) (at : Option (List ℕ)) (q : Plain) → Until (c .file) Stop (c .reading) at q → StandsAt c Stop q
 until-stands c Stop at q u =
     let w = until-called u in
     let D = demand-own c (w .calls) in
     let began = D .starts in
     let given = c .starts in
-    let same : D .reading ≡ c .reading = cc in
-    let total : q .view .total ≡ R.readingAfter (D .demand .reading) (w .calls) .total =
-    ap (λ (p : Plain). p .view .total) (w .left ∙ ap (λ (p : Plain). plainAfter p (w .calls)) (sym same)) ∙ ap (λ (r : View). r .total) (D .same-readings) in
-    let told : answersPlain (c .reading) (w .calls) ≡ R.answers (D .demand .reading) (w .calls) = ap (λ (p : Plain). answersPlain p (w .calls)) (sym same) ∙ D .same-answers in
-    let ends : D .demand .ends ≡ endsAt at =
-    sym (ends-out (D .demand .handed) (D .demand .ends)) ∙ ap endsIn (sym (D .demand .one-a-call)) ∙ ends-unrefused (R.answers (D .demand .reading) (w .calls))
-    ∙ ap endsIn (sym told) ∙ up-to-ends (w .up-to) in
-    record {
-      calls = w .calls;
-      allowed = w .allowed;
-      at = at;
-      up-to = w .up-to;
-      left = w .left;
-      total-at = λ k e.
-          let l = up-to-last (w .up-to) k e in
-          let handed : D .demand .handed ≡ l .0 ++ (entry k (l .1 .0) ∷ []) = sym (handed-of (D .demand)) ∙ ap handedIn (sym told) ∙ l .1 .1 in
-          let n = D .demand .total-before (ends ∙ ap endsAt e) in
-          (
-            n .0,
-            number-iff (λ x. Within (fstIn c) (c .lower) (c .upper) x × NotAfterLast (D .demand .handed) x)
-                (λ x. Within (fstIn c) (c .lower) (c .upper) x × ¬ Before k x) (n .0)
-                (λ x h. (h .0, not-after-to (D .demand .handed) (l .0) k (l .1 .0) handed x (h .1)))
-                (λ x h. (h .0, record { before = l .0; last = entry k (l .1 .0); is-last = handed; not-after = h .1 })) (n .1),
-            total ∙ n .2,
-          );
-      total-ended = λ e not-excluded.
-          let one : D .demand .ends ≡ 1 = ends ∙ ap endsAt e in
-          let n = D .demand .total-ended not-excluded (omega arith) in
-          (n .0, n .1, n .2, n .3, total ∙ n .4);
-      total-excluded = λ h. total ∙ D .demand .total-excluded h;
-    }
+    called-stands c Stop at q w D cc
