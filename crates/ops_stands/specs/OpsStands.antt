@@ -12,7 +12,6 @@
 --     first key after file 0's last, or have ended
 -- A refused call leaves every reading where it was (ops_calls `OpsExact`, `unchanged`).
 -- Assumes nothing.
-use Prim.{Unit}
 use mathlib.Core.Path.{_≡_}
 use mathlib.Core.Option.{Option, none, some}
 use mathlib.Core.List.{List, [], _∷_, map, List·Memᴰ}

@@ -9,8 +9,8 @@ use Prim.{Unit, tt}
 use mathlib.Core.Path.{_≡_, refl, sym, ap, _∙_, subst}
 use mathlib.Core.Bool.{Bool, true, false, cond, _&&_, _||_}
 use mathlib.Core.Option.{Option, none, some}
-use mathlib.Core.Logic.{⊎-elim, _⊎_, inl, inr}
-use mathlib.Core.List.{List, [], _∷_, _++_, List·Memᴰ, List·Memᴰ·head, Memᴰ·append-right}
+use mathlib.Core.Logic.{⊎-elim, inl}
+use mathlib.Core.List.{List, [], _∷_, List·Memᴰ, List·Memᴰ·head, Memᴰ·append-right}
 use Prim.Native.Nat.{ℕ, zero, suc, _<_, _≤_}
 use native.Mathlib.Omega.{arith}
 use lib.Dec.{ltb, leb}
@@ -22,7 +22,7 @@ use Rattle.reading.specs.RunLaws.{lt-or}
 use Rattle.reading.specs.Demand.{Entry, entry}
 use Rattle.plain.specs.Plain.{Plain}
 use Rattle.ops_spec.specs.Ops as O
-use Rattle.ops_spec.specs.Ops.{Op, union, intersection, difference, symmetric, Slot, used, holds, ended, Card, cardIs, cardKey, Stepped, cards, halted, withCard, stepOne, stepAll, Indexed, ifHolds, leastKey, sameTest, pairsFrom, useUp, takesTest, Verdict, this, no-more, another, atKey, atLeast, atFirst, decide, Merged, byVerdict, afterSteps, rounds, allLeft, nextItem}
+use Rattle.ops_spec.specs.Ops.{Op, union, intersection, difference, symmetric, Slot, used, holds, Card, cardIs, cardKey, Stepped, cards, halted, withCard, stepOne, stepAll, Indexed, ifHolds, leastKey, sameTest, pairsFrom, useUp, takesTest, Verdict, this, no-more, another, atKey, atLeast, atFirst, decide, Merged, byVerdict, afterSteps, rounds, allLeft, nextItem}
 use Rattle.ops_spec.specs.OpsDemand.{Source, Has}
 use Rattle.ops_spec.specs.OpsFuelLaws.{cond-way}
 use Rattle.ops_spec.specs.OpsListsLaws.{test-false, decides-same-key, not-before-on}
@@ -31,7 +31,7 @@ use Rattle.ops_spec.specs.OpsShortLaws.{item-short}
 use Rattle.ops_calls.specs.OpsCalls as C
 use Rattle.ops_calls.specs.OpsCalls.{Lent, no-file, one-file, OpsCall, lend, stepBy, callItem, cardsAfter}
 use Rattle.ops_stands.specs.OpsStands.{AllAt, NoKey, AfterAll, first-ended, EndsAt, readingsIn, OpsStands}
-use Rattle.ops_stands.specs.CardsStandLaws.{HandedOut, Each, Halts, at, over, Waits, fresh, behind, halts, FileOf, AllCards, no-card, card, all-map, halts-map, StepsHalt, steps-halt, LeastCase, all-over, least-at, least-case, use-waits, use-readings, one-stands, all-at}
+use Rattle.ops_stands.specs.CardsStandLaws.{HandedOut, Each, Halts, at, over, Waits, fresh, halts, FileOf, AllCards, no-card, card, all-map, halts-map, StepsHalt, steps-halt, LeastCase, all-over, least-at, least-case, use-waits, use-readings, one-stands, all-at}
 
 -- ---- between calls
 
@@ -140,8 +140,7 @@ at-key : (op : Op) (cs : List Source) (es : List Card) (k : List ℕ) → FirstH
     → VerdictIs op cs es (atKey op k es)
 at-key op cs es k has h =
     cond-way (VerdictIs op cs es) (takesTest op (length es) (pairsFrom 0 k es)) {x = this k (pairsFrom 0 k es) (useUp (λ l. sameTest l k) es)} {y = another (useUp (λ l. sameTest l k) es)}
-    (λ _.
-    (
+    (λ _. (
       subst (λ (ps : List Plain). AllAt (λ x. ¬ Before x k) cs ps) (sym (use-readings (λ l. sameTest l k) es))
           (all-at (λ y. Before y k) (λ l. ¬ Before l k) (λ x. ¬ Before x k) (λ y b n. n b) (λ l n. n) h),
       state,
@@ -243,8 +242,7 @@ at-difference _ _ f has (card {c = c} {cs = cs} {d = d} {ds = es} w (at v done h
     (record { value = v; done = done; here = here; slot = s; handed = h; before = λ e m. not-after-before f (e .key) (here .key) (p e m) q; same = refl; file = w })
     (all-map (halts-map (λ y n. not-after-before f y (here .key) n q) (λ l a. tt)) more)
 at-difference _ _ f has (card {c = c} {cs = cs} {d = d} {ds = es} w (over s h p) more) =
-    subst (λ (x : Slot). VerdictIs difference (c ∷ cs) (d ∷ es) (ifHolds x (λ v. atFirst (cardKey d) (leastKey (d ∷ es)) (d ∷ es)) no-more)) (sym s)
-    (
+    subst (λ (x : Slot). VerdictIs difference (c ∷ cs) (d ∷ es) (ifHolds x (λ v. atFirst (cardKey d) (leastKey (d ∷ es)) (d ∷ es)) no-more)) (sym s) (
       at-ended c cs d es f has (over s h p) p more,
       record { last = f; has = has; waiting = all-map (λ c q x w. halts w) (card w (over s h p) more) },
     )

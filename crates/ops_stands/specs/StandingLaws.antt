@@ -3,11 +3,10 @@
 --     Until s Stop p at q    calls from p stop at the first key such that Stop, or at "end", and leave q
 --     until-stands           from the start of a file, with the total of demand 3
 -- Assumes nothing.
-use Prim.{Unit, tt}
-use mathlib.Core.Path.{_≡_, refl, sym, ap, ap₂, _∙_, subst}
+use mathlib.Core.Path.{_≡_, refl, sym, ap, _∙_, subst}
 use mathlib.Core.Option.{Option, none, some}
 use mathlib.Core.Logic.{⊎-elim, _⊎_, inl, inr}
-use mathlib.Core.List.{List, [], _∷_, _++_, map, List·Memᴰ, List·Memᴰ·head, List·Memᴰ·tail, List·Memᴰ·not-nil, List·Memᴰ·cases-cons, Memᴰ·append-left}
+use mathlib.Core.List.{List, [], _∷_, _++_, map, List·Memᴰ, List·Memᴰ·not-nil, List·Memᴰ·cases-cons, Memᴰ·append-left}
 use Prim.Native.Nat.{ℕ, zero, suc, _+_, _<_, _≤_}
 use native.Mathlib.Omega.{arith}
 use lib.ListN.{length, replicate}
@@ -16,9 +15,9 @@ use Rattle.format.specs.Strings.{Before, NumberOf}
 use Rattle.format.specs.laws.NumberOfLaws.{number-iff}
 use Rattle.reading.specs.Reading.{View, boundBytes, Answer, key, end}
 use Rattle.reading.specs.RunLaws.{lt-or}
-use Rattle.reading.specs.Demand.{Within, Extra, EmptyExcluded, capped, Call, Allowed, Entry, entry, handOut, handedIn, NotAfterLast, answers, readingAfter, unrefused}
+use Rattle.reading.specs.Demand.{Within, capped, Call, Allowed, Entry, entry, handOut, handedIn, NotAfterLast, answers, readingAfter, unrefused}
 use Rattle.reading.specs.CutLaws.{snoc-mem}
-use Rattle.plain.specs.Plain.{Plain, PlainStep, nextPlain, callPlain, plainAfter, answersPlain}
+use Rattle.plain.specs.Plain.{Plain, PlainStep, nextPlain, plainAfter, answersPlain}
 use Rattle.plain.specs.PlainDemand.{DemandPlain}
 use Rattle.plain.specs.PlainLaws.{plain-long-bound, plain-short, handed-of, demand-3-plain}
 use Rattle.ops_spec.specs.OpsDemand.{Source}

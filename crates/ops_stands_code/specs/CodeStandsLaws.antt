@@ -1,11 +1,10 @@
 -- `code-stands`: where the readings stand that the code's own calls leave.
 --     code-left        the cards after a list of calls by the contract of `next_item` are those of the definition, with some files
 -- Assumes nothing.
-use mathlib.Core.Path.{_≡_, refl, sym, ap, ap₂, _∙_, subst}
+use mathlib.Core.Path.{_≡_, refl, sym, ap, _∙_, subst}
 use mathlib.Core.Bool.{Bool, true, false, _&&_}
 use mathlib.Core.List.{List, [], _∷_, map}
-use Prim.Native.Nat.{ℕ, zero, suc, _<_, _≤_}
-use native.Mathlib.Omega.{arith}
+use Prim.Native.Nat.{ℕ, zero, suc, _<_}
 use borrow.Author.Tests.{ltb-true}
 use lib.Dec.{ltb, leb}
 use lib.ListN.{length, take}
@@ -24,10 +23,9 @@ use Rattle.ops_decide.specs.declared.Op.{Op}
 use Rattle.ops_decide.specs.Verdicts.{opIs}
 use Rattle.ops.specs.declared.Cards.{Cards}
 use Rattle.ops.specs.declared.Merged.{Merged}
-use Rattle.ops.specs.declared.Merged.the-variants.{Item, End}
 use Rattle.ops.specs.declared.Step.{Step}
 use Rattle.ops.specs.Merges.{countTest, BegunAs}
-use Rattle.ops_code.specs.OpsCodeLaws.{readingsOf, begin-is, toldOf, CodeCalls, no-call, one-call, code-one}
+use Rattle.ops_code.specs.OpsCodeLaws.{begin-is, toldOf, CodeCalls, no-call, one-call, code-one}
 use Rattle.ops_stands.specs.OpsStands.{AllAt, EndsAt, readingsIn}
 use Rattle.ops_stands.specs.OpsStandsLaws.{ops-stands}
 use Rattle.ops_stands_code.specs.CodeStands.{lastCards, CodeRun, leftReadings, CodeStands}
