@@ -13,15 +13,13 @@ use mathlib.Core.Bool.{Bool, true, false, cond}
 use mathlib.Core.Option.{Option, none, some}
 use mathlib.Core.Logic.{⊎-elim, _⊎_, inl, inr}
 use mathlib.Core.List.{List, [], _∷_, _++_, append-assoc, append-nil, List·Memᴰ, List·Memᴰ·not-nil, List·Memᴰ·cases-cons, List·Memᴰ·append-cases}
-use Prim.Native.Nat.{ℕ, _<_, _≤_}
-use native.Mathlib.Omega.{arith}
+use Prim.Native.Nat.{ℕ, _≤_}
 use lib.Dec.{leb}
 use lib.ListN.{length}
 use Rattle.format.specs.Limits.{maxPath, maxLevels, STATE}
 use Rattle.format.specs.Strings.{Before, beforeTest, Rising}
 use Rattle.format.specs.laws.StringLaws.{before-irrefl, before-asym, decides-before}
 use Rattle.reading.specs.Reading.{keyOf, Answer, key, end}
-use Rattle.reading.specs.RunLaws.{lt-or}
 use Rattle.reading.specs.Demand.{Entry, handOut}
 use Rattle.reading.specs.CutLaws.{keysOut}
 use Rattle.plain.specs.Plain.{Plain, PlainStep, nextPlain}
@@ -32,6 +30,7 @@ use Rattle.ops_spec.specs.OpsListsLaws.{not-before-on}
 use Rattle.ops_spec.specs.OpsAheadLaws.{Ahead, ahead-end, ahead-key, plain-room}
 use Rattle.ops_spec.specs.OpsWholeLaws.{ahead-of}
 use Rattle.ops_calls.specs.OpsLikeLaws.{other-refused}
+use Rattle.ops_calls.specs.OpsCallsLaws.{ahead-len}
 use Rattle.ops_stands.specs.OpsStands.{StandsAt, AllAt, none-at, one-at, NoKey, readingsIn}
 use Rattle.ops_stands.specs.StandingLaws.{Goes, goes-none, goes-key, until-end, until-key, goes-until, until-stands}
 
@@ -83,19 +82,6 @@ halts-map f g c q x (at v done here s h p k) = at v done here s h (λ e m. f (e 
 halts-map f g c q x (over s h p) = over s h (λ e m. f (e .key) (p e m))
 
 -- ---- one step
-
-eq-or : (a b : ℕ) → (a ≡ b) ⊎ (¬ (a ≡ b))
-eq-or a b =
-    ⊎-elim (λ (l : a < b). inr (λ z. omega arith))
-    (λ (g : b ≤ a). ⊎-elim (λ (l : b < a). inr (λ z. omega arith)) (λ (h : a ≤ b). inl (omega arith)) (lt-or b a)) (lt-or a b)
-
--- a reading that is not refused has the length of its file
-ahead-len : (s : List ℕ) (p : Plain) (es : List Entry) → Ahead s p es → p .view .len ≡ length s
-ahead-len s p es h = ⊎-elim (λ (e : length s ≡ p .view .len). sym e) (λ (ne : ¬ (length s ≡ p .view .len)). absurd (by es h (other-refused s p maxPath ne))) (eq-or (length s) (p .view .len))
-  where
-    by : (es : List Entry) → Ahead s p es → ¬ ((n : ℕ) × (nextPlain s p maxPath .answer ≡ Answer.refused n))
-    by _ (ahead-end p′ e) w = let q = sym (ap (λ (o : PlainStep). o .answer) e) ∙ w .1 in let z : _≡_ {A = ℕ} 0 1 = cc in omega arith
-    by _ (ahead-key x p′ e k l more) w = let q = sym (ap (λ (o : PlainStep). o .answer) e) ∙ w .1 in let z : _≡_ {A = ℕ} 0 1 = cc in omega arith
 
 rising-next : (xs : List Entry) (a b : Entry) (ys : List Entry) → Rising (keysOut (xs ++ (a ∷ b ∷ ys))) → Before (a .key) (b .key)
 rising-next [] a b ys h = h .0 .0

@@ -3,7 +3,7 @@
 --
 --     after an item with key k the reading of each file is the one that      `after-item`, by `StandsAt`: `calls`, each allowed, and `left`
 --     calls of next, on its own, leave
---     when they stop at its first key that is not before k,                  `up-to`
+--     when they stop at its first key that is not before k,                  `stopped`
 --     or at "end" if there is none;
 --     its total is the one of demand 3                                       `total-at`, `total-ended`, `total-excluded`
 --     after "end", of a union, an intersection or a symmetric difference:    `after-end`, `EndsAt`: no key stops these calls (`NoKey`)
@@ -30,10 +30,10 @@ use Rattle.ops_calls.specs.OpsCalls.{OpsCall, callItem, cardsAfter}
 -- ---- one file alone
 
 -- the answers of calls that stop at the first key such that Stop, or at "end" if there is none; where they stopped
-pub data UpTo (Stop : List ℕ → Type 0) : List Answer → Option (List ℕ) → Type 0 where
-  at-end : UpTo Stop (end ∷ []) none
-  at-key : {k : List ℕ} {v : ℕ} → Stop k → UpTo Stop (key k v ∷ []) (some k)
-  earlier : {k : List ℕ} {v : ℕ} {xs : List Answer} {at : Option (List ℕ)} → ¬ Stop k → UpTo Stop xs at → UpTo Stop (key k v ∷ xs) at
+pub data Stopped (Stop : List ℕ → Type 0) : List Answer → Option (List ℕ) → Type 0 where
+  at-end : Stopped Stop (end ∷ []) none
+  at-key : {k : List ℕ} {v : ℕ} → Stop k → Stopped Stop (key k v ∷ []) (some k)
+  earlier : {k : List ℕ} {v : ℕ} {xs : List Answer} {at : Option (List ℕ)} → ¬ Stop k → Stopped Stop xs at → Stopped Stop (key k v ∷ xs) at
 
 abbrev pub fstIn : Source → Fst
 fstIn c = fstOf (c .file) (c .admitted .meta)
@@ -44,7 +44,7 @@ pub record StandsAt (c : Source) (Stop : List ℕ → Type 0) (p : Plain) : Type
   pub allowed : (d : Call (c .file)) → List·Memᴰ d calls → Allowed d
   -- the key at which they stop, or none at "end"
   pub at : Option (List ℕ)
-  pub up-to : UpTo Stop (answersPlain (c .reading) calls) at
+  pub stopped : Stopped Stop (answersPlain (c .reading) calls) at
   pub left : p ≡ plainAfter (c .reading) calls
   -- the total of demand 3
   pub total-at : (k : List ℕ) → at ≡ some k

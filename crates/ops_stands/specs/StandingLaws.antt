@@ -21,7 +21,7 @@ use Rattle.plain.specs.Plain.{Plain, PlainStep, nextPlain, plainAfter, answersP
 use Rattle.plain.specs.PlainDemand.{DemandPlain}
 use Rattle.plain.specs.PlainLaws.{plain-long-bound, plain-short, handed-of, demand-3-plain}
 use Rattle.ops_spec.specs.OpsDemand.{Source}
-use Rattle.ops_stands.specs.OpsStands.{UpTo, at-end, at-key, earlier, fstIn, StandsAt}
+use Rattle.ops_stands.specs.OpsStands.{Stopped, at-end, at-key, earlier, fstIn, StandsAt}
 
 -- ---- runs
 
@@ -48,7 +48,7 @@ ownCall s = record { file = s; space = maxPath; which = inl refl }
 record Called (s : List ℕ) (Stop : List ℕ → Type 0) (p : Plain) (at : Option (List ℕ)) (q : Plain) : Type 0 where
   calls : List (Call s)
   allowed : (d : Call s) → List·Memᴰ d calls → Allowed d
-  up-to : UpTo Stop (answersPlain p calls) at
+  stopped : Stopped Stop (answersPlain p calls) at
   left : q ≡ plainAfter p calls
 
 own-allowed : (s : List ℕ) (d : Call s) → d ≡ ownCall s → Allowed d
@@ -59,14 +59,14 @@ until-called {s} {Stop} (until-end {q = q} is) =
     record {
       calls = ownCall s ∷ [];
       allowed = λ d m. own-allowed s d (⊎-elim (λ e. e) (λ n. absurd (List·Memᴰ·not-nil n)) (List·Memᴰ·cases-cons m));
-      up-to = subst (λ (o : PlainStep). UpTo Stop (o .answer ∷ []) none) (sym is) at-end;
+      stopped = subst (λ (o : PlainStep). Stopped Stop (o .answer ∷ []) none) (sym is) at-end;
       left = sym (ap (λ (o : PlainStep). o .reading) is);
     }
 until-called {s} {Stop} (until-key {q = q} e is stop) =
     record {
       calls = ownCall s ∷ [];
       allowed = λ d m. own-allowed s d (⊎-elim (λ x. x) (λ n. absurd (List·Memᴰ·not-nil n)) (List·Memᴰ·cases-cons m));
-      up-to = subst (λ (o : PlainStep). UpTo Stop (o .answer ∷ []) (some (e .key))) (sym is) (at-key stop);
+      stopped = subst (λ (o : PlainStep). Stopped Stop (o .answer ∷ []) (some (e .key))) (sym is) (at-key stop);
       left = sym (ap (λ (o : PlainStep). o .reading) is);
     }
 until-called {s} {Stop} (until-later {r = r} {at = at} e is on more) =
@@ -74,7 +74,7 @@ until-called {s} {Stop} (until-later {r = r} {at = at} e is on more) =
     record {
       calls = ownCall s ∷ w .calls;
       allowed = λ d m. ⊎-elim (λ x. own-allowed s d x) (λ n. w .allowed d n) (List·Memᴰ·cases-cons m);
-      up-to = subst (λ (o : PlainStep). UpTo Stop (o .answer ∷ answersPlain (o .reading) (w .calls)) at) (sym is) (earlier on (w .up-to));
+      stopped = subst (λ (o : PlainStep). Stopped Stop (o .answer ∷ answersPlain (o .reading) (w .calls)) at) (sym is) (earlier on (w .stopped));
       left = w .left ∙ ap (λ (o : PlainStep). plainAfter (o .reading) (w .calls)) (sym is);
     }
 
@@ -108,17 +108,17 @@ ends-out : (es : List Entry) (n : ℕ) → endsIn (map handOut es ++ replicate n
 ends-out [] n = ends-replicate n
 ends-out (e ∷ es) n = ends-out es n
 
-up-to-ends : {Stop : List ℕ → Type 0} {xs : List Answer} {at : Option (List ℕ)} → UpTo Stop xs at → endsIn xs ≡ endsAt at
-up-to-ends at-end = refl
-up-to-ends (at-key s) = refl
-up-to-ends (earlier n u) = up-to-ends u
+stopped-ends : {Stop : List ℕ → Type 0} {xs : List Answer} {at : Option (List ℕ)} → Stopped Stop xs at → endsIn xs ≡ endsAt at
+stopped-ends at-end = refl
+stopped-ends (at-key s) = refl
+stopped-ends (earlier n u) = stopped-ends u
 
 -- the key at which they stop is the last one handed out
-up-to-last : {Stop : List ℕ → Type 0} {xs : List Answer} {at : Option (List ℕ)} → UpTo Stop xs at → (k : List ℕ) → at ≡ some k
+stopped-last : {Stop : List ℕ → Type 0} {xs : List Answer} {at : Option (List ℕ)} → Stopped Stop xs at → (k : List ℕ) → at ≡ some k
     → (es : List Entry) × ((v : ℕ) × (handedIn xs ≡ es ++ (entry k v ∷ [])))
-up-to-last at-end k e = let z : _≡_ {A = ℕ} 0 1 = cc in absurd (omega arith)
-up-to-last (at-key {k = l} {v = v} s) k e = let same : l ≡ k = cc in ([], (v, ap (λ (x : List ℕ). entry x v ∷ []) same))
-up-to-last (earlier {k = l} {v = v} n u) k e = let w = up-to-last u k e in (entry l v ∷ w .0, (w .1 .0, ap (λ (es : List Entry). entry l v ∷ es) (w .1 .1)))
+stopped-last at-end k e = let z : _≡_ {A = ℕ} 0 1 = cc in absurd (omega arith)
+stopped-last (at-key {k = l} {v = v} s) k e = let same : l ≡ k = cc in ([], (v, ap (λ (x : List ℕ). entry x v ∷ []) same))
+stopped-last (earlier {k = l} {v = v} n u) k e = let w = stopped-last u k e in (entry l v ∷ w .0, (w .1 .0, ap (λ (es : List Entry). entry l v ∷ es) (w .1 .1)))
 
 abbrev lastOr : Entry → List Entry → Entry
 lastOr d [] = d
@@ -178,11 +178,11 @@ module _ (c : Source) (Stop : List ℕ → Type 0) (at : Option (List ℕ)) (q :
   ends : D .demand .ends ≡ endsAt at
   ends =
       sym (ends-out (D .demand .handed) (D .demand .ends)) ∙ ap endsIn (sym (D .demand .one-a-call)) ∙ ends-unrefused (answers (D .demand .reading) (w .calls))
-      ∙ ap endsIn (sym told) ∙ up-to-ends (w .up-to)
+      ∙ ap endsIn (sym told) ∙ stopped-ends (w .stopped)
 
   counted-at : (k : List ℕ) → at ≡ some k → (n : ℕ) → NumberOf (λ x. Counted x × NotAfterLast (D .demand .handed) x) n → NumberOf (λ x. Counted x × ¬ Before k x) n
   counted-at k e n h =
-      let l = up-to-last (w .up-to) k e in
+      let l = stopped-last (w .stopped) k e in
       let handed : D .demand .handed ≡ l .0 ++ (entry k (l .1 .0) ∷ []) = sym (handed-of (D .demand)) ∙ ap handedIn (sym told) ∙ l .1 .1 in
       number-iff (λ x. Counted x × NotAfterLast (D .demand .handed) x) (λ x. Counted x × ¬ Before k x) n
       (λ x a. (a .0, not-after-to (D .demand .handed) (l .0) k (l .1 .0) handed x (a .1)))
@@ -194,7 +194,7 @@ module _ (c : Source) (Stop : List ℕ → Type 0) (at : Option (List ℕ)) (q :
         calls = w .calls;
         allowed = w .allowed;
         at = at;
-        up-to = w .up-to;
+        stopped = w .stopped;
         left = w .left;
         total-at = λ k e. let n = D .demand .total-before (ends ∙ ap endsAt e) in (n .0, counted-at k e (n .0) (n .1), total-is (capped (n .0)) (n .2));
         total-ended = λ e not-excluded.
