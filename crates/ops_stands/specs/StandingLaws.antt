@@ -2,6 +2,7 @@
 --     Goes s p es q          calls from p hand out es and leave q
 --     Until s Stop p at q    calls from p stop at the first key such that Stop, or at "end", and leave q
 --     until-stands           from the start of a file, with the total of demand 3
+--     ended-total            a reading that was run to its end has demand 3's total
 -- Assumes nothing.
 use mathlib.Core.Path.{_≡_, refl, sym, ap, _∙_, subst}
 use mathlib.Core.Option.{Option, none, some}
@@ -15,13 +16,13 @@ use Rattle.format.specs.Strings.{Before, NumberOf}
 use Rattle.format.specs.laws.NumberOfLaws.{number-iff}
 use Rattle.reading.specs.Reading.{View, boundBytes, Answer, key, end}
 use Rattle.reading.specs.RunLaws.{lt-or}
-use Rattle.reading.specs.Demand.{Within, capped, Call, Allowed, Entry, entry, handOut, handedIn, NotAfterLast, answers, readingAfter, unrefused}
+use Rattle.reading.specs.Demand.{Within, Extra, EmptyExcluded, capped, Call, Allowed, Entry, entry, handOut, handedIn, NotAfterLast, answers, readingAfter, unrefused}
 use Rattle.reading.specs.CutLaws.{snoc-mem}
 use Rattle.plain.specs.Plain.{Plain, PlainStep, nextPlain, plainAfter, answersPlain}
 use Rattle.plain.specs.PlainDemand.{DemandPlain}
 use Rattle.plain.specs.PlainLaws.{plain-long-bound, plain-short, handed-of, demand-3-plain}
 use Rattle.ops_spec.specs.OpsDemand.{Source}
-use Rattle.ops_stands.specs.OpsStands.{Stopped, at-end, at-key, earlier, fstIn, StandsAt}
+use Rattle.ops_stands.specs.OpsStands.{Stopped, at-end, at-key, earlier, fstIn, StandsAt, NoKey}
 
 -- ---- runs
 
@@ -211,3 +212,15 @@ until-stands c Stop at q u =
     let began = D .starts in
     let given = c .starts in
     called-stands c Stop at q w D cc
+
+-- ---- a reading that was run to its end
+
+stopped-none : {xs : List Answer} {at : Option (List ℕ)} → Stopped NoKey xs at → at ≡ none
+stopped-none at-end = refl
+stopped-none (at-key stop) = absurd stop
+stopped-none (earlier on more) = stopped-none more
+
+-- where no key stops the calls they have come to "end", and the total is demand 3's
+pub ended-total : (c : Source) (p : Plain) → StandsAt c NoKey p → ¬ EmptyExcluded (fstIn c) (c .lower) (c .upper)
+    → (n e : ℕ) × NumberOf (Within (fstIn c) (c .lower) (c .upper)) n × Extra (fstIn c) (c .lower) (c .upper) e × (p .view .total ≡ capped (n + e))
+ended-total c p h not-excluded = h .total-ended (stopped-none (h .stopped)) not-excluded
