@@ -12,9 +12,9 @@ use borrow.Author.Tests.{lt-ltb, le-ltb, ltb-true, ltb-false, ne-eqb}
 use lib.Dec.{ltb}
 use lib.ListN.{length, getD, take, length-append}
 use lib.Seq.{take-suc}
-use Rattle.listing.specs.Lines.{hexDigit, hexOf, keyText, decimalUpTo, decimal, keyLine, endLine, refusedLine, longestLine}
+use Rattle.listing_lines.specs.Lines.{hexDigit, hexOf, keyText, decimalUpTo, decimal, keyLine, endLine, refusedLine, longestLine}
 use Rattle.format.specs.Limits.{maxPath}
-use Rattle.listing.specs.Lines.{valueFrom, valueOf, hexValue, fromHex, keyOf, DecimalOf, Bytes}
+use Rattle.listing_lines.specs.Lines.{valueFrom, valueOf, hexValue, fromHex, keyOf, DecimalOf, Bytes}
 
 -- ---- lengths
 

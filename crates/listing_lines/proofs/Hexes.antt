@@ -8,9 +8,9 @@ use lib.ListN.{length, getD, take, set, length-set}
 use lib.Seq.{length-take-le}
 use Rattle.buffers.specs.Put.{put, PutAt}
 use Rattle.buffers.specs.PutLaws.{put-nil, put-next}
-use Rattle.listing.specs.Lines.{hexDigit, hexOf}
-use Rattle.listing.specs.LinesLaws.{length-hex-of, hex-of-take}
-use Rattle.listing.proofs.LineParts.{put-two-bytes}
+use Rattle.listing_lines.specs.Lines.{hexDigit, hexOf}
+use Rattle.listing_lines.specs.LinesLaws.{length-hex-of, hex-of-take}
+use Rattle.listing_lines.proofs.LineParts.{put-two-bytes}
 
 -- the first i bytes are written, up to place p
 pub record HexTo (out₀ : List ℕ) (at : ℕ) (key : List ℕ) (n : ℕ) (out : List ℕ) (p i : ℕ) : Type 0 where

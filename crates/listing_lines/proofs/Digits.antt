@@ -8,9 +8,9 @@ use native.Mathlib.Omega.{arith}
 use lib.ListN.{length, set, length-append, length-set}
 use Rattle.buffers.specs.Put.{put, PutAt}
 use Rattle.buffers.specs.PutLaws.{put-nil}
-use Rattle.listing.specs.Lines.{decimalUpTo, decimal}
-use Rattle.listing.specs.LinesLaws.{Ways, few, many, ways, decimal-none, decimal-more, decimal-one, pow-10-suc}
-use Rattle.listing.proofs.LineParts.{put-before}
+use Rattle.listing_lines.specs.Lines.{decimalUpTo, decimal}
+use Rattle.listing_lines.specs.LinesLaws.{Ways, few, many, ways, decimal-none, decimal-more, decimal-one, pow-10-suc}
+use Rattle.listing_lines.proofs.LineParts.{put-before}
 
 -- ---- counted
 

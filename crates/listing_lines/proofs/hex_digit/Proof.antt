@@ -1,10 +1,10 @@
--- `listing::hex_digit` meets its contract.
+-- `listing_lines::hex_digit` meets its contract.
 -- Assumes nothing.
 use borrow.Author.Tests.{lt-ltb, le-ltb}
 use borrow.Author.Needs.{needs}
-use Rattle.listing.specs.Lines.{hexDigit}
-use Rattle.listing.proofs.hex_digit.Statement.{statement}
-use Rattle.listing.proofs.hex_digit.Tie as tie
+use Rattle.listing_lines.specs.Lines.{hexDigit}
+use Rattle.listing_lines.proofs.hex_digit.Statement.{statement}
+use Rattle.listing_lines.proofs.hex_digit.Tie as tie
 
 add-result : tie.Need-add-result
 add-result c = search needs

@@ -1,13 +1,13 @@
--- `listing::put_text` meets its contract. The invariant: the first i bytes are copied. The measure is the length less i.
+-- `listing_lines::put_text` meets its contract. The invariant: the first i bytes are copied. The measure is the length less i.
 -- Assumes nothing.
 use Prim.Native.Nat.{_-_}
 use native.Mathlib.Omega.{arith}
 use borrow.Author.Needs.{needs}
 use denote.Ref.{now}
 use lib.ListN.{length}
-use Rattle.listing.proofs.Copying.{CopiedTo, copied-none, copied-step, copied-all}
-use Rattle.listing.proofs.put_text.Statement.{statement}
-use Rattle.listing.proofs.put_text.Tie as tie
+use Rattle.listing_lines.proofs.Copying.{CopiedTo, copied-none, copied-step, copied-all}
+use Rattle.listing_lines.proofs.put_text.Statement.{statement}
+use Rattle.listing_lines.proofs.put_text.Tie as tie
 
 abbrev Inv-loop : tie.InvT-loop
 Inv-loop line₀ at text i₀ line i = CopiedTo line₀ at text line i

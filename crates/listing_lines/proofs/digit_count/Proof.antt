@@ -1,11 +1,11 @@
--- `listing::digit_count` meets its contract. The invariant: the digits of n are those counted but one, and those of rest. The
+-- `listing_lines::digit_count` meets its contract. The invariant: the digits of n are those counted but one, and those of rest. The
 -- measure is rest.
 -- Assumes nothing.
 use native.Mathlib.Omega.{arith}
 use borrow.Author.Needs.{needs}
-use Rattle.listing.proofs.Digits.{CountedTo, counted-none, counted-few, counted-step, counted-all}
-use Rattle.listing.proofs.digit_count.Statement.{statement}
-use Rattle.listing.proofs.digit_count.Tie as tie
+use Rattle.listing_lines.proofs.Digits.{CountedTo, counted-none, counted-few, counted-step, counted-all}
+use Rattle.listing_lines.proofs.digit_count.Statement.{statement}
+use Rattle.listing_lines.proofs.digit_count.Tie as tie
 
 abbrev Inv-loop : tie.InvT-loop
 Inv-loop n count₀ rest₀ count rest = CountedTo n count rest

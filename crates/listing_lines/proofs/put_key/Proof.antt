@@ -1,10 +1,10 @@
--- `listing::put_key` meets its contract.
+-- `listing_lines::put_key` meets its contract.
 -- Assumes nothing.
 use borrow.Author.Needs.{needs}
 use denote.Ref.{now}
-use Rattle.listing.specs.LinesLaws.{key-text-none, key-text-some}
-use Rattle.listing.proofs.put_key.Statement.{statement}
-use Rattle.listing.proofs.put_key.Tie as tie
+use Rattle.listing_lines.specs.LinesLaws.{key-text-none, key-text-some}
+use Rattle.listing_lines.proofs.put_key.Statement.{statement}
+use Rattle.listing_lines.proofs.put_key.Tie as tie
 
 slice-aggregate-put-text : tie.Need-slice-aggregate-put-text
 slice-aggregate-put-text c = search needs

@@ -1,12 +1,12 @@
--- `listing::put_number` meets its contract. The invariant says what is left: the `left` lowest digits of rest make of the line
+-- `listing_lines::put_number` meets its contract. The invariant says what is left: the `left` lowest digits of rest make of the line
 -- what the whole number makes of the line at entry. The measure is `left`.
 -- Assumes nothing.
 use native.Mathlib.Omega.{arith}
 use borrow.Author.Needs.{needs}
 use denote.Ref.{now}
-use Rattle.listing.proofs.Digits.{Filling, filling-none, filling-step, filling-all}
-use Rattle.listing.proofs.put_number.Statement.{statement}
-use Rattle.listing.proofs.put_number.Tie as tie
+use Rattle.listing_lines.proofs.Digits.{Filling, filling-none, filling-step, filling-all}
+use Rattle.listing_lines.proofs.put_number.Statement.{statement}
+use Rattle.listing_lines.proofs.put_number.Tie as tie
 
 abbrev Inv-loop : tie.InvT-loop
 Inv-loop line₀ at n count rest₀ left₀ line rest left = Filling line₀ at n line rest left

@@ -1,4 +1,4 @@
--- `listing::key_line` meets its contract: its parts are written one after the other. A stage says what is still to be written
+-- `listing_lines::key_line` meets its contract: its parts are written one after the other. A stage says what is still to be written
 -- at a place of the code.
 -- Assumes nothing.
 use mathlib.Core.List.{List, [], _∷_, _++_}
@@ -9,12 +9,12 @@ use borrow.Author.Needs.{needs}
 use denote.Ref.{now}
 use lib.ListN.{length, take}
 use lib.Seq.{length-take-le}
-use Rattle.listing.specs.Lines.{keyText, decimal, keyLine}
-use Rattle.listing.specs.LinesLaws.{length-key-line}
+use Rattle.listing_lines.specs.Lines.{keyText, decimal, keyLine}
+use Rattle.listing_lines.specs.LinesLaws.{length-key-line}
 use Rattle.buffers.specs.WritingLaws.{Writing, writing-none, part-room, part-written}
-use Rattle.listing.proofs.LineParts.{line-written}
-use Rattle.listing.proofs.key_line.Statement.{statement}
-use Rattle.listing.proofs.key_line.Tie as tie
+use Rattle.listing_lines.proofs.LineParts.{line-written}
+use Rattle.listing_lines.proofs.key_line.Statement.{statement}
+use Rattle.listing_lines.proofs.key_line.Tie as tie
 
 -- ---- the stages
 

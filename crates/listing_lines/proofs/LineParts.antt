@@ -9,7 +9,7 @@ use lib.Seq.{drop-at, set-split, take-set-le, length-take-le}
 use Rattle.buffers.specs.Put.{put, PutAt}
 use Rattle.buffers.specs.PutLaws.{put-zero, put-next, set-put}
 use Rattle.buffers.specs.WritingLaws.{Writing, last-written}
-use Rattle.listing.specs.Lines.{Written}
+use Rattle.listing_lines.specs.Lines.{Written}
 
 -- two bytes
 pub put-two-bytes : (o : List ℕ) (at a b : ℕ) → at + 2 ≤ length o → set (set o at a) (at + 1) b ≡ put o at (a ∷ b ∷ [])

@@ -1,13 +1,13 @@
--- `listing::put_hex` meets its contract. The invariant: the first i bytes are written, up to place p. The measure is n less i.
+-- `listing_lines::put_hex` meets its contract. The invariant: the first i bytes are written, up to place p. The measure is n less i.
 -- Assumes nothing.
 use Prim.Native.Nat.{_+_, _-_, _≤_}
 use native.Mathlib.Omega.{arith}
 use borrow.Author.Needs.{needs}
 use denote.Ref.{now}
 use lib.ListN.{length, length-set}
-use Rattle.listing.proofs.Hexes.{HexTo, hex-none, hex-room, hex-step, hex-all}
-use Rattle.listing.proofs.put_hex.Statement.{statement}
-use Rattle.listing.proofs.put_hex.Tie as tie
+use Rattle.listing_lines.proofs.Hexes.{HexTo, hex-none, hex-room, hex-step, hex-all}
+use Rattle.listing_lines.proofs.put_hex.Statement.{statement}
+use Rattle.listing_lines.proofs.put_hex.Tie as tie
 
 abbrev Inv-loop : tie.InvT-loop
 Inv-loop line₀ at key n p₀ i₀ line p i = HexTo line₀ at key n line p i
