@@ -1,5 +1,5 @@
 -- Rows filled one after the other from a reading by pattern: what a turn of the loop over next knows, and what each way out of it gives back.
---     Going s p w most rows₀ values₀ rows values here count     `count` rows are written, and the page w goes on from the reading `here`
+--     Going s p w most rows₀ values₀ rows values b here count     `count` rows are written, and the page w goes on from the reading `here`
 --     going-none, going-key                                     before the first row, after a row
 --     going-more, going-end, going-refused                      the ways out
 -- Assumes nothing.
@@ -31,10 +31,12 @@ use Rattle.patterned.specs.Patterns.{heldIs, SteppedBy}
 use Rattle.range.specs.declared.Stop.the-variants.{End as Ended, More, Refused as Stopped}
 use Rattle.range.specs.RangedRows.{stopAs, RangedBy}
 
-pub record Going (s : List ℕ) (p : P.Pattern) (w : Page) (most : ℕ) (rows₀ values₀ rows values : List ℕ) (here : Patterned) (count : ℕ) : Type 0 where
+pub record Going (s : List ℕ) (p : P.Pattern) (w : Page) (most : ℕ) (rows₀ values₀ rows values b : List ℕ) (here : Patterned) (count : ℕ) : Type 0 where
   pub entries : List Entry
   pub count-is : count ≡ length entries
   pub within : count ≤ most
+  -- the key buffer has room for the longest key
+  pub space : length b ≡ maxPath
   -- the pattern is the one of the start
   pub pattern-is : heldIs (here .pattern) ≡ p
   pub folded : FoldedBy w entries (most - count) s p (viewIs (here .reading))
@@ -43,15 +45,16 @@ pub record Going (s : List ℕ) (p : P.Pattern) (w : Page) (most : ℕ) (rows₀
   pub rows-len : length rows ≡ length rows₀
   pub values-len : length values ≡ length values₀
 
-pub going-none : (s : List ℕ) (first : Patterned) (most : ℕ) (rows values : List ℕ)
-    → Going s (heldIs (first .pattern)) (foldBy s (heldIs (first .pattern)) (viewIs (first .reading)) most) most rows values rows values first 0
-going-none s first most rows values =
+pub going-none : (s : List ℕ) (first : Patterned) (most : ℕ) (rows values b : List ℕ) → length b ≡ maxPath
+    → Going s (heldIs (first .pattern)) (foldBy s (heldIs (first .pattern)) (viewIs (first .reading)) most) most rows values rows values b first 0
+going-none s first most rows values b space =
     let p = heldIs (first .pattern) in
     let r = viewIs (first .reading) in
     record {
       entries = [];
       count-is = refl;
       within = omega arith;
+      space = space;
       pattern-is = refl;
       folded = subst (λ (n : ℕ). FoldedBy (foldBy s p r most) [] n s p r) (omega arith) (by-none s p r most);
       rows-are = sym (rows-none rows);
@@ -60,8 +63,8 @@ going-none s first most rows values =
       values-len = refl;
     }
 
-module _ {s : List ℕ} {p : P.Pattern} {w : Page} {most : ℕ} {rows₀ values₀ rows values : List ℕ} {here : Patterned} {count : ℕ}
-    (g : Going s p w most rows₀ values₀ rows values here count) where
+module _ {s : List ℕ} {p : P.Pattern} {w : Page} {most : ℕ} {rows₀ values₀ rows values b₀ : List ℕ} {here : Patterned} {count : ℕ}
+    (g : Going s p w most rows₀ values₀ rows values b₀ here count) where
   -- the page stops with the rows that are written
   stops : (why : G.Stop) → w ≡ page (g .entries) why → RangedBy w rows₀ rows values₀ values (record { count = count; stop = stopAs why })
   stops why is =
@@ -71,15 +74,15 @@ module _ {s : List ℕ} {p : P.Pattern} {w : Page} {most : ℕ} {rows₀ values�
   pub going-more : most ≤ count → RangedBy w rows₀ rows values₀ values (record { count = count; stop = More })
   going-more full = stops more (by-more (g .folded) (omega arith))
 
-  -- a call of next, with a buffer for the longest key
-  module _ (left : count < most) {b₀ b : List ℕ} (room : length b₀ ≡ maxPath) (same : length b ≡ length b₀) {o : PatternedStep}
+  -- a call of next
+  module _ (left : count < most) {b : List ℕ} (same : length b ≡ maxPath) {o : PatternedStep}
       (h : SteppedBy (nextBy s (heldIs (here .pattern)) (viewIs (here .reading)) (length b₀)) (here .pattern) b₀ b o) where
     call-told : Told (nextBy s (heldIs (here .pattern)) (viewIs (here .reading)) (length b₀) .answer) (o .answer) b₀ b
     call-told = record { answer = h .answer; buffer = h .buffer }
 
     -- the same by the pattern of the start
     call-is : nextBy s p (viewIs (here .reading)) maxPath ≡ nextBy s (heldIs (here .pattern)) (viewIs (here .reading)) (length b₀)
-    call-is = sym (ap₂ (λ (q : P.Pattern) (n : ℕ). nextBy s q (viewIs (here .reading)) n) (g .pattern-is) room)
+    call-is = sym (ap₂ (λ (q : P.Pattern) (n : ℕ). nextBy s q (viewIs (here .reading)) n) (g .pattern-is) (g .space))
 
     answer-is : {a : R.Answer} → nextBy s (heldIs (here .pattern)) (viewIs (here .reading)) (length b₀) .answer ≡ a → nextBy s p (viewIs (here .reading)) maxPath .answer ≡ a
     answer-is e = ap (λ (x : R.Step). x .answer) call-is ∙ e
@@ -91,10 +94,10 @@ module _ {s : List ℕ} {p : P.Pattern} {w : Page} {most : ℕ} {rows₀ values�
     going-refused n e = stops (G.Stop.refused n) (by-refused (g .folded) (omega arith) n (answer-is (step-refused call-told n e)))
 
     pub key-fits : (n v : ℕ) → o .answer ≡ Key n v → n ≤ maxPath
-    key-fits n v e = omega (arith, step-fits call-told n v e same)
+    key-fits n v e = omega (arith, g .space, step-fits call-told n v e (same ∙ sym (g .space)))
 
     pub going-key : rowLen * most ≤ length rows₀ → most ≤ length values₀ → (n v : ℕ) → o .answer ≡ Key n v → {rows′ : List ℕ}
-        → rows′ ≡ put rows (count * 256) (n ∷ take n b) → Going s p w most rows₀ values₀ rows′ (set values count v) (o .patterned) (count + 1)
+        → rows′ ≡ put rows (count * 256) (n ∷ take n b) → Going s p w most rows₀ values₀ rows′ (set values count v) b (o .patterned) (count + 1)
     going-key row-room value-room n v e {rows′} put-is =
         let k = take n b in
         let x = entry k v in
@@ -109,6 +112,7 @@ module _ {s : List ℕ} {p : P.Pattern} {w : Page} {most : ℕ} {rows₀ values�
           entries = g .entries ++ (x ∷ []);
           count-is = omega arith;
           within = omega arith;
+          space = same;
           pattern-is = ap heldIs (h .pattern) ∙ g .pattern-is;
           folded =
               by-key (g .folded) k v (viewIs (o .patterned .reading)) (most - (count + 1)) (omega arith) (answer-is (step-text call-told n v e))
