@@ -155,8 +155,11 @@ static void reading_row(const char *name, file f, int32_t want)
     memset(&reading, (int)(MARK & 0xFF), sizeof reading);
     kept = reading;
     row = name;
-    calls += 4;
+    calls += 5;
     expect_number((uint64_t)fst_range(f.bytes, f.len, NULL, NULL, 1, rows, counts, &count), (uint64_t)want, "fst_range");
+    expect_number(count, 0, "count");
+    count = (size_t)MARK;
+    expect_number((uint64_t)fst_find(f.bytes, f.len, NULL, 0, 1, NULL, NULL, 1, rows, counts, &count), (uint64_t)want, "fst_find");
     expect_number(count, 0, "count");
     expect_number((uint64_t)fst_count(f.bytes, f.len, depths, 1, sums, 1, counts, 1), (uint64_t)want, "fst_count");
     expect_number((uint64_t)fst_start(f.bytes, f.len, NULL, NULL, counts, 1, &reading), (uint64_t)want, "fst_start");

@@ -9,12 +9,11 @@ use Rattle.reading.specs.Reading as R
 use Rattle.reading.specs.Reading.{key, end}
 use Rattle.plain.specs.Plain as P
 use Rattle.paging.specs.Paging as G
-use Rattle.paging.specs.Paging.{Page, ended, more}
 use Rattle.counting.specs.declared.Counting.{Counting}
 use Rattle.counting.specs.declared.Counting.the-variants.{Counted, Refused as No}
 use Rattle.counting.specs.CountOutcomes.{CountRefusedFor, Counts, CountOutcome}
 use Rattle.range.specs.declared.Ranged.{Ranged}
-use Rattle.range.specs.RangedRows.{stopAs, RangedBy}
+use Rattle.range.specs.RangedRows.{RangedBy}
 use Rattle.stream_start.specs.declared.Bound.{Bound}
 use Rattle.stream_start.specs.Views.{boundIs}
 use Rattle.stream_start.specs.declared.Begins.the-variants.{Began, Refused as NotStarted}
@@ -27,7 +26,7 @@ use Rattle.stream.specs.Plains.{plainIs, begunIs, beganIs, PlainStepped}
 use Rattle.stream_arrays.specs.Arrays.{kindIs, Held, PlainPut}
 use Rattle.stream_arrays.specs.ArraysLaws.{plain-back}
 use Rattle.baxhiso.specs.Exports.{OK, code}
-use Rattle.baxhiso_readings.specs.Readings.{END, CountLeaves, StartLeaves, nextResult, nextLen, nextValue, resultOf, lenOf, valueOf, AnswerLeaves, NextLeaves, rangeResult, stopOf, RangeLeaves}
+use Rattle.baxhiso_readings.specs.Readings.{END, CountLeaves, StartLeaves, nextResult, nextLen, nextValue, resultOf, lenOf, valueOf, AnswerLeaves, NextLeaves}
 use Rattle.baxhiso_readings.specs.ReadingsLaws.{counted-not-0}
 
 -- ---- the table of keys
@@ -111,13 +110,3 @@ pub range-bounds : (f lo hi : List ℕ) {k l : Bound} (n m most a b : ℕ) {rows
 range-bounds f lo hi {k} {l} n m most a b {rows₀} {rows} {values₀} {values} {g} p q h =
     subst (λ x. RangedBy (G.range f (boundIs (kindIs n) lo) (boundIs x hi) most a b) rows₀ rows values₀ values g) q
     (subst (λ x. RangedBy (G.range f (boundIs x lo) (boundIs l hi) most a b) rows₀ rows values₀ values g) p h)
-
-stop-is : (w : G.Stop) → stopOf (stopAs w) ≡ rangeResult w
-stop-is ended = refl
-stop-is more = refl
-stop-is (G.Stop.refused n) = refl
-
-pub range-leaves : {w : Page} {rows₀ rows values₀ values : List ℕ} {g : Ranged} → RangedBy w rows₀ rows values₀ values g → (r z : ℤ) → r ≡ z
-    → z ≡ stopOf (g .stop) → RangeLeaves w rows₀ rows values₀ values (g .count) r
-range-leaves {w} h r z same is =
-    record { result = same ∙ is ∙ ap stopOf (h .stop) ∙ stop-is (w .stop); count-is = h .count; rows-are = h .rows-are; values-are = h .values-are }

@@ -145,7 +145,7 @@ pub extern "C" fn fst_next_arrays(
 // ---- a range
 
 // Why a range stopped, as a result.
-fn stopped(stop: Stop) -> i32
+pub fn stopped(stop: Stop) -> i32
     ensures { λ r. ⌜ r ≡ stopOf stop ⌝ }
 {
     match stop {

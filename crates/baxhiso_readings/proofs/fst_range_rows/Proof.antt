@@ -4,7 +4,8 @@ use lib.ListN.{length}
 use borrow.Author.Needs.{needs}
 use denote.Ref.{now}
 use Rattle.baxhiso.specs.ResultLaws.{result-back}
-use Rattle.baxhiso_readings.proofs.ReadingResults.{range-bounds, range-leaves}
+use Rattle.baxhiso_readings.specs.RangeResultLaws.{range-leaves}
+use Rattle.baxhiso_readings.proofs.ReadingResults.{range-bounds}
 use Rattle.baxhiso_readings.proofs.fst_range_rows.Statement.{statement}
 use Rattle.baxhiso_readings.proofs.fst_range_rows.Tie as tie
 
