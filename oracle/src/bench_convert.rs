@@ -1,4 +1,4 @@
-// Times of conversion (document 02, N7) and of carrying a reading (N8), all of our own code (docs/PERFORMANCE.md): lookups in wide nodes before and after a conversion,
+// Times of conversion (document 02, N7) and of carrying a reading (N8) (docs/PERFORMANCE.md): lookups in wide nodes before and after a conversion, ours and the Rust's,
 // a conversion beside an admission of the same file, and a carry beside a start at the same key.
 
 use std::hint::black_box;
@@ -6,6 +6,7 @@ use std::hint::black_box;
 use crate::answers::{Bound, ConvertAnswers, FileAnswers, Held, Kind, ReadingAnswers, HELD, REFUSED, STARTED};
 use crate::bench::{say, sets, times_in, Set};
 use crate::builder::Builder;
+use crate::given_file;
 use crate::model_carry::CarryAnswers;
 use crate::model_file;
 use crate::prng::Prng;
@@ -46,6 +47,16 @@ fn lookups(ours: &dyn FileAnswers, old: &[u8], new: &[u8], keys: &[[u8; 2]]) -> 
     times_in(keys, PART, |keys| get(old, keys), |keys| get(new, keys))
 }
 
+fn lookups_by_the_rust(old: &[u8], new: &[u8], keys: &[[u8; 2]]) -> (f64, f64) {
+    let (old, new) = (given_file::open(old).expect("it has a root"), given_file::open(new).expect("it has a root"));
+    let get = |opened: &given_file::Opened, keys: &[[u8; 2]]| {
+        for key in keys {
+            assert!(black_box(opened.get_timed(key)).is_some());
+        }
+    };
+    times_in(keys, PART, |keys| get(&old, keys), |keys| get(&new, keys))
+}
+
 // The time of a byte of the old file.
 fn beside_admission(ours: &dyn FileAnswers, converts: &dyn ConvertAnswers, file: &[u8]) -> (f64, f64) {
     let n = file.len();
@@ -61,7 +72,13 @@ fn beside_admission(ours: &dyn FileAnswers, converts: &dyn ConvertAnswers, file:
 }
 
 // A carry beside a start at the same key, as the excluded lower bound.
-fn carries(reads: &dyn ReadingAnswers, carry: &dyn CarryAnswers, old: &[u8], new: &[u8], keys: &[Vec<u8>]) -> (f64, f64) {
+fn carries(
+    reads: &dyn ReadingAnswers,
+    carry: &dyn CarryAnswers,
+    old: &[u8],
+    new: &[u8],
+    keys: &[Vec<u8>],
+) -> (f64, f64) {
     let counts = model_file::admitted(old).ok().and_then(|found| found.counts(old.len()).ok()).expect("few keys");
     let upper = Bound { kind: Kind::Unbounded, bytes: Vec::new() };
     let asked: Vec<(Bound, Held)> = keys
@@ -99,34 +116,38 @@ pub fn bench(
     carry: &dyn CarryAnswers,
 ) {
     println!("lookups of keys of two bytes, nanoseconds, before and after conversion");
-    println!("    {:<28}{:>8} {:>8} {:>8}", "", "version 1", "2", "ratio");
+    println!("    {:<28}{:>8} {:>8} {:>8}", "", "before", "after", "ratio");
     for &n in &[16, 32, 33, 64, 128, 256] {
         let (old, keys) = wide(n);
         let new = converted(converts, &old);
         let mut prng = Prng::new(23);
         let asked: Vec<[u8; 2]> = (0..ASKED).map(|_| keys[prng.below(keys.len())]).collect();
         say(&format!("{} transitions, {} bytes", n, old.len()), lookups(ours, &old, &new, &asked));
+        say("  the Rust", lookups_by_the_rust(&old, &new, &asked));
     }
     println!("conversion, nanoseconds a byte of the old file");
     println!("    {:<28}{:>8} {:>8} {:>8}", "", "convert", "admit", "ratio");
-    for Set { name, keys } in sets() {
-        for &(n, size) in &[(1_500, "few"), (40_000, "many")] {
-            let mut builder = Builder::new(1, 7);
-            let step = keys.len() / n;
-            keys.iter().step_by(step).enumerate().for_each(|(i, key)| builder.insert(key, 3 * i as u64));
-            let old = builder.finish(0);
-            say(&format!("{}, {}: {} bytes", name, size, old.len()), beside_admission(ours, converts, &old));
-        }
-        if keys[0].len() == 11 {
-            let mut builder = Builder::new(1, 7);
-            let keys: Vec<Vec<u8>> = keys.iter().step_by(keys.len() / KEYS).take(KEYS).cloned().collect();
-            keys.iter().enumerate().for_each(|(i, key)| builder.insert(key, 3 * i as u64));
-            let old = builder.finish(0);
-            println!("a carry beside a start, nanoseconds; {} keys of 11 bytes, {} bytes", KEYS, old.len());
-            say("", carries(reads, carry, &old, &converted(converts, &old), &keys));
+    let old_file = |keys: &[Vec<u8>]| {
+        let mut builder = Builder::new(1, 7);
+        keys.iter().enumerate().for_each(|(i, key)| builder.insert(key, 3 * i as u64));
+        builder.finish(0)
+    };
+    let some = |keys: &[Vec<u8>], n: usize| keys.iter().step_by(keys.len() / n).take(n).cloned().collect::<Vec<_>>();
+    // zero-padded numbers share nearly all their nodes
+    let sets: Vec<Set> = sets().into_iter().take(2).collect();
+    for Set { name, keys } in &sets {
+        for &n in &[1_500, 40_000] {
+            let old = old_file(&some(keys, n));
+            say(&format!("{}, {} bytes", name, old.len()), beside_admission(ours, converts, &old));
         }
     }
-    for &n in &[64, 256] {
-        say(&format!("nodes of {} transitions", n), beside_admission(ours, converts, &wide(n).0));
+    for &n in &[32, 64, 256] {
+        let (old, _) = wide(n);
+        say(&format!("{} transitions, {} bytes", n, old.len()), beside_admission(ours, converts, &old));
     }
+    println!("a carry beside a start, nanoseconds, at keys of 11 bytes");
+    println!("    {:<28}{:>8} {:>8} {:>8}", "", "carry", "start", "ratio");
+    let keys = some(&sets[1].keys, KEYS);
+    let old = old_file(&keys);
+    say(&format!("{} keys, {} bytes", KEYS, old.len()), carries(reads, carry, &old, &converted(converts, &old), &keys));
 }
