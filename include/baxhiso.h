@@ -392,7 +392,8 @@ static inline uint64_t fst_to_come(const fst_reading *reading)
 
 /* ---- files written */
 
-/* Converts a file of version 1 to version 2: the same nodes, keys and values, and wide nodes with an index, so that lookups in them are faster.
+/* Converts a file of version 1 to version 2: the same nodes, keys and values, and an index in nodes of more than 32 transitions. A reader that trusts the
+ * file finds a byte there at once; fst_get judges each node with its index, and takes longer in such nodes than before.
  *
  *   file, file_len       the old file, which is admitted first
  *   depths, sums         work tables of at least file_len entries each; afterwards as fst_admit leaves them, on every result
