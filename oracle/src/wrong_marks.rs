@@ -1,7 +1,9 @@
 // The model's marks with one slip each, which the comparison is to notice.
 
 use crate::answers::Pattern;
-use crate::model_marks::{run_by, Answer, MarkAnswers, MarkCalls, Marked, Operation, Said, FULL, MARKS, MAX_NAME, NAME};
+use crate::model_marks::{
+    run_by, Answer, MarkAnswers, MarkCalls, Marked, Operation, Said, FULL, MARKS, MAX_NAME, NAME,
+};
 use crate::model_seats::Tabled;
 
 pub const SLIPS: &[&str] = &[

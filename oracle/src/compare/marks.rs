@@ -224,7 +224,8 @@ const MADE: [&str; 10] = [
     "made: the pattern's length",
 ];
 
-const VERSIONS: [&str; 4] = ["lists on another version", "lists on version 1", "lists on version 2", "lists on version 3"];
+const VERSIONS: [&str; 4] =
+    ["lists on another version", "lists on version 1", "lists on version 2", "lists on version 3"];
 
 impl<'a> Run<'a> {
     fn judge_operation<'r, 'o>(
@@ -336,7 +337,10 @@ impl<'a> Run<'a> {
         self.require(&["nexts: refused, 11 STATE", "marks: refused, 11 STATE", "returns: refused, 11 STATE"], 5_000)?;
         self.require(&["marks: refused, 17 NAME", "returns: refused, 17 NAME", "nexts: refused, 8 SPACE"], 5_000)?;
         self.require(&["marks: refused, 18 FULL"], 1_000)?;
-        self.require(&["nexts: refused, 12 PATTERN", "marks: refused, 12 PATTERN", "returns: refused, 12 PATTERN"], 100)?;
+        self.require(
+            &["nexts: refused, 12 PATTERN", "marks: refused, 12 PATTERN", "returns: refused, 12 PATTERN"],
+            100,
+        )?;
         self.require(&MADE, 2_000)
     }
 }
