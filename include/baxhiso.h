@@ -316,7 +316,10 @@ int32_t fst_count(const uint8_t *file, size_t file_len, uint16_t *depths, size_t
                   uint64_t *sums, size_t sums_len, uint64_t *counts, size_t counts_len);
 
 /* A reading between two calls. It holds no pointer, and may be copied: the copy goes on from the same key. A caller need not
- * look into it; whatever it holds, fst_next reads and writes within it alone. */
+ * look into it; whatever it holds, fst_next reads and writes within it alone.
+ *
+ * A mark, a place to come back to, is a copy that the caller keeps, under a name of its own if it likes: put back, it gives the
+ * answers that followed it, with the transitions followed and the number of keys to come as they were there. */
 typedef struct fst_reading {
     uint64_t head[7];   /* file length, upper bound's kind and length, pending empty key and its value, transitions followed, levels */
     uint64_t keys[1];   /* the number of keys to come */

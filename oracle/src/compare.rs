@@ -8,6 +8,7 @@ use crate::answers::{Answers, At, ConvertAnswers, FileAnswers, ReadingAnswers, R
 use crate::generate::INPUTS;
 use crate::given;
 use crate::model_carry::CarryAnswers;
+use crate::model_marks::MarkAnswers;
 use crate::model_ops::OpsAnswers;
 use crate::model_pack::PackAnswers;
 use crate::model_range::RangeAnswers;
@@ -23,6 +24,7 @@ mod little;
 mod long;
 mod lookup;
 mod made;
+mod marks;
 mod numbers;
 mod opening;
 mod ops;
@@ -156,6 +158,8 @@ pub struct Run<'a> {
     ours_seats: Option<&'a dyn SeatAnswers>,
     // and on several files as one
     ours_ops: Option<&'a dyn OpsAnswers>,
+    // and on marks
+    ours_marks: Option<&'a dyn MarkAnswers>,
     // a whole run has every random case, another one in so many
     one_in: usize,
     prng: Prng,
@@ -198,6 +202,7 @@ impl<'a> Run<'a> {
             ours_carry: None,
             ours_seats: None,
             ours_ops: None,
+            ours_marks: None,
             one_in,
             prng: Prng::new(2),
             counts: BTreeMap::new(),
@@ -231,6 +236,11 @@ impl<'a> Run<'a> {
 
     pub fn operating(mut self, ours: Option<&'a dyn OpsAnswers>) -> Run<'a> {
         self.ours_ops = ours;
+        self
+    }
+
+    pub fn marking(mut self, ours: Option<&'a dyn MarkAnswers>) -> Run<'a> {
+        self.ours_marks = ours;
         self
     }
 
@@ -303,6 +313,11 @@ impl<'a> Run<'a> {
     // Those of several files as one alone.
     pub fn all_operations(&mut self, print: bool) -> Checked {
         self.sections(print, &[("several files as one", Run::operations)])
+    }
+
+    // Those of marks alone.
+    pub fn by_marks(&mut self, print: bool) -> Checked {
+        self.sections(print, &[("marks of a reading", Run::mark_lists)])
     }
 
     // Those of conversion alone.

@@ -45,6 +45,7 @@ mod model;
 mod model_carry;
 mod model_convert;
 mod model_file;
+mod model_marks;
 mod model_ops;
 mod model_pack;
 mod model_pattern;
@@ -59,6 +60,8 @@ mod ours_carry;
 mod ours_convert;
 #[cfg(library)]
 mod ours_file;
+#[cfg(library)]
+mod ours_marks;
 #[cfg(library)]
 mod ours_ops;
 #[cfg(library)]
@@ -81,6 +84,7 @@ mod wrong;
 mod wrong_carry;
 mod wrong_convert;
 mod wrong_file;
+mod wrong_marks;
 mod wrong_pack;
 mod wrong_range;
 mod wrong_reading;
@@ -90,6 +94,7 @@ use std::process;
 use crate::answers::ConvertAnswers;
 use crate::compare::{Difference, Ours, Run};
 use crate::model_carry::CarryAnswers;
+use crate::model_marks::MarkAnswers;
 use crate::model_ops::OpsAnswers;
 use crate::model_pack::PackAnswers;
 use crate::model_range::RangeAnswers;
@@ -162,6 +167,16 @@ fn library_operates() -> Option<&'static dyn OpsAnswers> {
 
 #[cfg(not(library))]
 fn library_operates() -> Option<&'static dyn OpsAnswers> {
+    None
+}
+
+#[cfg(library)]
+fn library_marks() -> Option<&'static dyn MarkAnswers> {
+    Some(&ours::Library)
+}
+
+#[cfg(not(library))]
+fn library_marks() -> Option<&'static dyn MarkAnswers> {
     None
 }
 
@@ -292,9 +307,20 @@ fn compare_ops() -> bool {
     }
 }
 
+// Marks of a reading alone.
+fn compare_marks() -> bool {
+    match Run::new(library(), 1).marking(library_marks()).by_marks(true) {
+        Ok(()) => true,
+        Err(difference) => {
+            report(&difference);
+            false
+        }
+    }
+}
+
 // What has a run of its own, one after the other, beside the whole comparison.
 fn compare_later() -> bool {
-    compare_packs() && compare_range() && compare_carries() && compare_ops() && compare_seats()
+    compare_packs() && compare_range() && compare_carries() && compare_ops() && compare_seats() && compare_marks()
 }
 
 // Files and records past 16 MiB alone.
@@ -346,7 +372,7 @@ fn self_test() -> bool {
             }
         }
     }
-    self_test_packs() && self_test_range() && self_test_conversions() && self_test_carries()
+    self_test_packs() && self_test_range() && self_test_conversions() && self_test_carries() && self_test_marks()
 }
 
 // The part with no slip agrees, and with each of its slips it does not; a slip is made by `with`.
@@ -422,6 +448,25 @@ fn self_test_range() -> bool {
     true
 }
 
+// The same of marks.
+fn self_test_marks() -> bool {
+    let in_small = |ours: &dyn MarkAnswers| Run::new((None, None, None), 100).marking(Some(ours)).by_marks(false);
+    if let Err(difference) = in_small(&model::Model) {
+        report(&difference);
+        return false;
+    }
+    for &slip in wrong_marks::SLIPS {
+        match in_small(&wrong_marks::WrongMarks { slip }) {
+            Err(difference) => println!("noticed: {}  ({})", slip, difference.what),
+            Ok(()) => {
+                println!("oracle: not noticed: {}", slip);
+                return false;
+            }
+        }
+    }
+    true
+}
+
 #[cfg(timed)]
 fn bench() -> bool {
     if std::env::args().nth(1).as_deref() == Some("pack") {
@@ -472,17 +517,19 @@ fn main() {
         Some("pack") => compare_packs(),
         Some("carry") => compare_carries(),
         Some("seats") => compare_seats(),
+        Some("marks") => compare_marks(),
         Some("ops") => compare_ops(),
         Some("long") => compare_long(),
         Some("self-test") => match args.get(2).map(String::as_str) {
             Some("convert") => self_test_conversions(),
             Some("carry") => self_test_carries(),
+            Some("marks") => self_test_marks(),
             _ => self_test(),
         },
         Some("record") => record(&args[2..]),
         Some("listing") => listing::make(),
         _ => {
-            println!("oracle: compare, later, readings, patterns, range, admission, convert, pack, carry, ops, seats, long, self-test, record or listing");
+            println!("oracle: compare, later, readings, patterns, range, admission, convert, pack, carry, ops, seats, marks, long, self-test, record or listing");
             process::exit(2);
         }
     };
