@@ -8,16 +8,15 @@ use mathlib.Core.Bool.{Bool, true, false, cond, _&&_}
 use mathlib.Core.Logic.{_⊎_, inl, inr}
 use mathlib.Core.Option.{some, none}
 use mathlib.Core.List.{List, []}
-use Prim.Native.Nat.{ℕ, zero, suc, _+_, _-_, _%_, _≤_, _<_}
+use Prim.Native.Nat.{ℕ, suc, _+_, _-_, _%_, _≤_, _<_}
 use native.Mathlib.Omega.{arith}
 use native.Mathlib.Numerals.{add-one}
 use borrow.Author.Tests.{lt-leb, le-leb}
-use lib.Dec.{leb}
-use lib.ListN.{length, getD, drop, drop-of-length-le}
+use lib.ListN.{getD, drop, drop-of-length-le}
 use lib.Seq.{drop-cons}
 use Rattle.plain.specs.Plain as P
 use Rattle.turns.specs.Turns as T
-use Rattle.turns.specs.Turns.{noSeat, seatAt, seatTest, allSeats, rightTest, turnFrom, turn}
+use Rattle.turns.specs.Turns.{noSeat, seatTest, allSeats, rightTest, turnFrom, turn}
 use Rattle.seats_arrays.specs.SeatArrays.{flag, heldIf, seatOf, table, seatsOf}
 use Rattle.seats_arrays.specs.SeatArraysLaws.{flag-yes, flag-no, table-len, table-at, seat-in}
 

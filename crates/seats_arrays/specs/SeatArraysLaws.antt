@@ -6,21 +6,20 @@
 --     row-set, row-put        the rows after one was written
 -- Assumes nothing.
 use mathlib.Core.Path.{_≡_, refl, sym, ap, ap₂, _∙_}
-use mathlib.Core.Bool.{Bool, true, false}
+use mathlib.Core.Bool.{true, false}
 use mathlib.Core.List.{List, [], _∷_}
-use Prim.Native.Nat.{ℕ, zero, suc, _<_, _≤_}
+use Prim.Native.Nat.{ℕ, zero, suc, _<_}
 use native.Mathlib.Omega.{arith}
-use lib.ListN.{length, getD, set, replicate}
+use lib.ListN.{length, getD, set}
 use lib.Seq.{getD-set-same, getD-set-other}
 use Rattle.plain.specs.Plain as P
 use Rattle.turns.specs.Turns as T
 use Rattle.turns.specs.Turns.{noSeat, seatAt}
 use Rattle.stream.specs.declared.Plain.{Plain}
-use Rattle.stream.specs.Plains.{plainIs}
 use Rattle.stream_start.specs.Views.{viewIs}
-use Rattle.stream_arrays.specs.Arrays.{Held, held, heldIs, heldAs, heldPlain}
+use Rattle.stream_arrays.specs.Arrays.{Held, heldIs, heldAs}
 use Rattle.stream_arrays.specs.ArraysLaws.{held-back}
-use Rattle.seats_arrays.specs.SeatArrays.{flag, heldIf, seatOf, table, seatsOf, Rows, rows, rowOf, plainOf, plainAt, rowsSet, Within, FlagPut, RowSet, RowPut}
+use Rattle.seats_arrays.specs.SeatArrays.{flag, seatOf, table, seatsOf, Rows, rowOf, plainAt, rowsSet, Within, FlagPut, RowSet, RowPut}
 
 -- ---- numbers for yes and no
 

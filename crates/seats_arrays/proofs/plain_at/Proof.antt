@@ -4,7 +4,6 @@ use mathlib.Core.Path.{ap}
 use denote.Ref.{now}
 use lib.ListN.{getD}
 use Rattle.stream_start.specs.declared.Reading.{Reading}
-use Rattle.stream.specs.declared.Plain.{Plain}
 use borrow.Author.Needs.{needs}
 use native.Mathlib.Omega.{arith}
 use Rattle.seats_arrays.proofs.plain_at.Statement.{statement}
