@@ -79,6 +79,7 @@ mod wrong_file;
 mod wrong_pack;
 mod wrong_range;
 mod wrong_reading;
+mod wrong_seats;
 
 use std::process;
 
@@ -341,7 +342,7 @@ fn self_test() -> bool {
             }
         }
     }
-    self_test_packs() && self_test_range()
+    self_test_packs() && self_test_range() && self_test_seats()
 }
 
 // The same of the packing of lists.
@@ -375,6 +376,26 @@ fn self_test_range() -> bool {
         match in_small(&wrong_range::WrongRange { slip }) {
             Err(difference) => println!("noticed: {}  ({})", slip, difference.what),
             Ok(()) => {
+                println!("oracle: not noticed: {}", slip);
+                return false;
+            }
+        }
+    }
+    true
+}
+
+// The same of seats.
+fn self_test_seats() -> bool {
+    let in_small = |ours: &dyn SeatAnswers| Run::new((None, None, None), 20).seating(Some(ours)).by_seats(false);
+    for &slip in std::iter::once(&"").chain(wrong_seats::SLIPS) {
+        match (slip, in_small(&wrong_seats::WrongSeats { slip })) {
+            ("", Ok(())) => {}
+            ("", Err(difference)) => {
+                report(&difference);
+                return false;
+            }
+            (slip, Err(difference)) => println!("noticed: {}  ({})", slip, difference.what),
+            (slip, Ok(())) => {
                 println!("oracle: not noticed: {}", slip);
                 return false;
             }
@@ -432,6 +453,7 @@ fn main() {
         Some("ops") => compare_ops(),
         Some("long") => compare_long(),
         Some("self-test") => self_test(),
+        Some("self-test-seats") => self_test_seats(),
         Some("record") => record(&args[2..]),
         Some("listing") => listing::make(),
         _ => {
