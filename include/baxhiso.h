@@ -1,7 +1,7 @@
 /* baxhiso.h: read values by key, keys by value, and the keys between two bounds, from an FST file that is held in memory.
  *
  * Link libbaxhiso.a into a program for x86-64: `./install PREFIX` puts it and this header there, or `tools/library.sh` writes
- * target/staticlib/libbaxhiso.a. It calls memcpy, memmove and memset and nothing else.
+ * target/staticlib/libbaxhiso.a. It calls memcpy and memset and nothing else.
  *
  * The library allocates nothing and keeps nothing between calls: any number of threads may call it at the same time, also on one file, as long
  * as none is lent a buffer that another is lent. The caller lends every buffer, and the library reads and

@@ -140,12 +140,18 @@ pub fn put_rows(
         (rows (now (heads .exit)) (now (bounds .exit)) (now (addrs .exit)) (now (inps .exit))
         (now (trans .exit)) (now (outs .exit)) (now (keys .exit))) ⌝ }
 {
-    heads[number] = *head;
-    bounds[number] = *bound;
-    addrs[number] = *addr;
-    inps[number] = *inp;
-    trans[number] = *tran;
-    outs[number] = *out;
+    let h = *head;
+    let b = *bound;
+    let a = *addr;
+    let i = *inp;
+    let t = *tran;
+    let o = *out;
+    heads[number] = h;
+    bounds[number] = b;
+    addrs[number] = a;
+    inps[number] = i;
+    trans[number] = t;
+    outs[number] = o;
     keys[number] = to_come;
 }
 

@@ -9,41 +9,41 @@ use native.Mathlib.Omega.{arith}
 use Rattle.seats_arrays.proofs.put_rows.Statement.{statement}
 use Rattle.seats_arrays.proofs.put_rows.Tie as tie
 
-mul-t17 : tie.Need-mul-t17
-mul-t17 c = search needs
+mul-h : tie.Need-mul-h
+mul-h c = search needs
 
-slice-set-from-heads : tie.Need-slice-set-from-heads
-slice-set-from-heads c = search needs
+slice-set-from-h : tie.Need-slice-set-from-h
+slice-set-from-h c = search needs
 
-mul-t17-2 : tie.Need-mul-t17-2
-mul-t17-2 c = search needs
+mul-b : tie.Need-mul-b
+mul-b c = search needs
 
-slice-set-from-bounds : tie.Need-slice-set-from-bounds
-slice-set-from-bounds c = search needs
+slice-set-from-b : tie.Need-slice-set-from-b
+slice-set-from-b c = search needs
 
-mul-t17-3 : tie.Need-mul-t17-3
-mul-t17-3 c = search needs
+mul-a : tie.Need-mul-a
+mul-a c = search needs
 
-slice-set-from-addrs : tie.Need-slice-set-from-addrs
-slice-set-from-addrs c = search needs
+slice-set-from-a : tie.Need-slice-set-from-a
+slice-set-from-a c = search needs
 
-mul-t17-4 : tie.Need-mul-t17-4
-mul-t17-4 c = search needs
+mul-i : tie.Need-mul-i
+mul-i c = search needs
 
-slice-set-from-inps : tie.Need-slice-set-from-inps
-slice-set-from-inps c = search needs
+slice-set-from-i : tie.Need-slice-set-from-i
+slice-set-from-i c = search needs
 
-mul-t17-5 : tie.Need-mul-t17-5
-mul-t17-5 c = search needs
+mul-t : tie.Need-mul-t
+mul-t c = search needs
 
-slice-set-from-trans : tie.Need-slice-set-from-trans
-slice-set-from-trans c = search needs
+slice-set-from-t : tie.Need-slice-set-from-t
+slice-set-from-t c = search needs
 
-mul-t17-6 : tie.Need-mul-t17-6
-mul-t17-6 c = search needs
+mul-o : tie.Need-mul-o
+mul-o c = search needs
 
-slice-set-from-outs : tie.Need-slice-set-from-outs
-slice-set-from-outs c = search needs
+slice-set-from-o : tie.Need-slice-set-from-o
+slice-set-from-o c = search needs
 
 mul-keys : tie.Need-mul-keys
 mul-keys c = search needs
@@ -83,18 +83,18 @@ pub put-rows-spec : {M : Type 1} → statement M
 put-rows-spec =
     tie.close
     (tie.spec
-    mul-t17
-    slice-set-from-heads
-    mul-t17-2
-    slice-set-from-bounds
-    mul-t17-3
-    slice-set-from-addrs
-    mul-t17-4
-    slice-set-from-inps
-    mul-t17-5
-    slice-set-from-trans
-    mul-t17-6
-    slice-set-from-outs
+    mul-h
+    slice-set-from-h
+    mul-b
+    slice-set-from-b
+    mul-a
+    slice-set-from-a
+    mul-i
+    slice-set-from-i
+    mul-t
+    slice-set-from-t
+    mul-o
+    slice-set-from-o
     mul-keys
     slice-write-keys
     same-length
