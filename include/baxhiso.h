@@ -126,7 +126,7 @@ static inline const char *fst_result_name(int result)
 #define FST_STACK_CONVERT  12288
 #define FST_STACK_PACK     8192
 #define FST_STACK_CARRY    16384
-#define FST_STACK_SEAT     4096 /* fst_clear_seats and fst_raise take less */
+#define FST_STACK_SEAT     4608 /* fst_clear_seats and fst_raise take less */
 #define FST_STACK_DISPATCH 32768
 
 /* What stands for the checksum of a file that has none: larger than any stored checksum. */
