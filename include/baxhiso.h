@@ -1,4 +1,4 @@
-/* baxhiso.h: read values by key, keys by value, and the keys between two bounds, from an FST file that is held in memory.
+/* baxhiso.h: read values by key, keys by value, and the keys between two bounds, by pattern too, from an FST file that is held in memory.
  *
  * Link libbaxhiso.a into a program for x86-64: `./install PREFIX` puts it and this header there, or `tools/library.sh` writes
  * target/staticlib/libbaxhiso.a. It calls memcpy and memset and nothing else.
@@ -11,14 +11,17 @@
  * it. Every file may be handed in, admitted or not, damaged or not.
  *
  * Each function of the library is proved to return on every input, with the result and with what each buffer holds afterwards as said
- * below (crates/baxhiso/specs/Exports.antt and Readings.antt, crates/baxhiso_files/specs/Files.antt, with the definitions of docs/FORMAT.md). Only tested, by tests/c: that these
+ * below (crates/baxhiso/specs/Exports.antt, crates/baxhiso_readings/specs/Readings.antt, crates/baxhiso_files/specs/Files.antt,
+ * crates/baxhiso_find/specs, with the definitions of docs/FORMAT.md). Only tested, by tests/c: that these
  * declarations fit the library, the functions that are defined here, and NULL with length 0. The stack is not part of the proof: no function
  * calls itself, and FST_STACK_OPEN and those after it say what was measured.
  *
- * Tables, lent by the caller: admission takes 10 bytes for each byte of the file, the table of keys 8 more. fst_get, fst_get_key and fst_range
+ * Tables, lent by the caller: admission takes 10 bytes for each byte of the file, the table of keys 8 more. fst_get, fst_get_key, fst_range and fst_find
  * take none, fst_start the table of keys. Work of a call: fst_open looks at no node, fst_get at one more than the key has bytes at most, fst_get_key
  * at 256, fst_next at 511 (the levels it comes up by and those it goes down by), fst_start at 256 a bound, fst_range
- * at 256 for the lower bound and at 511 for each key and once more; fst_admit and fst_count pass over all nodes a fixed number of times.
+ * at 256 for the lower bound and at 511 for each key and once more; fst_admit and fst_count pass over all nodes a fixed number of times. fst_find has no such
+ * bound: on an admitted file a page looks at three nodes at most for each string that begins a held key, lies between the bounds and, less its last byte, fits
+ * the pattern's start, and at 520 more.
  *
  * Admit a file when it is loaded, with two lent tables of an entry for each byte; then each answer by key, and each range, is exact:
  *
@@ -53,7 +56,7 @@ extern "C" {
 #define BAXHISO_VERSION       "1.0.0"
 
 /* Results. Negative: an answer that is no error. Positive: a refusal, numbered and named as in docs/FORMAT.md, "Refusals". The
- * functions below answer 1 to 9, 11, 13, 15, 16 and 19; the other numbers belong to functions that are not exported. */
+ * functions below answer 1 to 9, 11, 12, 13, 15, 16 and 19; the other numbers belong to functions that are not exported. */
 #define FST_OK            0
 #define FST_NONE        (-1) /* no such key or value                                                                    */
 #define FST_END         (-2) /* no more keys                                                                            */
@@ -123,6 +126,7 @@ static inline const char *fst_result_name(int result)
 #define FST_STACK_START    18432
 #define FST_STACK_NEXT     32768
 #define FST_STACK_RANGE    28672
+#define FST_STACK_FIND     40960
 #define FST_STACK_CONVERT  12288
 #define FST_STACK_PACK     8192
 #define FST_STACK_CARRY    16384
@@ -253,6 +257,43 @@ static inline int32_t fst_range(const uint8_t *file, size_t file_len, const fst_
                           most, (uint8_t *)rows, most * sizeof *rows, values, most, count);
 }
 
+/* ---- a page by pattern: the keys between two bounds that fit, the least first, a page a call */
+
+/* A position of a pattern: below 256 its byte, any other number any byte. */
+#define FST_ANY_BYTE 256
+
+/* What fst_find calls. */
+int32_t fst_find_rows(const uint8_t *file, size_t file_len, const uint16_t *positions, size_t positions_len, uint64_t rest,
+                      uint64_t lower_kind, const uint8_t *lower, size_t lower_len,
+                      uint64_t upper_kind, const uint8_t *upper, size_t upper_len,
+                      size_t most, uint8_t *rows, size_t rows_len, uint64_t *values, size_t values_len, size_t *count);
+
+/* Up to so many keys between two bounds that fit a pattern, the least first, each with its value.
+ *
+ *   file, file_len             the whole file
+ *   positions, positions_len   a key fits where each of its first positions_len bytes is its position's byte, or the position is any byte; at
+ *                              most 255; may be NULL where there is none
+ *   rest                       0: the key has no more bytes; any other number: any rest may follow
+ *   lower, upper, most, rows, values, count   as fst_range
+ *
+ * Of the first count rows the bytes after the key are left as they were; the other rows and values are left as they were.
+ *
+ * Returns FST_ERR_SHORT, FST_ERR_LARGE, FST_ERR_VERSION or FST_ERR_ROOT, as fst_open, then FST_ERR_PATTERN for over 255 positions, then as fst_range
+ * from FST_ERR_BOUND on; FST_ERR_SUM with a final output comes only for a key that fits.
+ *
+ * On a file that fst_admit admits, FST_END or FST_MORE comes, unless the pattern or a bound is too long: the rows are the first held keys between the
+ * bounds that fit. The next page is asked for with the last key as an excluded lower bound; page after page up to FST_END hands out exactly the held keys
+ * between the bounds that fit, once each, whatever most was in each call, if it was not 0. Nothing is kept between the calls. */
+static inline int32_t fst_find(const uint8_t *file, size_t file_len, const uint16_t *positions, size_t positions_len, int rest,
+                               const fst_bound *lower, const fst_bound *upper, size_t most, fst_row *rows, uint64_t *values, size_t *count)
+{
+    const fst_bound none = { FST_UNBOUNDED, NULL, 0 };
+    const fst_bound lo = lower == NULL ? none : *lower;
+    const fst_bound hi = upper == NULL ? none : *upper;
+    return fst_find_rows(file, file_len, positions, positions_len, rest != 0, (uint64_t)lo.kind, lo.key, lo.len, (uint64_t)hi.kind, hi.key, hi.len,
+                         most, (uint8_t *)rows, most * sizeof *rows, values, most, count);
+}
+
 /* ---- readings: the keys between two bounds, the least first, one a call */
 
 /* Admits a file and fills a third table, from which fst_start works out how many keys are to come.
@@ -354,7 +395,8 @@ static inline uint64_t fst_to_come(const fst_reading *reading)
 
 /* ---- files written */
 
-/* Converts a file of version 1 to version 2: the same nodes, keys and values, and wide nodes with an index, so that lookups in them are faster.
+/* Converts a file of version 1 to version 2: the same nodes, keys and values, and an index in nodes of more than 32 transitions. A reader that trusts the
+ * file finds a byte there at once; fst_get judges each node with its index, and takes longer in such nodes than before.
  *
  *   file, file_len       the old file, which is admitted first
  *   depths, sums         work tables of at least file_len entries each; afterwards as fst_admit leaves them, on every result

@@ -21,7 +21,7 @@ enum { FOUND = 0, NONE = 1, TROUBLE = 2, REFUSED = 3, READER_GONE = 141 };
 enum { PAGE = 256 };
 
 static const char usage_line[] =
-    "usage: baxhiso get FILE KEY | key FILE NUMBER | range FILE [BOUNDS] [--limit N] | list FILE | count FILE [BOUNDS] | check FILE | info FILE | convert OLD NEW | pack LIST NEW\n";
+    "usage: baxhiso get FILE KEY | key FILE NUMBER | range FILE [BOUNDS] [--limit N] | find FILE PATTERN [BOUNDS] [--limit N] | list FILE | count FILE [BOUNDS] | check FILE | info FILE | convert OLD NEW | pack LIST NEW\n";
 
 static const char help_text[] =
     "\n"
@@ -31,11 +31,13 @@ static const char help_text[] =
     "        --from KEY       from this key on          --after KEY    from behind it\n"
     "        --to KEY         up to this key            --below KEY    up to before it\n"
     "        --limit N        at most so many\n"
+    "    find FILE PATTERN  the keys that fit, between bounds and up to a limit as for range: ? is any byte, a last * any rest, \\ takes the\n"
+    "                       next character as it is; with --hex, ?? is any byte, and a last * any rest\n"
     "    list FILE          all keys with their values, the least first\n"
     "    count FILE         how many keys lie between the bounds, given as for range; all keys where none is given\n"
     "    check FILE         whether the file is admitted, or why not\n"
     "    info FILE          what header and trailer say: size, version, type, keys, root, checksum; read, not judged\n"
-    "    convert OLD NEW    a file of version 1 brought to version 2: the same keys and values, faster to look up in wide nodes\n"
+    "    convert OLD NEW    a file of version 1 brought to version 2: the same keys and values, and an index in wide nodes\n"
     "    pack LIST NEW      a file of your own: each line of LIST has a key, a tab and a number, in any order, no key twice\n"
     "\n"
     "FILE, OLD and LIST may be -, for standard input. It is admitted first, whole; only info opens it and looks no further. A file has at most\n"
@@ -52,12 +54,12 @@ static const char help_text[] =
     "    3              a value, or a number of keys\n"
     "    at             a key, if each byte prints (20 to 7e) and it does not begin with --\n"
     "    --hex 00ff     any other key, as it may be given back; the empty key is --hex ''\n"
-    "    at 3           a key and its value, of range and list\n"
-    "    none           no such key or value, no key between the bounds\n"
+    "    at 3           a key and its value, of range, find and list\n"
+    "    none           no such key or value, no key between the bounds, or none of them fits\n"
     "    size 41        the bytes of the new file\n"
     "    refused 5      the file is not admitted; the refusal's name is on standard error (docs/FORMAT.md, \"Refusals\"), for check beside it\n"
     "\n"
-    "A KEY may not begin with --: give it by --hex. By value, final outputs are not counted: in a file that is not numbered (docs/FORMAT.md,\n"
+    "A KEY may not begin with --: give it by --hex; nor a PATTERN, of which the first - may be written \\-. By value, final outputs are not counted: in a file that is not numbered (docs/FORMAT.md,\n"
     "\"Lookup\") a key that has the value may be missed, and one that has a final output may be answered.\n"
     "\n"
     "Exit status: 0 found or listed, 1 none, 2 usage, input or output, 3 refused.\n";
@@ -207,6 +209,9 @@ typedef struct options {
     int hex, json;
     const fst_bound *lower, *upper;
     uint64_t limit; /* 0 where none is given */
+    const uint16_t *positions; /* a pattern, of find alone */
+    size_t positions_len;
+    int rest;
 } options;
 
 /* A key: no two keys are written alike. */
@@ -274,6 +279,7 @@ static const char *meaning(int32_t refusal)
     case FST_ERR_SUM:     return "a sum passes 2^64 - 1";
     case FST_ERR_SPACE:   return "a buffer is too short";
     case FST_ERR_BOUND:   return "a bound is over 255 bytes";
+    case FST_ERR_PATTERN: return "the pattern has over 255 positions";
     case FST_ERR_LIST:    return "the list of keys breaks a rule";
     case FST_ERR_EDITION: return "the file is not of version 1";
     case FST_ERR_COUNT:   return "the file has more than 2^64 - 1 keys";
@@ -748,7 +754,7 @@ static int do_pack(const options *o, card *c, const char *path)
     return result == FST_OK ? do_written(o, path, bytes, len) : refused(o, result, 0);
 }
 
-/* ---- a range, by pages */
+/* ---- a range, of keys that fit a pattern or of all, by pages */
 
 static int do_range(const options *o, const card *c)
 {
@@ -763,7 +769,8 @@ static int do_range(const options *o, const card *c)
     now_doing(to_screen ? "" : "listing, ");
     while (result == FST_MORE && left > 0) {
         size_t most = left < PAGE ? (size_t)left : PAGE;
-        result = fst_range(c->bytes, c->len, &lower, o->upper, most, rows, values, &count);
+        result = o->positions == NULL ? fst_range(c->bytes, c->len, &lower, o->upper, most, rows, values, &count)
+                                      : fst_find(c->bytes, c->len, o->positions, o->positions_len, o->rest, &lower, o->upper, most, rows, values, &count);
         if (to_screen || !found) {
             hide_progress();
             now_doing(to_screen ? "" : "listing, ");
@@ -839,14 +846,57 @@ static int key_bytes(char *word, int hex, const uint8_t **key, size_t *len)
     return n % 2 == 0;
 }
 
-enum { GET, KEY, RANGE, LIST, COUNT, CHECK, INFO, CONVERT, PACK, COMMANDS };
+/* A pattern's positions; 0 where it cannot be one. A * is any rest where it stands last, and nothing else: one that was meant otherwise is not taken for
+ * a byte in silence. */
+static int pattern(const char *word, options *o)
+{
+    size_t n = strlen(word);
+    uint16_t *positions = malloc((n > 0 ? n : 1) * sizeof *positions);
+    if (positions == NULL) {
+        exit(trouble("no memory for the pattern"));
+    }
+    o->positions = positions;
+    if (o->hex && strcmp(word, "-") == 0) {
+        return 1;
+    }
+    for (const char *at = word; *at != '\0'; at++) {
+        uint16_t *next = &positions[o->positions_len];
+        if (*at == '*') {
+            o->rest = 1;
+            return at[1] == '\0';
+        }
+        if (o->hex) {
+            int high = hex_digit(at[0]), low = hex_digit(at[1]);
+            if (at[0] == '?' && at[1] == '?') {
+                *next = FST_ANY_BYTE;
+            } else if (high < 0 || low < 0) {
+                return 0;
+            } else {
+                *next = (uint16_t)(high * 16 + low);
+            }
+            at++;
+        } else if (*at == '?') {
+            *next = FST_ANY_BYTE;
+        } else {
+            at += *at == '\\';
+            if (*at == '\0') {
+                return 0;
+            }
+            *next = (uint8_t)*at;
+        }
+        o->positions_len++;
+    }
+    return 1;
+}
+
+enum { GET, KEY, RANGE, FIND, LIST, COUNT, CHECK, INFO, CONVERT, PACK, COMMANDS };
 
 static const struct {
     const char *name;
     int words; /* after the name */
     int bounds, limit, keys;
 } commands[COMMANDS] = {
-    { "get", 2, 0, 0, 1 },   { "key", 2, 0, 0, 1 },   { "range", 1, 1, 1, 1 }, { "list", 1, 0, 0, 1 },
+    { "get", 2, 0, 0, 1 },   { "key", 2, 0, 0, 1 },   { "range", 1, 1, 1, 1 }, { "find", 2, 1, 1, 1 }, { "list", 1, 0, 0, 1 },
     { "count", 1, 1, 0, 1 }, { "check", 1, 0, 0, 0 }, { "info", 1, 0, 0, 0 },  { "convert", 2, 0, 0, 0 },
     { "pack", 2, 0, 0, 1 },
 };
@@ -863,7 +913,7 @@ int main(int argc, char **argv)
         const char *name;
         int upper, kind;
     } bounds[] = { { "--from", 0, FST_INCLUDED }, { "--after", 0, FST_EXCLUDED }, { "--to", 1, FST_INCLUDED }, { "--below", 1, FST_EXCLUDED } };
-    options o = { 0, 0, NULL, NULL, 0 };
+    options o = { 0, 0, NULL, NULL, 0, NULL, 0, 0 };
     fst_bound given[2];
     char *bound_words[2] = { NULL, NULL }, *words[2] = { NULL, NULL };
     int command = 0, found = 0;
@@ -920,7 +970,7 @@ int main(int argc, char **argv)
     }
     /* options may stand behind what they apply to, so keys are read last */
     if (found != commands[command].words || (command == GET && !key_bytes(words[1], o.hex, &key, &key_len)) ||
-        (command == KEY && !number(words[1], &value)) || ((command == CONVERT || command == PACK) && (words[1][0] == '\0' || strcmp(words[1], "-") == 0))) {
+        (command == KEY && !number(words[1], &value)) || (command == FIND && !pattern(words[1], &o)) || ((command == CONVERT || command == PACK) && (words[1][0] == '\0' || strcmp(words[1], "-") == 0))) {
         return usage();
     }
     for (int side = 0; side < 2; side++) {

@@ -38,6 +38,7 @@ mod seats;
 mod sittings;
 mod stored;
 
+pub use self::convert::{old_file, rows as conversion_rows};
 pub use self::counting::{filled, followed};
 
 pub struct Difference {
@@ -288,7 +289,14 @@ impl<'a> Run<'a> {
 
     // Those of carried readings alone.
     pub fn all_carries(&mut self, print: bool) -> Checked {
-        self.sections(print, &[("readings carried to another file", Run::carries)])
+        self.sections(
+            print,
+            &[
+                ("readings carried to another file", Run::carries),
+                ("readings carried to foreign files of an equal shape", Run::foreign_carries),
+                ("readings carried from or to a file past 4,294,967,295 bytes", Run::large_carries),
+            ],
+        )
     }
 
     // Those of seats alone.

@@ -21,6 +21,8 @@ mod answers;
 #[cfg(timed)]
 mod bench;
 #[cfg(timed)]
+mod bench_convert;
+#[cfg(timed)]
 mod bench_pack;
 #[cfg(timed)]
 mod bench_pattern;
@@ -72,12 +74,15 @@ mod ours_reading;
 mod ours_seats;
 mod prng;
 mod replay;
+mod replay_convert;
 mod replay_file;
 mod replay_list;
 mod replay_reading;
 mod replay_rows;
 mod sparse;
 mod wrong;
+mod wrong_carry;
+mod wrong_convert;
 mod wrong_file;
 mod wrong_marks;
 mod wrong_pack;
@@ -329,9 +334,9 @@ fn compare_long() -> bool {
     }
 }
 
-// The replay lists, of nodes, of whole files and of readings, each with how many of each kind it has.
+// The replay lists, of nodes, of whole files, of readings and of conversions, each with how many of each kind it has.
 fn recorded() -> Vec<(Vec<u8>, Vec<(&'static str, usize)>)> {
-    vec![replay::list(), replay_file::list(), replay_reading::list()]
+    vec![replay::list(), replay_file::list(), replay_reading::list(), replay_convert::list()]
 }
 
 // The whole comparison in small, or that of readings alone, with these in our library's place.
@@ -367,7 +372,41 @@ fn self_test() -> bool {
             }
         }
     }
-    self_test_packs() && self_test_range() && self_test_marks()
+    self_test_packs() && self_test_range() && self_test_conversions() && self_test_carries() && self_test_marks()
+}
+
+// The part with no slip agrees, and with each of its slips it does not; a slip is made by `with`.
+fn each_noticed(slips: &[&'static str], with: impl Fn(&'static str) -> Result<(), Difference>) -> bool {
+    if let Err(difference) = with("") {
+        report(&difference);
+        return false;
+    }
+    for &slip in slips {
+        match with(slip) {
+            Err(difference) => println!("noticed: {}  ({})", slip, difference.what),
+            Ok(()) => {
+                println!("oracle: not noticed: {}", slip);
+                return false;
+            }
+        }
+    }
+    true
+}
+
+// The same of conversions.
+fn self_test_conversions() -> bool {
+    each_noticed(wrong_convert::SLIPS, |slip| {
+        let wrong = wrong_convert::WrongConvert { slip };
+        Run::new((None, None, None), 50).converting(Some(&wrong)).conversions(false)
+    })
+}
+
+// The same of carried readings.
+fn self_test_carries() -> bool {
+    each_noticed(wrong_carry::SLIPS, |slip| {
+        let wrong = wrong_carry::WrongCarry { slip };
+        Run::new((None, None, None), 20).carrying(Some(&wrong)).all_carries(false)
+    })
 }
 
 // The same of the packing of lists.
@@ -411,27 +450,20 @@ fn self_test_range() -> bool {
 
 // The same of marks.
 fn self_test_marks() -> bool {
-    let in_small = |ours: &dyn MarkAnswers| Run::new((None, None, None), 100).marking(Some(ours)).by_marks(false);
-    if let Err(difference) = in_small(&model::Model) {
-        report(&difference);
-        return false;
-    }
-    for &slip in wrong_marks::SLIPS {
-        match in_small(&wrong_marks::WrongMarks { slip }) {
-            Err(difference) => println!("noticed: {}  ({})", slip, difference.what),
-            Ok(()) => {
-                println!("oracle: not noticed: {}", slip);
-                return false;
-            }
-        }
-    }
-    true
+    each_noticed(wrong_marks::SLIPS, |slip| {
+        let wrong = wrong_marks::WrongMarks { slip };
+        Run::new((None, None, None), 100).marking(Some(&wrong)).by_marks(false)
+    })
 }
 
 #[cfg(timed)]
 fn bench() -> bool {
     if std::env::args().nth(1).as_deref() == Some("pack") {
         bench_pack::bench(&ours::Library);
+        return true;
+    }
+    if std::env::args().nth(1).as_deref() == Some("convert") {
+        bench_convert::bench(&ours::Library, &ours::Library, &ours::Library, &ours::Library);
         return true;
     }
     bench::bench(&ours::Library, &ours::Library, &ours::Library, &ours::Library);
@@ -477,7 +509,12 @@ fn main() {
         Some("marks") => compare_marks(),
         Some("ops") => compare_ops(),
         Some("long") => compare_long(),
-        Some("self-test") => self_test(),
+        Some("self-test") => match args.get(2).map(String::as_str) {
+            Some("convert") => self_test_conversions(),
+            Some("carry") => self_test_carries(),
+            Some("marks") => self_test_marks(),
+            _ => self_test(),
+        },
         Some("record") => record(&args[2..]),
         Some("listing") => listing::make(),
         _ => {

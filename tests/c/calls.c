@@ -310,17 +310,33 @@ typedef struct pair {
     uint64_t value;
 } pair;
 
-/* Rows and values are blocks of exactly `room` elements, of which the call is told `most`. */
-static void range_row(const char *name, file f, const fst_bound *lower, const fst_bound *upper, size_t most, size_t room, int32_t want,
-                      const pair *pairs, size_t pairs_len)
+/* A pattern: each byte of the text is a position, ? any byte. NULL is no pattern: a range. */
+typedef struct pattern {
+    const char *text;
+    size_t len;
+    int rest;
+} pattern;
+
+/* Rows and values are blocks of exactly `room` elements, of which the call is told `most`; positions of exactly their number. */
+static void page_row(const char *name, file f, const pattern *p, const fst_bound *lower, const fst_bound *upper, size_t most, size_t room, int32_t want,
+                     const pair *pairs, size_t pairs_len)
 {
+    uint16_t *positions = block(p == NULL ? 0 : p->len * sizeof *positions);
     uint8_t *copy = before(f);
     fst_row *rows = block(room * sizeof *rows);
     uint64_t *values = block(room * sizeof *values);
     size_t *count = block(sizeof *count), i, j;
     row = name;
     calls++;
-    expect_number((uint64_t)fst_range(f.bytes, f.len, lower, upper, most, rows, values, count), (uint64_t)want, "fst_range");
+    if (p == NULL) {
+        expect_number((uint64_t)fst_range(f.bytes, f.len, lower, upper, most, rows, values, count), (uint64_t)want, "fst_range");
+    } else {
+        for (i = 0; i < p->len; i++)
+            positions[i] = p->text[i] == '?' ? (uint16_t)(FST_ANY_BYTE + i) : (uint8_t)p->text[i];
+        expect_number((uint64_t)fst_find(f.bytes, f.len, positions, p->len, p->rest, lower, upper, most, rows, values, count), (uint64_t)want, "fst_find");
+        for (i = 0; i < p->len; i++)
+            expect_number(positions[i], p->text[i] == '?' ? FST_ANY_BYTE + i : (uint8_t)p->text[i], "a position");
+    }
     expect_number(*count, pairs_len, "count");
     for (i = 0; i < room; i++) {
         size_t len = i < pairs_len ? pairs[i].len : 0;
@@ -332,7 +348,14 @@ static void range_row(const char *name, file f, const fst_bound *lower, const fs
     free(count);
     free(values);
     free(rows);
+    free(positions);
     expect_file(f, copy);
+}
+
+static void range_row(const char *name, file f, const fst_bound *lower, const fst_bound *upper, size_t most, size_t room, int32_t want,
+                      const pair *pairs, size_t pairs_len)
+{
+    page_row(name, f, NULL, lower, upper, most, room, want, pairs, pairs_len);
 }
 
 static void range_rows(file d, file nothing, file one, file unsound, file below, file heavy, file deepest, const char *as)
@@ -375,6 +398,82 @@ static void range_rows(file d, file nothing, file one, file unsound, file below,
         static const uint8_t nodes[] = { 0xC1, 0x00, 0x02, 0x00, 0x74, 0x11, 0x41, 0x04, 0x01, 0x07, 0x01, 0x65, 0x61, 0x11, 0x02 };
         file f = make(3, 0, nodes, sizeof nodes, 3, 30, 0);
         range_row("range D, damaged behind two keys", f, NULL, NULL, 5, 5, FST_ERR_NODE, all, 2);
+        free(f.bytes);
+    }
+}
+
+/* ---- a page by pattern */
+
+static void find_rows(file d, file nothing, file one, file unsound, file below, file heavy, file deepest, const char *as)
+{
+    static const uint8_t a[] = { 'a' }, at[] = { 'a', 't' }, e[] = { 'e' };
+    static const pair all[] = { { "a", 1, 1 }, { "at", 2, 3 }, { "e", 1, 4 } }, a_and_e[] = { { "a", 1, 1 }, { "e", 1, 4 } };
+    static const pair three[] = { { "", 0, 5 }, { "a", 1, 1 }, { "ab", 2, 2 } };
+    static const pattern any = { "?", 1, 0 }, a_any = { "a?", 2, 0 }, only_a = { "a", 1, 0 }, only_e = { "e", 1, 0 }, no_position = { "", 0, 0 };
+    static const pattern any_rest = { "", 0, 1 }, a_rest = { "a", 1, 7 }, only_b = { "b", 1, 0 };
+    static char any_bytes[256];
+    const pattern longest_pattern = { any_bytes, 255, 0 }, longest_rest = { any_bytes, 255, 1 }, too_many = { any_bytes, 256, 0 };
+    const pair seven = { "", 0, 7 }, longest_key = { as, 255, 0 };
+    uint8_t wide[256];
+    const fst_bound from_at = { FST_INCLUDED, at, 2 }, after_a = { FST_EXCLUDED, a, 1 }, below_e = { FST_EXCLUDED, e, 1 }, to_a = { FST_INCLUDED, a, 1 };
+    const fst_bound no_bytes = { FST_EXCLUDED, NULL, 0 }, too_long = { FST_INCLUDED, wide, 256 };
+
+    memset(wide, 'b', sizeof wide);
+    memset(any_bytes, '?', sizeof any_bytes);
+    page_row("find ? in D", d, &any, NULL, NULL, 20, 20, FST_END, a_and_e, 2);
+    page_row("find ? in D, 2", d, &any, NULL, NULL, 2, 2, FST_MORE, a_and_e, 2);
+    page_row("find ? in D, 1", d, &any, NULL, NULL, 1, 2, FST_MORE, a_and_e, 1);
+    page_row("find ? in D, the next page", d, &any, &after_a, NULL, 1, 1, FST_MORE, a_and_e + 1, 1);
+    page_row("find ? in D, none asked for", d, &any, NULL, NULL, 0, 2, FST_MORE, NULL, 0);
+    page_row("find a? in D", d, &a_any, NULL, NULL, 20, 20, FST_END, all + 1, 1);
+    page_row("find a in D", d, &only_a, NULL, NULL, 20, 20, FST_END, all, 1);
+    page_row("find e in D", d, &only_e, NULL, NULL, 20, 20, FST_END, all + 2, 1);
+    page_row("find b in D", d, &only_b, NULL, NULL, 20, 20, FST_END, NULL, 0);
+    page_row("find no position in D", d, &no_position, NULL, NULL, 20, 20, FST_END, NULL, 0);
+    page_row("find any rest in D", d, &any_rest, NULL, NULL, 20, 20, FST_END, all, 3);
+    page_row("find a and any rest in D", d, &a_rest, NULL, NULL, 20, 20, FST_END, all, 2);
+    page_row("find a? in D from at below e", d, &a_any, &from_at, &below_e, 20, 20, FST_END, all + 1, 1);
+    page_row("find e in D to a", d, &only_e, NULL, &to_a, 20, 20, FST_END, NULL, 0);
+    page_row("find 255 positions in D", d, &longest_pattern, NULL, NULL, 20, 20, FST_END, NULL, 0);
+    page_row("find 256 positions in D", d, &too_many, NULL, NULL, 20, 20, FST_ERR_PATTERN, NULL, 0);
+    page_row("find 256 positions in D, too long a bound, no room", d, &too_many, &too_long, NULL, SIZE_MAX, 1, FST_ERR_PATTERN, NULL, 0);
+    page_row("find ? in D, lower bound of 256 bytes, no room", d, &any, &too_long, NULL, SIZE_MAX, 1, FST_ERR_BOUND, NULL, 0);
+    page_row("find ? in D, upper bound of 256 bytes", d, &any, NULL, &too_long, 20, 20, FST_ERR_BOUND, NULL, 0);
+    page_row("find ? in D, 2^64 - 1 rows", d, &any, NULL, NULL, SIZE_MAX, 1, FST_ERR_SPACE, NULL, 0);
+    page_row("find any rest in no bytes", nothing, &any_rest, NULL, NULL, 2, 2, FST_END, NULL, 0);
+    page_row("find no position in version 1, the empty key", one, &no_position, NULL, NULL, 2, 2, FST_END, &seven, 1);
+    page_row("find 255 any bytes", deepest, &longest_pattern, NULL, NULL, 2, 2, FST_END, &longest_key, 1);
+    page_row("find 255 any bytes and any rest", deepest, &longest_rest, NULL, NULL, 2, 2, FST_END, &longest_key, 1);
+    page_row("find any rest, C1 at 16", unsound, &any_rest, NULL, NULL, 2, 2, FST_ERR_NODE, NULL, 0);
+    page_row("find a, C1 below", below, &only_a, NULL, NULL, 2, 2, FST_ERR_NODE, NULL, 0);
+    page_row("find any rest, 2^64 - 1, then 1", heavy, &any_rest, NULL, NULL, 2, 2, FST_ERR_SUM, NULL, 0);
+
+    /* "" 5, a 1, ab 2: a pending empty key that does not fit is dropped */
+    {
+        static const uint8_t nodes[] = { 0x00, 0x01, 0x00, 0x62, 0x11, 0x41, 0x05, 0x01, 0x01, 0x61, 0x11, 0x41 };
+        file f = make(2, 0, nodes, sizeof nodes, 3, 27, 0);
+        page_row("find any rest, the empty key first", f, &any_rest, NULL, NULL, 5, 5, FST_END, three, 3);
+        page_row("find a, the empty key dropped", f, &only_a, NULL, NULL, 5, 5, FST_END, three + 1, 1);
+        page_row("find a, the empty key dropped, 1", f, &only_a, NULL, NULL, 1, 1, FST_MORE, three + 1, 1);
+        page_row("find no position, the empty key alone", f, &no_position, NULL, NULL, 5, 5, FST_END, three, 1);
+        page_row("find a, the upper bound excludes the empty key", f, &only_a, NULL, &no_bytes, 5, 5, FST_END, NULL, 0);
+        page_row("find a, both bounds exclude the empty key", f, &only_a, &no_bytes, &no_bytes, 5, 5, FST_END, NULL, 0);
+        free(f.bytes);
+    }
+    /* a final output makes the sum pass: judged only for a key that fits */
+    {
+        static const uint8_t nodes[] = { 0x01, 0x01, 0x00, 0x40, 0xFF, 0xFF, 0xFF, 0xFF, 0xFF, 0xFF, 0xFF, 0xFF, 0x01, 0x18, 0x85 };
+        file f = make(3, 0, nodes, sizeof nodes, 1, 30, 0);
+        page_row("find a, the final output makes the sum pass", f, &only_a, NULL, NULL, 2, 2, FST_ERR_SUM, NULL, 0);
+        page_row("find b, the final output of a makes the sum pass", f, &only_b, NULL, NULL, 2, 2, FST_END, NULL, 0);
+        free(f.bytes);
+    }
+    /* damaged behind two keys: what fits and was found stands beside the refusal; a level that cannot fit is looked at, its targets are not */
+    {
+        static const uint8_t nodes[] = { 0xC1, 0x00, 0x02, 0x00, 0x74, 0x11, 0x41, 0x04, 0x01, 0x07, 0x01, 0x65, 0x61, 0x11, 0x02 };
+        file f = make(3, 0, nodes, sizeof nodes, 3, 30, 0);
+        page_row("find any rest in D, damaged behind two keys", f, &any_rest, NULL, NULL, 5, 5, FST_ERR_NODE, all, 2);
+        page_row("find ? in D, damaged behind two keys", f, &any, NULL, NULL, 5, 5, FST_ERR_NODE, all, 1);
         free(f.bytes);
     }
 }
@@ -479,7 +578,7 @@ static void null_rows(file d, file seven)
     fst_reading reading;
 
     row = "NULL";
-    calls += 18;
+    calls += 20;
     /* a blank card may be NULL */
     expect_number((uint64_t)fst_open(NULL, 0, &meta), FST_OK, "fst_open, file");
     expect(meta.version == 0 && meta.type == 0 && meta.keys == 0 && meta.root == 0 && meta.checksum == FST_NO_CHECKSUM, "meta");
@@ -510,6 +609,8 @@ static void null_rows(file d, file seven)
     expect_number((uint64_t)fst_range(NULL, 0, NULL, NULL, 0, NULL, NULL, &len), (uint64_t)FST_MORE, "fst_range, file, bounds, rows and values");
     expect_number(len, 0, "count");
     expect_number((uint64_t)fst_range_rows(d.bytes, d.len, 2, NULL, 0, 2, NULL, 0, 1, NULL, 0, NULL, 0, &len), FST_ERR_SPACE, "fst_range_rows, rows and values");
+    expect_number((uint64_t)fst_find(NULL, 0, NULL, 0, 1, NULL, NULL, 0, NULL, NULL, &len), (uint64_t)FST_MORE, "fst_find, file, positions, bounds, rows and values");
+    expect_number((uint64_t)fst_find_rows(d.bytes, d.len, NULL, 0, 1, 2, NULL, 0, 2, NULL, 0, 1, NULL, 0, NULL, 0, &len), FST_ERR_SPACE, "fst_find_rows, positions, rows and values");
 }
 
 /* ---- a file at an odd address, and a key within the file */
@@ -741,6 +842,7 @@ int main(void)
     count_row("count 2^64 - 1, then 1", heavy, 53, 53, 60, FST_ERR_SUM, NULL, 0);
     count_row("count 2^64 keys", many, many.len, many.len, many.len + 1, FST_ERR_COUNT, NULL, 0);
     range_rows(d, nothing, one, unsound, below, heavy, deepest, as);
+    find_rows(d, nothing, one, unsound, below, heavy, deepest, as);
     reading_rows(d, nothing, one, unsound, below, heavy);
 
     name_rows();

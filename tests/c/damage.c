@@ -1,147 +1,16 @@
-/* Calls the functions of ranges and readings on damaged files, readings and tables, each so many times (tests/c/README.md):
+/* Calls the functions of ranges, pages by pattern and readings on damaged files, readings and tables, each so many times (tests/c/README.md):
  *
  *     damage CALLS FILE...
  *
  * Every buffer that is lent ends at a page without access, and the file may only be read: a step beyond a buffer, or a byte
  * written to the file, ends the program. Of each call is checked that its result is one that the header names, and that what is to
  * stay stayed. Where the file is admitted and the table is its own, the keys have to ascend, to come as often as the number says, and
- * to have the values that fst_get answers; and page after page hands out the same keys, whatever the sizes of the pages. */
-#define _DEFAULT_SOURCE
-#include <stdio.h>
-#include <stdlib.h>
-#include <string.h>
-#include <sys/mman.h>
+ * to have the values that fst_get answers; and page after page hands out the same keys, whatever the sizes of the pages, by pattern those of them that fit. */
+#include "guarded.h"
 
-#include "baxhiso.h"
+static region depths_at, sums_at, counts_at, readings_at, keys_at, lens_at, values_at, lowers_at, uppers_at, rows_at, page_values_at, positions_at;
 
-#define PAGE ((size_t)4096)
-#define LONGEST ((size_t)4100)
-#define TABLE (LONGEST + 8)
-
-static unsigned long differences;
-
-static void expect(int holds, const char *what)
-{
-    if (!holds && differences++ < 20)
-        printf("damage: %s\n", what);
-}
-
-/* ---- numbers that look random, the same in every run */
-
-static uint64_t state = UINT64_C(0x9E3779B97F4A7C15);
-
-static uint64_t any(void)
-{
-    state ^= state << 13;
-    state ^= state >> 7;
-    state ^= state << 17;
-    return state;
-}
-
-static size_t below(size_t n)
-{
-    return (size_t)(any() % n);
-}
-
-static int one_in(size_t n)
-{
-    return below(n) == 0;
-}
-
-/* ---- buffers that end at a page without access */
-
-typedef struct region {
-    uint8_t *start, *end;
-} region;
-
-static region map(size_t bytes)
-{
-    size_t pages = (bytes + PAGE - 1) / PAGE * PAGE;
-    uint8_t *p = mmap(NULL, pages + 2 * PAGE, PROT_READ | PROT_WRITE, MAP_PRIVATE | MAP_ANONYMOUS, -1, 0);
-    region r;
-    if (p == MAP_FAILED || mprotect(p, PAGE, PROT_NONE) != 0 || mprotect(p + PAGE + pages, PAGE, PROT_NONE) != 0) {
-        perror("damage: no guarded buffer");
-        exit(2);
-    }
-    r.start = p + PAGE;
-    r.end = p + PAGE + pages;
-    return r;
-}
-
-static void *lent(region r, size_t bytes)
-{
-    return r.end - bytes;
-}
-
-static void writable(region r, int yes)
-{
-    if (mprotect(r.start, (size_t)(r.end - r.start), yes ? PROT_READ | PROT_WRITE : PROT_READ) != 0) {
-        perror("damage: mprotect");
-        exit(2);
-    }
-}
-
-static region files, depths_at, sums_at, counts_at, readings_at, keys_at, lens_at, values_at, lowers_at, uppers_at, rows_at, page_values_at;
-
-/* ---- a file, damaged or not */
-
-static uint8_t **bases;
-static size_t *base_lens, base_count;
-
-static void load(const char *path)
-{
-    uint8_t bytes[LONGEST];
-    FILE *in = fopen(path, "rb");
-    size_t n = in == NULL ? 0 : fread(bytes, 1, sizeof bytes, in);
-    if (in == NULL || ferror(in)) {
-        perror(path);
-        exit(2);
-    }
-    fclose(in);
-    if (n < sizeof bytes) {
-        bases[base_count] = malloc(n + 1);
-        memcpy(bases[base_count], bytes, n);
-        base_lens[base_count++] = n;
-    }
-}
-
-static uint8_t *damaged(size_t *len)
-{
-    size_t base = below(base_count), n = base_lens[base], changes = one_in(3) ? 0 : 1 + below(4);
-    uint8_t *f;
-    if (one_in(40))
-        n = below(n + 1);
-    writable(files, 1);
-    f = lent(files, n);
-    memcpy(f, bases[base], n);
-    for (; changes > 0 && n > 0; changes--)
-        f[below(n)] = one_in(2) ? (uint8_t)any() : (uint8_t)(1u << below(8));
-    writable(files, 0);
-    *len = n;
-    return f;
-}
-
-/* ---- results */
-
-static int among(int32_t result, const int *results)
-{
-    for (; *results != 100; results++) {
-        if (*results == result)
-            return 1;
-    }
-    return 0;
-}
-
-static int filled(const uint8_t *p, size_t n, uint8_t byte)
-{
-    for (size_t i = 0; i < n; i++) {
-        if (p[i] != byte)
-            return 0;
-    }
-    return 1;
-}
-
-static unsigned long counted, started, nexts, ranged;
+static unsigned long counted, started, nexts, ranged, finds;
 
 /* Fills the tables; each is as long as the file, or at times one entry shorter or longer. */
 static int32_t count(const uint8_t *file, size_t len, uint64_t **counts, size_t *counts_len)
@@ -171,20 +40,6 @@ static int32_t count(const uint8_t *file, size_t len, uint64_t **counts, size_t 
                    "fst_count refuses, and a work table is written");
     }
     return result;
-}
-
-/* A bound: none, or bytes like those of keys; at times over 255. */
-static const fst_bound *bound(region at, fst_bound *b)
-{
-    static const char likely[] = "abcdefghijklmnopqrstuvwxyz0123456789at";
-    size_t n = one_in(50) ? 250 + below(8) : below(6);
-    uint8_t *key = lent(at, n);
-    for (size_t i = 0; i < n; i++)
-        key[i] = one_in(4) ? (uint8_t)any() : (uint8_t)likely[below(sizeof likely - 1)];
-    b->kind = (int)below(3);
-    b->key = key;
-    b->len = n;
-    return one_in(3) ? NULL : b;
 }
 
 static int32_t start(const uint8_t *file, size_t len, const fst_bound *lower, const fst_bound *upper, const uint64_t *counts, size_t counts_len,
@@ -222,31 +77,80 @@ static int32_t next(const uint8_t *file, size_t len, fst_reading *reading, uint8
 }
 
 #define ROWS ((size_t)12)
+#define POSITIONS ((size_t)260)
 
-/* One page; what is not handed out stays as it was. */
-static int32_t range(const uint8_t *file, size_t len, const fst_bound *lower, const fst_bound *upper, size_t most, fst_row **rows,
+typedef struct pattern {
+    uint16_t *positions;
+    size_t len;
+    int rest;
+} pattern;
+
+/* A pattern: any bytes, and bytes like those of keys; at times over 255. */
+static void any_pattern(pattern *p)
+{
+    static const char likely[] = "abcdefghijklmnopqrstuvwxyz0123456789at";
+    p->len = one_in(50) ? 250 + below(8) : below(5);
+    p->rest = one_in(2) ? 0 : (int)below(3);
+    p->positions = lent(positions_at, p->len * sizeof *p->positions);
+    for (size_t i = 0; i < p->len; i++)
+        p->positions[i] = one_in(2) ? (uint16_t)(256 + below(65536 - 256)) : one_in(4) ? (uint8_t)any() : (uint8_t)likely[below(sizeof likely - 1)];
+}
+
+static int fits(const pattern *p, const uint8_t *key, size_t len)
+{
+    if (p == NULL)
+        return 1;
+    if (p->rest ? len < p->len : len != p->len)
+        return 0;
+    for (size_t i = 0; i < p->len; i++) {
+        if (p->positions[i] < 256 && p->positions[i] != key[i])
+            return 0;
+    }
+    return 1;
+}
+
+/* One page, of the keys that fit the pattern, if there is one; what is not handed out stays as it was. */
+static int32_t range(const uint8_t *file, size_t len, const pattern *p, const fst_bound *lower, const fst_bound *upper, size_t most, fst_row **rows,
                      uint64_t **values, size_t *count)
 {
+    /* the last but one only by pattern */
     static const int results[] = { FST_END, FST_MORE, FST_ERR_SHORT, FST_ERR_VERSION, FST_ERR_ROOT, FST_ERR_BOUND, FST_ERR_NODE, FST_ERR_DEEP,
-        FST_ERR_SUM, 100 };
+        FST_ERR_SUM, FST_ERR_PATTERN, 100 };
     int32_t result;
     *rows = lent(rows_at, most * sizeof **rows);
     *values = lent(page_values_at, most * sizeof **values);
     memset(*rows, 0xA5, most * sizeof **rows);
     memset(*values, 0xA5, most * sizeof **values);
-    ranged++;
-    result = fst_range(file, len, lower, upper, most, *rows, *values, count);
-    expect(among(result, results), "fst_range answers another number");
-    expect(*count <= most && (result != FST_MORE || *count == most) && (result != FST_END || *count < most), "fst_range hands out too many, or ends early");
-    for (size_t i = 0; i < *count; i++)
-        expect(filled((*rows)[i].key + (*rows)[i].len, 255 - (size_t)(*rows)[i].len, 0xA5), "fst_range writes behind a key");
+    if (p == NULL) {
+        ranged++;
+        result = fst_range(file, len, lower, upper, most, *rows, *values, count);
+    } else {
+        finds++;
+        result = fst_find(file, len, p->positions, p->len, p->rest, lower, upper, most, *rows, *values, count);
+        expect((result == FST_ERR_PATTERN) <= (p->len > 255), "fst_find refuses a pattern of 255 positions");
+    }
+    expect(among(result, results) && (p != NULL || result != FST_ERR_PATTERN), "a page answers another number");
+    expect(*count <= most && (result != FST_MORE || *count == most) && (result != FST_END || *count < most), "a page hands out too many, or ends early");
+    for (size_t i = 0; i < *count; i++) {
+        expect(fits(p, (*rows)[i].key, (*rows)[i].len), "fst_find hands out a key that does not fit");
+        expect(filled((*rows)[i].key + (*rows)[i].len, 255 - (size_t)(*rows)[i].len, 0xA5), "a page is written behind a key");
+    }
     expect(filled((uint8_t *)(*rows + *count), (most - *count) * sizeof **rows, 0xA5) &&
-           filled((uint8_t *)(*values + *count), (most - *count) * sizeof **values, 0xA5), "fst_range writes behind the last row");
+           filled((uint8_t *)(*values + *count), (most - *count) * sizeof **values, 0xA5), "a page is written behind the last row");
     return result;
 }
 
-/* Pages of any size between the bounds, beside the reading of the same bounds: the same keys and values, until either is refused. */
-static void page_on(const uint8_t *file, size_t len, const fst_bound *lower, const fst_bound *upper, fst_reading reading)
+/* The next key of a reading that fits. */
+static int32_t next_fit(const uint8_t *file, size_t len, const pattern *p, fst_reading *reading, uint8_t *key, size_t *key_len, uint64_t *value)
+{
+    int32_t result = fst_next(file, len, reading, key, 255, key_len, value);
+    while (result == FST_OK && !fits(p, key, *key_len))
+        result = fst_next(file, len, reading, key, 255, key_len, value);
+    return result;
+}
+
+/* Pages of any size between the bounds, beside the reading of the same bounds: the same keys that fit, and values, until either is refused. */
+static void page_on(const uint8_t *file, size_t len, const pattern *p, const fst_bound *lower, const fst_bound *upper, fst_reading reading)
 {
     fst_bound from = lower == NULL ? (fst_bound){ FST_UNBOUNDED, NULL, 0 } : *lower;
     uint8_t key[255], last[255];
@@ -256,13 +160,13 @@ static void page_on(const uint8_t *file, size_t len, const fst_bound *lower, con
     uint64_t *values;
     int32_t result = FST_MORE;
     while (result == FST_MORE && pages++ < 6) {
-        result = range(file, len, &from, upper, 1 + below(ROWS), &rows, &values, &count);
+        result = range(file, len, p, &from, upper, 1 + below(ROWS), &rows, &values, &count);
         for (size_t i = 0; i < count; i++) {
-            if (fst_next(file, len, &reading, key, 255, &key_len, &value) != FST_OK) {
-                expect(0, "a range hands out a key that the reading does not");
+            if (next_fit(file, len, p, &reading, key, &key_len, &value) != FST_OK) {
+                expect(0, "a page hands out a key that the reading does not");
                 return;
             }
-            expect(key_len == rows[i].len && memcmp(key, rows[i].key, key_len) == 0 && value == values[i], "a range hands out another key than the reading");
+            expect(key_len == rows[i].len && memcmp(key, rows[i].key, key_len) == 0 && value == values[i], "a page hands out another key than the reading");
         }
         if (count > 0) {
             memcpy(last, rows[count - 1].key, rows[count - 1].len);
@@ -270,7 +174,7 @@ static void page_on(const uint8_t *file, size_t len, const fst_bound *lower, con
         }
     }
     if (result == FST_END)
-        expect(fst_next(file, len, &reading, key, 255, &key_len, &value) == FST_END, "a range ends before the reading");
+        expect(next_fit(file, len, p, &reading, key, &key_len, &value) == FST_END, "pages end before the reading");
 }
 
 /* A reading to its end, or so many keys; right says that the file is admitted and the table its own. */
@@ -299,34 +203,10 @@ static void read_on(const uint8_t *file, size_t len, fst_reading *reading, int r
     next(file, len, reading, key, space, key_len, value);
 }
 
-/* A reading that no start gave. */
-static void made(const uint8_t *file, size_t len, fst_reading *reading)
-{
-    uint8_t *bytes = (uint8_t *)reading;
-    size_t root = len > 21 ? len - 21 : 0;
-    for (size_t i = 0; i < sizeof *reading; i++)
-        bytes[i] = (uint8_t)any();
-    for (size_t i = 0; i < 256; i++) {
-        reading->addrs[i] = (uint32_t)(one_in(3) ? root : below(len + 2));
-        reading->trans[i] = (uint16_t)(one_in(9) ? any() : below(4));
-        reading->outs[i] = one_in(9) ? any() : below(1000);
-    }
-    reading->head[0] = one_in(20) ? any() : len;
-    reading->head[1] = one_in(2) ? FST_UNBOUNDED : below(4);
-    reading->head[2] = one_in(20) ? any() : below(257);
-    reading->head[3] = below(2);
-    reading->head[6] = one_in(20) ? any() : below(258);
-    reading->keys[0] = one_in(9) ? any() : below(5);
-    read_on(file, len, reading, 0);
-}
-
 int main(int argc, char **argv)
 {
     unsigned long calls = argc > 1 ? strtoul(argv[1], NULL, 10) : 0, files_made = 0, admitted = 0;
-    bases = calloc((size_t)argc, sizeof *bases);
-    base_lens = calloc((size_t)argc, sizeof *base_lens);
-    for (int i = 2; i < argc; i++)
-        load(argv[i]);
+    load_all(argc, argv);
     if (base_count == 0 || calls == 0) {
         fprintf(stderr, "usage: damage CALLS FILE...\n");
         return 2;
@@ -343,7 +223,8 @@ int main(int argc, char **argv)
     uppers_at = map(300);
     rows_at = map(ROWS * sizeof(fst_row));
     page_values_at = map(ROWS * sizeof(uint64_t));
-    while (counted < calls || started < calls || nexts < calls || ranged < calls) {
+    positions_at = map(POSITIONS * sizeof(uint16_t));
+    while (counted < calls || started < calls || nexts < calls || ranged < calls || finds < calls) {
         fst_reading *reading = lent(readings_at, sizeof *reading);
         uint64_t *counts;
         size_t len, counts_len;
@@ -364,22 +245,25 @@ int main(int argc, char **argv)
             fst_row *rows;
             uint64_t *values;
             size_t found;
-            range(file, len, lo, hi, below(ROWS + 1), &rows, &values, &found);
+            pattern p;
+            any_pattern(&p);
+            range(file, len, NULL, lo, hi, below(ROWS + 1), &rows, &values, &found);
+            range(file, len, &p, lo, hi, below(ROWS + 1), &rows, &values, &found);
             if (start(file, len, lo, hi, counts, counts_len, reading) == FST_OK) {
-                if (right)
-                    page_on(file, len, lo, hi, *reading);
+                if (right) {
+                    page_on(file, len, NULL, lo, hi, *reading);
+                    page_on(file, len, &p, lo, hi, *reading);
+                }
                 read_on(file, len, reading, right);
                 break; /* the file was exchanged */
             }
         }
         file = damaged(&len);
-        made(file, len, reading);
+        make_reading(len, reading);
+        read_on(file, len, reading, 0);
     }
-    printf("%lu damaged files, %lu of them admitted: fst_count %lu calls, fst_start %lu, fst_next %lu, fst_range %lu, %lu differences\n",
-           files_made, admitted, counted, started, nexts, ranged, differences);
-    for (size_t i = 0; i < base_count; i++)
-        free(bases[i]);
-    free(bases);
-    free(base_lens);
+    printf("%lu damaged files, %lu of them admitted: fst_count %lu calls, fst_start %lu, fst_next %lu, fst_range %lu, fst_find %lu, %lu differences\n",
+           files_made, admitted, counted, started, nexts, ranged, finds, differences);
+    free_all();
     return differences > 0;
 }

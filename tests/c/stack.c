@@ -47,6 +47,8 @@ static void call_count(void) { fst_count(file, file_len, depths, file_len, sums,
 static void call_start(void) { fst_start(file, file_len, NULL, &bound, counts, file_len, &reading); fst_start(file, file_len, &bound, NULL, counts, file_len, &reading); }
 static void call_next(void) { fst_next(file, file_len, &reading, key, sizeof key, &len, &value); }
 static void call_range(void) { fst_range(file, file_len, NULL, &bound, 8, rows, values, &len); fst_range(file, file_len, &bound, NULL, 8, rows, values, &len); }
+static const uint16_t positions[] = { 'a', FST_ANY_BYTE };
+static void call_find(void) { fst_find(file, file_len, positions, 2, 0, NULL, &bound, 8, rows, values, &len); fst_find(file, file_len, positions, 0, 1, &bound, NULL, 8, rows, values, &len); }
 static void call_convert(void) { fst_convert(file, file_len, depths, file_len, sums, file_len, out, sizeof out, table, file_len, &len); }
 static void call_pack(void) { fst_pack(pairs, sizeof pairs, out, 100, cells, 64, inputs, FST_PACK_TABLE, leasts, FST_PACK_TABLE, targets, FST_PACK_TABLE, &len); }
 static void call_carry(void) { fst_carry(file, file_len, file, file_len, &reading); }
@@ -87,7 +89,7 @@ int main(int argc, char **argv)
     } functions[] = {
         { "fst_open", call_open, FST_STACK_OPEN },    { "fst_get", call_get, FST_STACK_GET },       { "fst_get_key", call_get_key, FST_STACK_GET_KEY },
         { "fst_admit", call_admit, FST_STACK_ADMIT }, { "fst_count", call_count, FST_STACK_COUNT }, { "fst_start", call_start, FST_STACK_START },
-        { "fst_next", call_next, FST_STACK_NEXT },    { "fst_range", call_range, FST_STACK_RANGE },
+        { "fst_next", call_next, FST_STACK_NEXT },    { "fst_range", call_range, FST_STACK_RANGE },   { "fst_find", call_find, FST_STACK_FIND },
         { "fst_convert", call_convert, FST_STACK_CONVERT }, { "fst_pack", call_pack, FST_STACK_PACK },       { "fst_carry", call_carry, FST_STACK_CARRY },
     };
     size_t most[sizeof functions / sizeof *functions] = { 0 };

@@ -1,0 +1,2 @@
+pub mod FindArguments
+pub mod FindLaws

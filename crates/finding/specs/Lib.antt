@@ -1,0 +1,5 @@
+pub mod Finding
+pub mod FindExact
+pub mod FoldByLaws
+pub mod FindLaws
+pub mod FindPagesLaws
