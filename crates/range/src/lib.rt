@@ -3,9 +3,11 @@
 ghost use mathlib.Core.Path.{_≡_};
 ghost use Prim.Native.Nat.{_*_, _≤_};
 ghost use lib.ListN.{length};
+ghost use Rattle.format.specs.Paths.{fstWith};
 ghost use Rattle.reading.specs.Reading as R;
 ghost use Rattle.paging.specs.Paging as P;
 ghost use Rattle.stream_start.specs.Views.{viewIs, boundIs};
+ghost use Rattle.range_node.specs.Entries.{SoundTo};
 ghost use Rattle.range_turn.specs.StartStateLaws.{StateRight};
 ghost use Rattle.range.specs.RangedRows.{OpensAs, unpending, RangedBy, refusedRange};
 ghost use Rattle.range.specs.FillLaws.{FilledFrom};
@@ -48,8 +50,8 @@ fn refused(why: u8) -> Ranged
     }
 }
 
-// The keys of a reading with nothing pending, from row `first` on up to `most`. The levels are in local arrays, so a key costs no copy of a reading. A
-// refusal stands beside the keys before it.
+// The keys of a reading with nothing pending, from row `first` on up to `most`. The levels are in local arrays, so a key costs no copy of a reading, and each
+// is that of a node that was judged as it was entered. A refusal stands beside the keys before it.
 fn fill(
     file: &[u8],
     version: u64,
@@ -61,7 +63,8 @@ fn fill(
     values: &mut [u64],
 ) -> Ranged
     requires { ⌜ (P.rowLen * most ≤ length (now rows)) × (most ≤ length (now values)) ⌝ }
-    requires { ⌜ OpensAs (now file) version root × StateRight (now file) (viewIs reading) ⌝ }
+    requires { ⌜ OpensAs (now file) version root × StateRight (now file) (viewIs reading)
+        × SoundTo (fstWith (now file) version root) (reading .addrs) (reading .levels) ⌝ }
     ensures { λ r. ⌜ FilledFrom (now (file .entry)) (unpending (viewIs reading)) first most
         (now (rows .entry)) (now (rows .exit)) (now (values .entry)) (now (values .exit)) r ⌝ }
 {
@@ -73,7 +76,6 @@ fn fill(
     let bound_len = reading.bound_len;
     let kind = reading.kind;
     let mut levels = reading.levels;
-    let mut total = reading.total;
     let mut count = first;
     while count < most {
         match step_on(
@@ -81,7 +83,6 @@ fn fill(
             version,
             root,
             levels,
-            total,
             &mut addrs,
             &mut inps,
             &mut trans,
@@ -102,11 +103,10 @@ fn fill(
                     stop: Stop::Refused(why),
                 };
             }
-            Turn::Key(k, value, after) => {
+            Turn::Key(k, value) => {
                 put_row(&inps[1..], k, count * ROW, rows);
                 values[count] = value;
                 levels = k + 1;
-                total = after;
                 count += 1;
             }
         }
@@ -128,7 +128,8 @@ fn fill_all(
     values: &mut [u64],
 ) -> Ranged
     requires { ⌜ (P.rowLen * most ≤ length (now rows)) × (most ≤ length (now values)) ⌝ }
-    requires { ⌜ OpensAs (now file) version root × StateRight (now file) (viewIs reading) ⌝ }
+    requires { ⌜ OpensAs (now file) version root × StateRight (now file) (viewIs reading)
+        × SoundTo (fstWith (now file) version root) (reading .addrs) (reading .levels) ⌝ }
     ensures { λ r. ⌜ RangedBy (P.fold (now (file .entry)) (viewIs reading) most)
         (now (rows .entry)) (now (rows .exit)) (now (values .entry)) (now (values .exit)) r ⌝ }
 {

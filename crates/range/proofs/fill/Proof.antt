@@ -7,6 +7,7 @@ use denote.Ref.{now}
 use lib.ListN.{length, take}
 use Rattle.format.specs.laws.OpeningLaws.{root-fits}
 use Rattle.format.specs.Limits.{maxPath}
+use Rattle.format.specs.Paths.{fstWith}
 use Rattle.stream_start.specs.Views.{Arrays, boundIs, stackIs, viewIs}
 use Rattle.stream_start.specs.StackLaws.{stack-length}
 use Rattle.range_turn.specs.Turns.{viewAt}
@@ -19,13 +20,13 @@ use Rattle.range.proofs.fill.Statement.{statement}
 use Rattle.range.proofs.fill.Tie as tie
 
 abbrev Inv-loop : tie.InvT-loop
-Inv-loop file version root first most rows₀ values₀ addrs₀ inps₀ trans₀ outs₀ bound bound-len kind levels₀ total₀ count₀ rows values addrs inps trans outs levels total count =
-    Going file (boundIs kind (take bound-len bound)) bound-len
-    (viewAt (length file) (boundIs kind (take bound-len bound)) bound-len total₀ (stackIs levels₀ addrs₀ inps₀ trans₀ outs₀)) count₀ most rows₀ values₀ rows values
-    addrs inps trans outs levels total count
+Inv-loop file version root first most rows₀ values₀ addrs₀ inps₀ trans₀ outs₀ bound bound-len kind levels₀ count₀ rows values addrs inps trans outs levels count =
+    Going (fstWith file version root) file (boundIs kind (take bound-len bound)) bound-len
+    (λ t. viewAt (length file) (boundIs kind (take bound-len bound)) bound-len t (stackIs levels₀ addrs₀ inps₀ trans₀ outs₀)) count₀ most rows₀ values₀ rows values
+    addrs inps trans outs levels count
 
 abbrev μ-loop : tie.MeasureT-loop
-μ-loop file version root first most rows₀ values₀ addrs₀ inps₀ trans₀ outs₀ bound bound-len kind levels₀ total₀ count₀ rows values addrs inps trans outs levels total count =
+μ-loop file version root first most rows₀ values₀ addrs₀ inps₀ trans₀ outs₀ bound bound-len kind levels₀ count₀ rows values addrs inps trans outs levels count =
     most - count
 
 -- ---- what is known at a turn, after it, and where it found a key
@@ -72,10 +73,10 @@ loop-holds c =
     let s = c .before .before .before .before .before .before .before .before in
     let a = s .args in
     let r = a .reading in
-    going-none (now (a .file)) (boundIs (r .kind) (take (r .«bound_len») (r .bound))) (r .«bound_len») (a .first) (a .most) (now (a .rows)) (now (a .values)) (r .addrs)
-    (r .inps) (r .trans) (r .outs) (r .levels) (r .total)
+    going-none (fstWith (now (a .file)) (a .version) (a .root)) (now (a .file)) (boundIs (r .kind) (take (r .«bound_len») (r .bound))) (r .«bound_len») (a .first) (a .most) (now (a .rows)) (now (a .values)) (r .addrs)
+    (r .inps) (r .trans) (r .outs) (r .levels)
     (arrays s)
-    (rw (stack-length (r .levels) (r .addrs) (r .inps) (r .trans) (r .outs)) at (s .pre .1 .1 .few))
+    (rw (stack-length (r .levels) (r .addrs) (r .inps) (r .trans) (r .outs)) at (s .pre .1 .1 .few)) (s .pre .1 .2)
 
 step-on-requires : tie.Need-step-on-requires Inv-loop μ-loop
 step-on-requires c κs =
@@ -83,7 +84,7 @@ step-on-requires c κs =
     let s = start l in
     let o = s .pre .1 .0 in (
       (l .loop .inv .arrays, bound-held s, s .pre .1 .1 .short),
-      (l .loop .inv .few, omega (arith, root-fits (now (s .args .file)) (o .meta) (o .opens), o .root-is)),
+      (l .loop .inv .few, omega (arith, root-fits (now (s .args .file)) (o .meta) (o .opens), o .root-is), l .loop .inv .sounds),
     )
 
 enum-told : tie.Need-enum-told Inv-loop μ-loop
@@ -102,7 +103,7 @@ returns c =
     let s = start l in
     filled-as (sym (as-view l))
     (going-end (s .pre .1 .0) (s .pre .1 .1 .short) (s .pre .0 .0) (s .pre .0 .1) (l .loop .inv) (left q)
-    (q .step-on .ensures (length (now (s .args .file))) (s .args .reading .«bound_len»)) (c .enum-told .given .1))
+    (q .step-on .ensures (length (now (s .args .file))) (s .args .reading .«bound_len»)) (c .enum-told .given .1) (s .args .reading .total))
 
 enum-known-why : tie.Need-enum-known-why Inv-loop μ-loop
 enum-known-why c = search needs
@@ -120,7 +121,7 @@ returns-2 c =
     let s = start l in
     filled-as (sym (as-view l))
     (going-refused (s .pre .1 .0) (s .pre .1 .1 .short) (s .pre .0 .0) (s .pre .0 .1) (l .loop .inv) (left q)
-    (q .step-on .ensures (length (now (s .args .file))) (s .args .reading .«bound_len»)) _ (c .before .why .given .1))
+    (q .step-on .ensures (length (now (s .args .file))) (s .args .reading .«bound_len»)) _ (c .before .why .given .1) (s .args .reading .total))
 
 enum-known-k : tie.Need-enum-known-k Inv-loop μ-loop
 enum-known-k c = search needs
@@ -139,7 +140,7 @@ part-put-row-end c =
     let s = start l in
     let t = q .step-on .ensures (length (now (s .args .file))) (s .args .reading .«bound_len») in
     let e = w .before .k .given .1 in
-    let h = inputs-len (s .pre .1 .0) (s .pre .1 .1 .short) (s .pre .0 .0) (s .pre .0 .1) (l .loop .inv) (left q) t _ _ _ e in
+    let h = inputs-len (s .pre .1 .0) (s .pre .1 .1 .short) (s .pre .0 .0) (s .pre .0 .1) (l .loop .inv) (left q) t _ _ e in
     omega arith
 
 mul-put-row : tie.Need-mul-put-row Inv-loop μ-loop
@@ -160,9 +161,9 @@ put-row-requires c κs =
     let s = start l in
     let t = q .step-on .ensures (length (now (s .args .file))) (s .args .reading .«bound_len») in
     let e = w .before .k .given .1 in (
-      inputs-hold (s .pre .1 .0) (s .pre .1 .1 .short) (s .pre .0 .0) (s .pre .0 .1) (l .loop .inv) (left q) t _ _ _ e,
-      omega (arith, key-low (s .pre .1 .0) (s .pre .1 .1 .short) (s .pre .0 .0) (s .pre .0 .1) (l .loop .inv) (left q) t _ _ _ e),
-      row-within (s .pre .1 .0) (s .pre .1 .1 .short) (s .pre .0 .0) (s .pre .0 .1) (l .loop .inv) (left q) t _ _ _ e,
+      inputs-hold (s .pre .1 .0) (s .pre .1 .1 .short) (s .pre .0 .0) (s .pre .0 .1) (l .loop .inv) (left q) t _ _ e,
+      omega (arith, key-low (s .pre .1 .0) (s .pre .1 .1 .short) (s .pre .0 .0) (s .pre .0 .1) (l .loop .inv) (left q) t _ _ e),
+      row-within (s .pre .1 .0) (s .pre .1 .1 .short) (s .pre .0 .0) (s .pre .0 .1) (l .loop .inv) (left q) t _ _ e,
     )
 
 mul-values : tie.Need-mul-values Inv-loop μ-loop
@@ -193,7 +194,7 @@ add-levels c =
     let s = start l in
     let t = q .step-on .ensures (length (now (s .args .file))) (s .args .reading .«bound_len») in
     let e = w .before .k .given .1 in
-    omega (arith, key-low (s .pre .1 .0) (s .pre .1 .1 .short) (s .pre .0 .0) (s .pre .0 .1) (l .loop .inv) (left q) t _ _ _ e)
+    omega (arith, key-low (s .pre .1 .0) (s .pre .1 .1 .short) (s .pre .0 .0) (s .pre .0 .1) (l .loop .inv) (left q) t _ _ e)
 
 add-count : tie.Need-add-count Inv-loop μ-loop
 add-count c = search needs
@@ -209,7 +210,7 @@ loop-again c =
     let s = start l in
     let t = q .step-on .ensures (length (now (s .args .file))) (s .args .reading .«bound_len») in
     let e = w .before .k .given .1 in
-    going-key (s .pre .1 .0) (s .pre .1 .1 .short) (s .pre .0 .0) (s .pre .0 .1) (l .loop .inv) (left q) t _ _ _ e (c .before .before .put-row .ensures)
+    going-key (s .pre .1 .0) (s .pre .1 .1 .short) (s .pre .0 .0) (s .pre .0 .1) (l .loop .inv) (left q) t _ _ e (c .before .before .put-row .ensures)
 
 same-length-5 : tie.Need-same-length-5 Inv-loop μ-loop
 same-length-5 c = c .before .loop .inv .rows-len
@@ -221,7 +222,7 @@ returns-3 : tie.Need-returns-3 Inv-loop μ-loop
 returns-3 c =
     let l = c .before in
     let s = start l in
-    filled-as (sym (as-view l)) (going-more (s .pre .1 .0) (s .pre .1 .1 .short) (s .pre .0 .0) (s .pre .0 .1) (l .loop .inv) (c .loop-test .left))
+    filled-as (sym (as-view l)) (going-more (s .pre .1 .0) (s .pre .1 .1 .short) (s .pre .0 .0) (s .pre .0 .1) (l .loop .inv) (c .loop-test .left) (s .args .reading .total))
 
 pub fill-spec : {M : Type 1} → statement M
 fill-spec =
