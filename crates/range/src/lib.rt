@@ -1,7 +1,7 @@
 // A range in one call (src/raw/mod.rs: `range`, `ge` to `lt`, and the loop of `next` over it): up to so many keys between two bounds, each in a row of
 // 256 bytes with its value beside it, on any file, admitted or not.
 ghost use mathlib.Core.Path.{_≡_};
-ghost use Prim.Native.Nat.{_*_, _≤_};
+ghost use Prim.Native.Nat.{_-_, _*_, _≤_};
 ghost use lib.ListN.{length};
 ghost use Rattle.format.specs.Paths.{fstWith};
 ghost use Rattle.reading.specs.Reading as R;
@@ -14,6 +14,7 @@ ghost use Rattle.range.specs.FillLaws.{FilledFrom};
 use format::BOUND;
 use format::SPACE;
 use fst::Opened;
+use range_bound::stand;
 use range_rows::ROW;
 use range_rows::bounds_right;
 use range_rows::has_room;
@@ -50,6 +51,13 @@ fn refused(why: u8) -> Ranged
     }
 }
 
+// How many bytes the key of so many levels has.
+fn depth_of(levels: usize) -> usize
+    ensures { λ r. ⌜ r ≡ levels - 1 ⌝ }
+{
+    if 0 < levels { levels - 1 } else { 0 }
+}
+
 // The keys of a reading with nothing pending, from row `first` on up to `most`. The levels are in local arrays, so a key costs no copy of a reading, and each
 // is that of a node that was judged as it was entered. A refusal stands beside the keys before it.
 fn fill(
@@ -77,6 +85,10 @@ fn fill(
     let kind = reading.kind;
     let mut levels = reading.levels;
     let mut count = first;
+    let depth = depth_of(levels);
+    let standing = stand(&inps, depth, &bound, bound_len, kind);
+    let mut same = standing.same;
+    let mut over = standing.over;
     while count < most {
         match step_on(
             file,
@@ -90,6 +102,8 @@ fn fill(
             &bound,
             bound_len,
             kind,
+            same,
+            over,
         ) {
             Turn::End => {
                 return Ranged {
@@ -103,7 +117,10 @@ fn fill(
                     stop: Stop::Refused(why),
                 };
             }
-            Turn::Key(k, value) => {
+            Turn::Key(k, value, agreed) => {
+                // a key that is handed out does not pass the bound
+                same = agreed;
+                over = false;
                 put_row(&inps[1..], k, count * ROW, rows);
                 values[count] = value;
                 levels = k + 1;

@@ -33,11 +33,11 @@ adds-past sum out h = record { within = λ n e. absurd (let z : _≡_ {A = ℕ} 
 
 -- ---- a key with its final output
 
-pub found-by : (k sum end : ℕ) {n : ℕ} → n ≡ sum + end → sum + end ≤ maxSum → foundAt k sum end ≡ Found k n
-found-by k sum end {n} e h = rw (le-leb (sum + end) maxSum h, ← e)
+pub found-by : (k sum end s : ℕ) {n : ℕ} → n ≡ sum + end → sum + end ≤ maxSum → foundAt k sum end s ≡ Found k n s
+found-by k sum end s {n} e h = rw (le-leb (sum + end) maxSum h, ← e)
 
-pub found-past : (k sum end : ℕ) → maxSum < sum + end → foundAt k sum end ≡ Halted SUM
-found-past k sum end h = rw (lt-leb (sum + end) maxSum h)
+pub found-past : (k sum end s : ℕ) → maxSum < sum + end → foundAt k sum end s ≡ Halted SUM
+found-past k sum end s h = rw (lt-leb (sum + end) maxSum h)
 
 -- ---- the definition
 

@@ -13,7 +13,7 @@ use native.Mathlib.Omega.{arith}
 use lib.ListN.{length, getD}
 use Rattle.format.specs.declared.Transition.{Transition}
 use Rattle.format.specs.Node as F
-use Rattle.format.specs.Node.{SoundAt, nodeAt, nodeOf, sound, unsound, emptyFinal, transitionAt}
+use Rattle.format.specs.Node.{SoundAt, nodeAt, nodeOf, sound, transitionAt}
 use Rattle.format.specs.laws.NodeLaws.{node-at-cases, node-at-sound, not-final}
 use Rattle.format.specs.Paths.{Fst, nodeIn}
 use Rattle.node_sound.specs.JudgingLaws.{sound-low}
@@ -21,7 +21,6 @@ use Rattle.node.specs.declared.Node.{Node}
 use Rattle.node.specs.declared.Judged.the-variants as J
 use Rattle.node.specs.Read.{meaning, Judges, Readable, transitionsIn}
 use Rattle.node.specs.ReadLaws.{length-node-transitions}
-use Rattle.range_node.specs.declared.Ending.{Ending}
 use Rattle.range_node.specs.declared.Ending.the-variants.{Final, Inner}
 use Rattle.range_node.specs.declared.Met.the-variants.{Sound}
 use Rattle.range_node.specs.Entries.{metOf}

@@ -3,20 +3,20 @@
 --     ending-final, ending-inner      whether the node is final
 --     sound-set, sound-less           the sound addresses of a list after a store; of its first ones
 -- Assumes nothing.
-use mathlib.Core.Path.{_≡_, refl, sym}
+use mathlib.Core.Path.{_≡_, refl}
 use mathlib.Core.Bool.{Bool, true, false, cond}
 use mathlib.Core.List.{List}
 use Prim.Native.Nat.{ℕ, _+_, _<_, _≤_}
 use native.Mathlib.Decide.{ℕ-discrete}
 use native.Mathlib.Omega.{arith}
-use lib.ListN.{length, getD, set}
+use lib.ListN.{length, set}
 use lib.Seq.{getD-set-same, getD-set-other}
 use Rattle.format.specs.Node.{Node, Judgement, sound, unsound}
 use Rattle.format.specs.Paths.{Fst, nodeIn}
 use Rattle.range_node.specs.declared.Ending.{Ending}
 use Rattle.range_node.specs.declared.Ending.the-variants.{Final, Inner}
 use Rattle.range_node.specs.declared.Met.the-variants.{Sound, Unsound}
-use Rattle.range_node.specs.Entries.{endingOf, metOf, Entered, SoundTo}
+use Rattle.range_node.specs.Entries.{endingOf, metOf, SoundTo}
 
 pub record Meeting (j : Judgement) (e : Ending) : Type 0 where
   pub node : Node

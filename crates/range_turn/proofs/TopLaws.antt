@@ -2,7 +2,7 @@
 --     pop-end, pop-at, pop-on     the definition at the first k levels
 --     Topping ..                  the pops go on from level k
 -- Assumes nothing.
-use mathlib.Core.Path.{_≡_, refl, sym, _∙_, ap}
+use mathlib.Core.Path.{_≡_, refl, _∙_, ap}
 use mathlib.Core.List.{List}
 use Prim.Native.Nat.{ℕ, _-_, _<_, _≤_}
 use native.Mathlib.Omega.{arith}
@@ -15,7 +15,7 @@ use Rattle.stream_start.specs.Views.{levelAt, stackIs}
 use Rattle.stream_start.specs.StackLaws.{stack-suc}
 use Rattle.range_node.specs.Entries.{Entered, SoundTo, CountsAt}
 use Rattle.range_turn.specs.declared.Top.the-variants.{At, Empty}
-use Rattle.range_turn.specs.Turns.{TopAt, Tops}
+use Rattle.range_turn.specs.Turns.{Tops}
 
 -- ---- the definition
 

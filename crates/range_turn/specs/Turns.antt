@@ -5,6 +5,7 @@
 --     Turned f .. r                   the turn r and the arrays after it, for every total
 -- Assumes nothing.
 use mathlib.Core.Path.{_≡_}
+use mathlib.Core.Bool.{false}
 use mathlib.Core.Option.{none}
 use mathlib.Core.List.{List}
 use Prim.Native.Nat.{ℕ, _+_, _<_}
@@ -16,6 +17,7 @@ use Rattle.format.specs.Strings as S
 use Rattle.reading.specs.Reading as R
 use Rattle.reading.specs.Reading.{View, Level, key, end, afterPop, top, used-up, pop}
 use Rattle.stream_start.specs.Views.{Arrays, levelAt, stackIs}
+use Rattle.range_bound.specs.Besides.{Beside}
 use Rattle.range_node.specs.Entries.{SoundTo}
 use Rattle.range_turn.specs.declared.Top.{Top}
 use Rattle.range_turn.specs.declared.Top.the-variants.{At, Empty}
@@ -40,9 +42,9 @@ pub record Tops (f : Fst) (xs ps : List ℕ) (levels : ℕ) (r : Top) : Type 0 w
   pub at : (k : ℕ) → r ≡ At k → TopAt f xs ps levels k
   pub none-left : r ≡ Empty → (is os : List ℕ) → pop f (stackIs levels xs is ps os) ≡ used-up
 
--- a key ends at level k, and its bytes are the inputs after the first
-pub data Turned (f : Fst) (len : ℕ) (hi : S.Bound) (n t : ℕ) (levels : List Level) (xs is ps os : List ℕ) : Turn → Type 0 where
-  goes-on : (k v t′ : ℕ) → k < maxLevels → Arrays xs is ps os → SoundTo f xs (k + 1) → stepOf f len hi n t levels .answer ≡ key (take k (drop 1 is)) v
-      → stepOf f len hi n t levels .reading ≡ viewAt len hi n t′ (stackIs (k + 1) xs is ps os) → Turned f len hi n t levels xs is ps os (Key k v)
-  ends : stepOf f len hi n t levels .answer ≡ end → Turned f len hi n t levels xs is ps os End
-  stops : (c : ℕ) → stepOf f len hi n t levels .answer ≡ R.Answer.refused c → Turned f len hi n t levels xs is ps os (Refused c)
+-- a key ends at level k, its bytes are the inputs after the first, and s of them agree with the upper bound, whose bytes are b
+pub data Turned (f : Fst) (len : ℕ) (hi : S.Bound) (b : List ℕ) (n t : ℕ) (levels : List Level) (xs is ps os : List ℕ) : Turn → Type 0 where
+  goes-on : (k v s t′ : ℕ) → k < maxLevels → Arrays xs is ps os → SoundTo f xs (k + 1) → Beside hi b (drop 1 is) k s false → stepOf f len hi n t levels .answer ≡ key (take k (drop 1 is)) v
+      → stepOf f len hi n t levels .reading ≡ viewAt len hi n t′ (stackIs (k + 1) xs is ps os) → Turned f len hi b n t levels xs is ps os (Key k v s)
+  ends : stepOf f len hi n t levels .answer ≡ end → Turned f len hi b n t levels xs is ps os End
+  stops : (c : ℕ) → stepOf f len hi n t levels .answer ≡ R.Answer.refused c → Turned f len hi b n t levels xs is ps os (Refused c)

@@ -1,15 +1,16 @@
 -- `range::fill` meets its contract. The invariant: the rows before `count` are written, and the page goes on from the levels in the arrays. The measure is
 -- how many keys are still asked for.
 -- Assumes nothing.
-use mathlib.Core.Path.{_≡_, sym, ap}
-use Prim.Native.Nat.{ℕ, _-_, _<_}
+use mathlib.Core.Path.{_≡_, sym, ap, subst}
+use Prim.Native.Nat.{ℕ, _-_, _≤_, _<_}
 use denote.Ref.{now}
-use lib.ListN.{length, take}
+use lib.ListN.{length, take, drop}
 use Rattle.format.specs.laws.OpeningLaws.{root-fits}
-use Rattle.format.specs.Limits.{maxPath}
+use Rattle.format.specs.Limits.{maxPath, maxLevels}
 use Rattle.format.specs.Paths.{fstWith}
 use Rattle.stream_start.specs.Views.{Arrays, boundIs, stackIs, viewIs}
 use Rattle.stream_start.specs.StackLaws.{stack-length}
+use Rattle.range_bound.specs.Besides.{Beside}
 use Rattle.range_turn.specs.Turns.{viewAt}
 use Rattle.range.specs.RangedRows.{unpending}
 use Rattle.range.specs.FillLaws.{filled-as}
@@ -20,13 +21,13 @@ use Rattle.range.proofs.fill.Statement.{statement}
 use Rattle.range.proofs.fill.Tie as tie
 
 abbrev Inv-loop : tie.InvT-loop
-Inv-loop file version root first most rows₀ values₀ addrs₀ inps₀ trans₀ outs₀ bound bound-len kind levels₀ count₀ rows values addrs inps trans outs levels count =
-    Going (fstWith file version root) file (boundIs kind (take bound-len bound)) bound-len
+Inv-loop file version root first most rows₀ values₀ addrs₀ inps₀ trans₀ outs₀ bound bound-len kind levels₀ count₀ depth same₀ over₀ rows values addrs inps trans outs levels count same over =
+    Going (fstWith file version root) file (boundIs kind (take bound-len bound)) (take bound-len bound) bound-len
     (λ t. viewAt (length file) (boundIs kind (take bound-len bound)) bound-len t (stackIs levels₀ addrs₀ inps₀ trans₀ outs₀)) count₀ most rows₀ values₀ rows values
-    addrs inps trans outs levels count
+    addrs inps trans outs levels count same over
 
 abbrev μ-loop : tie.MeasureT-loop
-μ-loop file version root first most rows₀ values₀ addrs₀ inps₀ trans₀ outs₀ bound bound-len kind levels₀ count₀ rows values addrs inps trans outs levels count =
+μ-loop file version root first most rows₀ values₀ addrs₀ inps₀ trans₀ outs₀ bound bound-len kind levels₀ count₀ depth same₀ over₀ rows values addrs inps trans outs levels count same over =
     most - count
 
 -- ---- what is known at a turn, after it, and where it found a key
@@ -35,7 +36,7 @@ abbrev Loop : Type 0
 Loop = tie.At-loop Inv-loop μ-loop
 
 abbrev start : Loop → tie.Start Inv-loop μ-loop
-start l = l .before .before .before .before .before .before .before .before .before
+start l = l .before .before .before .before .before .before .before .before .before .before .before .before .before
 
 abbrev Call : Type 0
 Call = tie.After-step-on Inv-loop μ-loop
@@ -68,15 +69,38 @@ arrays q = record { addrs-len = search needs; inps-len = search needs; trans-len
 bound-held : (q : tie.Start Inv-loop μ-loop) → length (q .args .reading .bound) ≡ maxPath
 bound-held q = search needs
 
+few : (q : tie.Start Inv-loop μ-loop) → q .args .reading .levels ≤ maxLevels
+few q = let r = q .args .reading in rw (stack-length (r .levels) (r .addrs) (r .inps) (r .trans) (r .outs)) at (q .pre .1 .1 .few)
+
+depth-of-requires : tie.Need-depth-of-requires Inv-loop μ-loop
+depth-of-requires c κs = search needs
+
+-- the key of the levels has at most 255 bytes
+stand-requires : tie.Need-stand-requires Inv-loop μ-loop
+stand-requires c κs =
+    let call = c .before .before in
+    let s = call .before .before .before .before .before .before .before .before .before in
+    (arrays s .inps-len, bound-held s, omega (arith, call .depth-of .ensures, few s), s .pre .1 .1 .short)
+
+-- how it stands to the upper bound
+standing : (c : tie.After-stand Inv-loop μ-loop) → (let s = c .before .before .before .before .before .before .before .before .before .before .before .before in
+    let r = s .args .reading in
+    Beside (boundIs (r .kind) (take (r .«bound_len») (r .bound))) (take (r .«bound_len») (r .bound)) (drop 1 (r .inps)) (r .levels - 1) (c .stand .result .same)
+    (c .stand .result .over))
+standing c =
+    let s = c .before .before .before .before .before .before .before .before .before .before .before .before in
+    let r = s .args .reading in
+    subst (λ (j : ℕ). Beside (boundIs (r .kind) (take (r .«bound_len») (r .bound))) (take (r .«bound_len») (r .bound)) (drop 1 (r .inps)) j (c .stand .result .same)
+    (c .stand .result .over)) (c .before .before .before .depth-of .ensures) (c .stand .ensures)
+
 loop-holds : tie.Need-loop-holds Inv-loop μ-loop
 loop-holds c =
-    let s = c .before .before .before .before .before .before .before .before in
+    let s = c .before .before .before .before .before .before .before .before .before .before .before .before in
     let a = s .args in
     let r = a .reading in
-    going-none (fstWith (now (a .file)) (a .version) (a .root)) (now (a .file)) (boundIs (r .kind) (take (r .«bound_len») (r .bound))) (r .«bound_len») (a .first) (a .most) (now (a .rows)) (now (a .values)) (r .addrs)
-    (r .inps) (r .trans) (r .outs) (r .levels)
-    (arrays s)
-    (rw (stack-length (r .levels) (r .addrs) (r .inps) (r .trans) (r .outs)) at (s .pre .1 .1 .few)) (s .pre .1 .2)
+    going-none (fstWith (now (a .file)) (a .version) (a .root)) (now (a .file)) (boundIs (r .kind) (take (r .«bound_len») (r .bound)))
+    (take (r .«bound_len») (r .bound)) (r .«bound_len») (a .first) (a .most) (now (a .rows)) (now (a .values)) (r .addrs) (r .inps) (r .trans) (r .outs) (r .levels)
+    (c .stand .result .same) (c .stand .result .over) (arrays s) (few s) (s .pre .1 .2) (standing c)
 
 step-on-requires : tie.Need-step-on-requires Inv-loop μ-loop
 step-on-requires c κs =
@@ -84,7 +108,7 @@ step-on-requires c κs =
     let s = start l in
     let o = s .pre .1 .0 in (
       (l .loop .inv .arrays, bound-held s, s .pre .1 .1 .short),
-      (l .loop .inv .few, omega (arith, root-fits (now (s .args .file)) (o .meta) (o .opens), o .root-is), l .loop .inv .sounds),
+      (l .loop .inv .few, omega (arith, root-fits (now (s .args .file)) (o .meta) (o .opens), o .root-is), l .loop .inv .sounds, l .loop .inv .beside),
     )
 
 enum-told : tie.Need-enum-told Inv-loop μ-loop
@@ -140,7 +164,7 @@ part-put-row-end c =
     let s = start l in
     let t = q .step-on .ensures (length (now (s .args .file))) (s .args .reading .«bound_len») in
     let e = w .before .k .given .1 in
-    let h = inputs-len (s .pre .1 .0) (s .pre .1 .1 .short) (s .pre .0 .0) (s .pre .0 .1) (l .loop .inv) (left q) t _ _ e in
+    let h = inputs-len (s .pre .1 .0) (s .pre .1 .1 .short) (s .pre .0 .0) (s .pre .0 .1) (l .loop .inv) (left q) t _ _ _ e in
     omega arith
 
 mul-put-row : tie.Need-mul-put-row Inv-loop μ-loop
@@ -161,9 +185,9 @@ put-row-requires c κs =
     let s = start l in
     let t = q .step-on .ensures (length (now (s .args .file))) (s .args .reading .«bound_len») in
     let e = w .before .k .given .1 in (
-      inputs-hold (s .pre .1 .0) (s .pre .1 .1 .short) (s .pre .0 .0) (s .pre .0 .1) (l .loop .inv) (left q) t _ _ e,
-      omega (arith, key-low (s .pre .1 .0) (s .pre .1 .1 .short) (s .pre .0 .0) (s .pre .0 .1) (l .loop .inv) (left q) t _ _ e),
-      row-within (s .pre .1 .0) (s .pre .1 .1 .short) (s .pre .0 .0) (s .pre .0 .1) (l .loop .inv) (left q) t _ _ e,
+      inputs-hold (s .pre .1 .0) (s .pre .1 .1 .short) (s .pre .0 .0) (s .pre .0 .1) (l .loop .inv) (left q) t _ _ _ e,
+      omega (arith, key-low (s .pre .1 .0) (s .pre .1 .1 .short) (s .pre .0 .0) (s .pre .0 .1) (l .loop .inv) (left q) t _ _ _ e),
+      row-within (s .pre .1 .0) (s .pre .1 .1 .short) (s .pre .0 .0) (s .pre .0 .1) (l .loop .inv) (left q) t _ _ _ e,
     )
 
 mul-values : tie.Need-mul-values Inv-loop μ-loop
@@ -194,10 +218,13 @@ add-levels c =
     let s = start l in
     let t = q .step-on .ensures (length (now (s .args .file))) (s .args .reading .«bound_len») in
     let e = w .before .k .given .1 in
-    omega (arith, key-low (s .pre .1 .0) (s .pre .1 .1 .short) (s .pre .0 .0) (s .pre .0 .1) (l .loop .inv) (left q) t _ _ e)
+    omega (arith, key-low (s .pre .1 .0) (s .pre .1 .1 .short) (s .pre .0 .0) (s .pre .0 .1) (l .loop .inv) (left q) t _ _ _ e)
 
 add-count : tie.Need-add-count Inv-loop μ-loop
-add-count c = search needs
+add-count c =
+    let q = q-of (c .before .before .before .before .before .before) in
+    let s = start (loop-of q) in
+    omega (arith, left q, s .pre .0 .1, s .good .1 .1 .1 .1 .1 .1 .1 .0 .1)
 
 loop-less : tie.Need-loop-less Inv-loop μ-loop
 loop-less c = search needs
@@ -210,7 +237,7 @@ loop-again c =
     let s = start l in
     let t = q .step-on .ensures (length (now (s .args .file))) (s .args .reading .«bound_len») in
     let e = w .before .k .given .1 in
-    going-key (s .pre .1 .0) (s .pre .1 .1 .short) (s .pre .0 .0) (s .pre .0 .1) (l .loop .inv) (left q) t _ _ e (c .before .before .put-row .ensures)
+    going-key (s .pre .1 .0) (s .pre .1 .1 .short) (s .pre .0 .0) (s .pre .0 .1) (l .loop .inv) (left q) t _ _ _ e (c .before .before .put-row .ensures)
 
 same-length-5 : tie.Need-same-length-5 Inv-loop μ-loop
 same-length-5 c = c .before .loop .inv .rows-len
@@ -230,6 +257,8 @@ fill-spec =
     (tie.spec
     Inv-loop
     μ-loop
+    depth-of-requires
+    stand-requires
     loop-holds
     step-on-requires
     enum-told

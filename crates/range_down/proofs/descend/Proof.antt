@@ -2,31 +2,35 @@
 -- judged node. The measure is the room for levels.
 -- Assumes nothing.
 use mathlib.Core.Path.{_≡_, sym, _∙_, ap}
+use mathlib.Core.Bool.{false}
 use mathlib.Core.List.{List}
 use Prim.Native.Nat.{ℕ, _+_, _-_, _<_, _≤_}
-use lib.ListN.{getD, take, length-set}
+use lib.ListN.{getD, take, drop, set}
 use denote.Ref.{now}
 use Rattle.format.specs.declared.Transition.{Transition}
 use Rattle.format.specs.Limits.{maxSum}
-use Rattle.format.specs.Node.{Node, transitionAt}
+use Rattle.format.specs.Node.{transitionAt}
 use Rattle.format.specs.Paths.{Fst, fstWith, nodeIn}
+use Rattle.format.specs.Strings as S
+use Rattle.reading.specs.Reading.{passesTest}
 use Rattle.stream_start.specs.Views.{boundIs}
+use Rattle.range_bound.specs.Besides.{Beside}
 use Rattle.range_node.specs.declared.Ending.{Ending}
 use Rattle.range_node.specs.EntriesLaws.{Meeting, met-sound, met-unsound, ending-final, ending-inner}
 use Rattle.range_down.specs.Downs.{downFrom}
-use Rattle.range_down.proofs.GoingDown.{Going, going-none, going-deep, leads-at, place-fits, target-fits, going-sum, going-bad, going-passed, going-final, going-on}
+use Rattle.range_down.proofs.GoingDown.{Going, going-none, going-deep, leads-at, place-fits, target-fits, going-sum, going-bad, further, going-passed, going-final, going-on}
 use borrow.Author.Needs.{needs}
 use native.Mathlib.Omega.{arith}
 use Rattle.range_down.proofs.descend.Statement.{statement}
 use Rattle.range_down.proofs.descend.Tie as tie
 
 abbrev Inv-loop : tie.InvT-loop
-Inv-loop file version root top addrs₀ inps₀ trans₀ outs₀ bound bound-len kind k₀ addrs inps trans outs k =
-    Going (fstWith file version root) (boundIs kind (take bound-len bound))
-    (downFrom (fstWith file version root) (boundIs kind (take bound-len bound)) addrs₀ inps₀ trans₀ outs₀ top) addrs inps trans outs k
+Inv-loop file version root top addrs₀ inps₀ trans₀ outs₀ bound bound-len kind agreed over k₀ same₀ addrs inps trans outs k same =
+    Going (fstWith file version root) (boundIs kind (take bound-len bound)) (take bound-len bound)
+    (downFrom (fstWith file version root) (boundIs kind (take bound-len bound)) addrs₀ inps₀ trans₀ outs₀ top) addrs inps trans outs k same over
 
 abbrev μ-loop : tie.MeasureT-loop
-μ-loop file version root top addrs₀ inps₀ trans₀ outs₀ bound bound-len kind k₀ addrs inps trans outs k = 255 - k
+μ-loop file version root top addrs₀ inps₀ trans₀ outs₀ bound bound-len kind agreed over k₀ same₀ addrs inps trans outs k same = 255 - k
 
 -- ---- what is known in a turn: the level's address, the transition's place, the transition, the sum, and the target's node
 
@@ -107,13 +111,40 @@ target-small j =
     let w = w-at j in
     target-fits (at-loop w .loop .inv) (place-is w) (edge-is (u-at j)) (start w .pre .1 .1)
 
+-- the upper bound, with one input more
+abbrev Within : Type 0
+Within = tie.After-known-told3 Inv-loop μ-loop
+
+abbrev j-of : Within → Met
+j-of g = g .before .before .before .before
+
+abbrev hi : Placed → S.Bound
+hi w = let a = start w .args in boundIs (a .kind) (take (a .bound-len) (now (a .bound)))
+
+abbrev b : Placed → List ℕ
+b w = let a = start w .args in take (a .bound-len) (now (a .bound))
+
+abbrev inputs⁺ : Met → List ℕ
+inputs⁺ j = let w = w-at j in set (at-loop w .loop .inps) (at-loop w .loop .k + 1) (edge (u-at j) .inp)
+
+within : (g : Within) → (let j = j-of g in
+    let w = w-at j in
+    let k = at-loop w .loop .k + 1 in
+    (passesTest (hi w) (take k (drop 1 (inputs⁺ j))) ≡ false) × Beside (hi w) (b w) (drop 1 (inputs⁺ j)) k (g .before .agree .given .0 .0) (start w .args .over))
+within g =
+    let j = j-of g in
+    let w = w-at j in
+    further (at-loop w .loop .inv) (place-is w) (edge-is (u-at j)) (room w) (added (q-of j) .1) (meeting j .node) (meeting j .is) (added (q-of j) .0)
+    (g .before .before .before .follow .ensures) .within (g .before .agree .given .0 .0) (g .before .agree .given .1)
+
 -- nothing is followed yet, and every level up to top is that of a judged node
 loop-holds : tie.Need-loop-holds Inv-loop μ-loop
 loop-holds c =
     let q = c .before in
     let a = q .args in
-    going-none (fstWith (now (a .file)) (a .version) (a .root)) (boundIs (a .kind) (take (a .bound-len) (now (a .bound)))) (now (a .addrs)) (now (a .inps))
-    (now (a .trans)) (now (a .outs)) (a .top) (q .pre .1 .0) (q .pre .0 .0) (q .pre .1 .2) (q .pre .1 .3)
+    going-none (fstWith (now (a .file)) (a .version) (a .root)) (boundIs (a .kind) (take (a .bound-len) (now (a .bound)))) (take (a .bound-len) (now (a .bound)))
+    (now (a .addrs)) (now (a .inps)) (now (a .trans)) (now (a .outs)) (a .top) (a .agreed) (a .over) (q .pre .1 .0) (q .pre .0 .0) (q .pre .1 .2)
+    (q .pre .1 .3) (q .pre .1 .4)
 
 mul-wide-addr : tie.Need-mul-wide-addr Inv-loop μ-loop
 mul-wide-addr c = search needs
@@ -179,11 +210,32 @@ returns-2 c =
     going-bad (at-loop w .loop .inv) (place-is w) (edge-is u) (room w) (added q .1)
     (met-unsound (nodeIn (f w) (edge u .addr)) (sym (c .enum-told2 .given .1) ∙ call .meet .ensures))
 
+-- level k is one of 256
+follow-requires : tie.Need-follow-requires Inv-loop μ-loop
+follow-requires c κs = let w = w-at c in (start w .pre .0 .1, start w .pre .0 .2, omega (arith, room w))
+
+enum-known-agree : tie.Need-enum-known-agree Inv-loop μ-loop
+enum-known-agree c = search needs
+
+enum-told-3 : tie.Need-enum-told-3 Inv-loop μ-loop
+enum-told-3 c = search needs
+
+-- the key of the new level passes the upper bound
+returns-3 : tie.Need-returns-3 Inv-loop μ-loop
+returns-3 c =
+    let call = c .before .before in
+    let j = call .before in
+    let u = u-at j in
+    let w = w-at j in
+    going-passed (at-loop w .loop .inv) (place-is w) (edge-is u) (room w) (added (q-of j) .1) (meeting j .node) (meeting j .is) (added (q-of j) .0)
+    (further (at-loop w .loop .inv) (place-is w) (edge-is u) (room w) (added (q-of j) .1) (meeting j .node) (meeting j .is) (added (q-of j) .0)
+    (call .follow .ensures) .past (c .enum-told3 .given .1))
+
 add-trans : tie.Need-add-trans Inv-loop μ-loop
-add-trans c = omega (arith, place-small c)
+add-trans c = omega (arith, place-small (j-of c))
 
 cast-trans : tie.Need-cast-trans Inv-loop μ-loop
-cast-trans c = omega (arith, place-small c)
+cast-trans c = omega (arith, place-small (j-of c))
 
 mul-trans : tie.Need-mul-trans Inv-loop μ-loop
 mul-trans c = search needs
@@ -195,7 +247,7 @@ add-k : tie.Need-add-k Inv-loop μ-loop
 add-k c = search needs
 
 cast-addrs : tie.Need-cast-addrs Inv-loop μ-loop
-cast-addrs c = omega (arith, target-small c)
+cast-addrs c = omega (arith, target-small (j-of c))
 
 mul-addrs : tie.Need-mul-addrs Inv-loop μ-loop
 mul-addrs c = search needs
@@ -218,21 +270,6 @@ mul-outs c = search needs
 element-write-outs : tie.Need-element-write-outs Inv-loop μ-loop
 element-write-outs c = search needs
 
--- the arrays keep their lengths, and level k is one of 256
-exceeded-requires : tie.Need-exceeded-requires Inv-loop μ-loop
-exceeded-requires c κs =
-    let w = w-at (c .before) in
-    (simp length-set (at-loop w .loop .inv .arrays .inps-len), start w .pre .0 .1, omega (arith, room w), start w .pre .0 .2)
-
--- the key of the new level passes the upper bound
-returns-3 : tie.Need-returns-3 Inv-loop μ-loop
-returns-3 c =
-    let j = c .before .before .before in
-    let u = u-at j in
-    let w = w-at j in
-    going-passed (at-loop w .loop .inv) (place-is w) (edge-is u) (room w) (added (q-of j) .1) (meeting j .node) (meeting j .is) (added (q-of j) .0)
-    (sym (c .before .exceeded .ensures) ∙ c .if1 .taken)
-
 enum-known-ending-2 : tie.Need-enum-known-ending-2 Inv-loop μ-loop
 enum-known-ending-2 c = search needs
 
@@ -243,30 +280,27 @@ found-requires c κs = search needs
 returns-4 : tie.Need-returns-4 Inv-loop μ-loop
 returns-4 c =
     let given = c .before .before .ending2 .given in
-    let test = c .before .before .before .before in
-    let j = test .before .before .before in
-    let u = u-at j in
+    let g = c .before .before .before .before in
+    let j = j-of g in
     let w = w-at j in
-    going-final (at-loop w .loop .inv) (place-is w) (edge-is u) (room w) (added (q-of j) .1) (meeting j .node) (meeting j .is) (added (q-of j) .0)
-    (sym (test .before .exceeded .ensures) ∙ test .if1 .left) (given .0 .0)
-    (ending-final (meeting j .node) (given .0 .0) (sym (given .1) ∙ meeting j .ending)) (c .found .result) (c .found .ensures)
+    going-final (at-loop w .loop .inv) (place-is w) (edge-is (u-at j)) (room w) (added (q-of j) .1) (meeting j .node) (meeting j .is) (added (q-of j) .0)
+    (within g) (given .0 .0) (ending-final (meeting j .node) (given .0 .0) (sym (given .1) ∙ meeting j .ending)) (c .found .result) (c .found .ensures)
 
-enum-told-3 : tie.Need-enum-told-3 Inv-loop μ-loop
-enum-told-3 c = search needs
+enum-told-4 : tie.Need-enum-told-4 Inv-loop μ-loop
+enum-told-4 c = search needs
 
 -- a new level leaves less room
 loop-less : tie.Need-loop-less Inv-loop μ-loop
-loop-less c = omega (arith, room (w-at (c .before .before .before .before .before)))
+loop-less c = omega (arith, room (w-at (j-of (c .before .before))))
 
 -- one transition more is followed, and its target is judged
 loop-again : tie.Need-loop-again Inv-loop μ-loop
 loop-again c =
-    let test = c .before .before in
-    let j = test .before .before .before in
-    let u = u-at j in
+    let g = c .before .before in
+    let j = j-of g in
     let w = w-at j in
-    going-on (at-loop w .loop .inv) (place-is w) (edge-is u) (room w) (added (q-of j) .1) (meeting j .node) (meeting j .is) (added (q-of j) .0)
-    (sym (test .before .exceeded .ensures) ∙ test .if1 .left) (ending-inner (meeting j .node) (sym (c .enum-told3 .given .1) ∙ meeting j .ending))
+    going-on (at-loop w .loop .inv) (place-is w) (edge-is (u-at j)) (room w) (added (q-of j) .1) (meeting j .node) (meeting j .is) (added (q-of j) .0)
+    (within g) (ending-inner (meeting j .node) (sym (c .enum-told4 .given .1) ∙ meeting j .ending))
 
 -- no room for another level: DEEP
 returns-5 : tie.Need-returns-5 Inv-loop μ-loop
@@ -296,6 +330,10 @@ descend-spec =
     enum-known-ending
     enum-told-2
     returns-2
+    follow-requires
+    enum-known-agree
+    enum-told-3
+    returns-3
     add-trans
     cast-trans
     mul-trans
@@ -309,12 +347,10 @@ descend-spec =
     element-write-trans-2
     mul-outs
     element-write-outs
-    exceeded-requires
-    returns-3
     enum-known-ending-2
     found-requires
     returns-4
-    enum-told-3
+    enum-told-4
     loop-less
     loop-again
     returns-5)

@@ -2,7 +2,6 @@
 -- Assumes nothing.
 use native.Mathlib.Omega.{arith}
 use denote.Ref.{now}
-use Prim.Native.Nat.{ℕ}
 use Rattle.format.specs.Node.{SoundAt}
 use Rattle.format.specs.Paths.{Fst, fstWith}
 use Rattle.range_node.proofs.Reread.{sound-of, no-count, same-count}

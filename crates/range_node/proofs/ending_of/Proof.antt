@@ -1,7 +1,5 @@
 -- `range_node::ending_of` meets its contract: by the state byte, and then by the node's numbers.
 -- Assumes nothing.
-use Prim.Native.Nat.{_<_}
-use lib.ListN.{getD}
 use denote.Ref.{now}
 use native.Mathlib.Omega.{arith}
 use Rattle.range_node.proofs.Reread.{met-inner, met-final, met-other}
