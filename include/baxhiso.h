@@ -125,7 +125,7 @@ static inline const char *fst_result_name(int result)
 #define FST_STACK_COUNT    704
 #define FST_STACK_START    18432
 #define FST_STACK_NEXT     32768
-#define FST_STACK_RANGE    28672
+#define FST_STACK_RANGE    18432
 #define FST_STACK_FIND     40960
 #define FST_STACK_CONVERT  12288
 #define FST_STACK_PACK     8192

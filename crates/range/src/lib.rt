@@ -1,17 +1,20 @@
 // A range in one call (src/raw/mod.rs: `range`, `ge` to `lt`, and the loop of `next` over it): up to so many keys between two bounds, each in a row of
 // 256 bytes with its value beside it, on any file, admitted or not.
 ghost use mathlib.Core.Path.{_≡_};
-ghost use Prim.Native.Nat.{_*_, _≤_};
+ghost use Prim.Native.Nat.{_-_, _*_, _≤_};
 ghost use lib.ListN.{length};
+ghost use Rattle.format.specs.Paths.{fstWith};
 ghost use Rattle.reading.specs.Reading as R;
 ghost use Rattle.paging.specs.Paging as P;
 ghost use Rattle.stream_start.specs.Views.{viewIs, boundIs};
+ghost use Rattle.range_node.specs.Entries.{SoundTo};
 ghost use Rattle.range_turn.specs.StartStateLaws.{StateRight};
 ghost use Rattle.range.specs.RangedRows.{OpensAs, unpending, RangedBy, refusedRange};
 ghost use Rattle.range.specs.FillLaws.{FilledFrom};
 use format::BOUND;
 use format::SPACE;
 use fst::Opened;
+use range_bound::stand;
 use range_rows::ROW;
 use range_rows::bounds_right;
 use range_rows::has_room;
@@ -48,8 +51,15 @@ fn refused(why: u8) -> Ranged
     }
 }
 
-// The keys of a reading with nothing pending, from row `first` on up to `most`. The levels are in local arrays, so a key costs no copy of a reading. A
-// refusal stands beside the keys before it.
+// How many bytes the key of so many levels has.
+fn depth_of(levels: usize) -> usize
+    ensures { λ r. ⌜ r ≡ levels - 1 ⌝ }
+{
+    if 0 < levels { levels - 1 } else { 0 }
+}
+
+// The keys of a reading with nothing pending, from row `first` on up to `most`. The levels are in local arrays, so a key costs no copy of a reading, and each
+// is that of a node that was judged as it was entered. A refusal stands beside the keys before it.
 fn fill(
     file: &[u8],
     version: u64,
@@ -61,7 +71,8 @@ fn fill(
     values: &mut [u64],
 ) -> Ranged
     requires { ⌜ (P.rowLen * most ≤ length (now rows)) × (most ≤ length (now values)) ⌝ }
-    requires { ⌜ OpensAs (now file) version root × StateRight (now file) (viewIs reading) ⌝ }
+    requires { ⌜ OpensAs (now file) version root × StateRight (now file) (viewIs reading)
+        × SoundTo (fstWith (now file) version root) (reading .addrs) (reading .levels) ⌝ }
     ensures { λ r. ⌜ FilledFrom (now (file .entry)) (unpending (viewIs reading)) first most
         (now (rows .entry)) (now (rows .exit)) (now (values .entry)) (now (values .exit)) r ⌝ }
 {
@@ -73,15 +84,17 @@ fn fill(
     let bound_len = reading.bound_len;
     let kind = reading.kind;
     let mut levels = reading.levels;
-    let mut total = reading.total;
     let mut count = first;
+    let depth = depth_of(levels);
+    let standing = stand(&inps, depth, &bound, bound_len, kind);
+    let mut same = standing.same;
+    let mut over = standing.over;
     while count < most {
         match step_on(
             file,
             version,
             root,
             levels,
-            total,
             &mut addrs,
             &mut inps,
             &mut trans,
@@ -89,6 +102,8 @@ fn fill(
             &bound,
             bound_len,
             kind,
+            same,
+            over,
         ) {
             Turn::End => {
                 return Ranged {
@@ -102,11 +117,13 @@ fn fill(
                     stop: Stop::Refused(why),
                 };
             }
-            Turn::Key(k, value, after) => {
+            Turn::Key(k, value, agreed) => {
+                // a key that is handed out does not pass the bound
+                same = agreed;
+                over = false;
                 put_row(&inps[1..], k, count * ROW, rows);
                 values[count] = value;
                 levels = k + 1;
-                total = after;
                 count += 1;
             }
         }
@@ -128,7 +145,8 @@ fn fill_all(
     values: &mut [u64],
 ) -> Ranged
     requires { ⌜ (P.rowLen * most ≤ length (now rows)) × (most ≤ length (now values)) ⌝ }
-    requires { ⌜ OpensAs (now file) version root × StateRight (now file) (viewIs reading) ⌝ }
+    requires { ⌜ OpensAs (now file) version root × StateRight (now file) (viewIs reading)
+        × SoundTo (fstWith (now file) version root) (reading .addrs) (reading .levels) ⌝ }
     ensures { λ r. ⌜ RangedBy (P.fold (now (file .entry)) (viewIs reading) most)
         (now (rows .entry)) (now (rows .exit)) (now (values .entry)) (now (values .exit)) r ⌝ }
 {

@@ -15,9 +15,10 @@ use Rattle.format.specs.Node.{Node, sound, unsound}
 use Rattle.format.specs.Paths.{Fst, nodeIn}
 use Rattle.format.specs.Strings.{Bound}
 use Rattle.reading.specs.Reading.{Level, passesTest, keyOf, counted, Went, found, passed, nextTrans, child, stepped, descend}
-use Rattle.stream_descend.specs.declared.Down.the-variants.{Found, Halted}
+use Rattle.range_down.specs.declared.Went.the-variants.{Found, Halted}
 use Rattle.stream_descend.specs.declared.Added.the-variants.{Within, Past}
-use Rattle.stream_descend.specs.Descent.{foundAt, Adds}
+use Rattle.stream_descend.specs.Descent.{Adds}
+use Rattle.range_down.specs.Downs.{foundAt}
 
 -- ---- sums
 
@@ -32,11 +33,11 @@ adds-past sum out h = record { within = λ n e. absurd (let z : _≡_ {A = ℕ} 
 
 -- ---- a key with its final output
 
-pub found-by : (k sum end t : ℕ) {n : ℕ} → n ≡ sum + end → sum + end ≤ maxSum → foundAt k sum end t ≡ Found k n t
-found-by k sum end t {n} e h = rw (le-leb (sum + end) maxSum h, ← e)
+pub found-by : (k sum end s : ℕ) {n : ℕ} → n ≡ sum + end → sum + end ≤ maxSum → foundAt k sum end s ≡ Found k n s
+found-by k sum end s {n} e h = rw (le-leb (sum + end) maxSum h, ← e)
 
-pub found-past : (k sum end t : ℕ) → maxSum < sum + end → foundAt k sum end t ≡ Halted SUM
-found-past k sum end t h = rw (lt-leb (sum + end) maxSum h)
+pub found-past : (k sum end s : ℕ) → maxSum < sum + end → foundAt k sum end s ≡ Halted SUM
+found-past k sum end s h = rw (lt-leb (sum + end) maxSum h)
 
 -- ---- the definition
 

@@ -1,2 +1,3 @@
--- Laws of the definition, for the proof of this crate.
+-- Laws of the definition, for the proofs of this crate.
+mod TopLaws
 mod TurnCases

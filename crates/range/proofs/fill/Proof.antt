@@ -1,14 +1,16 @@
 -- `range::fill` meets its contract. The invariant: the rows before `count` are written, and the page goes on from the levels in the arrays. The measure is
 -- how many keys are still asked for.
 -- Assumes nothing.
-use mathlib.Core.Path.{_≡_, sym, ap}
-use Prim.Native.Nat.{ℕ, _-_, _<_}
+use mathlib.Core.Path.{_≡_, sym, ap, subst}
+use Prim.Native.Nat.{ℕ, _-_, _≤_, _<_}
 use denote.Ref.{now}
-use lib.ListN.{length, take}
+use lib.ListN.{length, take, drop}
 use Rattle.format.specs.laws.OpeningLaws.{root-fits}
-use Rattle.format.specs.Limits.{maxPath}
+use Rattle.format.specs.Limits.{maxPath, maxLevels}
+use Rattle.format.specs.Paths.{fstWith}
 use Rattle.stream_start.specs.Views.{Arrays, boundIs, stackIs, viewIs}
 use Rattle.stream_start.specs.StackLaws.{stack-length}
+use Rattle.range_bound.specs.Besides.{Beside}
 use Rattle.range_turn.specs.Turns.{viewAt}
 use Rattle.range.specs.RangedRows.{unpending}
 use Rattle.range.specs.FillLaws.{filled-as}
@@ -19,13 +21,13 @@ use Rattle.range.proofs.fill.Statement.{statement}
 use Rattle.range.proofs.fill.Tie as tie
 
 abbrev Inv-loop : tie.InvT-loop
-Inv-loop file version root first most rows₀ values₀ addrs₀ inps₀ trans₀ outs₀ bound bound-len kind levels₀ total₀ count₀ rows values addrs inps trans outs levels total count =
-    Going file (boundIs kind (take bound-len bound)) bound-len
-    (viewAt (length file) (boundIs kind (take bound-len bound)) bound-len total₀ (stackIs levels₀ addrs₀ inps₀ trans₀ outs₀)) count₀ most rows₀ values₀ rows values
-    addrs inps trans outs levels total count
+Inv-loop file version root first most rows₀ values₀ addrs₀ inps₀ trans₀ outs₀ bound bound-len kind levels₀ count₀ depth same₀ over₀ rows values addrs inps trans outs levels count same over =
+    Going (fstWith file version root) file (boundIs kind (take bound-len bound)) (take bound-len bound) bound-len
+    (λ t. viewAt (length file) (boundIs kind (take bound-len bound)) bound-len t (stackIs levels₀ addrs₀ inps₀ trans₀ outs₀)) count₀ most rows₀ values₀ rows values
+    addrs inps trans outs levels count same over
 
 abbrev μ-loop : tie.MeasureT-loop
-μ-loop file version root first most rows₀ values₀ addrs₀ inps₀ trans₀ outs₀ bound bound-len kind levels₀ total₀ count₀ rows values addrs inps trans outs levels total count =
+μ-loop file version root first most rows₀ values₀ addrs₀ inps₀ trans₀ outs₀ bound bound-len kind levels₀ count₀ depth same₀ over₀ rows values addrs inps trans outs levels count same over =
     most - count
 
 -- ---- what is known at a turn, after it, and where it found a key
@@ -34,7 +36,7 @@ abbrev Loop : Type 0
 Loop = tie.At-loop Inv-loop μ-loop
 
 abbrev start : Loop → tie.Start Inv-loop μ-loop
-start l = l .before .before .before .before .before .before .before .before .before
+start l = l .before .before .before .before .before .before .before .before .before .before .before .before .before
 
 abbrev Call : Type 0
 Call = tie.After-step-on Inv-loop μ-loop
@@ -67,15 +69,38 @@ arrays q = record { addrs-len = search needs; inps-len = search needs; trans-len
 bound-held : (q : tie.Start Inv-loop μ-loop) → length (q .args .reading .bound) ≡ maxPath
 bound-held q = search needs
 
+few : (q : tie.Start Inv-loop μ-loop) → q .args .reading .levels ≤ maxLevels
+few q = let r = q .args .reading in rw (stack-length (r .levels) (r .addrs) (r .inps) (r .trans) (r .outs)) at (q .pre .1 .1 .few)
+
+depth-of-requires : tie.Need-depth-of-requires Inv-loop μ-loop
+depth-of-requires c κs = search needs
+
+-- the key of the levels has at most 255 bytes
+stand-requires : tie.Need-stand-requires Inv-loop μ-loop
+stand-requires c κs =
+    let call = c .before .before in
+    let s = call .before .before .before .before .before .before .before .before .before in
+    (arrays s .inps-len, bound-held s, omega (arith, call .depth-of .ensures, few s), s .pre .1 .1 .short)
+
+-- how it stands to the upper bound
+standing : (c : tie.After-stand Inv-loop μ-loop) → (let s = c .before .before .before .before .before .before .before .before .before .before .before .before in
+    let r = s .args .reading in
+    Beside (boundIs (r .kind) (take (r .«bound_len») (r .bound))) (take (r .«bound_len») (r .bound)) (drop 1 (r .inps)) (r .levels - 1) (c .stand .result .same)
+    (c .stand .result .over))
+standing c =
+    let s = c .before .before .before .before .before .before .before .before .before .before .before .before in
+    let r = s .args .reading in
+    subst (λ (j : ℕ). Beside (boundIs (r .kind) (take (r .«bound_len») (r .bound))) (take (r .«bound_len») (r .bound)) (drop 1 (r .inps)) j (c .stand .result .same)
+    (c .stand .result .over)) (c .before .before .before .depth-of .ensures) (c .stand .ensures)
+
 loop-holds : tie.Need-loop-holds Inv-loop μ-loop
 loop-holds c =
-    let s = c .before .before .before .before .before .before .before .before in
+    let s = c .before .before .before .before .before .before .before .before .before .before .before .before in
     let a = s .args in
     let r = a .reading in
-    going-none (now (a .file)) (boundIs (r .kind) (take (r .«bound_len») (r .bound))) (r .«bound_len») (a .first) (a .most) (now (a .rows)) (now (a .values)) (r .addrs)
-    (r .inps) (r .trans) (r .outs) (r .levels) (r .total)
-    (arrays s)
-    (rw (stack-length (r .levels) (r .addrs) (r .inps) (r .trans) (r .outs)) at (s .pre .1 .1 .few))
+    going-none (fstWith (now (a .file)) (a .version) (a .root)) (now (a .file)) (boundIs (r .kind) (take (r .«bound_len») (r .bound)))
+    (take (r .«bound_len») (r .bound)) (r .«bound_len») (a .first) (a .most) (now (a .rows)) (now (a .values)) (r .addrs) (r .inps) (r .trans) (r .outs) (r .levels)
+    (c .stand .result .same) (c .stand .result .over) (arrays s) (few s) (s .pre .1 .2) (standing c)
 
 step-on-requires : tie.Need-step-on-requires Inv-loop μ-loop
 step-on-requires c κs =
@@ -83,7 +108,7 @@ step-on-requires c κs =
     let s = start l in
     let o = s .pre .1 .0 in (
       (l .loop .inv .arrays, bound-held s, s .pre .1 .1 .short),
-      (l .loop .inv .few, omega (arith, root-fits (now (s .args .file)) (o .meta) (o .opens), o .root-is)),
+      (l .loop .inv .few, omega (arith, root-fits (now (s .args .file)) (o .meta) (o .opens), o .root-is), l .loop .inv .sounds, l .loop .inv .beside),
     )
 
 enum-told : tie.Need-enum-told Inv-loop μ-loop
@@ -102,7 +127,7 @@ returns c =
     let s = start l in
     filled-as (sym (as-view l))
     (going-end (s .pre .1 .0) (s .pre .1 .1 .short) (s .pre .0 .0) (s .pre .0 .1) (l .loop .inv) (left q)
-    (q .step-on .ensures (length (now (s .args .file))) (s .args .reading .«bound_len»)) (c .enum-told .given .1))
+    (q .step-on .ensures (length (now (s .args .file))) (s .args .reading .«bound_len»)) (c .enum-told .given .1) (s .args .reading .total))
 
 enum-known-why : tie.Need-enum-known-why Inv-loop μ-loop
 enum-known-why c = search needs
@@ -120,7 +145,7 @@ returns-2 c =
     let s = start l in
     filled-as (sym (as-view l))
     (going-refused (s .pre .1 .0) (s .pre .1 .1 .short) (s .pre .0 .0) (s .pre .0 .1) (l .loop .inv) (left q)
-    (q .step-on .ensures (length (now (s .args .file))) (s .args .reading .«bound_len»)) _ (c .before .why .given .1))
+    (q .step-on .ensures (length (now (s .args .file))) (s .args .reading .«bound_len»)) _ (c .before .why .given .1) (s .args .reading .total))
 
 enum-known-k : tie.Need-enum-known-k Inv-loop μ-loop
 enum-known-k c = search needs
@@ -196,7 +221,10 @@ add-levels c =
     omega (arith, key-low (s .pre .1 .0) (s .pre .1 .1 .short) (s .pre .0 .0) (s .pre .0 .1) (l .loop .inv) (left q) t _ _ _ e)
 
 add-count : tie.Need-add-count Inv-loop μ-loop
-add-count c = search needs
+add-count c =
+    let q = q-of (c .before .before .before .before .before .before) in
+    let s = start (loop-of q) in
+    omega (arith, left q, s .pre .0 .1, s .good .1 .1 .1 .1 .1 .1 .1 .0 .1)
 
 loop-less : tie.Need-loop-less Inv-loop μ-loop
 loop-less c = search needs
@@ -221,7 +249,7 @@ returns-3 : tie.Need-returns-3 Inv-loop μ-loop
 returns-3 c =
     let l = c .before in
     let s = start l in
-    filled-as (sym (as-view l)) (going-more (s .pre .1 .0) (s .pre .1 .1 .short) (s .pre .0 .0) (s .pre .0 .1) (l .loop .inv) (c .loop-test .left))
+    filled-as (sym (as-view l)) (going-more (s .pre .1 .0) (s .pre .1 .1 .short) (s .pre .0 .0) (s .pre .0 .1) (l .loop .inv) (c .loop-test .left) (s .args .reading .total))
 
 pub fill-spec : {M : Type 1} → statement M
 fill-spec =
@@ -229,6 +257,8 @@ fill-spec =
     (tie.spec
     Inv-loop
     μ-loop
+    depth-of-requires
+    stand-requires
     loop-holds
     step-on-requires
     enum-told

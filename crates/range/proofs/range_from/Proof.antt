@@ -1,10 +1,13 @@
 -- `range::range_from` meets its contract: the start's refusal, or the rows of its reading. Assumes nothing.
-use mathlib.Core.Path.{_≡_, sym, ap, _∙_}
+use mathlib.Core.Path.{_≡_, sym, ap, subst, _∙_}
+use Prim.Native.Nat.{ℕ}
 use denote.Ref.{now}
+use Rattle.format.specs.Paths.{fstWith, fstOf}
 use Rattle.reading.specs.Reading as R
 use Rattle.paging.specs.Paging.{pageFrom}
 use Rattle.stream_start.specs.Views.{beganIs, boundIs, viewIs}
-use Rattle.range_turn.specs.StartStateLaws.{start-state}
+use Rattle.range_node.specs.Entries.{SoundTo}
+use Rattle.range_turn.specs.StartStateLaws.{start-state, start-sound, stack-sound}
 use Rattle.range.specs.FillLaws.{ranged-as, refused-by}
 use borrow.Author.Needs.{needs}
 use Rattle.range.proofs.range_from.Statement.{statement}
@@ -16,6 +19,18 @@ begin q = q .before .before .before .before .before .before
 -- what the start answers, by definition
 abbrev answer : tie.After-start → R.Started
 answer q = let a = begin q .args in R.start (now (a .file)) (boundIs (a .lower-kind) (now (a .lower))) (boundIs (a .upper-kind) (now (a .upper)))
+
+-- each of its levels is that of a node that the start judged
+sounds : (q : tie.After-start) → answer q ≡ R.started (viewIs (q .start .result .reading)) → (let a = begin q .args in
+    SoundTo (fstWith (now (a .file)) (a .version) (a .root)) (q .start .result .reading .addrs) (q .start .result .reading .levels))
+sounds q is =
+    let a = begin q .args in
+    let o = begin q .pre .1 in
+    let r = q .start .result .reading in
+    subst (λ (v : ℕ). SoundTo (fstWith (now (a .file)) v (a .root)) (r .addrs) (r .levels)) (o .version-is)
+    (subst (λ (x : ℕ). SoundTo (fstWith (now (a .file)) (o .meta .version) x) (r .addrs) (r .levels)) (o .root-is)
+    (stack-sound (fstOf (now (a .file)) (o .meta)) (r .levels) (r .addrs) (r .inps) (r .trans) (r .outs)
+    (start-sound (now (a .file)) (boundIs (a .lower-kind) (now (a .lower))) (boundIs (a .upper-kind) (now (a .upper))) (viewIs r) (o .meta) (o .opens) is)))
 
 start-requires : tie.Need-start-requires
 start-requires c κs = search needs
@@ -41,6 +56,7 @@ fill-all-requires c κs =
       (
         begin q .pre .1,
         start-state (now (a .file)) (boundIs (a .lower-kind) (now (a .lower))) (boundIs (a .upper-kind) (now (a .upper))) (viewIs (q .start .result .reading)) is,
+        sounds q is,
       ),
     )
 

@@ -1,110 +1,159 @@
--- `range_down::descend` meets its contract. The invariant: from level k on, with its judged node, the answer is the one that is wanted. The
--- measure is the room for levels.
+-- `range_down::descend` meets its contract. The invariant: from level k on, the answer is the one that is wanted, and every level up to k is that of a
+-- judged node. The measure is the room for levels.
 -- Assumes nothing.
-use mathlib.Core.Path.{_≡_, sym, _∙_}
+use mathlib.Core.Path.{_≡_, sym, _∙_, ap}
+use mathlib.Core.Bool.{false}
 use mathlib.Core.List.{List}
 use Prim.Native.Nat.{ℕ, _+_, _-_, _<_, _≤_}
-use lib.ListN.{getD, take, length-set}
+use lib.ListN.{getD, take, drop, set}
 use denote.Ref.{now}
+use Rattle.format.specs.declared.Transition.{Transition}
 use Rattle.format.specs.Limits.{maxSum}
-use Rattle.format.specs.Node.{sound}
-use Rattle.format.specs.Paths.{fstWith, nodeIn}
-use Rattle.node.specs.declared.Node.{Node}
-use Rattle.node.specs.Read.{meaning, Readable}
-use Rattle.node.specs.ReadLaws.{answer-sound, answer-unsound}
+use Rattle.format.specs.Node.{transitionAt}
+use Rattle.format.specs.Paths.{Fst, fstWith, nodeIn}
+use Rattle.format.specs.Strings as S
+use Rattle.reading.specs.Reading.{passesTest}
 use Rattle.stream_start.specs.Views.{boundIs}
-use Rattle.stream_descend.specs.Descent.{downFrom}
-use Rattle.range_down.proofs.GoingDown.{Going, going-none, going-deep, place-low, place-fits, target-fits, going-sum, going-bad, going-passed, going-final, going-on}
+use Rattle.range_bound.specs.Besides.{Beside}
+use Rattle.range_node.specs.declared.Ending.{Ending}
+use Rattle.range_node.specs.EntriesLaws.{Meeting, met-sound, met-unsound, ending-final, ending-inner}
+use Rattle.range_down.specs.Downs.{downFrom}
+use Rattle.range_down.proofs.GoingDown.{Going, going-none, going-deep, leads-at, place-fits, target-fits, going-sum, going-bad, further, going-passed, going-final, going-on}
 use borrow.Author.Needs.{needs}
 use native.Mathlib.Omega.{arith}
 use Rattle.range_down.proofs.descend.Statement.{statement}
 use Rattle.range_down.proofs.descend.Tie as tie
 
 abbrev Inv-loop : tie.InvT-loop
-Inv-loop file version root top total addrs₀ inps₀ trans₀ outs₀ bound bound-len kind k₀ m₀ t₀ addrs inps trans outs k m t =
-    Going file version root (boundIs kind (take bound-len bound))
-    (downFrom file version root (boundIs kind (take bound-len bound)) addrs₀ inps₀ trans₀ outs₀ top m₀ total) addrs inps trans outs k m t
+Inv-loop file version root top addrs₀ inps₀ trans₀ outs₀ bound bound-len kind agreed over k₀ same₀ addrs inps trans outs k same =
+    Going (fstWith file version root) (boundIs kind (take bound-len bound)) (take bound-len bound)
+    (downFrom (fstWith file version root) (boundIs kind (take bound-len bound)) addrs₀ inps₀ trans₀ outs₀ top) addrs inps trans outs k same over
 
 abbrev μ-loop : tie.MeasureT-loop
-μ-loop file version root top total addrs₀ inps₀ trans₀ outs₀ bound bound-len kind k₀ m₀ t₀ addrs inps trans outs k m t =
-    255 - k
+μ-loop file version root top addrs₀ inps₀ trans₀ outs₀ bound bound-len kind agreed over k₀ same₀ addrs inps trans outs k same = 255 - k
 
--- ---- what is known in a turn: the transition's place, its output and the sum, its target, and the target's node
+-- ---- what is known in a turn: the level's address, the transition's place, the transition, the sum, and the target's node
 
 abbrev Placed : Type 0
 Placed = tie.After-wide-place Inv-loop μ-loop
 
 abbrev at-loop : Placed → tie.At-loop Inv-loop μ-loop
-at-loop w = w .before .before .before
+at-loop w = w .before .before .before .before .before
 
 abbrev start : Placed → tie.Start Inv-loop μ-loop
 start w = at-loop w .before .before
 
-abbrev file : Placed → List ℕ
-file w = now (start w .args .file)
-
-abbrev m : Placed → Node
-m w = at-loop w .loop .m
+abbrev f : Placed → Fst
+f w = let a = start w .args in fstWith (now (a .file)) (a .version) (a .root)
 
 place-is : (w : Placed) → w .wide-place .result ≡ getD (at-loop w .loop .trans) (at-loop w .loop .k) 0
 place-is w = w .wide-place .ensures
 
+addr-is : (w : Placed) → w .before .before .wide-addr .result ≡ getD (at-loop w .loop .addrs) (at-loop w .loop .k) 0
+addr-is w = w .before .before .wide-addr .ensures
+
 room : (w : Placed) → at-loop w .loop .k < 255
-room w = w .before .before .loop-test .taken
+room w = w .before .before .before .before .loop-test .taken
 
-reads-next : (w : Placed) → Readable (file w) (m w) × (w .wide-place .result < m w .ntrans)
-reads-next w = (at-loop w .loop .inv .ready .readable, place-low (at-loop w .loop .inv) (place-is w))
+abbrev Taken : Type 0
+Taken = tie.After-take Inv-loop μ-loop
 
-abbrev w-of : tie.After-add Inv-loop μ-loop → Placed
-w-of u = u .before .before .before
+abbrev w-of : Taken → Placed
+w-of u = u .before
 
-abbrev Targeted : Type 0
-Targeted = tie.After-transition-addr Inv-loop μ-loop
+abbrev edge : Taken → Transition
+edge u = u .take .result
 
-abbrev u-of : Targeted → tie.After-add Inv-loop μ-loop
-u-of q = q .before .before .before .before
+-- the transition is that of the judged node
+edge-is : (u : Taken) → edge u ≡ transitionAt (at-loop (w-of u) .loop .inv .leads .node .transitions) (w-of u .wide-place .result)
+edge-is u =
+    let w = w-of u in
+    let leads = at-loop w .loop .inv .leads in
+    u .take .ensures (leads .node) (ap (nodeIn (f w)) (addr-is w) ∙ leads .is)
 
-abbrev sum-before : Targeted → ℕ
-sum-before q = getD (at-loop (w-of (u-of q)) .loop .outs) (at-loop (w-of (u-of q)) .loop .k) 0
+abbrev Added : Type 0
+Added = tie.After-known-told Inv-loop μ-loop
 
-abbrev out : Targeted → ℕ
-out q = u-of q .before .before .output .result
+abbrev u-of : Added → Taken
+u-of q = q .before .before .before .before .before
 
-added : (q : Targeted) → (q .before .before .sum .given .0 .0 ≡ sum-before q + out q) × (sum-before q + out q ≤ maxSum)
-added q = u-of q .add .ensures .within (q .before .before .sum .given .0 .0) (q .before .before .sum .given .1)
+added : (q : Added) → (let u = u-of q in
+    (q .before .sum .given .0 .0 ≡ getD (at-loop (w-of u) .loop .outs) (at-loop (w-of u) .loop .k) 0 + edge u .out)
+    × (getD (at-loop (w-of u) .loop .outs) (at-loop (w-of u) .loop .k) 0 + edge u .out ≤ maxSum))
+added q = q .before .before .before .add .ensures .within (q .before .sum .given .0 .0) (q .before .sum .given .1)
 
-abbrev Judged : Type 0
-Judged = tie.After-known-told2 Inv-loop μ-loop
+abbrev Met : Type 0
+Met = tie.After-known-told2 Inv-loop μ-loop
 
-abbrev q-of : Judged → Targeted
+abbrev q-of : Met → Added
 q-of j = j .before .before .before .before
 
-abbrev w-at : Judged → Placed
-w-at j = w-of (u-of (q-of j))
+abbrev u-at : Met → Taken
+u-at j = u-of (q-of j)
 
-abbrev n : Judged → Node
-n j = j .before .n .given .0 .0
+abbrev w-at : Met → Placed
+w-at j = w-of (u-at j)
 
-node-is : (j : Judged) → nodeIn (fstWith (file (w-at j)) (start (w-at j) .args .version) (start (w-at j) .args .root))
-    (q-of j .transition-addr .result) ≡ sound (meaning (file (w-at j)) (n j))
-node-is j = answer-sound (j .before .before .before .node-at .ensures) (n j) (j .before .n .given .1)
+abbrev ending : Met → Ending
+ending j = j .before .ending .given .0 .0
 
-readable : (j : Judged) → Readable (file (w-at j)) (n j)
-readable j = j .before .before .before .node-at .ensures .readable (n j) (j .before .n .given .1)
+meeting : (j : Met) → Meeting (nodeIn (f (w-at j)) (edge (u-at j) .addr)) (ending j)
+meeting j =
+    met-sound (nodeIn (f (w-at j)) (edge (u-at j) .addr)) (ending j) (sym (j .before .ending .given .1) ∙ j .before .before .before .meet .ensures)
 
-place-small : (j : Judged) → w-at j .wide-place .result < 256
-place-small j = place-fits (at-loop (w-at j) .loop .inv) (place-is (w-at j)) (λ i. at-loop (w-at j) .before .shared-slice-known .given i .fits)
+place-small : (j : Met) → w-at j .wide-place .result < 256
+place-small j =
+    let w = w-at j in
+    place-fits (at-loop w .loop .inv) (place-is w) (λ i. at-loop w .before .shared-slice-known .given i .fits)
 
-target-small : (j : Judged) → q-of j .transition-addr .result < 4294967296
-target-small j = target-fits (at-loop (w-at j) .loop .inv) (place-is (w-at j)) (q-of j .transition-addr .ensures) (start (w-at j) .pre .1 .1)
+target-small : (j : Met) → edge (u-at j) .addr < 4294967296
+target-small j =
+    let w = w-at j in
+    target-fits (at-loop w .loop .inv) (place-is w) (edge-is (u-at j)) (start w .pre .1 .1)
 
--- nothing is followed yet, and the node at top is judged
+-- the upper bound, with one input more
+abbrev Within : Type 0
+Within = tie.After-known-told3 Inv-loop μ-loop
+
+abbrev j-of : Within → Met
+j-of g = g .before .before .before .before
+
+abbrev hi : Placed → S.Bound
+hi w = let a = start w .args in boundIs (a .kind) (take (a .bound-len) (now (a .bound)))
+
+abbrev b : Placed → List ℕ
+b w = let a = start w .args in take (a .bound-len) (now (a .bound))
+
+abbrev inputs⁺ : Met → List ℕ
+inputs⁺ j = let w = w-at j in set (at-loop w .loop .inps) (at-loop w .loop .k + 1) (edge (u-at j) .inp)
+
+within : (g : Within) → (let j = j-of g in
+    let w = w-at j in
+    let k = at-loop w .loop .k + 1 in
+    (passesTest (hi w) (take k (drop 1 (inputs⁺ j))) ≡ false) × Beside (hi w) (b w) (drop 1 (inputs⁺ j)) k (g .before .agree .given .0 .0) (start w .args .over))
+within g =
+    let j = j-of g in
+    let w = w-at j in
+    further (at-loop w .loop .inv) (place-is w) (edge-is (u-at j)) (room w) (added (q-of j) .1) (meeting j .node) (meeting j .is) (added (q-of j) .0)
+    (g .before .before .before .follow .ensures) .within (g .before .agree .given .0 .0) (g .before .agree .given .1)
+
+-- nothing is followed yet, and every level up to top is that of a judged node
 loop-holds : tie.Need-loop-holds Inv-loop μ-loop
-loop-holds c = let start = c .before in
-    let a = start .args in
-    going-none (now (a .file)) (a .version) (a .root) (boundIs (a .kind) (take (a .bound-len) (now (a .bound)))) (now (a .addrs))
-    (now (a .inps)) (now (a .trans)) (now (a .outs)) (a .top) (a .node) (a .total)
-    (start .pre .1 .0) (start .pre .0 .0) (start .pre .1 .2)
+loop-holds c =
+    let q = c .before in
+    let a = q .args in
+    going-none (fstWith (now (a .file)) (a .version) (a .root)) (boundIs (a .kind) (take (a .bound-len) (now (a .bound)))) (take (a .bound-len) (now (a .bound)))
+    (now (a .addrs)) (now (a .inps)) (now (a .trans)) (now (a .outs)) (a .top) (a .agreed) (a .over) (q .pre .1 .0) (q .pre .0 .0) (q .pre .1 .2)
+    (q .pre .1 .3) (q .pre .1 .4)
+
+mul-wide-addr : tie.Need-mul-wide-addr Inv-loop μ-loop
+mul-wide-addr c = search needs
+
+element-copy-out-wide-addr : tie.Need-element-copy-out-wide-addr Inv-loop μ-loop
+element-copy-out-wide-addr c = search needs
+
+wide-addr-requires : tie.Need-wide-addr-requires Inv-loop μ-loop
+wide-addr-requires c κs = search needs
 
 mul-wide-place : tie.Need-mul-wide-place Inv-loop μ-loop
 mul-wide-place c = search needs
@@ -115,9 +164,9 @@ element-copy-out-wide-place c = search needs
 wide-place-requires : tie.Need-wide-place-requires Inv-loop μ-loop
 wide-place-requires c κs = search needs
 
--- the judged node can be read, and it has the level's next transition
-output-requires : tie.Need-output-requires Inv-loop μ-loop
-output-requires c κs = reads-next c
+-- the judged node has the level's next transition
+take-requires : tie.Need-take-requires Inv-loop μ-loop
+take-requires c κs = leads-at (at-loop c .loop .inv) (place-is c) (addr-is c)
 
 mul-add : tie.Need-mul-add Inv-loop μ-loop
 mul-add c = search needs
@@ -136,40 +185,57 @@ enum-told c = search needs
 
 -- the sum up to the target does not fit
 returns : tie.Need-returns Inv-loop μ-loop
-returns c = let u = c .before .before in
+returns c =
+    let call = c .before .before in
+    let u = call .before .before in
     let w = w-of u in
-    going-sum (at-loop w .loop .inv) (place-is w) (room w) (u .before .before .output .ensures) (u .add .ensures .past (c .enum-told .given .1))
+    going-sum (at-loop w .loop .inv) (place-is w) (edge-is u) (room w) (call .add .ensures .past (c .enum-told .given .1))
 
--- the judged node can be read, and it has the level's next transition
-transition-addr-requires : tie.Need-transition-addr-requires Inv-loop μ-loop
-transition-addr-requires c κs = reads-next (w-of (c .before .before .before))
+meet-requires : tie.Need-meet-requires Inv-loop μ-loop
+meet-requires c κs = search needs
 
-node-at-requires : tie.Need-node-at-requires Inv-loop μ-loop
-node-at-requires c κs = search needs
-
-enum-known-n : tie.Need-enum-known-n Inv-loop μ-loop
-enum-known-n c = search needs
+enum-known-ending : tie.Need-enum-known-ending Inv-loop μ-loop
+enum-known-ending c = search needs
 
 enum-told-2 : tie.Need-enum-told-2 Inv-loop μ-loop
 enum-told-2 c = search needs
 
 -- the target is not sound
 returns-2 : tie.Need-returns-2 Inv-loop μ-loop
-returns-2 c = let call = c .before .before in
+returns-2 c =
+    let call = c .before .before in
     let q = call .before in
-    let w = w-of (u-of q) in
-    going-bad (at-loop w .loop .inv) (place-is w) (room w) (u-of q .before .before .output .ensures) (added q .1)
-    (q .transition-addr .ensures) (answer-unsound (call .node-at .ensures) (c .enum-told2 .given .1))
+    let u = u-of q in
+    let w = w-of u in
+    going-bad (at-loop w .loop .inv) (place-is w) (edge-is u) (room w) (added q .1)
+    (met-unsound (nodeIn (f w) (edge u .addr)) (sym (c .enum-told2 .given .1) ∙ call .meet .ensures))
 
--- the judged node can be read, and it has the level's next transition
-input-requires : tie.Need-input-requires Inv-loop μ-loop
-input-requires c κs = reads-next (w-of (u-of (q-of c)))
+-- level k is one of 256
+follow-requires : tie.Need-follow-requires Inv-loop μ-loop
+follow-requires c κs = let w = w-at c in (start w .pre .0 .1, start w .pre .0 .2, omega (arith, room w))
+
+enum-known-agree : tie.Need-enum-known-agree Inv-loop μ-loop
+enum-known-agree c = search needs
+
+enum-told-3 : tie.Need-enum-told-3 Inv-loop μ-loop
+enum-told-3 c = search needs
+
+-- the key of the new level passes the upper bound
+returns-3 : tie.Need-returns-3 Inv-loop μ-loop
+returns-3 c =
+    let call = c .before .before in
+    let j = call .before in
+    let u = u-at j in
+    let w = w-at j in
+    going-passed (at-loop w .loop .inv) (place-is w) (edge-is u) (room w) (added (q-of j) .1) (meeting j .node) (meeting j .is) (added (q-of j) .0)
+    (further (at-loop w .loop .inv) (place-is w) (edge-is u) (room w) (added (q-of j) .1) (meeting j .node) (meeting j .is) (added (q-of j) .0)
+    (call .follow .ensures) .past (c .enum-told3 .given .1))
 
 add-trans : tie.Need-add-trans Inv-loop μ-loop
-add-trans c = omega (arith, place-small (c .before))
+add-trans c = omega (arith, place-small (j-of c))
 
 cast-trans : tie.Need-cast-trans Inv-loop μ-loop
-cast-trans c = omega (arith, place-small (c .before))
+cast-trans c = omega (arith, place-small (j-of c))
 
 mul-trans : tie.Need-mul-trans Inv-loop μ-loop
 mul-trans c = search needs
@@ -181,7 +247,7 @@ add-k : tie.Need-add-k Inv-loop μ-loop
 add-k c = search needs
 
 cast-addrs : tie.Need-cast-addrs Inv-loop μ-loop
-cast-addrs c = omega (arith, target-small (c .before))
+cast-addrs c = omega (arith, target-small (j-of c))
 
 mul-addrs : tie.Need-mul-addrs Inv-loop μ-loop
 mul-addrs c = search needs
@@ -204,51 +270,37 @@ mul-outs c = search needs
 element-write-outs : tie.Need-element-write-outs Inv-loop μ-loop
 element-write-outs c = search needs
 
-counted-requires : tie.Need-counted-requires Inv-loop μ-loop
-counted-requires c κs = search needs
-
--- the arrays keep their lengths, and level k is one of 256
-exceeded-requires : tie.Need-exceeded-requires Inv-loop μ-loop
-exceeded-requires c κs = let w = w-of (u-of (q-of (c .before .before .before))) in
-    (simp length-set (at-loop w .loop .inv .arrays .inps-len), start w .pre .0 .1, omega (arith, room w), start w .pre .0 .2)
-
--- the key of the new level passes the upper bound
-returns-3 : tie.Need-returns-3 Inv-loop μ-loop
-returns-3 c = let after = c .before .before .before in
-    let j = after .before .before in
-    let q = q-of j in
-    let w = w-at j in
-    going-passed (at-loop w .loop .inv) (place-is w) (room w) (u-of q .before .before .output .ensures) (added q .1)
-    (q .transition-addr .ensures) (after .before .input .ensures) (n j) (node-is j) (after .counted .ensures)
-    (added q .0) (sym (c .before .exceeded .ensures) ∙ c .if1 .taken)
+enum-known-ending-2 : tie.Need-enum-known-ending-2 Inv-loop μ-loop
+enum-known-ending-2 c = search needs
 
 found-requires : tie.Need-found-requires Inv-loop μ-loop
 found-requires c κs = search needs
 
 -- the new level's node is final: a key ends here
 returns-4 : tie.Need-returns-4 Inv-loop μ-loop
-returns-4 c = let test = c .before in
-    let after = test .before .before .before .before in
-    let j = after .before .before in
-    let q = q-of j in
+returns-4 c =
+    let given = c .before .before .ending2 .given in
+    let g = c .before .before .before .before in
+    let j = j-of g in
     let w = w-at j in
-    going-final (at-loop w .loop .inv) (place-is w) (room w) (u-of q .before .before .output .ensures) (added q .1)
-    (q .transition-addr .ensures) (after .before .input .ensures) (n j) (node-is j) (after .counted .ensures)
-    (added q .0) (sym (test .before .before .exceeded .ensures) ∙ test .before .if1 .left) (test .if2 .taken) (c .found .result) (c .found .ensures)
+    going-final (at-loop w .loop .inv) (place-is w) (edge-is (u-at j)) (room w) (added (q-of j) .1) (meeting j .node) (meeting j .is) (added (q-of j) .0)
+    (within g) (given .0 .0) (ending-final (meeting j .node) (given .0 .0) (sym (given .1) ∙ meeting j .ending)) (c .found .result) (c .found .ensures)
+
+enum-told-4 : tie.Need-enum-told-4 Inv-loop μ-loop
+enum-told-4 c = search needs
 
 -- a new level leaves less room
 loop-less : tie.Need-loop-less Inv-loop μ-loop
-loop-less c = omega (arith, room (w-at (c .before .before .before .before .before .before)))
+loop-less c = omega (arith, room (w-at (j-of (c .before .before))))
 
 -- one transition more is followed, and its target is judged
 loop-again : tie.Need-loop-again Inv-loop μ-loop
-loop-again c = let after = c .before .before .before .before in
-    let j = after .before .before in
-    let q = q-of j in
+loop-again c =
+    let g = c .before .before in
+    let j = j-of g in
     let w = w-at j in
-    going-on (at-loop w .loop .inv) (place-is w) (room w) (u-of q .before .before .output .ensures) (added q .1)
-    (q .transition-addr .ensures) (after .before .input .ensures) (n j) (node-is j) (after .counted .ensures)
-    (added q .0) (sym (c .before .before .exceeded .ensures) ∙ c .before .if1 .left) (c .if2 .left) (readable j)
+    going-on (at-loop w .loop .inv) (place-is w) (edge-is (u-at j)) (room w) (added (q-of j) .1) (meeting j .node) (meeting j .is) (added (q-of j) .0)
+    (within g) (ending-inner (meeting j .node) (sym (c .enum-told4 .given .1) ∙ meeting j .ending))
 
 -- no room for another level: DEEP
 returns-5 : tie.Need-returns-5 Inv-loop μ-loop
@@ -261,22 +313,27 @@ descend-spec =
     Inv-loop
     μ-loop
     loop-holds
+    mul-wide-addr
+    element-copy-out-wide-addr
+    wide-addr-requires
     mul-wide-place
     element-copy-out-wide-place
     wide-place-requires
-    output-requires
+    take-requires
     mul-add
     element-copy-out-add
     add-requires
     enum-known-sum
     enum-told
     returns
-    transition-addr-requires
-    node-at-requires
-    enum-known-n
+    meet-requires
+    enum-known-ending
     enum-told-2
     returns-2
-    input-requires
+    follow-requires
+    enum-known-agree
+    enum-told-3
+    returns-3
     add-trans
     cast-trans
     mul-trans
@@ -290,11 +347,10 @@ descend-spec =
     element-write-trans-2
     mul-outs
     element-write-outs
-    counted-requires
-    exceeded-requires
-    returns-3
+    enum-known-ending-2
     found-requires
     returns-4
+    enum-told-4
     loop-less
     loop-again
     returns-5)

@@ -18,14 +18,14 @@ enum-told c = search needs
 -- the value passes 2^64 - 1
 returns : tie.Need-returns
 returns c = let call = c .before .before in let a = call .before .args in sym
-    (found-past (a .k) (a .sum) (a .end) (a .total) (call .add .ensures .past (c .enum-told .given .1)))
+    (found-past (a .k) (a .sum) (a .end) (a .same) (call .add .ensures .past (c .enum-told .given .1)))
 
 -- the value fits
 returns-2 : tie.Need-returns-2
 returns-2 c = let call = c .before .before .before in
     let a = call .before .args in
     let e = call .add .ensures .within (c .before .value .given .0 .0) (c .before .value .given .1) in
-    sym (found-by (a .k) (a .sum) (a .end) (a .total) (e .0) (e .1))
+    sym (found-by (a .k) (a .sum) (a .end) (a .same) (e .0) (e .1))
 
 pub found-spec : {M : Type 1} → statement M
 found-spec = tie.close (tie.spec add-requires enum-known-value enum-told returns returns-2)

@@ -1,0 +1,4 @@
+-- Laws of the order of strings, for the proofs of this crate.
+mod Sides
+mod Reaches
+mod Standings

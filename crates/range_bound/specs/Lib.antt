@@ -1,0 +1,2 @@
+pub mod Besides
+pub mod BesideLaws

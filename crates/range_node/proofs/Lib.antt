@@ -1,0 +1,2 @@
+-- Lemmas on a judged node, for the proofs of this crate.
+mod Reread
