@@ -37,6 +37,7 @@ mod sittings;
 mod stored;
 
 pub use self::counting::{filled, followed};
+pub use self::patterns::pattern_near;
 
 pub struct Difference {
     pub what: String,

@@ -71,6 +71,7 @@ mod prng;
 mod replay;
 mod replay_file;
 mod replay_list;
+mod replay_pattern;
 mod replay_reading;
 mod replay_rows;
 mod sparse;
@@ -303,9 +304,9 @@ fn compare_long() -> bool {
     }
 }
 
-// The replay lists, of nodes, of whole files and of readings, each with how many of each kind it has.
+// The replay lists, of nodes, of whole files, of readings and of readings by pattern, each with how many of each kind it has.
 fn recorded() -> Vec<(Vec<u8>, Vec<(&'static str, usize)>)> {
-    vec![replay::list(), replay_file::list(), replay_reading::list()]
+    vec![replay::list(), replay_file::list(), replay_reading::list(), replay_pattern::list()]
 }
 
 // The whole comparison in small, or that of readings alone, with these in our library's place.
