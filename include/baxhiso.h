@@ -11,7 +11,8 @@
  * it. Every file may be handed in, admitted or not, damaged or not.
  *
  * Each function of the library is proved to return on every input, with the result and with what each buffer holds afterwards as said
- * below (crates/baxhiso/specs/Exports.antt and Readings.antt, crates/baxhiso_files/specs/Files.antt, crates/baxhiso_find/specs, with the definitions of docs/FORMAT.md). Only tested, by tests/c: that these
+ * below (crates/baxhiso/specs/Exports.antt, crates/baxhiso_readings/specs/Readings.antt, crates/baxhiso_files/specs/Files.antt,
+ * crates/baxhiso_find/specs, with the definitions of docs/FORMAT.md). Only tested, by tests/c: that these
  * declarations fit the library, the functions that are defined here, and NULL with length 0. The stack is not part of the proof: no function
  * calls itself, and FST_STACK_OPEN and those after it say what was measured.
  *
@@ -315,7 +316,10 @@ int32_t fst_count(const uint8_t *file, size_t file_len, uint16_t *depths, size_t
                   uint64_t *sums, size_t sums_len, uint64_t *counts, size_t counts_len);
 
 /* A reading between two calls. It holds no pointer, and may be copied: the copy goes on from the same key. A caller need not
- * look into it; whatever it holds, fst_next reads and writes within it alone. */
+ * look into it; whatever it holds, fst_next reads and writes within it alone.
+ *
+ * A mark, a place to come back to, is a copy that the caller keeps, under a name of its own if it likes: put back, it gives the
+ * answers that followed it, with the transitions followed and the number of keys to come as they were there. */
 typedef struct fst_reading {
     uint64_t head[7];   /* file length, upper bound's kind and length, pending empty key and its value, transitions followed, levels */
     uint64_t keys[1];   /* the number of keys to come */
@@ -391,7 +395,8 @@ static inline uint64_t fst_to_come(const fst_reading *reading)
 
 /* ---- files written */
 
-/* Converts a file of version 1 to version 2: the same nodes, keys and values, and wide nodes with an index, so that lookups in them are faster.
+/* Converts a file of version 1 to version 2: the same nodes, keys and values, and an index in nodes of more than 32 transitions. A reader that trusts the
+ * file finds a byte there at once; fst_get judges each node with its index, and takes longer in such nodes than before.
  *
  *   file, file_len       the old file, which is admitted first
  *   depths, sums         work tables of at least file_len entries each; afterwards as fst_admit leaves them, on every result

@@ -37,7 +37,7 @@ static const char help_text[] =
     "    count FILE         how many keys lie between the bounds, given as for range; all keys where none is given\n"
     "    check FILE         whether the file is admitted, or why not\n"
     "    info FILE          what header and trailer say: size, version, type, keys, root, checksum; read, not judged\n"
-    "    convert OLD NEW    a file of version 1 brought to version 2: the same keys and values, faster to look up in wide nodes\n"
+    "    convert OLD NEW    a file of version 1 brought to version 2: the same keys and values, and an index in wide nodes\n"
     "    pack LIST NEW      a file of your own: each line of LIST has a key, a tab and a number, in any order, no key twice\n"
     "\n"
     "FILE, OLD and LIST may be -, for standard input. It is admitted first, whole; only info opens it and looks no further. A file has at most\n"

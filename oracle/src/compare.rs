@@ -8,6 +8,7 @@ use crate::answers::{Answers, At, ConvertAnswers, FileAnswers, ReadingAnswers, R
 use crate::generate::INPUTS;
 use crate::given;
 use crate::model_carry::CarryAnswers;
+use crate::model_marks::MarkAnswers;
 use crate::model_ops::OpsAnswers;
 use crate::model_pack::PackAnswers;
 use crate::model_range::RangeAnswers;
@@ -23,6 +24,7 @@ mod little;
 mod long;
 mod lookup;
 mod made;
+mod marks;
 mod numbers;
 mod opening;
 mod ops;
@@ -36,6 +38,7 @@ mod seats;
 mod sittings;
 mod stored;
 
+pub use self::convert::{old_file, rows as conversion_rows};
 pub use self::counting::{filled, followed};
 pub use self::patterns::pattern_near;
 
@@ -156,6 +159,8 @@ pub struct Run<'a> {
     ours_seats: Option<&'a dyn SeatAnswers>,
     // and on several files as one
     ours_ops: Option<&'a dyn OpsAnswers>,
+    // and on marks
+    ours_marks: Option<&'a dyn MarkAnswers>,
     // a whole run has every random case, another one in so many
     one_in: usize,
     prng: Prng,
@@ -198,6 +203,7 @@ impl<'a> Run<'a> {
             ours_carry: None,
             ours_seats: None,
             ours_ops: None,
+            ours_marks: None,
             one_in,
             prng: Prng::new(2),
             counts: BTreeMap::new(),
@@ -231,6 +237,11 @@ impl<'a> Run<'a> {
 
     pub fn operating(mut self, ours: Option<&'a dyn OpsAnswers>) -> Run<'a> {
         self.ours_ops = ours;
+        self
+    }
+
+    pub fn marking(mut self, ours: Option<&'a dyn MarkAnswers>) -> Run<'a> {
+        self.ours_marks = ours;
         self
     }
 
@@ -279,7 +290,14 @@ impl<'a> Run<'a> {
 
     // Those of carried readings alone.
     pub fn all_carries(&mut self, print: bool) -> Checked {
-        self.sections(print, &[("readings carried to another file", Run::carries)])
+        self.sections(
+            print,
+            &[
+                ("readings carried to another file", Run::carries),
+                ("readings carried to foreign files of an equal shape", Run::foreign_carries),
+                ("readings carried from or to a file past 4,294,967,295 bytes", Run::large_carries),
+            ],
+        )
     }
 
     // Those of seats alone.
@@ -296,6 +314,11 @@ impl<'a> Run<'a> {
     // Those of several files as one alone.
     pub fn all_operations(&mut self, print: bool) -> Checked {
         self.sections(print, &[("several files as one", Run::operations)])
+    }
+
+    // Those of marks alone.
+    pub fn by_marks(&mut self, print: bool) -> Checked {
+        self.sections(print, &[("marks of a reading", Run::mark_lists)])
     }
 
     // Those of conversion alone.

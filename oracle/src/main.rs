@@ -21,6 +21,8 @@ mod answers;
 #[cfg(timed)]
 mod bench;
 #[cfg(timed)]
+mod bench_convert;
+#[cfg(timed)]
 mod bench_pack;
 #[cfg(timed)]
 mod bench_pattern;
@@ -43,6 +45,7 @@ mod model;
 mod model_carry;
 mod model_convert;
 mod model_file;
+mod model_marks;
 mod model_ops;
 mod model_pack;
 mod model_pattern;
@@ -58,6 +61,8 @@ mod ours_convert;
 #[cfg(library)]
 mod ours_file;
 #[cfg(library)]
+mod ours_marks;
+#[cfg(library)]
 mod ours_ops;
 #[cfg(library)]
 mod ours_pack;
@@ -69,6 +74,7 @@ mod ours_reading;
 mod ours_seats;
 mod prng;
 mod replay;
+mod replay_convert;
 mod replay_file;
 mod replay_list;
 mod replay_pattern;
@@ -76,7 +82,10 @@ mod replay_reading;
 mod replay_rows;
 mod sparse;
 mod wrong;
+mod wrong_carry;
+mod wrong_convert;
 mod wrong_file;
+mod wrong_marks;
 mod wrong_pack;
 mod wrong_range;
 mod wrong_reading;
@@ -86,6 +95,7 @@ use std::process;
 use crate::answers::ConvertAnswers;
 use crate::compare::{Difference, Ours, Run};
 use crate::model_carry::CarryAnswers;
+use crate::model_marks::MarkAnswers;
 use crate::model_ops::OpsAnswers;
 use crate::model_pack::PackAnswers;
 use crate::model_range::RangeAnswers;
@@ -158,6 +168,16 @@ fn library_operates() -> Option<&'static dyn OpsAnswers> {
 
 #[cfg(not(library))]
 fn library_operates() -> Option<&'static dyn OpsAnswers> {
+    None
+}
+
+#[cfg(library)]
+fn library_marks() -> Option<&'static dyn MarkAnswers> {
+    Some(&ours::Library)
+}
+
+#[cfg(not(library))]
+fn library_marks() -> Option<&'static dyn MarkAnswers> {
     None
 }
 
@@ -288,9 +308,20 @@ fn compare_ops() -> bool {
     }
 }
 
+// Marks of a reading alone.
+fn compare_marks() -> bool {
+    match Run::new(library(), 1).marking(library_marks()).by_marks(true) {
+        Ok(()) => true,
+        Err(difference) => {
+            report(&difference);
+            false
+        }
+    }
+}
+
 // What has a run of its own, one after the other, beside the whole comparison.
 fn compare_later() -> bool {
-    compare_packs() && compare_range() && compare_carries() && compare_ops() && compare_seats()
+    compare_packs() && compare_range() && compare_carries() && compare_ops() && compare_seats() && compare_marks()
 }
 
 // Files and records past 16 MiB alone.
@@ -304,9 +335,9 @@ fn compare_long() -> bool {
     }
 }
 
-// The replay lists, of nodes, of whole files, of readings and of readings by pattern, each with how many of each kind it has.
+// The replay lists, of nodes, of whole files, of readings, of conversions and of readings by pattern, each with how many of each kind it has.
 fn recorded() -> Vec<(Vec<u8>, Vec<(&'static str, usize)>)> {
-    vec![replay::list(), replay_file::list(), replay_reading::list(), replay_pattern::list()]
+    vec![replay::list(), replay_file::list(), replay_reading::list(), replay_convert::list(), replay_pattern::list()]
 }
 
 // The whole comparison in small, or that of readings alone, with these in our library's place.
@@ -342,7 +373,41 @@ fn self_test() -> bool {
             }
         }
     }
-    self_test_packs() && self_test_range()
+    self_test_packs() && self_test_range() && self_test_conversions() && self_test_carries() && self_test_marks()
+}
+
+// The part with no slip agrees, and with each of its slips it does not; a slip is made by `with`.
+fn each_noticed(slips: &[&'static str], with: impl Fn(&'static str) -> Result<(), Difference>) -> bool {
+    if let Err(difference) = with("") {
+        report(&difference);
+        return false;
+    }
+    for &slip in slips {
+        match with(slip) {
+            Err(difference) => println!("noticed: {}  ({})", slip, difference.what),
+            Ok(()) => {
+                println!("oracle: not noticed: {}", slip);
+                return false;
+            }
+        }
+    }
+    true
+}
+
+// The same of conversions.
+fn self_test_conversions() -> bool {
+    each_noticed(wrong_convert::SLIPS, |slip| {
+        let wrong = wrong_convert::WrongConvert { slip };
+        Run::new((None, None, None), 50).converting(Some(&wrong)).conversions(false)
+    })
+}
+
+// The same of carried readings.
+fn self_test_carries() -> bool {
+    each_noticed(wrong_carry::SLIPS, |slip| {
+        let wrong = wrong_carry::WrongCarry { slip };
+        Run::new((None, None, None), 20).carrying(Some(&wrong)).all_carries(false)
+    })
 }
 
 // The same of the packing of lists.
@@ -384,10 +449,33 @@ fn self_test_range() -> bool {
     true
 }
 
+// The same of marks.
+fn self_test_marks() -> bool {
+    let in_small = |ours: &dyn MarkAnswers| Run::new((None, None, None), 100).marking(Some(ours)).by_marks(false);
+    if let Err(difference) = in_small(&model::Model) {
+        report(&difference);
+        return false;
+    }
+    for &slip in wrong_marks::SLIPS {
+        match in_small(&wrong_marks::WrongMarks { slip }) {
+            Err(difference) => println!("noticed: {}  ({})", slip, difference.what),
+            Ok(()) => {
+                println!("oracle: not noticed: {}", slip);
+                return false;
+            }
+        }
+    }
+    true
+}
+
 #[cfg(timed)]
 fn bench() -> bool {
     if std::env::args().nth(1).as_deref() == Some("pack") {
         bench_pack::bench(&ours::Library);
+        return true;
+    }
+    if std::env::args().nth(1).as_deref() == Some("convert") {
+        bench_convert::bench(&ours::Library, &ours::Library, &ours::Library, &ours::Library);
         return true;
     }
     bench::bench(&ours::Library, &ours::Library, &ours::Library, &ours::Library);
@@ -430,13 +518,19 @@ fn main() {
         Some("pack") => compare_packs(),
         Some("carry") => compare_carries(),
         Some("seats") => compare_seats(),
+        Some("marks") => compare_marks(),
         Some("ops") => compare_ops(),
         Some("long") => compare_long(),
-        Some("self-test") => self_test(),
+        Some("self-test") => match args.get(2).map(String::as_str) {
+            Some("convert") => self_test_conversions(),
+            Some("carry") => self_test_carries(),
+            Some("marks") => self_test_marks(),
+            _ => self_test(),
+        },
         Some("record") => record(&args[2..]),
         Some("listing") => listing::make(),
         _ => {
-            println!("oracle: compare, later, readings, patterns, range, admission, convert, pack, carry, ops, seats, long, self-test, record or listing");
+            println!("oracle: compare, later, readings, patterns, range, admission, convert, pack, carry, ops, seats, marks, long, self-test, record or listing");
             process::exit(2);
         }
     };

@@ -33,6 +33,11 @@ pub fn record(node: &Meaning, moved: &HashMap<usize, usize>) -> Record {
 
 // The new file, or admission's refusal, then EDITION, then LARGE where it has more bytes than the limit.
 pub fn convert(file: &[u8], limit: usize) -> Result<Converted, u64> {
+    convert_with(file, limit, "")
+}
+
+// The same with a slip of the self-test (wrong_convert.rs).
+pub fn convert_with(file: &[u8], limit: usize, slip: &str) -> Result<Converted, u64> {
     let found = model_file::admitted(file)?;
     if found.meta.version != 1 {
         return Err(EDITION);
@@ -42,15 +47,25 @@ pub fn convert(file: &[u8], limit: usize) -> Result<Converted, u64> {
     let mut moved = HashMap::new();
     let root_stays = match found.chain.first() {
         None => false,
-        Some((_, node, _)) => !vanishes(node),
+        Some((_, node, _)) => !vanishes(node) || slip.ends_with("the root vanishes and the nodes stay"),
     };
     if root_stays {
         for (addr, node, _) in found.chain.iter().rev() {
-            if vanishes(node) {
+            if vanishes(node) && !slip.ends_with("a node that vanishes is kept") {
+                continue;
+            }
+            if slip.ends_with("unreached nodes are left out") && !found.reached.contains(addr) {
                 continue;
             }
             assert!(new.len() >= FIRST_NODE);
-            let bytes = model::pack(&record(node, &moved), new.len());
+            let mut new_record = record(node, &moved);
+            if slip.ends_with("targets are not mapped") {
+                // as far as the packer takes them
+                for (target, t) in new_record.targets.iter_mut().zip(&node.transitions) {
+                    *target = if t.addr < new.len() { t.addr } else { *target };
+                }
+            }
+            let bytes = model::pack(&new_record, new.len());
             new.extend(bytes);
             moved.insert(*addr, new.len() - 1);
         }

@@ -528,6 +528,16 @@ static void reading_rows(file d, file nothing, file one, file unsound, file belo
     next_row("read D, e", d, reading, 255, FST_OK, "e", 1, 4);
     next_row("read D, end", d, reading, 255, FST_END, NULL, 0, 0);
     next_row("read D, end again", d, reading, 255, FST_END, NULL, 0, 0);
+    /* a mark is a copy that the caller keeps: back to it, twice, with total and keys to come as they were there */
+    *reading = *copy;
+    expect_number(reading->head[5], 1, "transitions followed, back after a");
+    expect_number(fst_to_come(reading), 2, "keys to come, back after a");
+    next_row("back after a, at", d, reading, 255, FST_OK, "at", 2, 3);
+    expect_number(reading->head[5], 2, "transitions followed, counted on from there");
+    next_row("back after a, e", d, reading, 255, FST_OK, "e", 1, 4);
+    next_row("back after a, end", d, reading, 255, FST_END, NULL, 0, 0);
+    *reading = *copy;
+    next_row("back after a again, at", d, reading, 255, FST_OK, "at", 2, 3);
     next_row("a copy goes on from where it was made", d, copy, 255, FST_OK, "at", 2, 3);
     copy->head[6] = 257;
     next_row("257 levels", d, copy, 255, FST_ERR_STATE, NULL, 0, 0);

@@ -6,140 +6,9 @@
  * written to the file, ends the program. Of each call is checked that its result is one that the header names, and that what is to
  * stay stayed. Where the file is admitted and the table is its own, the keys have to ascend, to come as often as the number says, and
  * to have the values that fst_get answers; and page after page hands out the same keys, whatever the sizes of the pages, by pattern those of them that fit. */
-#define _DEFAULT_SOURCE
-#include <stdio.h>
-#include <stdlib.h>
-#include <string.h>
-#include <sys/mman.h>
+#include "guarded.h"
 
-#include "baxhiso.h"
-
-#define PAGE ((size_t)4096)
-#define LONGEST ((size_t)4100)
-#define TABLE (LONGEST + 8)
-
-static unsigned long differences;
-
-static void expect(int holds, const char *what)
-{
-    if (!holds && differences++ < 20)
-        printf("damage: %s\n", what);
-}
-
-/* ---- numbers that look random, the same in every run */
-
-static uint64_t state = UINT64_C(0x9E3779B97F4A7C15);
-
-static uint64_t any(void)
-{
-    state ^= state << 13;
-    state ^= state >> 7;
-    state ^= state << 17;
-    return state;
-}
-
-static size_t below(size_t n)
-{
-    return (size_t)(any() % n);
-}
-
-static int one_in(size_t n)
-{
-    return below(n) == 0;
-}
-
-/* ---- buffers that end at a page without access */
-
-typedef struct region {
-    uint8_t *start, *end;
-} region;
-
-static region map(size_t bytes)
-{
-    size_t pages = (bytes + PAGE - 1) / PAGE * PAGE;
-    uint8_t *p = mmap(NULL, pages + 2 * PAGE, PROT_READ | PROT_WRITE, MAP_PRIVATE | MAP_ANONYMOUS, -1, 0);
-    region r;
-    if (p == MAP_FAILED || mprotect(p, PAGE, PROT_NONE) != 0 || mprotect(p + PAGE + pages, PAGE, PROT_NONE) != 0) {
-        perror("damage: no guarded buffer");
-        exit(2);
-    }
-    r.start = p + PAGE;
-    r.end = p + PAGE + pages;
-    return r;
-}
-
-static void *lent(region r, size_t bytes)
-{
-    return r.end - bytes;
-}
-
-static void writable(region r, int yes)
-{
-    if (mprotect(r.start, (size_t)(r.end - r.start), yes ? PROT_READ | PROT_WRITE : PROT_READ) != 0) {
-        perror("damage: mprotect");
-        exit(2);
-    }
-}
-
-static region files, depths_at, sums_at, counts_at, readings_at, keys_at, lens_at, values_at, lowers_at, uppers_at, rows_at, page_values_at, positions_at;
-
-/* ---- a file, damaged or not */
-
-static uint8_t **bases;
-static size_t *base_lens, base_count;
-
-static void load(const char *path)
-{
-    uint8_t bytes[LONGEST];
-    FILE *in = fopen(path, "rb");
-    size_t n = in == NULL ? 0 : fread(bytes, 1, sizeof bytes, in);
-    if (in == NULL || ferror(in)) {
-        perror(path);
-        exit(2);
-    }
-    fclose(in);
-    if (n < sizeof bytes) {
-        bases[base_count] = malloc(n + 1);
-        memcpy(bases[base_count], bytes, n);
-        base_lens[base_count++] = n;
-    }
-}
-
-static uint8_t *damaged(size_t *len)
-{
-    size_t base = below(base_count), n = base_lens[base], changes = one_in(3) ? 0 : 1 + below(4);
-    uint8_t *f;
-    if (one_in(40))
-        n = below(n + 1);
-    writable(files, 1);
-    f = lent(files, n);
-    memcpy(f, bases[base], n);
-    for (; changes > 0 && n > 0; changes--)
-        f[below(n)] = one_in(2) ? (uint8_t)any() : (uint8_t)(1u << below(8));
-    writable(files, 0);
-    *len = n;
-    return f;
-}
-
-/* ---- results */
-
-static int among(int32_t result, const int *results)
-{
-    for (; *results != 100; results++) {
-        if (*results == result)
-            return 1;
-    }
-    return 0;
-}
-
-static int filled(const uint8_t *p, size_t n, uint8_t byte)
-{
-    for (size_t i = 0; i < n; i++) {
-        if (p[i] != byte)
-            return 0;
-    }
-    return 1;
-}
+static region depths_at, sums_at, counts_at, readings_at, keys_at, lens_at, values_at, lowers_at, uppers_at, rows_at, page_values_at, positions_at;
 
 static unsigned long counted, started, nexts, ranged, finds;
 
@@ -171,20 +40,6 @@ static int32_t count(const uint8_t *file, size_t len, uint64_t **counts, size_t 
                    "fst_count refuses, and a work table is written");
     }
     return result;
-}
-
-/* A bound: none, or bytes like those of keys; at times over 255. */
-static const fst_bound *bound(region at, fst_bound *b)
-{
-    static const char likely[] = "abcdefghijklmnopqrstuvwxyz0123456789at";
-    size_t n = one_in(50) ? 250 + below(8) : below(6);
-    uint8_t *key = lent(at, n);
-    for (size_t i = 0; i < n; i++)
-        key[i] = one_in(4) ? (uint8_t)any() : (uint8_t)likely[below(sizeof likely - 1)];
-    b->kind = (int)below(3);
-    b->key = key;
-    b->len = n;
-    return one_in(3) ? NULL : b;
 }
 
 static int32_t start(const uint8_t *file, size_t len, const fst_bound *lower, const fst_bound *upper, const uint64_t *counts, size_t counts_len,
@@ -348,34 +203,10 @@ static void read_on(const uint8_t *file, size_t len, fst_reading *reading, int r
     next(file, len, reading, key, space, key_len, value);
 }
 
-/* A reading that no start gave. */
-static void made(const uint8_t *file, size_t len, fst_reading *reading)
-{
-    uint8_t *bytes = (uint8_t *)reading;
-    size_t root = len > 21 ? len - 21 : 0;
-    for (size_t i = 0; i < sizeof *reading; i++)
-        bytes[i] = (uint8_t)any();
-    for (size_t i = 0; i < 256; i++) {
-        reading->addrs[i] = (uint32_t)(one_in(3) ? root : below(len + 2));
-        reading->trans[i] = (uint16_t)(one_in(9) ? any() : below(4));
-        reading->outs[i] = one_in(9) ? any() : below(1000);
-    }
-    reading->head[0] = one_in(20) ? any() : len;
-    reading->head[1] = one_in(2) ? FST_UNBOUNDED : below(4);
-    reading->head[2] = one_in(20) ? any() : below(257);
-    reading->head[3] = below(2);
-    reading->head[6] = one_in(20) ? any() : below(258);
-    reading->keys[0] = one_in(9) ? any() : below(5);
-    read_on(file, len, reading, 0);
-}
-
 int main(int argc, char **argv)
 {
     unsigned long calls = argc > 1 ? strtoul(argv[1], NULL, 10) : 0, files_made = 0, admitted = 0;
-    bases = calloc((size_t)argc, sizeof *bases);
-    base_lens = calloc((size_t)argc, sizeof *base_lens);
-    for (int i = 2; i < argc; i++)
-        load(argv[i]);
+    load_all(argc, argv);
     if (base_count == 0 || calls == 0) {
         fprintf(stderr, "usage: damage CALLS FILE...\n");
         return 2;
@@ -428,13 +259,11 @@ int main(int argc, char **argv)
             }
         }
         file = damaged(&len);
-        made(file, len, reading);
+        make_reading(len, reading);
+        read_on(file, len, reading, 0);
     }
     printf("%lu damaged files, %lu of them admitted: fst_count %lu calls, fst_start %lu, fst_next %lu, fst_range %lu, fst_find %lu, %lu differences\n",
            files_made, admitted, counted, started, nexts, ranged, finds, differences);
-    for (size_t i = 0; i < base_count; i++)
-        free(bases[i]);
-    free(bases);
-    free(base_lens);
+    free_all();
     return differences > 0;
 }

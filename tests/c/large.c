@@ -172,6 +172,73 @@ static void reading_row(const char *name, file f, int32_t want)
     expect_number((uint64_t)memcmp(&reading, &kept, sizeof kept), 0, "the reading");
 }
 
+/* Refused for the file's length alone, in the order that the header says: an old file is judged before a new one. */
+static void carry_row(const char *name, file f, int32_t want)
+{
+    const uint8_t few[5] = { 0 };
+    fst_reading reading, kept;
+    memset(&reading, (int)(MARK & 0xFF), sizeof reading);
+    reading.head[6] = 0;
+    reading.head[2] = 0;
+    reading.head[0] = f.len;
+    kept = reading;
+    row = name;
+    calls += 5;
+    expect_number((uint64_t)fst_carry(f.bytes, f.len, f.bytes, f.len, &reading), (uint64_t)want, "fst_carry, both files");
+    expect_number((uint64_t)fst_carry(f.bytes, f.len, few, sizeof few, &reading), (uint64_t)want, "fst_carry from it, to 5 bytes");
+    expect_number((uint64_t)fst_carry(few, sizeof few, f.bytes, f.len, &reading), FST_ERR_SHORT, "fst_carry from 5 bytes, to it");
+    expect_number((uint64_t)fst_carry(f.bytes, f.len, NULL, 0, &reading), (uint64_t)want, "fst_carry from it, to a blank card");
+    expect_number((uint64_t)fst_carry(NULL, 0, f.bytes, f.len, &reading), (uint64_t)want, "fst_carry from a blank card, to it");
+    expect_number((uint64_t)memcmp(&reading, &kept, sizeof kept), 0, "the reading");
+}
+
+/* Refused for the file's length alone: no buffer is looked at. */
+static void convert_row(const char *name, file f, int32_t want)
+{
+    uint16_t depths[1] = { (uint16_t)MARK };
+    uint64_t sums[1] = { MARK };
+    uint32_t table[1] = { (uint32_t)MARK };
+    uint8_t out[1] = { (uint8_t)MARK };
+    size_t len = (size_t)MARK;
+    row = name;
+    calls++;
+    expect_number((uint64_t)fst_convert(f.bytes, f.len, depths, 1, sums, 1, out, 1, table, 1, &len), (uint64_t)want, "fst_convert");
+    expect_number(depths[0] == (uint16_t)MARK && sums[0] == MARK && table[0] == (uint32_t)MARK && out[0] == (uint8_t)MARK && len == (size_t)MARK, 1,
+                  "all left as it was");
+}
+
+/* The bytes are no list: with no key a list has 8 bytes, and a key that fills the rest is over 255 bytes. A file over FST_MAX_LEN, for which fst_pack
+ * answers FST_ERR_LARGE, would take gigabytes of output and is not made here. */
+static void pack_row(const char *name, file f)
+{
+    static uint8_t out[40], inputs[FST_PACK_TABLE];
+    static uint64_t leasts[FST_PACK_TABLE];
+    static size_t targets[FST_PACK_TABLE];
+    fst_cell cells[2];
+    size_t len = (size_t)MARK;
+    memset(out, (int)(MARK & 0xFF), sizeof out);
+    row = name;
+    calls++;
+    expect_number((uint64_t)fst_pack(f.bytes, f.len, out, sizeof out, cells, 2, inputs, FST_PACK_TABLE, leasts, FST_PACK_TABLE, targets, FST_PACK_TABLE, &len),
+                  FST_ERR_LIST, "fst_pack");
+    expect_number(len, (size_t)MARK, "len");
+    expect_number(cells[0].address == 1 && cells[0].hash == 0 && cells[1].address == 1 && cells[1].hash == 0, 1, "the cells are empty");
+    for (size_t i = 0; i < sizeof out; i++)
+        expect_number(out[i], 0, "a byte of the output");
+}
+
+/* One key of total bytes, from a first end that is the total. */
+static void long_list_row(const char *name, uint64_t total)
+{
+    file f = zeros((size_t)(20 + total));
+    put(f, 0, 1, 4);
+    put(f, 4, total, 4);
+    put(f, 8, total, 4);
+    lend(f);
+    pack_row(name, f);
+    drop(f);
+}
+
 /* ---- the sparse file */
 
 /* A file of the largest length: from 16 up a node that is final with 7 and leads on with x/1 to 0, at 2^31 one that is final
@@ -240,6 +307,9 @@ static void zeros_row(const char *name, size_t len, int32_t want)
     get_key_row(name, f, 3, want, NULL);
     admit_row(name, f, 10, 10, want);
     reading_row(name, f, want);
+    convert_row(name, f, want);
+    carry_row(name, f, want);
+    pack_row(name, f);
     drop(f);
 }
 
@@ -270,6 +340,8 @@ int main(void)
     long_row("4,294,967,296 bytes, right root", 4294967296u);
     long_row("4,294,967,332 bytes, right root", 4294967332u);
     long_row("8,589,934,592 bytes, right root", 8589934592u);
+    long_list_row("a list of 4,294,967,315 bytes", 4294967295u);
+    long_list_row("a list of 4,294,967,295 bytes", 4294967275u);
     for (uint64_t version = 1; version <= 3; version++)
         sparse_rows(version);
     printf("%d calls on files around 4 GiB, %d differences\n", calls, differences);

@@ -1,2 +1,1 @@
 mod Results
-mod ReadingResults

@@ -2,13 +2,9 @@
 -- Assumes nothing.
 use mathlib.Core.Path.{_≡_, refl, sym, ap, _∙_, subst}
 use mathlib.Core.List.{List, [], _∷_}
-use Prim.Native.Nat.{ℕ, zero, suc, _<_, _^_}
+use Prim.Native.Nat.{ℕ, zero, suc}
 use native.Mathlib.Omega.{arith}
 use lib.IntN.{ℤ}
-use lib.Signed.{mag}
-use mir.Syntax.{w32}
-use mir.Val.{hbits, toZ, ofZ}
-use mir.Facts.{toZ-ofZ}
 use Rattle.format.specs.Opening as O
 use Rattle.format.specs.Opening.{Opening, opened}
 use Rattle.format.specs.Lookup as L
@@ -27,13 +23,6 @@ use Rattle.admission.specs.declared.Admission.the-variants.{Admitted as Yes, Re
 use Rattle.admission.specs.Outcome.{RefusedFor, Admits, Outcome}
 use Rattle.baxhiso.specs.ExportsLaws.{refused-not-0}
 use Rattle.baxhiso.specs.Exports.{OK, NONE, code, checksumNumber, OpenLeaves, GetLeaves, KeyLeaves, AdmitLeaves}
-
--- a result that came from a call is read back from its bits
-pub result-back : (z : ℤ) → mag z < 2 ^ hbits w32 → toZ w32 (ofZ w32 z) ≡ z
-result-back z fits = toZ-ofZ {w = w32} (record { sfits = fits })
-
-pub code-is : (z : ℤ) {n : ℕ} → mag z < 2 ^ hbits w32 → z ≡ code n → toZ w32 (ofZ w32 z) ≡ code n
-code-is z fits e = result-back z fits ∙ e
 
 -- ---- opening
 

@@ -1,4 +1,3 @@
 pub mod Exports
 pub mod ExportsLaws
-pub mod Readings
-pub mod ReadingsLaws
+pub mod ResultLaws

@@ -25,7 +25,7 @@ use Rattle.stream.specs.declared.Plain.{Plain}
 use Rattle.stream.specs.declared.Started.{Started}
 use Rattle.stream_calls.specs.Calls.{CodeCall, codeAnswers, DemandCode}
 use Rattle.stream_arrays.specs.Arrays.{Held, heldIs, heldPlain}
-use Rattle.baxhiso.specs.Readings.{NextLeaves}
+use Rattle.baxhiso_readings.specs.Readings.{NextLeaves}
 
 -- ---- a call
 

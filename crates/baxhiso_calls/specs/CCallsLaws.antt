@@ -21,8 +21,8 @@ use Rattle.stream_calls.specs.Calls.{CodeCall, CallMade, Made, inHand, answered
 use Rattle.stream_calls.specs.CallsLaws.{demand-3-code}
 use Rattle.stream_arrays.specs.Arrays.{Held, heldPlain}
 use Rattle.baxhiso.specs.Exports.{OK}
-use Rattle.baxhiso.specs.Readings.{StartLeaves, NextLeaves}
-use Rattle.baxhiso.specs.ReadingsLaws.{NextTells, hands-out, comes-to-end, leaves, next-nonzero, start-ok}
+use Rattle.baxhiso_readings.specs.Readings.{StartLeaves, NextLeaves}
+use Rattle.baxhiso_readings.specs.ReadingsLaws.{NextTells, hands-out, comes-to-end, leaves, next-nonzero, start-ok}
 use Rattle.baxhiso_calls.specs.CCalls.{CCall, CCallMade, toldBy, told, CMade, plainOf, startOf, codeOf, codesOf, ReadingTells}
 
 told-by : (p : P.Plain) (w : P.PlainStep) → NextTells p w → {h : Held} {n k₀ k : List ℕ} {len₀ len v₀ v : ℕ} {r : ℤ} → NextLeaves w h n k₀ k len₀ len v₀ v r

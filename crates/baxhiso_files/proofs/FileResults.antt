@@ -2,22 +2,14 @@
 -- Assumes nothing.
 use mathlib.Core.Path.{_≡_, refl, sym, ap, _∙_}
 use mathlib.Core.List.{List}
-use Prim.Native.Nat.{ℕ, _<_, _^_}
+use Prim.Native.Nat.{ℕ}
 use lib.IntN.{ℤ}
-use lib.Signed.{mag}
-use mir.Syntax.{w32}
-use mir.Val.{hbits, toZ, ofZ}
-use mir.Facts.{toZ-ofZ}
 use Rattle.format.specs.Limits.{maxLen}
 use Rattle.convert.specs.Convert.{Converts}
 use Rattle.convert.specs.declared.Converted.{Converted}
 use Rattle.convert.specs.declared.Converted.the-variants.{Len, Refused}
 use Rattle.baxhiso.specs.Exports.{OK, code}
 use Rattle.baxhiso_files.specs.Files.{convertResult, convertLen, ConvertLeaves}
-
--- a refusal that came from a call is read back from its bits
-pub code-is : (z : ℤ) {n : ℕ} → mag z < 2 ^ hbits w32 → z ≡ code n → toZ w32 (ofZ w32 z) ≡ code n
-code-is z fits e = toZ-ofZ {w = w32} (record { sfits = fits }) ∙ e
 
 -- ---- conversion
 

@@ -1,7 +1,6 @@
 // The functions that write files for the C caller. include/baxhiso.h declares them; results and conventions are those of crate `baxhiso`.
 // A slice is passed as its pointer and then its length. No function asks anything of its arguments' values.
 ghost use mathlib.Core.Path.{_≡_};
-ghost use lib.IntN.{pos};
 ghost use lib.ListN.{length, replicate};
 ghost use Rattle.format.specs.Limits.{maxLen};
 ghost use Rattle.packing.specs.Packing.{packAnswer};
@@ -11,6 +10,7 @@ ghost use Rattle.stream_arrays.specs.Arrays.{held, heldPlain};
 ghost use Rattle.baxhiso_files.specs.Files.{ConvertLeaves};
 ghost use Rattle.baxhiso_files.specs.PackFiles.{PackLeaves};
 ghost use Rattle.baxhiso_files.specs.CarryArrays.{CarryLeaves};
+use baxhiso::code;
 use carry::Carries;
 use convert::Converted;
 use pack_blank::Packed;
@@ -19,13 +19,6 @@ use stream_arrays::put;
 use stream_arrays::reading_of;
 
 const OK: i32 = 0;
-
-// A refusal's number as a result.
-fn code(why: u8) -> i32
-    ensures { λ r. ⌜ r ≡ pos why ⌝ }
-{
-    why as i32
-}
 
 // Converts a version 1 file to version 2. On 0 the new file stands from the output's first byte on, and its length is written; on a
 // refusal output, table and length stay as given.

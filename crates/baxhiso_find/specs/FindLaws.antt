@@ -20,7 +20,7 @@ use Rattle.paging.specs.RowLaws.{RowsHold, rows-hold}
 use Rattle.finding.specs.Finding.{find}
 use Rattle.finding.specs.FindExact.{FindExact}
 use Rattle.finding.specs.FindLaws.{find-exact}
-use Rattle.baxhiso.specs.Readings.{END, MORE, rangeResult, RangeLeaves}
+use Rattle.baxhiso_readings.specs.Readings.{END, MORE, rangeResult, RangeLeaves}
 
 -- the result, and the page: its keys are the first held ones between the bounds that fit, each stands in its row, byte by byte, and its value in its place
 pub record FindTells {s : List ℕ} (A : Admitted s) (p : Pattern) (lo hi : Bound) (most : ℕ) (w : Page) (rows₀ rows values₀ values : List ℕ) (count : ℕ) (r : ℤ)

@@ -24,7 +24,7 @@ use Rattle.paging.specs.Paging as G
 use Rattle.paging.specs.Paging.{Page, refusedPage, answered, roomTest}
 use Rattle.finding.specs.Finding.{foldBy, pageBy, find}
 use Rattle.baxhiso.specs.ExportsLaws.{picked, OpeningNonzero, opens, turns, opening-nonzero}
-use Rattle.baxhiso.specs.ReadingsLaws.{StopNonzero, ended-stop, more-stop, refused-stop, page-nonzero}
+use Rattle.baxhiso_readings.specs.ReadingsLaws.{StopNonzero, ended-stop, more-stop, refused-stop, page-nonzero}
 
 node-picked : {A : Type 0} (Q : A → Type 0) (j : Judgement) {go : Node → A} {stop : A} → ((m : Node) → Q (go m)) → Q stop → Q (onNode j go stop)
 node-picked Q (sound m) h k = h m

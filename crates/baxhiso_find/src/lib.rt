@@ -1,38 +1,14 @@
 // The page by pattern for the C caller. include/baxhiso.h declares it; results and conventions are those of crate `baxhiso`.
 // A slice is passed as its pointer and then its length. No function asks anything of its arguments' values.
-ghost use mathlib.Core.Path.{_≡_};
-ghost use lib.IntN.{pos};
 ghost use lib.ListN.{length};
 ghost use Rattle.finding.specs.Finding as F;
 ghost use Rattle.stream_start.specs.Views.{boundIs};
 ghost use Rattle.stream_arrays.specs.Arrays.{kindIs};
 ghost use Rattle.patterned.specs.Patterns.{givenIs};
-ghost use Rattle.baxhiso.specs.Readings.{stopOf, RangeLeaves};
+ghost use Rattle.baxhiso_readings.specs.Readings.{RangeLeaves};
 ghost use Rattle.baxhiso_find.specs.FindArguments.{restIs};
-use range::Stop;
+use baxhiso_readings::stopped;
 use stream_arrays::kind_of;
-
-const END: i32 = -2;
-
-const MORE: i32 = -3;
-
-// A refusal's number as a result.
-fn code(why: u8) -> i32
-    ensures { λ r. ⌜ r ≡ pos why ⌝ }
-{
-    why as i32
-}
-
-// Why a page stopped, as a result.
-fn stopped(stop: Stop) -> i32
-    ensures { λ r. ⌜ r ≡ stopOf stop ⌝ }
-{
-    match stop {
-        Stop::End => END,
-        Stop::More => MORE,
-        Stop::Refused(why) => code(why),
-    }
-}
 
 // Up to `most` keys between two bounds that fit a pattern, the least first, each in a row of 256 bytes with its value beside it, and how many. A position
 // below 256 is its byte, any other number any byte; any rest may follow unless `rest` is 0.

@@ -26,7 +26,7 @@ fn put(line: &[u8], n: usize) -> bool
 // Writes the one line of a file that is not listed.
 fn refuse(why: u8) {
     let mut line = [0u8; LINE];
-    let n = listing::refused_line(why, &mut line);
+    let n = listing_lines::refused_line(why, &mut line);
     put(&line, n);
 }
 

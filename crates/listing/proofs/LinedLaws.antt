@@ -29,7 +29,7 @@ use Rattle.stream_start.specs.declared.Begins.the-variants.{Began, Refused as N
 use Rattle.stream_step.specs.declared.Answer.the-variants.{Key, End, Refused}
 use Rattle.listing.specs.declared.Line.the-variants.{Key as KeyLine, Last, Short}
 use Rattle.listing.specs.declared.Listed.{Listed}
-use Rattle.listing.specs.Lines.{keyLine, endLine, refusedLine, Written}
+use Rattle.listing_lines.specs.Lines.{keyLine, endLine, refusedLine, Written}
 use Rattle.listing.specs.Listing.{State, state, more, last, lineBy, lineOf}
 use Rattle.listing.specs.Lined.{Begins as BeginsAs, begins, stateIs, Wrote, Lined}
 

@@ -11,7 +11,7 @@ use Rattle.format.specs.Admitted.{Admitted}
 use Rattle.format.specs.Strings.{unbounded, Rising, NumberOf}
 use Rattle.plain.specs.Plain.{Plain, begun, startPlain}
 use Rattle.reading.specs.Demand.{BeginsHeld, Entry, entry, capped}
-use Rattle.listing.specs.Lines.{keyLine, endLine}
+use Rattle.listing_lines.specs.Lines.{keyLine, endLine}
 use Rattle.listing.specs.Listing.{state, Lists}
 
 abbrev pub lineFor : Entry → List ℕ

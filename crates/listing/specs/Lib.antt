@@ -1,5 +1,3 @@
-pub mod Lines
-pub mod LinesLaws
 pub mod Listing
 pub mod HeldLines
 pub mod ListingLaws

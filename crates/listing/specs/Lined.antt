@@ -16,7 +16,7 @@ use Rattle.stream_start.specs.declared.Begins.the-variants.{Began, Refused}
 use Rattle.listing.specs.declared.Line.{Line}
 use Rattle.listing.specs.declared.Line.the-variants.{Key, Last, Short}
 use Rattle.listing.specs.declared.Listed.{Listed}
-use Rattle.listing.specs.Lines.{longestLine}
+use Rattle.listing_lines.specs.Lines.{longestLine}
 use Rattle.listing.specs.Listing as L
 use Rattle.listing.specs.Listing.{State, state, more, last}
 

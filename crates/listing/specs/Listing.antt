@@ -10,7 +10,7 @@ use Prim.Native.Nat.{ℕ}
 use Rattle.format.specs.Limits.{maxPath}
 use Rattle.reading.specs.Reading.{Answer, key, end, counted}
 use Rattle.plain.specs.Plain.{Plain, nextPlain}
-use Rattle.listing.specs.Lines.{keyLine, endLine, refusedLine}
+use Rattle.listing_lines.specs.Lines.{keyLine, endLine, refusedLine}
 
 pub record State : Type 0 where
   pub reading : Plain

@@ -23,7 +23,7 @@ use Rattle.plain.specs.Plain.{Plain, plainWith}
 use Rattle.plain.specs.PlainRun.{RunsPlain, run-end, run-key, WholePlain}
 use Rattle.plain.specs.PlainRunLaws.{whole-plain}
 use Rattle.listing.specs.HeldLines.{lineFor, HeldLines}
-use Rattle.listing.specs.Lines.{endLine}
+use Rattle.listing_lines.specs.Lines.{endLine}
 use Rattle.listing.specs.Listing.{State, state, Line, more, last, lineOf, Lists, last-line, line-more}
 
 -- ---- the lines of a reading from start to end

@@ -175,7 +175,7 @@ eq-or a b =
     (λ (g : b ≤ a). ⊎-elim (λ (l : b < a). inr (λ z. omega arith)) (λ (h : a ≤ b). inl (omega arith)) (lt-or b a)) (lt-or a b)
 
 -- a reading that is not refused has the length of its file
-ahead-len : (s : List ℕ) (p : Plain) (es : List Entry) → Ahead s p es → p .view .len ≡ length s
+pub ahead-len : (s : List ℕ) (p : Plain) (es : List Entry) → Ahead s p es → p .view .len ≡ length s
 ahead-len s p es h = ⊎-elim (λ (e : length s ≡ p .view .len). sym e) (λ (ne : ¬ (length s ≡ p .view .len)). absurd (by es h (other-refused s p maxPath ne))) (eq-or (length s) (p .view .len))
   where
     by : (es : List Entry) → Ahead s p es → ¬ ((n : ℕ) × (nextPlain s p maxPath .answer ≡ Answer.refused n))

@@ -3,6 +3,7 @@
 --     lend-is          cards handed the files of a call, whatever files they had before
 --     code-call        a call of `next_item` on one to eight cards (`heldItem`, which its contract cites)
 --     begin-is         the cards of `begin`, for readings and files that are those of the sources
+--     code-one         such a call, with what it tells and the cards that it leaves
 --     CodeCalls, code-told     a list of calls by the contract of `next_item` tells what the definition answers
 --     code-from-begin  so of calls from what `begin` gave, of which `ops-exact` speaks
 -- Assumes nothing.
@@ -128,10 +129,11 @@ code-step fs gs c (O.Merged.refused n) buf₀ buf r h =
       count-same = ap (λ (d : Cards). d .count) kept;
     }
 
-pub code-told : (S : List Source) (op : O.Op) (n : ℕ) → countTest n ≡ true → {c : Cards} {calls : List (OpsCall S)} {ts : List Told} → CodeCalls S c calls ts
-    → opIs (c .op) ≡ op → c .count ≡ n → (gs : List (List ℕ)) (ds : List O.Card) → ds ≡ cardsIs gs n (c .cards) → ts ≡ answersOf op ds calls
-code-told S op n few no-call o e gs ds is = refl
-code-told S op n few (one-call {c = c} {calls = calls} {ts = ts} call fs buf₀ buf r long files space merged more) o e gs ds is =
+-- a call by its contract, on cards that stand for ds with some files
+pub code-one : (S : List Source) (op : O.Op) (n : ℕ) → countTest n ≡ true → (c : Cards) → opIs (c .op) ≡ op → c .count ≡ n → (gs : List (List ℕ)) (ds : List O.Card)
+    → ds ≡ cardsIs gs n (c .cards) → (call : OpsCall S) (fs : List (List ℕ)) (buf₀ buf : List ℕ) (r : Step) → c .count ≤ length fs → take (c .count) fs ≡ call .files
+    → length buf₀ ≡ call .space → MergedBy fs c (heldItem fs c (length buf₀)) buf₀ buf r → CodeStep op n r (toldOf (r .answer) r buf) (callItem op ds call)
+code-one S op n few c o e gs ds is call fs buf₀ buf r long files space merged =
     let w = code-step fs gs c (heldItem fs c (length buf₀)) buf₀ buf r merged in
     let start : cardsIs gs (c .count) (c .cards) ≡ ds = ap (λ (k : ℕ). cardsIs gs k (c .cards)) e ∙ sym is in
     let held : heldItem fs c (length buf₀) ≡ nextItem op (lend (call .files) ds) (call .space) =
@@ -139,10 +141,20 @@ code-told S op n few (one-call {c = c} {calls = calls} {ts = ts} call fs buf₀ 
     ∙ ap₂ (λ (x : O.Op) (k : ℕ). nextItem x (lend (take (c .count) fs) (cardsIs gs (c .count) (c .cards))) k) o space
     ∙ ap₂ (λ (gs′ : List (List ℕ)) (ds′ : List O.Card). nextItem op (lend gs′ ds′) (call .space)) files start in
     let step : stepBy (cardsIs gs (c .count) (c .cards)) (heldItem fs c (length buf₀)) ≡ callItem op ds call = ap₂ stepBy start held in
-    let first : toldOf (r .answer) r buf ≡ callItem op ds call .answer = w .same ∙ ap (λ (s : ItemStep). s .answer) step in
-    let after : callItem op ds call .cards ≡ cardsIs (w .files) n (r .cards .cards) =
-    ap (λ (s : ItemStep). s .cards) (sym step) ∙ w .cards ∙ ap (λ (k : ℕ). cardsIs (w .files) k (r .cards .cards)) e in
-    ap₂ _∷_ first (code-told S op n few more (w .op-same ∙ o) (w .count-same ∙ e) (w .files) (callItem op ds call .cards) after)
+    record {
+      same = w .same ∙ ap (λ (s : ItemStep). s .answer) step;
+      files = w .files;
+      cards = ap (λ (s : ItemStep). s .cards) (sym step) ∙ w .cards ∙ ap (λ (k : ℕ). cardsIs (w .files) k (r .cards .cards)) e;
+      op-same = w .op-same ∙ o;
+      count-same = w .count-same ∙ e;
+    }
+
+pub code-told : (S : List Source) (op : O.Op) (n : ℕ) → countTest n ≡ true → {c : Cards} {calls : List (OpsCall S)} {ts : List Told} → CodeCalls S c calls ts
+    → opIs (c .op) ≡ op → c .count ≡ n → (gs : List (List ℕ)) (ds : List O.Card) → ds ≡ cardsIs gs n (c .cards) → ts ≡ answersOf op ds calls
+code-told S op n few no-call o e gs ds is = refl
+code-told S op n few (one-call {c = c} {calls = calls} {ts = ts} call fs buf₀ buf r long files space merged more) o e gs ds is =
+    let w = code-one S op n few c o e gs ds is call fs buf₀ buf r long files space merged in
+    ap₂ _∷_ (w .same) (code-told S op n few more (w .op-same) (w .count-same) (w .files) (callItem op ds call .cards) (w .cards))
 
 -- from what `begin` gave, for readings that are those of the starts: `ops-exact` says what these answers are
 pub code-from-begin : (S : List Source) (o : Op) (fs : List (List ℕ)) (ps : List Plain) (b : Begun) → countTest (length S) ≡ true → BegunBy o (length S) ps b

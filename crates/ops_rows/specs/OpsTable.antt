@@ -16,8 +16,11 @@ use Rattle.format.specs.Opening.{metaOf, rootTest, opening}
 use Rattle.format.specs.Strings.{unbounded, beforeTest}
 use Rattle.reading.specs.Reading.{pathOf, seek, levelWith, View, started, start, pop, descend, next}
 use Rattle.plain.specs.Plain.{plainWith}
-use Rattle.ops_spec.specs.Ops.{Op, union, intersection, difference, symmetric, used, ended, Card, cardIs, Merged, item, ending, Indexed, indexed, stepAll, leastKey, insert, pairsFrom, useUp, allLeft, rounds, nextItem}
+use Rattle.ops_spec.specs.Ops.{Op, union, intersection, difference, symmetric, used, ended, Card, cardIs, cardKey, Merged, item, ending, Indexed, indexed, stepAll, leastKey, insert, pairsFrom, useUp, allLeft, rounds, nextItem}
 use Rattle.ops_spec.specs.OpsLists.{Item, itemIs}
+
+abbrev pub totalsOf : List Card → List ℕ
+totalsOf cs = map (λ (c : Card). c .reading .view .total) cs
 
 -- what calls hand out, and the totals once "end" is answered
 pub record Listed : Type 0 where
@@ -26,7 +29,7 @@ pub record Listed : Type 0 where
 
 abbrev pub listedBy : (List Card → Listed) → Merged → Listed
 listedBy more (item k ps ds) = record { items = itemIs k ps ∷ more ds .items; totals = more ds .totals }
-listedBy more (ending ds) = record { items = []; totals = map (λ (c : Card). c .reading .view .total) ds }
+listedBy more (ending ds) = record { items = []; totals = totalsOf ds }
 listedBy more (Merged.refused n) = record { items = []; totals = [] }
 
 -- at most so many calls with a buffer of 255 bytes
@@ -34,15 +37,15 @@ abbrev pub listed : ℕ → Op → List Card → Listed
 listed zero op cs = record { items = []; totals = [] }
 listed (suc n) op cs = listedBy (listed n op) (nextItem op cs 255)
 
--- the totals after so many items
-abbrev pub totalsBy : (List Card → List ℕ) → Merged → List ℕ
-totalsBy more (item k ps ds) = more ds
-totalsBy more (ending ds) = []
-totalsBy more (Merged.refused n) = []
+-- the cards after so many items
+abbrev pub leftBy : (List Card → List Card) → Merged → List Card
+leftBy more (item k ps ds) = more ds
+leftBy more (ending ds) = []
+leftBy more (Merged.refused n) = []
 
-abbrev pub totalsAfter : ℕ → Op → List Card → List ℕ
-totalsAfter zero op cs = map (λ (c : Card). c .reading .view .total) cs
-totalsAfter (suc n) op cs = totalsBy (totalsAfter n op) (nextItem op cs 255)
+abbrev pub leftAfter : ℕ → Op → List Card → List Card
+leftAfter zero op cs = cs
+leftAfter (suc n) op cs = leftBy (leftAfter n op) (nextItem op cs 255)
 
 abbrev pub Hands : Op → List Card → List Item → List ℕ → Type 0
 Hands op cs is ns = listed 9 op cs ≡ record { items = is; totals = ns }
@@ -109,8 +112,9 @@ pub record OpsTable : Type 0 where
   pub union-ABC : Hands union (ofA ∷ ofB ∷ ofC ∷ [])
       (itemIs a (indexed 1 0 ∷ indexed 1 1 ∷ []) ∷ itemIs b (indexed 2 0 ∷ indexed 2 2 ∷ []) ∷ itemIs c (indexed 3 1 ∷ []) ∷ itemIs d (indexed 4 1 ∷ indexed 4 2 ∷ indexed 9 0 ∷ []) ∷ [])
       (3 ∷ 3 ∷ 2 ∷ [])
-  -- totals after "b" of the union: 2 2 1
-  pub after-b : totalsAfter 2 union (ofA ∷ ofB ∷ ofC ∷ []) ≡ 2 ∷ 2 ∷ 1 ∷ []
+  -- after "b" of the union: totals 2 2 1, and the readings at b, c and b
+  pub after-b : totalsOf (leftAfter 2 union (ofA ∷ ofB ∷ ofC ∷ [])) ≡ 2 ∷ 2 ∷ 1 ∷ []
+  pub keys-after-b : map cardKey (leftAfter 2 union (ofA ∷ ofB ∷ ofC ∷ [])) ≡ b ∷ c ∷ b ∷ []
   -- intersection A B C: d 4@1 4@2 9@0; totals 3 3 2
   pub intersection-ABC : Hands intersection (ofA ∷ ofB ∷ ofC ∷ []) (itemIs d (indexed 4 1 ∷ indexed 4 2 ∷ indexed 9 0 ∷ []) ∷ []) (3 ∷ 3 ∷ 2 ∷ [])
   -- symmetric difference A B C: c 3@1; d 4@1 4@2 9@0; totals 3 3 2
@@ -118,8 +122,11 @@ pub record OpsTable : Type 0 where
       (itemIs c (indexed 3 1 ∷ []) ∷ itemIs d (indexed 4 1 ∷ indexed 4 2 ∷ indexed 9 0 ∷ []) ∷ []) (3 ∷ 3 ∷ 2 ∷ [])
   -- difference A B: b 2@0; totals 3 3
   pub difference-AB : Hands difference (ofA ∷ ofB ∷ []) (itemIs b (indexed 2 0 ∷ []) ∷ []) (3 ∷ 3 ∷ [])
-  -- one file: A's three keys
-  pub one-file : Hands symmetric (ofA ∷ []) (itemIs a (indexed 1 0 ∷ []) ∷ itemIs b (indexed 2 0 ∷ []) ∷ itemIs d (indexed 9 0 ∷ []) ∷ []) (3 ∷ [])
+  -- a difference ends with its first file: the other stands at b, its first key after ab, and after no key at its first
+  pub difference-Nested : Hands difference (ofNested ∷ ofA ∷ []) (itemIs [] (indexed 5 0 ∷ []) ∷ itemIs (97 ∷ 98 ∷ []) (indexed 2 0 ∷ []) ∷ []) (2 ∷ 2 ∷ [])
+  pub difference-blank : Hands difference (ofBlank ∷ ofC ∷ []) [] (0 ∷ 1 ∷ [])
+  -- one file, each operation: A's three keys; total 3
+  pub one-file : (op : Op) → Hands op (ofA ∷ []) (itemIs a (indexed 1 0 ∷ []) ∷ itemIs b (indexed 2 0 ∷ []) ∷ itemIs d (indexed 9 0 ∷ []) ∷ []) (3 ∷ [])
   -- the same file twice: every key common, none in the symmetric difference
   pub same-file : Hands symmetric (ofA ∷ ofA ∷ []) [] (3 ∷ 3 ∷ [])
   -- the same file eight times: every key with eight values in the intersection, none in the symmetric difference
@@ -160,17 +167,32 @@ row-difference-AB : Hands difference (ofA ∷ ofB ∷ []) (itemIs b (indexed 2 0
 unfolding bytesOf commonInputsInv commonInput le headLen inputOf ntransOf sizesByte indexLen sizeOf downFrom bytesDown numbersDown transitionsOf nodeOf soundTest nodeAt findFrom firstAbove metaOf rootTest opening beforeTest pathOf seek start pop descend next stepAll leastKey insert pairsFrom useUp allLeft rounds nextItem
 row-difference-AB = refl
 
-row-one-file : Hands symmetric (ofA ∷ []) (itemIs a (indexed 1 0 ∷ []) ∷ itemIs b (indexed 2 0 ∷ []) ∷ itemIs d (indexed 9 0 ∷ []) ∷ []) (3 ∷ [])
+row-one-file : (op : Op) → Hands op (ofA ∷ []) (itemIs a (indexed 1 0 ∷ []) ∷ itemIs b (indexed 2 0 ∷ []) ∷ itemIs d (indexed 9 0 ∷ []) ∷ []) (3 ∷ [])
 unfolding bytesOf commonInputsInv commonInput le headLen inputOf ntransOf sizesByte indexLen sizeOf downFrom bytesDown numbersDown transitionsOf nodeOf soundTest nodeAt findFrom firstAbove metaOf rootTest opening beforeTest pathOf seek start pop descend next stepAll leastKey insert pairsFrom useUp allLeft rounds nextItem
-row-one-file = refl
+row-one-file union = refl
+row-one-file intersection = refl
+row-one-file difference = refl
+row-one-file symmetric = refl
+
+row-difference-Nested : Hands difference (ofNested ∷ ofA ∷ []) (itemIs [] (indexed 5 0 ∷ []) ∷ itemIs (97 ∷ 98 ∷ []) (indexed 2 0 ∷ []) ∷ []) (2 ∷ 2 ∷ [])
+unfolding bytesOf commonInputsInv commonInput le headLen inputOf ntransOf sizesByte indexLen sizeOf downFrom bytesDown numbersDown transitionsOf nodeOf soundTest nodeAt findFrom firstAbove metaOf rootTest opening beforeTest pathOf seek start pop descend next stepAll leastKey insert pairsFrom useUp allLeft rounds nextItem
+row-difference-Nested = refl
+
+row-difference-blank : Hands difference (ofBlank ∷ ofC ∷ []) [] (0 ∷ 1 ∷ [])
+unfolding bytesOf commonInputsInv commonInput le headLen inputOf ntransOf sizesByte indexLen sizeOf downFrom bytesDown numbersDown transitionsOf nodeOf soundTest nodeAt findFrom firstAbove metaOf rootTest opening beforeTest pathOf seek start pop descend next stepAll leastKey insert pairsFrom useUp allLeft rounds nextItem
+row-difference-blank = refl
 
 row-same-file : Hands symmetric (ofA ∷ ofA ∷ []) [] (3 ∷ 3 ∷ [])
 unfolding bytesOf commonInputsInv commonInput le headLen inputOf ntransOf sizesByte indexLen sizeOf downFrom bytesDown numbersDown transitionsOf nodeOf soundTest nodeAt findFrom firstAbove metaOf rootTest opening beforeTest pathOf seek start pop descend next stepAll leastKey insert pairsFrom useUp allLeft rounds nextItem
 row-same-file = refl
 
-row-after-b : totalsAfter 2 union (ofA ∷ ofB ∷ ofC ∷ []) ≡ 2 ∷ 2 ∷ 1 ∷ []
+row-after-b : totalsOf (leftAfter 2 union (ofA ∷ ofB ∷ ofC ∷ [])) ≡ 2 ∷ 2 ∷ 1 ∷ []
 unfolding bytesOf commonInputsInv commonInput le headLen inputOf ntransOf sizesByte indexLen sizeOf downFrom bytesDown numbersDown transitionsOf nodeOf soundTest nodeAt findFrom firstAbove metaOf rootTest opening beforeTest pathOf seek start pop descend next stepAll leastKey insert pairsFrom useUp allLeft rounds nextItem
 row-after-b = refl
+
+row-keys-after-b : map cardKey (leftAfter 2 union (ofA ∷ ofB ∷ ofC ∷ [])) ≡ b ∷ c ∷ b ∷ []
+unfolding bytesOf commonInputsInv commonInput le headLen inputOf ntransOf sizesByte indexLen sizeOf downFrom bytesDown numbersDown transitionsOf nodeOf soundTest nodeAt findFrom firstAbove metaOf rootTest opening beforeTest pathOf seek start pop descend next stepAll leastKey insert pairsFrom useUp allLeft rounds nextItem
+row-keys-after-b = refl
 
 row-eight-common : Hands intersection (replicate 8 ofA) (itemIs a (eight 1) ∷ itemIs b (eight 2) ∷ itemIs d (eight 9) ∷ []) (replicate 8 3)
 unfolding bytesOf commonInputsInv commonInput le headLen inputOf ntransOf sizesByte indexLen sizeOf downFrom bytesDown numbersDown transitionsOf nodeOf soundTest nodeAt findFrom firstAbove metaOf rootTest opening beforeTest pathOf seek start pop descend next stepAll leastKey insert pairsFrom useUp allLeft rounds nextItem
@@ -209,6 +231,9 @@ ops-table = record {
   one-file = row-one-file;
   same-file = row-same-file;
   after-b = row-after-b;
+  keys-after-b = row-keys-after-b;
+  difference-Nested = row-difference-Nested;
+  difference-blank = row-difference-blank;
   eight-common = row-eight-common;
   eight-even = row-eight-even;
   empty-key = row-empty-key;

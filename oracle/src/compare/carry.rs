@@ -1,24 +1,30 @@
 // Readings carried to another file (document 02, N8): to the file's conversion, where the reading is the one that the same start and calls leave there
 // and the Rust goes on with the same keys; and to any file from any reading, by the model and by ours.
 
+use super::opening::put_ends;
 use super::ranges::{describe_bound, describe_reading, junk};
 use super::{describe_file, same, Checked, Difference, Run};
 use crate::answers::{
-    Bound, Held, Kind, ReadingAnswers, END, NODE, PATTERN, POSITIONS, ROOT, SHORT, STARTED, STATE, VERSION,
+    Bound, Held, Kind, ReadingAnswers, END, LARGE, NODE, PATTERN, POSITIONS, ROOT, SHORT, STARTED, STATE, VERSION,
 };
 use crate::generate_file::{self, damage, header, medium, small};
 use crate::generate_reading::{addresses, bounds, made, some_strings, strings};
 use crate::given_file;
-use crate::model::{Model, MAX_LEN};
+use crate::model::{self, Model, MAX_LEN};
 use crate::model_carry::{self, CarryAnswers, CARRY};
 use crate::model_convert;
 use crate::model_file::{self, MAX_PATH};
 use crate::prng::Prng;
+use crate::sparse::Zeros;
 
 // Files, the readings of each, and carries from any reading to any file.
 const FILES: usize = 2_200;
 const OF_EACH: usize = 10;
 const MADE: usize = 60_000;
+// carries to foreign files of an equal shape
+const EQUAL: usize = 20_000;
+// carries of which a file is over 4,294,967,295 bytes
+const PAST: usize = 4_000;
 // calls after a carry
 const CALLS: usize = 9;
 
@@ -41,6 +47,32 @@ fn old_file(prng: &mut Prng) -> Vec<u8> {
     old.extend(&file[16..file.len() - cut]);
     let root = if old.len() == 16 { 0 } else { old.len() - 1 };
     crate::builder::whole(old, 3, root, 0)
+}
+
+// A version 2 file with as many transitions at every node as another one has, and the same bytes: some outputs are others, or some final flags.
+fn of_equal_shape(prng: &mut Prng, file: &[u8]) -> Vec<u8> {
+    let found = match model_file::admitted(file) {
+        Ok(found) => found,
+        Err(_) => return file.to_vec(),
+    };
+    let outputs = prng.one_in(2);
+    let mut new = header(2, found.meta.ty);
+    let mut moved = std::collections::HashMap::new();
+    for (addr, node, _) in found.chain.iter().rev() {
+        let mut record = model_convert::record(node, &moved);
+        if outputs && prng.one_in(3) {
+            record.outputs.iter_mut().for_each(|output| *output = (*output).max(1) - 1);
+        }
+        if !outputs && prng.one_in(3) && !record.inputs.is_empty() {
+            record.final_flag ^= 1;
+            record.final_output = 0;
+        }
+        let bytes = model::pack(&record, new.len());
+        new.extend(bytes);
+        moved.insert(*addr, new.len() - 1);
+    }
+    let root = moved.get(&found.meta.root).copied().unwrap_or(0);
+    crate::builder::whole(new, found.meta.len, root, 0)
 }
 
 // The same arrays, where nothing was carried.
@@ -206,6 +238,101 @@ impl<'a> Run<'a> {
             reading = crate::model_reading::bare_next(file, &reading, MAX_PATH).1;
         }
         Some(reading)
+    }
+
+    // A reading of the old file and, in its place, one that says another length; plain and by pattern. The old file's number is the answer, else the new one's.
+    fn to_large(&mut self, old: &[u8], new: &[u8]) -> Checked {
+        let large = |file: &[u8]| file.len() > MAX_LEN;
+        let mut reading = match self.some_reading(if large(old) { &[] } else { old }) {
+            Some(reading) => reading,
+            None => made(&mut self.prng, &[], &[0], None),
+        };
+        reading.file_len = if self.prng.one_in(4) { new.len() } else { old.len() };
+        let mut held = junk(self.prng.next());
+        held.put(&reading);
+        let positions = if self.prng.one_in(2) { Some(self.prng.pick(&[0, 3, 255, 256])) } else { None };
+        let (answer, _) = carried(self.ours_carry, old, new, positions, &held)?;
+        self.count(match (answer, large(old), large(new)) {
+            (LARGE, true, true) => "both files LARGE",
+            (LARGE, true, false) if model_file::open(new).is_err() => "old file LARGE, the new one has another number",
+            (LARGE, true, false) => "old file LARGE, the new one opens",
+            (LARGE, false, true) => "new file LARGE, the old one opens",
+            (SHORT, false, true) => "new file LARGE, the old one SHORT",
+            (VERSION, false, true) => "new file LARGE, the old one VERSION",
+            (ROOT, false, true) => "new file LARGE, the old one ROOT",
+            _ => "another answer",
+        });
+        Ok(())
+    }
+
+    // From and to files of zeros past 4,294,967,295 bytes, with a header and a trailer; the other file opens, or is refused for something else.
+    pub fn large_carries(&mut self) -> Checked {
+        const LENGTHS: [usize; 3] = [MAX_LEN + 1, MAX_LEN + 37, 1 << 33];
+        let mut zeros: Vec<Zeros<u8>> = LENGTHS.iter().map(|&len| Zeros::new(len)).collect();
+        for _ in 0..PAST / self.one_in {
+            let version = self.prng.below(5) as u64;
+            for file in &mut zeros {
+                let root = file.len() as u64 - if version == 3 { 21 } else { 17 };
+                put_ends(file, version, root);
+            }
+            let mut other = old_file(&mut self.prng);
+            match self.prng.below(4) {
+                0 => other = vec![0; self.prng.between(1, 31)],
+                1 if other.len() >= 32 => other[0] = self.prng.pick(&[0, 4, 255]),
+                2 if other.len() >= 32 => {
+                    let n = other.len();
+                    other[n - 8] ^= 1;
+                }
+                _ => {}
+            }
+            let (one, two) = (self.prng.below(zeros.len()), self.prng.below(zeros.len()));
+            match self.prng.below(3) {
+                0 => self.to_large(&zeros[one], &zeros[two])?,
+                1 => self.to_large(&zeros[one], &other)?,
+                _ => self.to_large(&other, &zeros[two])?,
+            }
+        }
+        self.require(
+            &[
+                "both files LARGE",
+                "old file LARGE, the new one has another number",
+                "old file LARGE, the new one opens",
+                "new file LARGE, the old one opens",
+                "new file LARGE, the old one SHORT",
+                "new file LARGE, the old one VERSION",
+                "new file LARGE, the old one ROOT",
+            ],
+            120,
+        )
+    }
+
+    // To a foreign file of an equal shape, from a reading that a start and calls gave: it is carried where the values on its path are the same, and what follows there
+    // is the foreign file's own.
+    fn to_equal_shape(&mut self, old: &[u8], new: &[u8]) -> Checked {
+        let foreign = of_equal_shape(&mut self.prng, new);
+        let mut held = junk(self.prng.next());
+        held.put(&match self.some_reading(old) {
+            Some(reading) => reading,
+            None => return Ok(()),
+        });
+        let (answer, _) = carried(self.ours_carry, old, &foreign, None, &held)?;
+        self.count(match answer {
+            0 if foreign != new => "a foreign file of equal shape: carried",
+            0 => "the conversion itself: carried",
+            CARRY => "a foreign file of equal shape: CARRY",
+            _ => "a foreign file of equal shape: another answer",
+        });
+        Ok(())
+    }
+
+    pub fn foreign_carries(&mut self) -> Checked {
+        for _ in 0..EQUAL / self.one_in {
+            let old = old_file(&mut self.prng);
+            if let Ok(new) = model_convert::convert(&old, MAX_LEN) {
+                self.to_equal_shape(&old, &new.file)?;
+            }
+        }
+        self.require(&["a foreign file of equal shape: carried", "a foreign file of equal shape: CARRY"], 500)
     }
 
     pub fn carries(&mut self) -> Checked {

@@ -165,7 +165,7 @@ fn read_again(
 
 // ---- the cases
 
-fn old_file(nodes: &[u8]) -> Vec<u8> {
+pub fn old_file(nodes: &[u8]) -> Vec<u8> {
     let mut file = header(1, 7);
     file.extend(nodes);
     let root = file.len() - 1;
@@ -185,7 +185,9 @@ fn wide(n: usize) -> Vec<u8> {
 }
 
 // A file by hand, with the answer where all buffers have room.
-fn rows() -> Vec<(&'static str, Vec<u8>, u64)> {
+pub fn rows() -> Vec<(&'static str, Vec<u8>, u64)> {
+    // a path of 300 bytes that the root, which leads to address 0, does not reach
+    let unreached = [&[0, 0, 0x40][..], &[0xc5; 300], &[0, 0x10, 0x85]].concat();
     let empty = crate::builder::whole(header(1, 7), 3, 0, 0);
     vec![
         ("vanished", old_file(&[0, 0, 0x40, 0, 0, 2, 0, 1, b'b', b'a', 0x11, 0x42]), 41),
@@ -198,6 +200,9 @@ fn rows() -> Vec<(&'static str, Vec<u8>, u64)> {
         ("64-transitions", wide(64), 419),
         ("255-transitions", wide(255), 801),
         ("256-transitions", wide(256), 803),
+        ("unreached-path-over-255", old_file(&unreached), 337),
+        ("sizes-larger-than-needed", old_file(&[5, 0, 0, 0, 0x22, 0x85]), 36),
+        ("form-10-where-11-will-do", old_file(&[0, 0x10, 0x85, 1, 0x10, 0x85]), 36),
         ("version-2", file_of(2, &[7, 1, 0, 0x40]), REFUSED + EDITION),
         ("version-3", file_of(3, &[7, 1, 0, 0x40]), REFUSED + EDITION),
         ("no-bytes", Vec::new(), REFUSED + EDITION),

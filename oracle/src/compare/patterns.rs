@@ -29,7 +29,7 @@ pub const PATTERNS: [&str; 7] = [
 ];
 
 // A pattern near one of these strings, and the place of its name.
-fn pattern(prng: &mut Prng, strings: &[Vec<u8>]) -> (Pattern, usize) {
+pub fn pattern(prng: &mut Prng, strings: &[Vec<u8>]) -> (Pattern, usize) {
     let n = prng.below(strings.len());
     let mut positions: Vec<u16> = strings[n].iter().map(|&b| u16::from(b)).collect();
     let name = prng.below(PATTERNS.len());

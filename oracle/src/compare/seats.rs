@@ -29,10 +29,10 @@ const WAITS: [&str; SEATS] = [
 ];
 
 // A file with its table, and strings for bounds.
-struct Source {
-    file: Vec<u8>,
-    table: Vec<u64>,
-    near: Vec<Vec<u8>>,
+pub struct Source {
+    pub file: Vec<u8>,
+    pub table: Vec<u64>,
+    pub near: Vec<Vec<u8>>,
 }
 
 impl Source {
@@ -45,7 +45,7 @@ impl Source {
     }
 
     // The seats' file: admitted, with a table as filled, and one that the Rust opens.
-    fn first(prng: &mut Prng) -> Source {
+    pub fn first(prng: &mut Prng) -> Source {
         loop {
             let file = match prng.below(12) {
                 0..=3 => medium(prng).file,
@@ -60,7 +60,7 @@ impl Source {
     }
 
     // One of another length; few do not open, or are of no bytes.
-    fn other(prng: &mut Prng, first: &Source) -> Source {
+    pub fn other(prng: &mut Prng, first: &Source) -> Source {
         loop {
             let mut file = small(prng).file;
             if prng.one_in(8) {
@@ -73,7 +73,7 @@ impl Source {
     }
 
     // Two bounds; half of the upper ones are none, so that fewer readings are at their end.
-    fn bounds(&self, prng: &mut Prng) -> (Bound, Bound) {
+    pub fn bounds(&self, prng: &mut Prng) -> (Bound, Bound) {
         let ((lower, _), (upper, _)) = bounds(prng, &self.near);
         if prng.one_in(2) {
             return (lower, Bound { kind: Kind::Unbounded, bytes: Vec::new() });

@@ -1,7 +1,8 @@
 -- `baxhiso::fst_admit` meets its contract: admission's answer is the result, and the tables are as admission left them.
 -- Assumes nothing.
 use borrow.Author.Needs.{needs}
-use Rattle.baxhiso.proofs.Results.{code-is, admit-admitted, admit-refused}
+use Rattle.baxhiso.specs.ResultLaws.{code-is}
+use Rattle.baxhiso.proofs.Results.{admit-admitted, admit-refused}
 use Rattle.baxhiso.proofs.fst_admit.Statement.{statement}
 use Rattle.baxhiso.proofs.fst_admit.Tie as tie
 

@@ -2,7 +2,8 @@
 -- Assumes nothing.
 use borrow.Author.Needs.{needs}
 use denote.Ref.{now}
-use Rattle.baxhiso.proofs.Results.{code-is, get-value, get-none, get-refused}
+use Rattle.baxhiso.specs.ResultLaws.{code-is}
+use Rattle.baxhiso.proofs.Results.{get-value, get-none, get-refused}
 use Rattle.baxhiso.proofs.fst_get.Statement.{statement}
 use Rattle.baxhiso.proofs.fst_get.Tie as tie
 

@@ -2,7 +2,8 @@
 -- Assumes nothing.
 use borrow.Author.Needs.{needs}
 use denote.Ref.{now}
-use Rattle.baxhiso.proofs.Results.{code-is, key-found, key-none, key-refused}
+use Rattle.baxhiso.specs.ResultLaws.{code-is}
+use Rattle.baxhiso.proofs.Results.{key-found, key-none, key-refused}
 use Rattle.baxhiso.proofs.fst_get_key.Statement.{statement}
 use Rattle.baxhiso.proofs.fst_get_key.Tie as tie
 

@@ -2,7 +2,8 @@
 -- Assumes nothing.
 use borrow.Author.Needs.{needs}
 use denote.Ref.{now}
-use Rattle.baxhiso.proofs.Results.{code-is, open-refused, open-opened}
+use Rattle.baxhiso.specs.ResultLaws.{code-is}
+use Rattle.baxhiso.proofs.Results.{open-refused, open-opened}
 use Rattle.baxhiso.proofs.fst_open.Statement.{statement}
 use Rattle.baxhiso.proofs.fst_open.Tie as tie
 

@@ -2,7 +2,7 @@
 -- Assumes nothing.
 use denote.Ref.{now}
 use Rattle.stream_arrays.specs.Arrays.{held}
-use Rattle.baxhiso_files.proofs.FileResults.{code-is}
+use Rattle.baxhiso.specs.ResultLaws.{code-is}
 use Rattle.baxhiso_files.proofs.CarryResults.{carry-refused, carry-carried}
 use borrow.Author.Needs.{needs}
 use Rattle.baxhiso_files.proofs.fst_carry_arrays.Statement.{statement}

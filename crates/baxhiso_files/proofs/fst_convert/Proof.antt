@@ -2,7 +2,8 @@
 -- Assumes nothing.
 use borrow.Author.Needs.{needs}
 use denote.Ref.{now}
-use Rattle.baxhiso_files.proofs.FileResults.{code-is, convert-written, convert-refused}
+use Rattle.baxhiso.specs.ResultLaws.{code-is}
+use Rattle.baxhiso_files.proofs.FileResults.{convert-written, convert-refused}
 use Rattle.baxhiso_files.proofs.fst_convert.Statement.{statement}
 use Rattle.baxhiso_files.proofs.fst_convert.Tie as tie
 

@@ -1,7 +1,7 @@
 -- `baxhiso_files::fst_pack` meets its contract: the result stands for what the packing answered, and the length is written where a file was.
 -- Assumes nothing.
 use borrow.Author.Needs.{needs}
-use Rattle.baxhiso_files.proofs.FileResults.{code-is}
+use Rattle.baxhiso.specs.ResultLaws.{code-is}
 use Rattle.baxhiso_files.proofs.PackResults.{pack-written, pack-refused}
 use Rattle.baxhiso_files.proofs.fst_pack.Statement.{statement}
 use Rattle.baxhiso_files.proofs.fst_pack.Tie as tie

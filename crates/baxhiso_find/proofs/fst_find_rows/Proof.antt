@@ -4,7 +4,9 @@ use lib.ListN.{length}
 use borrow.Author.Needs.{needs}
 use denote.Ref.{now}
 use Rattle.baxhiso_find.specs.FindArguments.{restIs}
-use Rattle.baxhiso_find.proofs.FindResults.{result-back, find-bounds, find-leaves}
+use Rattle.baxhiso.specs.ResultLaws.{result-back}
+use Rattle.baxhiso_readings.specs.RangeResultLaws.{range-leaves}
+use Rattle.baxhiso_find.proofs.FindResults.{find-bounds}
 use Rattle.baxhiso_find.proofs.fst_find_rows.Statement.{statement}
 use Rattle.baxhiso_find.proofs.fst_find_rows.Tie as tie
 
@@ -32,7 +34,7 @@ returns c =
     let called = c .before .before .before .before .before in
     let kinds = called .before .before .before in
     let x = kinds .before .before .before .before .before .before .before .before .args in
-    find-leaves
+    range-leaves
     (find-bounds (now (x .file)) (now (x .positions)) (restIs (x .rest)) (now (x .lower)) (now (x .upper)) (x .lower-kind) (x .upper-kind) (x .most)
     (length (now (x .rows))) (length (now (x .values))) (kinds .before .kind-of .ensures) (kinds .kind-of2 .ensures) (called .find .ensures))
     _ _ (result-back (c .stopped .result) (c .stopped .ok)) (c .stopped .ensures)

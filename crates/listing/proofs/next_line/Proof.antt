@@ -10,9 +10,9 @@ use Rattle.listing.proofs.next_line.Statement.{statement}
 use Rattle.listing.proofs.next_line.Tie as tie
 use Rattle.listing.proofs.next_line.Reads as reads
 use Rattle.listing.proofs.next_line.Lts as lts
-use Rattle.listing.proofs.end_line.Reads as end-line-reads
-use Rattle.listing.proofs.key_line.Reads as key-line-reads
-use Rattle.listing.proofs.refused_line.Reads as refused-line-reads
+use Rattle.listing_lines.proofs.end_line.Reads as end-line-reads
+use Rattle.listing_lines.proofs.key_line.Reads as key-line-reads
+use Rattle.listing_lines.proofs.refused_line.Reads as refused-line-reads
 use Rattle.stream_descend.proofs.counted.Reads as counted-reads
 use Rattle.stream.proofs.next.Reads as next-reads
 

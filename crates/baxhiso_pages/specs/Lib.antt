@@ -1,0 +1,2 @@
+pub mod CPages
+pub mod CPagesLaws

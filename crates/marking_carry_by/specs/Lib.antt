@@ -1,0 +1,2 @@
+pub mod CarriedRunBy
+pub mod CarriedRunByLaws

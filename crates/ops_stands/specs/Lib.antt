@@ -1,0 +1,4 @@
+pub mod OpsStands
+pub mod StandingLaws
+pub mod CardsStandLaws
+pub mod OpsStandsLaws

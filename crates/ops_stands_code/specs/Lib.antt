@@ -1,0 +1,2 @@
+pub mod CodeStands
+pub mod CodeStandsLaws

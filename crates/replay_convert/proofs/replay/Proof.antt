@@ -1,0 +1,115 @@
+-- `replay_convert::replay` is safe and ends: the file asked of lies in the list. The measure is what is left of the list.
+-- Assumes nothing.
+use mathlib.Core.Path.{sym, _∙_}
+use mathlib.Core.List.{List}
+use Prim.Native.Nat.{ℕ, _-_}
+use lib.ListN.{length}
+use denote.Ref.{now}
+use Rattle.replay_list.specs.Records.{Inside}
+use Rattle.replay_list.specs.RecordLaws.{Found, parsed-found, place-inside}
+use native.Mathlib.Omega.{arith}
+use borrow.Author.Needs.{needs}
+use Rattle.replay_convert.proofs.replay.Statement.{statement}
+use Rattle.replay_convert.proofs.replay.Tie as tie
+
+abbrev Inv-loop : tie.InvT-loop
+Inv-loop list counts₀ place₀ at₀ counts place at = Inside list place
+
+abbrev μ-loop : tie.MeasureT-loop
+μ-loop list counts₀ place₀ at₀ counts place at = length list - at
+
+-- the list, and the place where the record was parsed
+abbrev listed : tie.After-entry Inv-loop μ-loop → List ℕ
+listed q = now (q .before .before .before .before .before .before .args .list)
+
+abbrev placed : tie.After-entry Inv-loop μ-loop → ℕ
+placed q = q .before .before .before .before .loop .at
+
+-- the record lies in the list, past that place
+found : (q : tie.After-entry Inv-loop μ-loop) → Found (listed q) (placed q) (q .entry .given .0 .0)
+found q = parsed-found (sym (q .before .before .parse .ensures) ∙ q .entry .given .1)
+
+-- and so does what it is about
+inside : (q : tie.After-place-of Inv-loop μ-loop) → Inside (listed (q .before .before)) (q .place-of .result)
+inside q =
+    let parsed = q .before .before in
+    rw (q .place-of .ensures) (place-inside (found parsed .within) (parsed .before .before .before .before .loop .inv))
+
+loop-holds : tie.Need-loop-holds Inv-loop μ-loop
+loop-holds c = search needs
+
+parse-requires : tie.Need-parse-requires Inv-loop μ-loop
+parse-requires c κs = search needs
+
+enum-known-entry : tie.Need-enum-known-entry Inv-loop μ-loop
+enum-known-entry c = search needs
+
+enum-told : tie.Need-enum-told Inv-loop μ-loop
+enum-told c = search needs
+
+tally-requires : tie.Need-tally-requires Inv-loop μ-loop
+tally-requires c κs = search needs
+
+returns : tie.Need-returns Inv-loop μ-loop
+returns c = search needs
+
+-- the record lies in the list
+place-of-requires : tie.Need-place-of-requires Inv-loop μ-loop
+place-of-requires c κs = found (c .before) .within
+
+-- the file asked of ends no earlier than it starts
+sub-alike : tie.Need-sub-alike Inv-loop μ-loop
+sub-alike c = let i = inside c in search needs
+
+-- the file asked of ends no earlier than it starts
+part-alike-start : tie.Need-part-alike-start Inv-loop μ-loop
+part-alike-start c = let i = inside c in search needs
+
+-- the file asked of ends within the list
+part-alike-end : tie.Need-part-alike-end Inv-loop μ-loop
+part-alike-end c = let i = inside c in search needs
+
+-- the record lies in the list
+alike-requires : tie.Need-alike-requires Inv-loop μ-loop
+alike-requires c κs = found (c .before .before .before) .within
+
+tally-requires-2 : tie.Need-tally-requires-2 Inv-loop μ-loop
+tally-requires-2 c κs = search needs
+
+-- the record lies in the list
+end-of-requires : tie.Need-end-of-requires Inv-loop μ-loop
+end-of-requires c κs = found (c .before .before .before .before .before .before) .within
+
+-- the record ends past where it starts
+loop-less : tie.Need-loop-less Inv-loop μ-loop
+loop-less c = let f = found (c .before .before .before .before .before .before .before) in omega arith
+
+-- the file asked of lies in the list
+loop-again : tie.Need-loop-again Inv-loop μ-loop
+loop-again c = inside (c .before .before .before .before .before)
+
+returns-2 : tie.Need-returns-2 Inv-loop μ-loop
+returns-2 c = search needs
+
+pub replay-spec : {M : Type 1} → statement M
+replay-spec =
+    tie.close
+    (tie.spec
+    Inv-loop
+    μ-loop
+    loop-holds
+    parse-requires
+    enum-known-entry
+    enum-told
+    tally-requires
+    returns
+    place-of-requires
+    sub-alike
+    part-alike-start
+    part-alike-end
+    alike-requires
+    tally-requires-2
+    end-of-requires
+    loop-less
+    loop-again
+    returns-2)
