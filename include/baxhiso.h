@@ -12,7 +12,7 @@
  *
  * Each function of the library is proved to return on every input, with the result and with what each buffer holds afterwards as said
  * below (crates/baxhiso/specs/Exports.antt, crates/baxhiso_readings/specs/Readings.antt, crates/baxhiso_files/specs/Files.antt,
- * crates/baxhiso_find/specs, with the definitions of docs/FORMAT.md). Only tested, by tests/c: that these
+ * crates/baxhiso_find/specs, crates/baxhiso_seats/specs/Seats.antt, with the definitions of docs/FORMAT.md). Only tested, by tests/c: that these
  * declarations fit the library, the functions that are defined here, and NULL with length 0. The stack is not part of the proof: no function
  * calls itself, and FST_STACK_OPEN and those after it say what was measured.
  *
@@ -56,7 +56,7 @@ extern "C" {
 #define BAXHISO_VERSION       "1.0.0"
 
 /* Results. Negative: an answer that is no error. Positive: a refusal, numbered and named as in docs/FORMAT.md, "Refusals". The
- * functions below answer 1 to 9, 11, 12, 13, 15, 16 and 19; the other numbers belong to functions that are not exported. */
+ * functions below answer 1 to 9, 11, 12, 13, 15, 16, 19 and 20; the other numbers belong to functions that are not exported. */
 #define FST_OK            0
 #define FST_NONE        (-1) /* no such key or value                                                                    */
 #define FST_END         (-2) /* no more keys                                                                            */
@@ -130,6 +130,8 @@ static inline const char *fst_result_name(int result)
 #define FST_STACK_CONVERT  12288
 #define FST_STACK_PACK     8192
 #define FST_STACK_CARRY    16384
+#define FST_STACK_SEAT     4608 /* fst_clear_seats and fst_raise take less */
+#define FST_STACK_DISPATCH 32768
 
 /* What stands for the checksum of a file that has none: larger than any stored checksum. */
 #define FST_NO_CHECKSUM UINT64_C(4294967296)
@@ -391,6 +393,88 @@ static inline int32_t fst_next(const uint8_t *file, size_t file_len, fst_reading
 static inline uint64_t fst_to_come(const fst_reading *reading)
 {
     return reading->keys[0];
+}
+
+/* ---- eight seats on one index: a reading each, served in turn */
+
+#define FST_SEATS 8 /* seats 0 to 7 */
+
+/* Eight seats between two calls. It holds no pointer, and may be copied. A caller need not look into it; whatever it holds, the functions of seats
+ * read and write within it alone. */
+typedef struct fst_seats {
+    uint64_t heads[FST_SEATS][7]; /* the fields of fst_reading, a row for each seat */
+    uint64_t keys[FST_SEATS];
+    uint64_t outs[FST_SEATS][256];
+    uint32_t addrs[FST_SEATS][256];
+    uint16_t trans[FST_SEATS][256];
+    uint8_t inps[FST_SEATS][256];
+    uint8_t bounds[FST_SEATS][255];
+    uint8_t taken[FST_SEATS];   /* not 0 where the seat has a reading */
+    uint8_t waiting[FST_SEATS]; /* not 0 where the seat waits */
+    size_t last;                /* the seat served last */
+} fst_seats;
+
+/* What the functions of seats call: each field is an argument. */
+void fst_empty_seats(size_t *last, uint8_t *taken, uint8_t *waiting);
+int32_t fst_seat_arrays(size_t last, uint8_t *taken, const uint8_t *waiting, uint64_t *heads, uint8_t *bounds, uint32_t *addrs, uint8_t *inps,
+                        uint16_t *trans, uint64_t *outs, uint64_t *keys, size_t number, const uint64_t *head, const uint8_t *bound,
+                        const uint32_t *addr, const uint8_t *inp, const uint16_t *tran, const uint64_t *out, uint64_t to_come);
+int32_t fst_raise_arrays(size_t last, const uint8_t *taken, uint8_t *waiting, size_t number);
+int32_t fst_dispatch_arrays(const uint8_t *file, size_t file_len, size_t *last, const uint8_t *taken, uint8_t *waiting, uint64_t *heads,
+                            uint8_t *bounds, uint32_t *addrs, uint8_t *inps, uint16_t *trans, uint64_t *outs, uint64_t *keys,
+                            uint8_t *key, size_t key_space, size_t *seat, size_t *key_len, uint64_t *value);
+
+/* No seat has a reading and none waits; the first turn is seat 0's. To be called before the other functions of seats. */
+static inline void fst_clear_seats(fst_seats *seats)
+{
+    fst_empty_seats(&seats->last, seats->taken, seats->waiting);
+}
+
+/* The seat holds a copy of this reading from now on, also where it held another; its request stays as it was.
+ *
+ *   number    the seat, 0 to 7
+ *   reading   as fst_start or fst_next left it, or any other; only read
+ *
+ * Returns FST_ERR_SEAT for a number over 7, and for seats of which the one served last is over 7 or one waits without a reading; then nothing is
+ * written. Else FST_OK. */
+static inline int32_t fst_seat(fst_seats *seats, size_t number, const fst_reading *reading)
+{
+    return fst_seat_arrays(seats->last, seats->taken, seats->waiting, seats->heads[0], seats->bounds[0], seats->addrs[0], seats->inps[0],
+                           seats->trans[0], seats->outs[0], seats->keys, number, reading->head, reading->bound, reading->addrs, reading->inps,
+                           reading->trans, reading->outs, reading->keys[0]);
+}
+
+/* The seat waits from now on; raising again changes nothing.
+ *
+ * Returns FST_ERR_SEAT as fst_seat, and for a seat that has no reading; then nothing is written. Else FST_OK. */
+static inline int32_t fst_raise(fst_seats *seats, size_t number)
+{
+    return fst_raise_arrays(seats->last, seats->taken, seats->waiting, number);
+}
+
+/* Serves one waiting seat with one call of its reading, as fst_next: the first that waits after the seat served last, around the eight. It waits no
+ * more afterwards, and no other seat changes.
+ *
+ *   file, file_len   the file that the readings were started on
+ *   seats            left as they were on FST_NONE and on a refusal
+ *   key, key_space   on FST_OK the key stands from key[0] on, and the bytes after it are left as they were; on any other result
+ *                    all bytes are left as they were. At least FST_KEY_SPACE bytes
+ *   seat             which was served, on FST_OK and FST_END; left as it was on any other result
+ *   key_len, value   the key's length, 0 to 255, and its value, on FST_OK; left as they were on any other result
+ *
+ * Returns FST_ERR_SEAT for seats of which the one served last is over 7 or one waits without a reading. Then FST_NONE where none waits: neither the
+ * file nor the key buffer is judged. Then what fst_next returns for the reading of the seat whose turn it is: FST_OK, FST_END or a refusal.
+ *
+ * A waiting seat is served within eight dispatches that are not refused, whatever the others raise. A refused dispatch changes nothing, the turn
+ * neither: a seat whose reading is refused again and again, one of another file say, keeps its turn and holds the others up. The remedy is to seat
+ * another reading there. Which seat it is the refusal does not say: it is the first that waits after the seat served last.
+ *
+ * Two threads may not call the functions of seats on one fst_seats at the same time. */
+static inline int32_t fst_dispatch(const uint8_t *file, size_t file_len, fst_seats *seats, uint8_t *key, size_t key_space,
+                                   size_t *seat, size_t *key_len, uint64_t *value)
+{
+    return fst_dispatch_arrays(file, file_len, &seats->last, seats->taken, seats->waiting, seats->heads[0], seats->bounds[0], seats->addrs[0],
+                               seats->inps[0], seats->trans[0], seats->outs[0], seats->keys, key, key_space, seat, key_len, value);
 }
 
 /* ---- files written */

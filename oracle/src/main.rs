@@ -89,6 +89,7 @@ mod wrong_marks;
 mod wrong_pack;
 mod wrong_range;
 mod wrong_reading;
+mod wrong_seats;
 
 use std::process;
 
@@ -373,7 +374,7 @@ fn self_test() -> bool {
             }
         }
     }
-    self_test_packs() && self_test_range() && self_test_conversions() && self_test_carries() && self_test_marks()
+    self_test_packs() && self_test_range() && self_test_conversions() && self_test_carries() && self_test_marks() && self_test_seats()
 }
 
 // The part with no slip agrees, and with each of its slips it does not; a slip is made by `with`.
@@ -451,21 +452,18 @@ fn self_test_range() -> bool {
 
 // The same of marks.
 fn self_test_marks() -> bool {
-    let in_small = |ours: &dyn MarkAnswers| Run::new((None, None, None), 100).marking(Some(ours)).by_marks(false);
-    if let Err(difference) = in_small(&model::Model) {
-        report(&difference);
-        return false;
-    }
-    for &slip in wrong_marks::SLIPS {
-        match in_small(&wrong_marks::WrongMarks { slip }) {
-            Err(difference) => println!("noticed: {}  ({})", slip, difference.what),
-            Ok(()) => {
-                println!("oracle: not noticed: {}", slip);
-                return false;
-            }
-        }
-    }
-    true
+    each_noticed(wrong_marks::SLIPS, |slip| {
+        let wrong = wrong_marks::WrongMarks { slip };
+        Run::new((None, None, None), 100).marking(Some(&wrong)).by_marks(false)
+    })
+}
+
+// The same of seats.
+fn self_test_seats() -> bool {
+    each_noticed(wrong_seats::SLIPS, |slip| {
+        let wrong = wrong_seats::WrongSeats { slip };
+        Run::new((None, None, None), 20).seating(Some(&wrong)).by_seats(false)
+    })
 }
 
 #[cfg(timed)]
@@ -525,6 +523,7 @@ fn main() {
             Some("convert") => self_test_conversions(),
             Some("carry") => self_test_carries(),
             Some("marks") => self_test_marks(),
+            Some("seats") => self_test_seats(),
             _ => self_test(),
         },
         Some("record") => record(&args[2..]),

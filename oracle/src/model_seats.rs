@@ -44,20 +44,20 @@ pub trait SeatAnswers {
 }
 
 #[derive(Clone)]
-struct Seat {
-    taken: bool,
-    waiting: bool,
-    reading: Reading,
+pub struct Seat {
+    pub taken: bool,
+    pub waiting: bool,
+    pub reading: Reading,
 }
 
-struct Seats {
-    last: usize,
-    seats: Vec<Seat>,
+pub struct Seats {
+    pub last: usize,
+    pub seats: Vec<Seat>,
 }
 
 impl Seats {
     // The reading of an empty seat says nothing.
-    fn new() -> Seats {
+    pub fn new() -> Seats {
         let reading = Reading {
             file_len: 0,
             kind: Kind::Unbounded,
@@ -72,11 +72,11 @@ impl Seats {
         Seats { last: SEATS - 1, seats: vec![Seat { taken: false, waiting: false, reading }; SEATS] }
     }
 
-    fn right(&self) -> bool {
+    pub fn right(&self) -> bool {
         self.last < SEATS && self.seats.iter().all(|seat| seat.taken || !seat.waiting)
     }
 
-    fn total(&self, number: usize) -> u64 {
+    pub fn total(&self, number: usize) -> u64 {
         self.seats.get(number).map_or(0, |seat| seat.reading.total)
     }
 
@@ -104,7 +104,7 @@ impl Seats {
         said
     }
 
-    fn event(&mut self, file: Tabled, other: Tabled, event: &Event) -> (Said, u64) {
+    pub fn event(&mut self, file: Tabled, other: Tabled, event: &Event) -> (Said, u64) {
         let named = |is_other: bool| if is_other { other } else { file };
         match *event {
             Event::Seat { number, other, ref lower, ref upper } => {

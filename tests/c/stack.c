@@ -31,6 +31,8 @@ static size_t targets[FST_PACK_TABLE];
 /* ax: 1, bx: 3, e: 4; the node behind a is found again behind b */
 static const uint8_t pairs[] = { 3, 0, 0, 0, 5, 0, 0, 0, 2, 0, 0, 0, 4, 0, 0, 0, 5, 0, 0, 0, 1, 0, 0, 0, 0, 0, 0, 0, 3, 0, 0, 0, 0, 0, 0, 0, 4, 0, 0, 0, 0, 0, 0, 0, 'a', 'x', 'b', 'x', 'e' };
 static fst_reading reading;
+static fst_seats seats;
+static size_t seat;
 static fst_row rows[8];
 static uint64_t values[8];
 static uint8_t key[FST_KEY_SPACE], bound_key[] = { 'a', 't' };
@@ -52,6 +54,9 @@ static void call_find(void) { fst_find(file, file_len, positions, 2, 0, NULL, &b
 static void call_convert(void) { fst_convert(file, file_len, depths, file_len, sums, file_len, out, sizeof out, table, file_len, &len); }
 static void call_pack(void) { fst_pack(pairs, sizeof pairs, out, 100, cells, 64, inputs, FST_PACK_TABLE, leasts, FST_PACK_TABLE, targets, FST_PACK_TABLE, &len); }
 static void call_carry(void) { fst_carry(file, file_len, file, file_len, &reading); }
+
+static void call_seat(void) { fst_seat(&seats, 3, &reading); fst_raise(&seats, 3); }
+static void call_dispatch(void) { fst_dispatch(file, file_len, &seats, key, sizeof key, &seat, &len, &value); }
 
 static void (*to_call)(void);
 static size_t used;
@@ -91,6 +96,7 @@ int main(int argc, char **argv)
         { "fst_admit", call_admit, FST_STACK_ADMIT }, { "fst_count", call_count, FST_STACK_COUNT }, { "fst_start", call_start, FST_STACK_START },
         { "fst_next", call_next, FST_STACK_NEXT },    { "fst_range", call_range, FST_STACK_RANGE },   { "fst_find", call_find, FST_STACK_FIND },
         { "fst_convert", call_convert, FST_STACK_CONVERT }, { "fst_pack", call_pack, FST_STACK_PACK },       { "fst_carry", call_carry, FST_STACK_CARRY },
+        { "fst_seat", call_seat, FST_STACK_SEAT },    { "fst_dispatch", call_dispatch, FST_STACK_DISPATCH },
     };
     size_t most[sizeof functions / sizeof *functions] = { 0 };
     int differences = 0;
@@ -105,6 +111,7 @@ int main(int argc, char **argv)
         if (file_len == sizeof file)
             continue;
         memset(counts, 0, sizeof counts);
+        fst_clear_seats(&seats);
         for (int again = 0; again < 3; again++) {
             for (size_t f = 0; f < sizeof functions / sizeof *functions; f++) {
                 size_t n = taken(functions[f].call);

@@ -1,0 +1,2 @@
+pub mod SeatCCalls
+pub mod SeatCCallsLaws

@@ -1,0 +1,2 @@
+pub mod SeatArrays
+pub mod SeatArraysLaws
