@@ -40,6 +40,7 @@ mod stored;
 
 pub use self::convert::{old_file, rows as conversion_rows};
 pub use self::counting::{filled, followed};
+pub use self::patterns::pattern_near;
 
 pub struct Difference {
     pub what: String,

@@ -77,6 +77,7 @@ mod replay;
 mod replay_convert;
 mod replay_file;
 mod replay_list;
+mod replay_pattern;
 mod replay_reading;
 mod replay_rows;
 mod sparse;
@@ -335,9 +336,9 @@ fn compare_long() -> bool {
     }
 }
 
-// The replay lists, of nodes, of whole files, of readings and of conversions, each with how many of each kind it has.
+// The replay lists, of nodes, of whole files, of readings, of conversions and of readings by pattern, each with how many of each kind it has.
 fn recorded() -> Vec<(Vec<u8>, Vec<(&'static str, usize)>)> {
-    vec![replay::list(), replay_file::list(), replay_reading::list(), replay_convert::list()]
+    vec![replay::list(), replay_file::list(), replay_reading::list(), replay_convert::list(), replay_pattern::list()]
 }
 
 // The whole comparison in small, or that of readings alone, with these in our library's place.

@@ -1,2 +1,3 @@
 pub mod FindArguments
 pub mod FindLaws
+pub mod NonzeroLaws

@@ -59,6 +59,11 @@ pub fn pattern(prng: &mut Prng, strings: &[Vec<u8>]) -> (Pattern, usize) {
     (Pattern { positions, rest: prng.one_in(3) }, name)
 }
 
+// The same without its name, for the replay list.
+pub fn pattern_near(prng: &mut Prng, strings: &[Vec<u8>]) -> Pattern {
+    pattern(prng, strings).0
+}
+
 fn describe_pattern(pattern: &Pattern) -> String {
     format!("pattern {:?}, any rest {}", pattern.positions, pattern.rest)
 }
