@@ -33,6 +33,8 @@ static const uint8_t pairs[] = { 3, 0, 0, 0, 5, 0, 0, 0, 2, 0, 0, 0, 4, 0, 0, 0,
 static fst_reading reading;
 static fst_row rows[8];
 static uint64_t values[8];
+static uint8_t item_counts[8], numbers[8][FST_FILES];
+static uint64_t item_values[8][FST_FILES];
 static uint8_t key[FST_KEY_SPACE], bound_key[] = { 'a', 't' };
 static size_t len;
 static uint64_t value;
@@ -50,6 +52,17 @@ static void call_range(void) { fst_range(file, file_len, NULL, &bound, 8, rows, 
 static void call_convert(void) { fst_convert(file, file_len, depths, file_len, sums, file_len, out, sizeof out, table, file_len, &len); }
 static void call_pack(void) { fst_pack(pairs, sizeof pairs, out, 100, cells, 64, inputs, FST_PACK_TABLE, leasts, FST_PACK_TABLE, targets, FST_PACK_TABLE, &len); }
 static void call_carry(void) { fst_carry(file, file_len, file, file_len, &reading); }
+
+static void call_items(void)
+{
+    const fst_file one = { file, file_len };
+    const fst_file files[FST_FILES] = { one, one, one, one, one, one, one, one };
+    fst_items(FST_UNION, files, FST_FILES, NULL, &bound, 8, rows, item_counts, numbers, item_values, &len);
+    fst_items(FST_UNION, files, 2, &bound, NULL, 8, rows, item_counts, numbers, item_values, &len);
+    /* an operation that passes over every key would not end where a few hundred bytes hold 2^60 keys */
+    for (uint64_t op = FST_INTERSECTION; file_len <= 64 && op <= FST_SYMMETRIC_DIFFERENCE; op++)
+        fst_items(op, files, FST_FILES, NULL, NULL, 8, rows, item_counts, numbers, item_values, &len);
+}
 
 static void (*to_call)(void);
 static size_t used;
@@ -89,6 +102,7 @@ int main(int argc, char **argv)
         { "fst_admit", call_admit, FST_STACK_ADMIT }, { "fst_count", call_count, FST_STACK_COUNT }, { "fst_start", call_start, FST_STACK_START },
         { "fst_next", call_next, FST_STACK_NEXT },    { "fst_range", call_range, FST_STACK_RANGE },
         { "fst_convert", call_convert, FST_STACK_CONVERT }, { "fst_pack", call_pack, FST_STACK_PACK },       { "fst_carry", call_carry, FST_STACK_CARRY },
+        { "fst_items", call_items, FST_STACK_ITEMS },
     };
     size_t most[sizeof functions / sizeof *functions] = { 0 };
     int differences = 0;
