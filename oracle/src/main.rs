@@ -21,6 +21,8 @@ mod answers;
 #[cfg(timed)]
 mod bench;
 #[cfg(timed)]
+mod bench_ops;
+#[cfg(timed)]
 mod bench_pack;
 #[cfg(timed)]
 mod bench_pattern;
@@ -387,6 +389,10 @@ fn self_test_range() -> bool {
 fn bench() -> bool {
     if std::env::args().nth(1).as_deref() == Some("pack") {
         bench_pack::bench(&ours::Library);
+        return true;
+    }
+    if std::env::args().nth(1).as_deref() == Some("ops") {
+        bench_ops::bench();
         return true;
     }
     bench::bench(&ours::Library, &ours::Library, &ours::Library, &ours::Library);
