@@ -11,14 +11,15 @@
  * it. Every file may be handed in, admitted or not, damaged or not.
  *
  * Each function of the library is proved to return on every input, with the result and with what each buffer holds afterwards as said
- * below (crates/baxhiso/specs/Exports.antt and Readings.antt, crates/baxhiso_files/specs/Files.antt, with the definitions of docs/FORMAT.md). Only tested, by tests/c: that these
+ * below (crates/baxhiso/specs/Exports.antt and Readings.antt, crates/baxhiso_files/specs/Files.antt, crates/baxhiso_ops/specs/Items.antt, with the definitions of docs/FORMAT.md). Only tested, by tests/c: that these
  * declarations fit the library, the functions that are defined here, and NULL with length 0. The stack is not part of the proof: no function
  * calls itself, and FST_STACK_OPEN and those after it say what was measured.
  *
- * Tables, lent by the caller: admission takes 10 bytes for each byte of the file, the table of keys 8 more. fst_get, fst_get_key and fst_range
- * take none, fst_start the table of keys. Work of a call: fst_open looks at no node, fst_get at one more than the key has bytes at most, fst_get_key
+ * Tables, lent by the caller: admission takes 10 bytes for each byte of the file, the table of keys 8 more. fst_get, fst_get_key, fst_range and
+ * fst_items take none, fst_start the table of keys. Work of a call: fst_open looks at no node, fst_get at one more than the key has bytes at most, fst_get_key
  * at 256, fst_next at 511 (the levels it comes up by and those it goes down by), fst_start at 256 a bound, fst_range
- * at 256 for the lower bound and at 511 for each key and once more; fst_admit and fst_count pass over all nodes a fixed number of times.
+ * at 256 for the lower bound and at 511 for each key and once more, fst_items the same in each file, and there for the keys too that do not belong to the
+ * operation, however many they are; fst_admit and fst_count pass over all nodes a fixed number of times.
  *
  * Admit a file when it is loaded, with two lent tables of an entry for each byte; then each answer by key, and each range, is exact:
  *

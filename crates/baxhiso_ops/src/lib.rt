@@ -90,7 +90,18 @@ pub extern "C" fn fst_items_rows<'a>(
     let to = kind_of(upper_kind);
     let files = [a, b, c, d, e, f, g, h];
     let paged = ops_page::items(
-        operation, count, files, from, lower, to, upper, most, rows, counts, numbers, values,
+        operation,
+        count,
+        files,
+        from,
+        lower,
+        to,
+        upper,
+        most,
+        rows,
+        counts,
+        numbers,
+        values,
     );
     *found = paged.count;
     let stop = paged.stop;

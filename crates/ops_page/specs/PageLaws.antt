@@ -103,7 +103,6 @@ filling-none fs op n all most rows counts numbers values =
 
 module _ {w : ItemPage} {fs : List (List ℕ)} {op : O.Op} {n : ℕ} {all : List Card} {most : ℕ} {rows₀ rows counts₀ counts numbers₀ numbers values₀ values : List ℕ} {done : ℕ}
     (f : Filling w fs op n all most rows₀ rows counts₀ counts numbers₀ numbers values₀ values done) where
-
   -- the page stops with the items that are written
   stops : (why : G.Stop) → w ≡ itemPage (f .items) why
       → PagedBy w rows₀ rows counts₀ counts numbers₀ numbers values₀ values (record { count = done; stop = stopAs why })

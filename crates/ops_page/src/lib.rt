@@ -124,9 +124,7 @@ fn items_from(
     let cards = started.cards;
     match answer {
         Begins::Refused(why) => refused(why),
-        Begins::Began => fill(
-            files, op, count, cards, most, rows, counts, numbers, values,
-        ),
+        Begins::Began => fill(files, op, count, cards, most, rows, counts, numbers, values),
     }
 }
 
@@ -165,6 +163,17 @@ pub fn items(
         return refused(SPACE);
     }
     items_from(
-        op, count, files, lower_kind, lower, upper_kind, upper, most, rows, counts, numbers, values,
+        op,
+        count,
+        files,
+        lower_kind,
+        lower,
+        upper_kind,
+        upper,
+        most,
+        rows,
+        counts,
+        numbers,
+        values,
     )
 }
