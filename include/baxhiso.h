@@ -12,14 +12,15 @@
  *
  * Each function of the library is proved to return on every input, with the result and with what each buffer holds afterwards as said
  * below (crates/baxhiso/specs/Exports.antt, crates/baxhiso_readings/specs/Readings.antt, crates/baxhiso_files/specs/Files.antt,
- * crates/baxhiso_find/specs, crates/baxhiso_seats/specs/Seats.antt, with the definitions of docs/FORMAT.md). Only tested, by tests/c: that these
- * declarations fit the library, the functions that are defined here, and NULL with length 0. The stack is not part of the proof: no function
- * calls itself, and FST_STACK_OPEN and those after it say what was measured.
+ * crates/baxhiso_find/specs, crates/baxhiso_seats/specs/Seats.antt, crates/baxhiso_ops/specs/Items.antt, with the definitions of docs/FORMAT.md).
+ * Only tested, by tests/c: that these declarations fit the library, the functions that are defined here, and NULL with length 0. The stack is not part
+ * of the proof: no function calls itself, and FST_STACK_OPEN and those after it say what was measured.
  *
- * Tables, lent by the caller: admission takes 10 bytes for each byte of the file, the table of keys 8 more. fst_get, fst_get_key, fst_range and fst_find
- * take none, fst_start the table of keys. Work of a call: fst_open looks at no node, fst_get at one more than the key has bytes at most, fst_get_key
+ * Tables, lent by the caller: admission takes 10 bytes for each byte of the file, the table of keys 8 more. fst_get, fst_get_key, fst_range, fst_find and
+ * fst_items take none, fst_start the table of keys. Work of a call: fst_open looks at no node, fst_get at one more than the key has bytes at most, fst_get_key
  * at 256, fst_next at 511 (the levels it comes up by and those it goes down by), fst_start at 256 a bound, fst_range
- * at 256 for the lower bound and at 511 for each key and once more; fst_admit and fst_count pass over all nodes a fixed number of times. fst_find has no such
+ * at 256 for the lower bound and at 511 for each key and once more, fst_items the same in each file, and there for the keys too that do not belong to the
+ * operation, however many they are; fst_admit and fst_count pass over all nodes a fixed number of times. fst_find has no such
  * bound: on an admitted file a page looks at three nodes at most for each string that begins a held key, lies between the bounds and, less its last byte, fits
  * the pattern's start, and at 520 more.
  *
@@ -56,7 +57,7 @@ extern "C" {
 #define BAXHISO_VERSION       "1.0.0"
 
 /* Results. Negative: an answer that is no error. Positive: a refusal, numbered and named as in docs/FORMAT.md, "Refusals". The
- * functions below answer 1 to 9, 11, 12, 13, 15, 16, 19 and 20; the other numbers belong to functions that are not exported. */
+ * functions below answer 1 to 9, 11 to 16, 19 and 20; the other numbers belong to functions that are not exported. */
 #define FST_OK            0
 #define FST_NONE        (-1) /* no such key or value                                                                    */
 #define FST_END         (-2) /* no more keys                                                                            */
@@ -132,6 +133,7 @@ static inline const char *fst_result_name(int result)
 #define FST_STACK_CARRY    16384
 #define FST_STACK_SEAT     4608 /* fst_clear_seats and fst_raise take less */
 #define FST_STACK_DISPATCH 32768
+#define FST_STACK_ITEMS    720896
 
 /* What stands for the checksum of a file that has none: larger than any stored checksum. */
 #define FST_NO_CHECKSUM UINT64_C(4294967296)
@@ -553,6 +555,67 @@ static inline int32_t fst_carry(const uint8_t *old_file, size_t old_len, const u
 {
     return fst_carry_arrays(old_file, old_len, new_file, new_len, reading->head, reading->bound, reading->addrs, reading->inps, reading->trans,
                             reading->outs, reading->keys[0]);
+}
+
+/* ---- several files as one: their keys merged, the least first, a page a call */
+
+#define FST_UNION                0 /* the keys that a file holds                        */
+#define FST_INTERSECTION         1 /* those that every file holds                       */
+#define FST_DIFFERENCE           2 /* those that the first file holds and no other does */
+#define FST_SYMMETRIC_DIFFERENCE 3 /* those that an odd number of files hold; as any other number */
+
+#define FST_FILES 8 /* the most files of an operation */
+
+/* A whole file. */
+typedef struct fst_file {
+    const uint8_t *bytes; /* may be NULL where len is 0 */
+    size_t len;
+} fst_file;
+
+/* What fst_items calls: eight files, of which the first count are looked at. */
+int32_t fst_items_rows(uint64_t op, size_t count,
+                       const uint8_t *a, size_t a_len, const uint8_t *b, size_t b_len, const uint8_t *c, size_t c_len, const uint8_t *d, size_t d_len,
+                       const uint8_t *e, size_t e_len, const uint8_t *f, size_t f_len, const uint8_t *g, size_t g_len, const uint8_t *h, size_t h_len,
+                       uint64_t lower_kind, const uint8_t *lower, size_t lower_len, uint64_t upper_kind, const uint8_t *upper, size_t upper_len,
+                       size_t most, uint8_t *rows, size_t rows_len, uint8_t *counts, size_t counts_len,
+                       uint8_t *numbers, size_t numbers_len, uint64_t *values, size_t values_len, size_t *found);
+
+/* Up to so many items of an operation over several files, the least key first: each a key, with its value in every file that holds it.
+ *
+ *   op               FST_UNION to FST_SYMMETRIC_DIFFERENCE
+ *   files, count     the files, 1 to 8
+ *   lower, upper     the bounds, the same for all files; NULL is unbounded
+ *   most             how many items at most
+ *   rows, counts, numbers, values   at least so many of each: row i holds a key, counts[i] says how many files hold it, and the first so many of
+ *                    numbers[i] and values[i] are these files' places in files, from 0, and the key's values there, by value and then by file;
+ *                    those behind them are 0
+ *   found            how many items were found: 0 to most, on every result
+ *
+ * Of the first found rows the bytes after the key are left as they were; everything from found on is left as it was.
+ *
+ * Returns FST_ERR_CARDS for a count of 0 or over 8, then FST_ERR_SPACE where so many rows would pass the address space, then for each file in turn what
+ * fst_range answers before its first key; all with no item. Then FST_END where fewer items are left than were asked for, and so none is left; FST_MORE
+ * where there were as many; or what a file met after found items: FST_ERR_NODE, FST_ERR_DEEP, FST_ERR_SUM, or FST_ERR_STATE at the 2^64th key of a file.
+ *
+ * On files that fst_count counts, FST_END or FST_MORE comes, unless a bound is too long: the rows are the first keys that belong to the operation, each
+ * with all its values. The next page is asked for with the last key as an excluded lower bound. Nothing is kept between the calls, and no table is lent. */
+static inline int32_t fst_items(uint64_t op, const fst_file *files, size_t count, const fst_bound *lower, const fst_bound *upper,
+                                size_t most, fst_row *rows, uint8_t *counts, uint8_t (*numbers)[FST_FILES], uint64_t (*values)[FST_FILES],
+                                size_t *found)
+{
+    const fst_bound none = { FST_UNBOUNDED, NULL, 0 };
+    const fst_bound lo = lower == NULL ? none : *lower;
+    const fst_bound hi = upper == NULL ? none : *upper;
+    fst_file f[FST_FILES] = { { NULL, 0 }, { NULL, 0 }, { NULL, 0 }, { NULL, 0 }, { NULL, 0 }, { NULL, 0 }, { NULL, 0 }, { NULL, 0 } };
+    size_t i;
+    for (i = 0; i < count && i < FST_FILES; i++) {
+        f[i] = files[i];
+    }
+    return fst_items_rows(op, count, f[0].bytes, f[0].len, f[1].bytes, f[1].len, f[2].bytes, f[2].len, f[3].bytes, f[3].len,
+                          f[4].bytes, f[4].len, f[5].bytes, f[5].len, f[6].bytes, f[6].len, f[7].bytes, f[7].len,
+                          (uint64_t)lo.kind, lo.key, lo.len, (uint64_t)hi.kind, hi.key, hi.len,
+                          most, (uint8_t *)rows, most * sizeof *rows, counts, most,
+                          (uint8_t *)numbers, most * FST_FILES, (uint64_t *)values, most * FST_FILES, found);
 }
 
 #ifdef __cplusplus

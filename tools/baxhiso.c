@@ -1,7 +1,7 @@
 /* baxhiso.c: asks an index file for keys and values, and writes new ones, through the C interface and nothing else (./baxhiso --help).
  *
  * A file is read whole, and admitted before it is asked: from then on each answer is exact (include/baxhiso.h). The keys of a range
- * come in pages, and the next page starts after the last key of the one before.
+ * come in pages, and the next page starts after the last key of the one before; so do the items of several files.
  */
 #define _POSIX_C_SOURCE 200809L
 #include <errno.h>
@@ -21,7 +21,7 @@ enum { FOUND = 0, NONE = 1, TROUBLE = 2, REFUSED = 3, READER_GONE = 141 };
 enum { PAGE = 256 };
 
 static const char usage_line[] =
-    "usage: baxhiso get FILE KEY | key FILE NUMBER | range FILE [BOUNDS] [--limit N] | find FILE PATTERN [BOUNDS] [--limit N] | list FILE | count FILE [BOUNDS] | check FILE | info FILE | convert OLD NEW | pack LIST NEW\n";
+    "usage: baxhiso get FILE KEY | key FILE NUMBER | range FILE [BOUNDS] [--limit N] | find FILE PATTERN [BOUNDS] [--limit N] | list FILE | count FILE [BOUNDS] | check FILE | info FILE | convert OLD NEW | pack LIST NEW | union|intersection|difference|symmetric-difference FILE... [BOUNDS] [--limit N]\n";
 
 static const char help_text[] =
     "\n"
@@ -39,6 +39,8 @@ static const char help_text[] =
     "    info FILE          what header and trailer say: size, version, type, keys, root, checksum; read, not judged\n"
     "    convert OLD NEW    a file of version 1 brought to version 2: the same keys and values, and an index in wide nodes\n"
     "    pack LIST NEW      a file of your own: each line of LIST has a key, a tab and a number, in any order, no key twice\n"
+    "    union FILE...      of one to eight files the keys that one holds; intersection: that all hold; difference: that the first\n"
+    "                       holds and no other; symmetric-difference: that an odd number hold; bounds and --limit as for range\n"
     "\n"
     "FILE, OLD and LIST may be -, for standard input. It is admitted first, whole; only info opens it and looks no further. A file has at most\n"
     "4294967295 bytes; admission takes 10 bytes of memory for each, counting 18, converting 14 and two for the new file.\n"
@@ -55,7 +57,8 @@ static const char help_text[] =
     "    at             a key, if each byte prints (20 to 7e) and it does not begin with --\n"
     "    --hex 00ff     any other key, as it may be given back; the empty key is --hex ''\n"
     "    at 3           a key and its value, of range, find and list\n"
-    "    none           no such key or value, no key between the bounds, or none of them fits\n"
+    "    at 3@0 7@2     a key and its value in each file that holds it, the files counted from 0, by value and then by file\n"
+    "    none           no such key or value, no key between the bounds, or none of them fits or belongs to the operation\n"
     "    size 41        the bytes of the new file\n"
     "    refused 5      the file is not admitted; the refusal's name is on standard error (docs/FORMAT.md, \"Refusals\"), for check beside it\n"
     "\n"
@@ -800,6 +803,72 @@ static int do_range(const options *o, const card *c)
     return FOUND;
 }
 
+/* ---- several files as one, by pages */
+
+/* A key with its value in each file that holds it. */
+static void put_item(const options *o, const fst_row *row, size_t count, const uint8_t *numbers, const uint64_t *values)
+{
+    put_text(o->json ? "{" : "");
+    if (o->json) {
+        put_json_key(o, row->key, row->len);
+    } else {
+        put_key(o, row->key, row->len);
+    }
+    put_text(o->json ? ",\"values\":[" : "");
+    for (size_t i = 0; i < count; i++) {
+        put_text(!o->json ? " " : i == 0 ? "{\"value\":\"" : ",{\"value\":\"");
+        put_number(values[i]);
+        put_text(o->json ? "\",\"file\":" : "@");
+        put_number(numbers[i]);
+        put_text(o->json ? "}" : "");
+    }
+    put_text(o->json ? "]}\n" : "\n");
+}
+
+static int do_items(const options *o, uint64_t op, const fst_file *files, size_t n)
+{
+    static fst_row rows[PAGE];
+    static uint8_t counts[PAGE], numbers[PAGE][FST_FILES];
+    static uint64_t values[PAGE][FST_FILES];
+    size_t count;
+    fst_bound lower = o->lower == NULL ? (fst_bound){ FST_UNBOUNDED, NULL, 0 } : *o->lower;
+    uint8_t last[FST_KEY_SPACE];
+    uint64_t left = o->limit == 0 ? UINT64_MAX : o->limit;
+    int found = 0, to_screen = isatty(STDOUT_FILENO);
+    int32_t result = FST_MORE;
+    now_doing(to_screen ? "" : "listing, ");
+    while (result == FST_MORE && left > 0) {
+        size_t most = left < PAGE ? (size_t)left : PAGE;
+        result = fst_items(op, files, n, &lower, o->upper, most, rows, counts, numbers, values, &count);
+        if (to_screen || !found) {
+            hide_progress();
+            now_doing(to_screen ? "" : "listing, ");
+        }
+        for (size_t i = 0; i < count; i++) {
+            put_item(o, &rows[i], counts[i], numbers[i], values[i]);
+        }
+        if (to_screen) {
+            flush_out();
+        }
+        if (count > 0) {
+            /* the next page starts after the last key of this one */
+            found = 1;
+            memcpy(last, rows[count - 1].key, rows[count - 1].len);
+            lower = (fst_bound){ FST_EXCLUDED, last, rows[count - 1].len };
+        }
+        left -= count;
+    }
+    if (result > 0) {
+        return refused(o, result, 0);
+    }
+    if (!found) {
+        return none(o, "");
+    }
+    flush_out();
+    hide_progress();
+    return FOUND;
+}
+
 /* ---- arguments */
 
 /* Reads a decimal number; 0 where it is none, or passes 2^64 - 1. strtoull would take a sign, blanks and a tail. */
@@ -889,17 +958,42 @@ static int pattern(const char *word, options *o)
     return 1;
 }
 
-enum { GET, KEY, RANGE, FIND, LIST, COUNT, CHECK, INFO, CONVERT, PACK, COMMANDS };
+/* The last four stand in the order of FST_UNION to FST_SYMMETRIC_DIFFERENCE. */
+enum { GET, KEY, RANGE, FIND, LIST, COUNT, CHECK, INFO, CONVERT, PACK, UNION, INTERSECTION, DIFFERENCE, SYMMETRIC_DIFFERENCE, COMMANDS };
 
 static const struct {
     const char *name;
-    int words; /* after the name */
+    int least, most; /* words after the name */
     int bounds, limit, keys;
 } commands[COMMANDS] = {
-    { "get", 2, 0, 0, 1 },   { "key", 2, 0, 0, 1 },   { "range", 1, 1, 1, 1 }, { "find", 2, 1, 1, 1 }, { "list", 1, 0, 0, 1 },
-    { "count", 1, 1, 0, 1 }, { "check", 1, 0, 0, 0 }, { "info", 1, 0, 0, 0 },  { "convert", 2, 0, 0, 0 },
-    { "pack", 2, 0, 0, 1 },
+    { "get", 2, 2, 0, 0, 1 },   { "key", 2, 2, 0, 0, 1 },   { "range", 1, 1, 1, 1, 1 }, { "find", 2, 2, 1, 1, 1 },
+    { "list", 1, 1, 0, 0, 1 },
+    { "count", 1, 1, 1, 0, 1 }, { "check", 1, 1, 0, 0, 0 }, { "info", 1, 1, 0, 0, 0 },  { "convert", 2, 2, 0, 0, 0 },
+    { "pack", 2, 2, 0, 0, 1 },  { "union", 1, FST_FILES, 1, 1, 1 },      { "intersection", 1, FST_FILES, 1, 1, 1 },
+    { "difference", 1, FST_FILES, 1, 1, 1 },                { "symmetric-difference", 1, FST_FILES, 1, 1, 1 },
 };
+
+/* Loads and admits each file, then merges them. A refusal names its file on standard error, where there are several. */
+static int load_and_merge(const options *o, uint64_t op, char **paths, size_t n)
+{
+    fst_file files[FST_FILES];
+    for (size_t i = 0; i < n; i++) {
+        card c = { NULL, 0, NULL };
+        int32_t result = load(paths[i], &c);
+        if (result == FST_OK) {
+            result = admit(&c, 0);
+        }
+        if (result != FST_OK) {
+            hide_progress();
+            if (n > 1) {
+                fprintf(stderr, "baxhiso: %s:\n", paths[i]);
+            }
+            return refused(o, result, 0);
+        }
+        files[i] = (fst_file){ c.bytes, c.len };
+    }
+    return do_items(o, op, files, n);
+}
 
 /* What follows an option; NULL where nothing does, or another option. */
 static char *after(int argc, char **argv, int *i)
@@ -915,7 +1009,7 @@ int main(int argc, char **argv)
     } bounds[] = { { "--from", 0, FST_INCLUDED }, { "--after", 0, FST_EXCLUDED }, { "--to", 1, FST_INCLUDED }, { "--below", 1, FST_EXCLUDED } };
     options o = { 0, 0, NULL, NULL, 0, NULL, 0, 0 };
     fst_bound given[2];
-    char *bound_words[2] = { NULL, NULL }, *words[2] = { NULL, NULL };
+    char *bound_words[2] = { NULL, NULL }, *words[FST_FILES] = { NULL };
     int command = 0, found = 0;
     const uint8_t *key = NULL;
     size_t key_len = 0;
@@ -943,7 +1037,7 @@ int main(int argc, char **argv)
     for (int i = 2; i < argc; i++) {
         char *word = argv[i];
         if (strncmp(word, "--", 2) != 0) {
-            if (found == commands[command].words) {
+            if (found == commands[command].most) {
                 return usage();
             }
             words[found++] = word;
@@ -969,7 +1063,7 @@ int main(int argc, char **argv)
         }
     }
     /* options may stand behind what they apply to, so keys are read last */
-    if (found != commands[command].words || (command == GET && !key_bytes(words[1], o.hex, &key, &key_len)) ||
+    if (found < commands[command].least || (command == GET && !key_bytes(words[1], o.hex, &key, &key_len)) ||
         (command == KEY && !number(words[1], &value)) || (command == FIND && !pattern(words[1], &o)) || ((command == CONVERT || command == PACK) && (words[1][0] == '\0' || strcmp(words[1], "-") == 0))) {
         return usage();
     }
@@ -983,6 +1077,9 @@ int main(int argc, char **argv)
     }
 
     show_progress();
+    if (command >= UNION) {
+        return load_and_merge(&o, (uint64_t)(command - UNION), words, (size_t)found);
+    }
     result = load(words[0], &c);
     if (result == FST_OK && command != INFO && command != CONVERT && command != PACK) {
         result = admit(&c, command == COUNT);

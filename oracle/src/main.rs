@@ -23,6 +23,8 @@ mod bench;
 #[cfg(timed)]
 mod bench_convert;
 #[cfg(timed)]
+mod bench_ops;
+#[cfg(timed)]
 mod bench_pack;
 #[cfg(timed)]
 mod bench_pattern;
@@ -474,6 +476,10 @@ fn bench() -> bool {
     }
     if std::env::args().nth(1).as_deref() == Some("convert") {
         bench_convert::bench(&ours::Library, &ours::Library, &ours::Library, &ours::Library);
+        return true;
+    }
+    if std::env::args().nth(1).as_deref() == Some("ops") {
+        bench_ops::bench();
         return true;
     }
     bench::bench(&ours::Library, &ours::Library, &ours::Library, &ours::Library);

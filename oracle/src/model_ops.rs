@@ -34,11 +34,14 @@ pub struct Source {
     pub upper: Bound,
 }
 
+// A key with the value and the number of each file that holds it.
+pub type Item = (Vec<u8>, Vec<(u64, usize)>);
+
 // What an operation hands out up to its end: each key with the value and the number of each file that holds it, in this order; and what each
 // reading has followed then.
 #[derive(Clone, Debug, Default, Eq, PartialEq)]
 pub struct Merged {
-    pub items: Vec<(Vec<u8>, Vec<(u64, usize)>)>,
+    pub items: Vec<Item>,
     pub totals: Vec<u64>,
 }
 
@@ -58,6 +61,9 @@ pub enum Stopped {
 // One who answers whole operations, with room for so many calls.
 pub trait OpsAnswers {
     fn merged(&self, op: Op, count: usize, sources: &[Source], calls: usize) -> Result<Merged, Stopped>;
+
+    // The items page by page of so many, all files between the bounds of the first, each page from behind the last key of the one before.
+    fn paged(&self, op: Op, sources: &[Source], most: usize) -> Result<Vec<Item>, u64>;
 }
 
 impl Source {
@@ -133,4 +139,18 @@ impl OpsAnswers for Model {
         }
         Ok(merged)
     }
+
+    fn paged(&self, op: Op, sources: &[Source], _most: usize) -> Result<Vec<Item>, u64> {
+        merged(op, &between_the_first(sources)).map(|merged| merged.items)
+    }
+}
+
+// The same files, each between the bounds of the first.
+pub fn between_the_first(sources: &[Source]) -> Vec<Source> {
+    let mut shared = sources.to_vec();
+    for source in &mut shared {
+        source.lower = sources[0].lower.clone();
+        source.upper = sources[0].upper.clone();
+    }
+    shared
 }

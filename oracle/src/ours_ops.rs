@@ -1,9 +1,10 @@
-// Our static library, target/staticlib/liboracle_ops.a (crate `oracle_ops`): its exported function, and a safe function over it. A slice is passed as its
-// pointer and then its length, an array as its pointer.
+// Our static libraries, target/staticlib/liboracle_ops.a (crate `oracle_ops`) and libbaxhiso_ops.a (crate `baxhiso_ops`): their exported functions, and
+// safe functions over them. A slice is passed as its pointer and then its length, an array as its pointer.
 
 use crate::answers::{Kind, BOUND_BYTES};
 use crate::model_file::MAX_PATH;
-use crate::model_ops::{Merged, Op, OpsAnswers, Source, Stopped, MOST_FILES};
+use crate::model_ops::{Item, Merged, Op, OpsAnswers, Source, Stopped, MOST_FILES};
+use crate::model_range::ROW as KEY_ROW;
 use crate::ours::Library;
 
 // As in crates/oracle_ops.
@@ -33,6 +34,120 @@ extern "C" {
         numbers_len: usize,
         followed: *mut u64,
     ) -> u64;
+}
+
+#[link(name = "baxhiso_ops", kind = "static")]
+extern "C" {
+    fn fst_items_rows(
+        op: u64,
+        count: usize,
+        a: *const u8,
+        a_len: usize,
+        b: *const u8,
+        b_len: usize,
+        c: *const u8,
+        c_len: usize,
+        d: *const u8,
+        d_len: usize,
+        e: *const u8,
+        e_len: usize,
+        f: *const u8,
+        f_len: usize,
+        g: *const u8,
+        g_len: usize,
+        h: *const u8,
+        h_len: usize,
+        lower_kind: u64,
+        lower: *const u8,
+        lower_len: usize,
+        upper_kind: u64,
+        upper: *const u8,
+        upper_len: usize,
+        most: usize,
+        rows: *mut u8,
+        rows_len: usize,
+        counts: *mut u8,
+        counts_len: usize,
+        numbers: *mut u8,
+        numbers_len: usize,
+        values: *mut u64,
+        values_len: usize,
+        found: *mut usize,
+    ) -> i32;
+}
+
+// What a page says beside a refusal.
+const END: i32 = -2;
+const MORE: i32 = -3;
+
+// The number of items, page by page of so many, each handed on; or the refusal. The bounds are those of the first file.
+pub fn pages(
+    op: Op,
+    sources: &[Source],
+    most: usize,
+    mut each: impl FnMut(&[u8], &[(u64, usize)]),
+) -> Result<usize, u64> {
+    let f = |i: usize| sources.get(i).map_or(&[][..], |source| &source.file[..]);
+    let (lower, upper) = (&sources[0].lower, &sources[0].upper);
+    let (mut rows, mut counts) = (vec![7u8; KEY_ROW * most], vec![7u8; most]);
+    let (mut numbers, mut values) = (vec![7u8; MOST_FILES * most], vec![7u64; MOST_FILES * most]);
+    let (mut kind, mut last, mut found, mut items) = (lower.kind.number(), lower.bytes.clone(), 7, 0);
+    loop {
+        let result = unsafe {
+            fst_items_rows(
+                op as u64,
+                sources.len(),
+                f(0).as_ptr(),
+                f(0).len(),
+                f(1).as_ptr(),
+                f(1).len(),
+                f(2).as_ptr(),
+                f(2).len(),
+                f(3).as_ptr(),
+                f(3).len(),
+                f(4).as_ptr(),
+                f(4).len(),
+                f(5).as_ptr(),
+                f(5).len(),
+                f(6).as_ptr(),
+                f(6).len(),
+                f(7).as_ptr(),
+                f(7).len(),
+                kind,
+                last.as_ptr(),
+                last.len(),
+                upper.kind.number(),
+                upper.bytes.as_ptr(),
+                upper.bytes.len(),
+                most,
+                rows.as_mut_ptr(),
+                rows.len(),
+                counts.as_mut_ptr(),
+                counts.len(),
+                numbers.as_mut_ptr(),
+                numbers.len(),
+                values.as_mut_ptr(),
+                values.len(),
+                &mut found,
+            )
+        };
+        for i in 0..found {
+            let (row, at) = (&rows[KEY_ROW * i..], MOST_FILES * i);
+            let pairs: Vec<(u64, usize)> =
+                (at..at + usize::from(counts[i])).map(|j| (values[j], usize::from(numbers[j]))).collect();
+            each(&row[1..1 + usize::from(row[0])], &pairs);
+        }
+        items += found;
+        match result {
+            END => return Ok(items),
+            MORE => {
+                let row = &rows[KEY_ROW * (found - 1)..];
+                kind = Kind::Excluded.number();
+                last = row[1..1 + usize::from(row[0])].to_vec();
+            }
+            why => return Err(why as u64),
+        }
+    }
 }
 
 // The arguments in the layout that the exported function takes.
@@ -110,5 +225,11 @@ impl OpsAnswers for Library {
                 Ok(Merged { items, totals: followed[..sources.len()].to_vec() })
             }
         }
+    }
+
+    fn paged(&self, op: Op, sources: &[Source], most: usize) -> Result<Vec<Item>, u64> {
+        let mut items = Vec::new();
+        pages(op, sources, most, |key, pairs| items.push((key.to_vec(), pairs.to_vec())))?;
+        Ok(items)
     }
 }

@@ -35,6 +35,8 @@ static fst_seats seats;
 static size_t seat;
 static fst_row rows[8];
 static uint64_t values[8];
+static uint8_t item_counts[8], numbers[8][FST_FILES];
+static uint64_t item_values[8][FST_FILES];
 static uint8_t key[FST_KEY_SPACE], bound_key[] = { 'a', 't' };
 static size_t len;
 static uint64_t value;
@@ -57,6 +59,17 @@ static void call_carry(void) { fst_carry(file, file_len, file, file_len, &readin
 
 static void call_seat(void) { fst_seat(&seats, 3, &reading); fst_raise(&seats, 3); }
 static void call_dispatch(void) { fst_dispatch(file, file_len, &seats, key, sizeof key, &seat, &len, &value); }
+
+static void call_items(void)
+{
+    const fst_file one = { file, file_len };
+    const fst_file files[FST_FILES] = { one, one, one, one, one, one, one, one };
+    fst_items(FST_UNION, files, FST_FILES, NULL, &bound, 8, rows, item_counts, numbers, item_values, &len);
+    fst_items(FST_UNION, files, 2, &bound, NULL, 8, rows, item_counts, numbers, item_values, &len);
+    /* an operation that passes over every key would not end where a few hundred bytes hold 2^60 keys */
+    for (uint64_t op = FST_INTERSECTION; file_len <= 64 && op <= FST_SYMMETRIC_DIFFERENCE; op++)
+        fst_items(op, files, FST_FILES, NULL, NULL, 8, rows, item_counts, numbers, item_values, &len);
+}
 
 static void (*to_call)(void);
 static size_t used;
@@ -97,6 +110,7 @@ int main(int argc, char **argv)
         { "fst_next", call_next, FST_STACK_NEXT },    { "fst_range", call_range, FST_STACK_RANGE },   { "fst_find", call_find, FST_STACK_FIND },
         { "fst_convert", call_convert, FST_STACK_CONVERT }, { "fst_pack", call_pack, FST_STACK_PACK },       { "fst_carry", call_carry, FST_STACK_CARRY },
         { "fst_seat", call_seat, FST_STACK_SEAT },    { "fst_dispatch", call_dispatch, FST_STACK_DISPATCH },
+        { "fst_items", call_items, FST_STACK_ITEMS },
     };
     size_t most[sizeof functions / sizeof *functions] = { 0 };
     int differences = 0;

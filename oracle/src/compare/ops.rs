@@ -162,6 +162,29 @@ impl<'a> Run<'a> {
         Ok(())
     }
 
+    // The same page by page, all files between the bounds of the first.
+    fn by_pages(&mut self, op: Op, sources: &[Source], ours: &dyn OpsAnswers) -> Checked {
+        let shared = model_ops::between_the_first(sources);
+        let most = self.prng.pick(&[1, 2, 3, 7, 100]);
+        let input = || format!("pages of {}, {}", most, describe(op, &shared));
+        let wanted = model_ops::merged(op, &shared);
+        same("a page of admitted files is not refused", input, ("wanted", true), ("model", wanted.is_ok()))?;
+        let wanted = wanted.unwrap_or_default();
+        if shared.iter().all(|source| source.file.len() >= given_file::LEAST) {
+            let opened: Vec<_> = shared.iter().filter_map(|source| given_file::open(&source.file)).collect();
+            let said = given_ops::merged(op, &opened, &shared).map(|merged| sorted(merged).items);
+            same("items by pages", input, ("the Rust", said.as_ref()), ("model", Some(&wanted.items)))?;
+            self.count("operations by pages, by the Rust");
+        }
+        let found = ours.paged(op, &shared, most);
+        same("items by pages", input, ("model", Ok(&wanted.items)), ("ours", found.as_ref().map_err(|&why| why)))?;
+        self.count("operations by pages");
+        if wanted.items.len() > most {
+            self.count("operations of several pages");
+        }
+        Ok(())
+    }
+
     // What is refused, and what has no room.
     fn not_whole(&mut self, op: Op, sources: &[Source], ours: &dyn OpsAnswers) -> Checked {
         let items = match model_ops::merged(op, sources) {
@@ -206,13 +229,15 @@ impl<'a> Run<'a> {
             let sources = self.sources();
             for &op in &OPS {
                 self.operation(op, &sources, ours)?;
+                self.by_pages(op, &sources, ours)?;
             }
             if self.prng.one_in(4) {
                 let op = self.prng.pick(&OPS);
                 self.not_whole(op, &sources, ours)?;
             }
         }
-        self.require(&["operations by the Rust"], 50_000)?;
+        self.require(&["operations by the Rust", "operations by pages, by the Rust"], 50_000)?;
+        self.require(&["operations of several pages"], 5_000)?;
         self.require(&OP_NAMES, 12_500)?;
         self.require(&COUNT_NAMES, 5_000)?;
         self.require(&VERSION_NAMES, 5_000)?;

@@ -1,0 +1,2 @@
+pub mod PagedItems
+pub mod PageLaws

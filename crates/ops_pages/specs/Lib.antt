@@ -1,0 +1,2 @@
+pub mod ItemPages
+pub mod ItemPagesLaws

@@ -1,0 +1,6 @@
+pub mod ItemPaging
+pub mod ItemsExact
+pub mod ItemFoldLaws
+pub mod WideLaws
+pub mod ItemsLaws
+pub mod EightLaws
