@@ -1,0 +1,4 @@
+pub mod Walk
+pub mod Steps
+pub mod SliceSteps
+pub mod Theorem
