@@ -61,7 +61,6 @@ _also_ {K} {L} {Γ} {Γ₁} {Γ₂} {a} s g = record {
 
 infixr 5 _then_ _so_
 infixl 6 _also_
-
 -- a part that may leave, and the rest, which begins at Γ₁
 abbrev pub part : {K : Knows} {L : List Ty} {Γ : Cx} (Γ₁ : Cx) {a b : Body} {Δ : Outs} → Runs K L Γ a (withNext (some Γ₁) Δ) → Runs K L Γ₁ b Δ → Runs K L Γ (seq a b) Δ
 part {K} {L} {Γ} Γ₁ {a} {b} {Δ} s w = record {

@@ -106,11 +106,52 @@ shown κs qs a g p =
     let same : length one ≡ n = length-set (a .0 .now) i (at (a .0 .now) (i + 1)) in
     let low : Fits w64 (i * 16) = record { fits = omega (arith, p, g .0 .1) } in
     let next : Fits w64 (i + 1) = record { fits = omega (arith, p, g .0 .0) } in
-    let high : Fits w64 ((i + 1) * 16) = record { fits = omega (arith, p, g .0 .1) } in
-    (low, (tt, ((refl, refl, omega (arith, p)), λ _. (next, (high, (tt, ((refl, refl, p), λ _. (low, (tt, ((refl, refl, omega (arith, p)), (next, (high, (tt, ((refl, refl, omega (arith, p, same)), (
-      (ap (λ (k : ℕ). (a .0 .ptr, (a .0 .name, k))) (length-set one (i + 1) (at (a .0 .now) i) ∙ same), (tt, tt)),
-      refl,
-    )))))))))))))))
+    let high : Fits w64 ((i + 1) * 16) = record { fits = omega (arith, p, g .0 .1) } in (
+      low,
+      (
+        tt,
+        (
+          (refl, refl, omega (arith, p)),
+          λ _. (
+            next,
+            (
+              high,
+              (
+                tt,
+                (
+                  (refl, refl, p),
+                  λ _. (
+                    low,
+                    (
+                      tt,
+                      (
+                        (refl, refl, omega (arith, p)),
+                        (
+                          next,
+                          (
+                            high,
+                            (
+                              tt,
+                              (
+                                (refl, refl, omega (arith, p, same)),
+                                (
+                                  (ap (λ (k : ℕ). (a .0 .ptr, (a .0 .name, k))) (length-set one (i + 1) (at (a .0 .now) i) ∙ same), (tt, tt)),
+                                  refl,
+                                ),
+                              ),
+                            ),
+                          ),
+                        ),
+                      ),
+                    ),
+                  ),
+                ),
+              ),
+            ),
+          ),
+        ),
+      ),
+    )
 
 pub promote-spec : {M : Type 1} → statement M
 unfolding code.routine
