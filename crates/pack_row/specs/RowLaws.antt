@@ -1,5 +1,6 @@
 -- Laws of a row of two cells: what is done in it alone is what is done in the whole table.
 --     intern-in-row        a record interned in its row
+--     row-interned         so of lent cells, which are put back; same-cells: of cells that are the same one by one
 --     row-closable         what finishing a node asks, in its row alone
 --     step-in-row          the deepest node finished in its row alone
 -- Assumes nothing.
@@ -19,7 +20,8 @@ use Rattle.packing.specs.Packing.{Arc, Open, leastAt, recordOf, close, finish, 
 use Rattle.packing.specs.laws.CloseLaws.{Grows, intern-grows}
 use Rattle.packing_rows.specs.WorkTables.{Tables, openAt, levels, Joined, joined, join, closeInto}
 use Rattle.packing_rows.specs.OpenLaws.{closedWith, close-deepest, finish-into-grows}
-use Rattle.pack_intern.specs.Interning.{nodesIn, cellsIs, buildIs, CellFit}
+use Rattle.pack_intern.specs.Interning.{nodesIn, cellsIs, buildIs, Laid, CellFit, CellsFit, Ready, internedWith, InternIs}
+use Rattle.pack_intern.specs.declared.Placed.{Placed}
 use Rattle.pack_intern.specs.InterningLaws.{nodes-length, cell-at, length-cells, row-stored}
 use Rattle.pack_close.specs.declared.Closed.{Closed}
 use Rattle.pack_close.specs.declared.Closed.the-variants.{Done, NoRoom}
@@ -75,7 +77,7 @@ intern-in-row nodes cells b =
     (sym (intern-by s₂ b
     ∙ ap (λ (k : ℕ). byTests s₂ k (packsToNothing b) (matches nodes b (cellAt (pairAt cells i) k)) (matches nodes b (cellAt (pairAt cells i) (k + 1))) more (hashOf b)) (one-row (cellAt cells i) (cellAt cells (i + 1)) b)))
 
--- ---- the deepest node finished
+-- ---- cells
 
 -- a cell of the row in the whole table
 cell-of-row : (cells : List (List ℕ)) (i : ℕ) → i + 1 < length cells → cellsIs (getD cells i [] ∷ getD cells (i + 1) [] ∷ []) ≡ pairAt (cellsIs cells) i
@@ -84,6 +86,92 @@ cell-of-row cells i l = ap₂ (λ (c d : Cell). c ∷ d ∷ []) (sym (cell-at ce
 fit-later : (first later : ℕ) (c : Cell) → first ≤ later → CellFit first c → CellFit later c
 fit-later first later c l (inl e) = inl e
 fit-later first later c l (inr (p, q)) = inr (p, omega arith)
+
+-- ---- the row put back
+
+cells-after : (cells : List (List ℕ)) (i : ℕ) (row : List (List ℕ)) → length row ≡ 2 → rowSet (cellsIs cells) i (cellAt (cellsIs row) 0) (cellAt (cellsIs row) 1) ≡ cellsIs (putPair cells i row)
+cells-after cells i row two =
+    ap₂ (rowSet (cellsIs cells) i) (cell-at row 0 (omega arith)) (cell-at row 1 (omega arith)) ∙ sym (row-stored cells i (getD row 0 []) (getD row 1 []))
+
+module _ (out : List ℕ) (first : ℕ) (cells : List (List ℕ)) (i : ℕ) (ready : Ready out first cells) (within : i + 1 < length cells) {out′ : List ℕ} {next : ℕ} {row : List (List ℕ)} (grown : first ≤ next) (laid : Laid out′ next)
+    (fit : CellsFit next row) (two : length row ≡ 2) where
+  abbrev c₀ : Cell
+  c₀ = cellAt (cellsIs row) 0
+
+  abbrev c₁ : Cell
+  c₁ = cellAt (cellsIs row) 1
+
+  abbrev inner : List Cell
+  inner = set (cellsIs cells) i c₀
+
+  low : i + 1 < length (cellsIs cells)
+  low = omega (arith, length-cells cells, within)
+
+  else : (k : ℕ) → ¬ (k ≡ i + 1) → CellFit next (cellAt (rowSet (cellsIs cells) i c₀ c₁) k)
+  else k z = elim (ℕ-discrete k i) [
+    | yes w ↦ subst (CellFit next) (sym (getD-set-other inner (i + 1) k c₁ emptyCell z ∙ ap (λ (n : ℕ). cellAt inner n) w ∙ getD-set-same (cellsIs cells) i c₀ emptyCell (omega (arith, low)))) (fit .fit 0)
+    | no w ↦ subst (CellFit next) (sym (getD-set-other inner (i + 1) k c₁ emptyCell z ∙ getD-set-other (cellsIs cells) i k c₀ emptyCell w))
+        (fit-later first next (cellAt (cellsIs cells) k) grown (ready .cells-fit .fit k))
+  ]
+
+  fits-all : (k : ℕ) → CellFit next (cellAt (rowSet (cellsIs cells) i c₀ c₁) k)
+  fits-all k = elim (ℕ-discrete k (i + 1)) [
+    | yes z ↦ subst (λ (n : ℕ). CellFit next (cellAt (rowSet (cellsIs cells) i c₀ c₁) n)) (sym z)
+        (subst (CellFit next) (sym (getD-set-same inner (i + 1) c₁ emptyCell (omega (arith, length-set (cellsIs cells) i c₀, low)))) (fit .fit 1))
+    | no z ↦ else k z
+  ]
+
+  pub ready-after : Ready out′ next (putPair cells i row)
+  ready-after = record {
+    laid = laid;
+    cells-fit = record { fit = λ k. subst (λ (t : List Cell). CellFit next (cellAt t k)) (cells-after cells i row two) (fits-all k) };
+    two = omega (arith, ready .two, length-set (set cells i (getD row 0 [])) (i + 1) (getD row 1 []), length-set cells i (getD row 0 []));
+  }
+
+-- ---- a record
+
+module _ (out : List ℕ) (first : ℕ) (cells : List (List ℕ)) (i : ℕ) (row : List (List ℕ)) (ready : Ready out first cells) (taken : TakenFrom cells i row) (b : BuilderNode) (at-row : i ≡ rowOf (cellsIs cells) b) where
+  interned-as : intern (buildIs out first cells) b ≡ backIn (cellsIs cells) i (intern (buildIs out first row) b)
+  interned-as =
+      intern-in-row (nodesIn out first) (cellsIs cells) b
+      ∙ ap (λ (k : ℕ). backIn (cellsIs cells) k (intern (record { nodes = nodesIn out first; cells = pairAt (cellsIs cells) k }) b)) (sym at-row)
+      ∙ ap (λ (t : List Cell). backIn (cellsIs cells) i (intern (record { nodes = nodesIn out first; cells = t }) b)) (sym (ap cellsIs (taken .is) ∙ cell-of-row cells i (taken .within)))
+
+  -- what interning in the row alone answers and leaves is what interning in the whole table does
+  pub row-interned : {out′ : List ℕ} {row′ : List (List ℕ)} {r : Placed} → InternIs (intern (buildIs out first row) b) first out′ row′ r → length row′ ≡ 2
+      → InternIs (intern (buildIs out first cells) b) first out′ (putPair cells i row′) r
+  row-interned {out′} {row′} w two = record {
+    at = λ a next e.
+        let g = w .at a next e in
+        record {
+          is = interned-as ∙ ap (backIn (cellsIs cells) i) (g .is) ∙ ap (λ (t : List Cell). internedWith (record { nodes = nodesIn out′ next; cells = t }) a) (cells-after cells i row′ two);
+          ready = ready-after out first cells i ready (taken .within) (g .grown) (g .ready .laid) (g .ready .cells-fit) two;
+          grown = g .grown;
+          target = g .target;
+        };
+    full = λ e. omega (arith, w .full e, ap (λ (x : Interned). length (x .build .nodes)) interned-as);
+  }
+
+-- cells of which each is the same cell
+pub same-cells : {R : Interned} {first : ℕ} {out : List ℕ} {cells cells′ : List (List ℕ)} {r : Placed} → InternIs R first out cells r → cellsIs cells ≡ cellsIs cells′ → length cells ≡ length cells′
+    → InternIs R first out cells′ r
+same-cells {R} {first} {out} {cells} {cells′} w e l = record {
+  at = λ a next q.
+      let g = w .at a next q in
+      record {
+        is = g .is ∙ ap (λ (t : List Cell). internedWith (record { nodes = nodesIn out next; cells = t }) a) e;
+        ready = record {
+          laid = g .ready .laid;
+          cells-fit = record { fit = λ k. subst (λ (t : List Cell). CellFit next (cellAt t k)) e (g .ready .cells-fit .fit k) };
+          two = omega (arith, g .ready .two, l);
+        };
+        grown = g .grown;
+        target = g .target;
+      };
+  full = w .full;
+}
+
+-- ---- the deepest node finished
 
 module _ (out : List ℕ) (first : ℕ) (cells : List (List ℕ)) (T : Tables) (e i : ℕ) (row : List (List ℕ)) (C : Closable out first cells T (e + 1)) (taken : TakenFrom cells i row) where
   row-is : cellsIs row ≡ pairAt (cellsIs cells) i
@@ -145,10 +233,6 @@ module _ (out : List ℕ) (first : ℕ) (cells : List (List ℕ)) (T : Tables) (
       abbrev arc : Arc
       arc = finish B₂′ p .arc
 
-      cells-after : rowSet (cellsIs cells) i (cellAt (cellsIs row′) 0) (cellAt (cellsIs row′) 1) ≡ cellsIs (putPair cells i row′)
-      cells-after =
-          ap₂ (rowSet (cellsIs cells) i) (cell-at row′ 0 (omega arith)) (cell-at row′ 1 (omega arith)) ∙ sym (row-stored cells i (getD row′ 0 []) (getD row′ 1 []))
-
       build-row : intern B₂′ node .build ≡ buildIs out′ next row′
       build-row = ap (λ (x : Joined). x .build) here
 
@@ -156,43 +240,12 @@ module _ (out : List ℕ) (first : ℕ) (cells : List (List ℕ)) (T : Tables) (
       done =
           ap (closedAs p) interned
           ∙ ap (λ (b : Build). closedWith (record { nodes = b .nodes; cells = rowSet (cellsIs cells) i (cellAt (b .cells) 0) (cellAt (b .cells) 1) }) arc) build-row
-          ∙ ap (λ (t : List Cell). closedWith (record { nodes = nodesIn out′ next; cells = t }) arc) cells-after
+          ∙ ap (λ (t : List Cell). closedWith (record { nodes = nodesIn out′ next; cells = t }) arc) (cells-after cells i row′ two′)
 
       grown : first ≤ next
       grown =
           let g = intern-grows B₂′ node in
           omega (arith, nodes-length (C .ready .laid), nodes-length (j .closable .ready .laid), ap length (g .is), length-append (nodesIn out first) (g .added), ap (λ (b : Build). length (b .nodes)) build-row)
-
-      fits-after : (k : ℕ) → CellFit next (cellAt (cellsIs (putPair cells i row′)) k)
-      fits-after k = subst (λ (t : List Cell). CellFit next (cellAt t k)) cells-after both
-        where
-          c₀ : Cell
-          c₀ = cellAt (cellsIs row′) 0
-
-          c₁ : Cell
-          c₁ = cellAt (cellsIs row′) 1
-
-          inner : List Cell
-          inner = set (cellsIs cells) i c₀
-
-          low : i + 1 < length (cellsIs cells)
-          low = omega (arith, length-cells cells, taken .within)
-
-          else : ¬ (k ≡ i + 1) → CellFit next (cellAt (rowSet (cellsIs cells) i c₀ c₁) k)
-          else z = elim (ℕ-discrete k i) [
-            | yes w ↦ subst (CellFit next)
-                (sym (getD-set-other inner (i + 1) k c₁ emptyCell z ∙ ap (λ (n : ℕ). cellAt inner n) w ∙ getD-set-same (cellsIs cells) i c₀ emptyCell (omega (arith, low))))
-                (j .closable .ready .cells-fit .fit 0)
-            | no w ↦ subst (CellFit next) (sym (getD-set-other inner (i + 1) k c₁ emptyCell z ∙ getD-set-other (cellsIs cells) i k c₀ emptyCell w))
-                (fit-later first next (cellAt (cellsIs cells) k) grown (C .ready .cells-fit .fit k))
-          ]
-
-          both : CellFit next (cellAt (rowSet (cellsIs cells) i c₀ c₁) k)
-          both = elim (ℕ-discrete k (i + 1)) [
-            | yes z ↦ subst (λ (n : ℕ). CellFit next (cellAt (rowSet (cellsIs cells) i c₀ c₁) n)) (sym z)
-                (subst (CellFit next) (sym (getD-set-same inner (i + 1) c₁ emptyCell (omega (arith, length-set (cellsIs cells) i c₀, low)))) (j .closable .ready .cells-fit .fit 1))
-            | no z ↦ else z
-          ]
 
       pub step-in-row : StepTo B′ first T e out′ (putPair cells i row′) T′ next
       step-in-row = record {
@@ -202,11 +255,7 @@ module _ (out : List ℕ) (first : ℕ) (cells : List (List ℕ)) (T : Tables) (
             ∙ close-deepest (openAt T) (openAt T′) B′ (buildIs out′ next (putPair cells i row′)) arc (e + 1) e done (sym (ap (λ (x : Joined). x .top) here)) (j .same) m (e - m) (omega arith) (omega arith);
         same = j .same;
         closable = record {
-          ready = record {
-            laid = j .closable .ready .laid;
-            cells-fit = record { fit = fits-after };
-            two = omega (arith, C .ready .two, length-set (set cells i (getD row′ 0 [])) (i + 1) (getD row′ 1 []), length-set cells i (getD row′ 0 []));
-          };
+          ready = ready-after out first cells i (C .ready) (taken .within) grown (j .closable .ready .laid) (j .closable .ready .cells-fit) two′;
           sized = j .closable .sized;
           orderly = j .closable .orderly;
           low = j .closable .low;
