@@ -1,5 +1,6 @@
 -- Laws of a node finished in its row alone.
 --     row-done, row-full   what the code answers
+--     root-placed          and of the root
 -- Assumes nothing.
 use mathlib.Core.Path.{_≡_, refl, sym, ap, ap₂, _∙_, subst}
 use mathlib.Core.Bool.{true, false}
@@ -7,10 +8,12 @@ use mathlib.Core.List.{List, [], _∷_}
 use Prim.Native.Nat.{ℕ, zero, suc, _+_, _≤_, _<_}
 use native.Mathlib.Omega.{arith}
 use lib.ListN.{length, getD}
-use Rattle.packing.specs.Registry.{Cell, cellAt}
+use Rattle.packing.specs.Registry.{Cell, cellAt, Interned}
 use Rattle.packing_rows.specs.WorkTables.{Tables, openAt, Joined, joined}
 use Rattle.pack_cell.specs.declared.Cell as cells
-use Rattle.pack_intern.specs.Interning.{nodesIn, cellsIs, buildIs, CellFit}
+use Rattle.pack_intern.specs.Interning.{nodesIn, cellsIs, buildIs, CellFit, InternIs}
+use Rattle.pack_intern.specs.declared.Placed.{Placed}
+use Rattle.pack_row.specs.RowLaws.{same-cells as interned-same}
 use Rattle.pack_close.specs.Closing.{Closable, closedTo, JoinedAt}
 use Rattle.pack_turn.specs.declared.RowClosed.{RowClosed}
 use Rattle.pack_turn.specs.RowClosing.{pairOf, ClosesInRow}
@@ -57,3 +60,9 @@ row-done {out} {first} {row} {T} {e} {out′} {row′} {T′} {next} {r} j two d
 pub row-full : {out : List ℕ} {first : ℕ} {row : List (List ℕ)} {T : Tables} {e : ℕ} {out′ : List ℕ} {T′ : Tables} {r : RowClosed}
     → length out′ < 16 + length (closedTo (buildIs out first row) T e (e + 1) .build .nodes) → r .done ≡ false → ClosesInRow out first row T e out′ T′ r
 row-full f d = record { at = λ z. absurd (false-true (sym d ∙ z)); full = λ z. f }
+
+-- ---- the root
+
+pub root-placed : {R : Interned} {first : ℕ} {out : List ℕ} {row : List (List ℕ)} {r : Placed} → InternIs R first out row r → length row ≡ 2 → (c d : cells.Cell) → c .addr ≡ getD (getD row 0 []) 0 0
+    → c .hash ≡ getD (getD row 0 []) 1 0 → d .addr ≡ getD (getD row 1 []) 0 0 → d .hash ≡ getD (getD row 1 []) 1 0 → InternIs R first out (pairOf c d) r
+root-placed {row = row} w two c d p q s t = interned-same w (pair-is row two c d p q s t) two
