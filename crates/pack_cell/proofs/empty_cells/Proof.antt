@@ -13,7 +13,7 @@ use borrow.Table.Reads.{room-gone, as-is}
 use borrow.Rule.Scalar.{oFld, oUnit, holds-sc, room-sc}
 use borrow.Rule.Slice.Shared.{lenV}
 use borrow.Rule.Slice.Mut.{mslice, msleft, reads-mslice}
-use borrow.Rule.Slice.Relend.{msptr, mslice-owed, reads-owed-len}
+use borrow.Rule.Slice.Relend.{asMut, msptr, mslice-owed, reads-owed-len}
 use borrow.Fn.Kinds.{PK, In, Out, tyR}
 use borrow.Fn.Enter.{tysP}
 use borrow.Fn.World.{World}
@@ -22,7 +22,7 @@ use borrow.Kind.MutSlice.{pMutS}
 use Rattle.walks.specs.Walk.{Knows, Runs, _then_, _so_, returns}
 use Rattle.walks.specs.Steps.{copies, drops}
 use Rattle.walks.specs.Structs.{yields, room}
-use Rattle.walks.specs.SliceSteps.{begins, relends, bundles, ends, backs, forgets, Callee, calls}
+use Rattle.walks.specs.SliceSteps.{begins, relends, bundles-as, ends, backs, forgets, Callee, calls}
 use Rattle.walks.specs.Theorem.{Shown, meets-free, known-free}
 use Rattle.pack_cell.specs.Cells.{empty}
 use Rattle.pack_cell.specs.declared.Cell.{Cell as Cellᶜ}
@@ -60,7 +60,7 @@ module _ (κs : Lfts 1) (qs : Shares 1) where
   walk =
       begins 1 (tt, (tt, (tt, (tt, (tt, (tt, tt))))))
       so relends R 1 3 0 1 ptr on (λ x. x) (λ M 𝓤 H A W bs. (as-is 𝓤 H A (mslice R ptr 0), room-gone 𝓤 H A on, refl, refl)) refl (λ b o. tt) tt
-      then bundles R 3 4 1 on (λ x. x) (oFld 1 (field 1 ∷ []) word 8 (λ x. lenV (x .0)))
+      then bundles-as R (asMut R) 3 4 1 on (λ x. x) (oFld 1 (field 1 ∷ []) word 8 (λ x. lenV (x .0)))
       (λ M 𝓤 H A W bs. (as-is 𝓤 H A (msptr R on 1), room-gone 𝓤 H A (sliceTy on), (reads-owed-len 𝓤 H A W R ptr 0 1 l 8 refl, refl), refl, refl)) (λ b o k. tt)
       then calls one-kinds.ps one-kinds.r one-reads.Asked one-reads.Learnt one.name tt 5 [] cell (λ M 𝓤 H A W 𝓣 k. k .0) (λ M 𝓤 H A W bs. (tt, room-gone 𝓤 H A cell, refl)) tt refl
       then calls fill-ps r FillPre FillPost fill.name (record { pos = 4; ty = on; ref = λ x. x }, (record { pos = 5; st = []; d = 0; at = λ x. x }, tt)) 2 (1 ∷ []) tyUnit (λ M 𝓤 H A W 𝓣 k. k .1)

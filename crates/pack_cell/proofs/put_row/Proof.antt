@@ -14,7 +14,7 @@ use borrow.Table.Reads.{room-gone, as-is}
 use borrow.Rule.Scalar.{oAt, oFld, oInt, oUnit, reads-sc, holds-sc, room-sc}
 use borrow.Rule.Slice.Shared.{lenV}
 use borrow.Rule.Slice.Mut.{mslice, msleft, reads-mslice}
-use borrow.Rule.Slice.Relend.{msptr, mslice-owed, reads-owed-len}
+use borrow.Rule.Slice.Relend.{asMut, msptr, mslice-owed, reads-owed-len}
 use borrow.Fn.Args.{vAt}
 use borrow.Fn.Kinds.{PK, In, Out, pNum, tyR}
 use borrow.Fn.Enter.{tysP}
@@ -23,7 +23,7 @@ use borrow.Kind.MutSlice.{pMutS}
 use Rattle.walks.specs.Walk.{Runs, _then_, _so_, returns}
 use Rattle.walks.specs.Steps.{computes, copies, drops}
 use Rattle.walks.specs.Structs.{yields, room}
-use Rattle.walks.specs.SliceSteps.{begins, relends, bundles, ends, backs, forgets, Callee, calls}
+use Rattle.walks.specs.SliceSteps.{begins, relends, bundles-as, ends, backs, forgets, Callee, calls}
 use Rattle.walks.specs.Theorem.{Shown, meets, known}
 use Rattle.pack_cell.specs.declared.Cell.{Cell as Cellᶜ}
 use Rattle.pack_cell.proofs.Sides.{word, num, R, cell, ptr, on, pCell}
@@ -53,7 +53,7 @@ module _ (κs : Lfts 1) (qs : Shares 1) where
   walk =
       begins 1 (tt, (tt, (tt, (tt, (tt, (tt, (tt, (tt, (tt, (tt, (tt, tt)))))))))))
       so relends R 1 6 0 1 ptr on (λ x. x) (λ M 𝓤 H A W bs. (as-is 𝓤 H A (mslice R ptr 0), room-gone 𝓤 H A on, refl, refl)) refl (λ b o. tt) tt
-      then bundles R 6 7 1 on (λ x. x) (oFld 1 (field 1 ∷ []) word 8 (λ x. lenV (x .0)))
+      then bundles-as R (asMut R) 6 7 1 on (λ x. x) (oFld 1 (field 1 ∷ []) word 8 (λ x. lenV (x .0)))
       (λ M 𝓤 H A W bs. (as-is 𝓤 H A (msptr R on 1), room-gone 𝓤 H A (sliceTy on), (reads-owed-len 𝓤 H A W R ptr 0 1 l 8 refl, refl), refl, refl)) (λ b o k. tt)
       then calls put-ps r PutPre PutPost put.name (record { pos = 7; ty = on; ref = λ x. x }, (vAt 2 (λ x. x), (record { pos = 3; st = []; d = 0; at = λ x. x }, tt))) 5 (1 ∷ []) tyUnit (λ M 𝓤 H A W 𝓣 k. k)
       (λ M 𝓤 H A W bs. ((as-is 𝓤 H A (mslice R on 1), reads-mslice 𝓤 H A W R on 1, refl, ((reads-sc 𝓤 H A W (sInt w64), refl), ((yields Cell.the-type Laws.the-copy 𝓤 H A W, refl), tt))), room-gone 𝓤 H A tyUnit, refl)) (tt, tt) refl
@@ -62,7 +62,7 @@ module _ (κs : Lfts 1) (qs : Shares 1) where
       so forgets 1 dead refl
       so begins 1 (tt, (tt, (tt, (tt, (tt, (tt, (tt, (tt, (tt, (tt, (tt, tt)))))))))))
       so relends R 1 8 0 1 ptr on (λ x. x) (λ M 𝓤 H A W bs. (as-is 𝓤 H A (mslice R ptr 0), room-gone 𝓤 H A on, refl, refl)) refl (λ b o. tt) tt
-      then bundles R 8 9 1 on (λ x. x) (oFld 1 (field 1 ∷ []) word 8 (λ x. lenV (x .0)))
+      then bundles-as R (asMut R) 8 9 1 on (λ x. x) (oFld 1 (field 1 ∷ []) word 8 (λ x. lenV (x .0)))
       (λ M 𝓤 H A W bs. (as-is 𝓤 H A (msptr R on 1), room-gone 𝓤 H A (sliceTy on), (reads-owed-len 𝓤 H A W R ptr 0 1 l 8 refl, refl), refl, refl)) (λ b o k. tt)
       then computes (add unsigned) (oAt 2 word (valS (sInt w64))) (oInt w64 1) 10 num word (valS (sInt w64)) (sInt w64 .of)
       (λ M 𝓤 H A W bs. ((reads-sc 𝓤 H A W (sInt w64), refl), tt, room-gone 𝓤 H A word, holds-sc 𝓤 H A W (sInt w64), refl)) (λ u. refl) (λ u. tt)
