@@ -2,7 +2,7 @@
 --     intern-in-row        a record interned in its row
 --     row-interned         so of lent cells, which are put back; same-cells: of cells that are the same one by one
 --     row-closable         what finishing a node asks, in its row alone
---     step-in-row          the deepest node finished in its row alone
+--     step-in-row, step-full   the deepest node finished in its row alone, or the output is full
 -- Assumes nothing.
 use mathlib.Core.Path.{_≡_, refl, sym, ap, ap₂, _∙_, subst}
 use mathlib.Core.Bool.{Bool, true, false, cond}
@@ -23,9 +23,7 @@ use Rattle.packing_rows.specs.OpenLaws.{closedWith, close-deepest, finish-into-
 use Rattle.pack_intern.specs.Interning.{nodesIn, cellsIs, buildIs, Laid, CellFit, CellsFit, Ready, internedWith, InternIs}
 use Rattle.pack_intern.specs.declared.Placed.{Placed}
 use Rattle.pack_intern.specs.InterningLaws.{nodes-length, cell-at, length-cells, row-stored}
-use Rattle.pack_close.specs.declared.Closed.{Closed}
-use Rattle.pack_close.specs.declared.Closed.the-variants.{Done, NoRoom}
-use Rattle.pack_close.specs.Closing.{Closable, closedTo, StepTo, JoinedAt, ClosesTo}
+use Rattle.pack_close.specs.Closing.{Closable, closedTo, StepTo, JoinedAt}
 use Rattle.pack_row.specs.Row.{pairAt, backIn, putPair, TakenFrom}
 
 -- ---- interning, by its three tests
@@ -217,14 +215,14 @@ module _ (out : List ℕ) (first : ℕ) (cells : List (List ℕ)) (T : Tables) (
     unfolding levels close
     closed-one = let q : e + 1 - e ≡ 1 = omega arith in ap (λ (k : ℕ). closeInto B₂′ (openAt T e) (levels (openAt T) (e + 1) k)) q
 
-    pub step-full : {out′ : List ℕ} {row′ : List (List ℕ)} {T′ : Tables} {r : Closed} → ClosesTo (closedTo B₂′ T e (e + 1)) T e out′ row′ T′ r → r ≡ NoRoom
-        → (m : ℕ) → m ≤ e → length out′ < 16 + length (closedTo B′ T m (e + 1) .build .nodes)
-    step-full {out′} c z m le =
+    pub step-full : (out′ : List ℕ) → length out′ < 16 + length (closedTo B₂′ T e (e + 1) .build .nodes) → (m : ℕ) → m ≤ e
+        → length out′ < 16 + length (closedTo B′ T m (e + 1) .build .nodes)
+    step-full out′ short m le =
         let q : e + 1 - m ≡ suc (e - m) = omega arith in
         let g = finish-into-grows (openAt T) B′ m (e - m) (e + 1) (omega arith) in
         let l = ap length (g .is) ∙ length-append (finish B′ p .build .nodes) (g .added) in
         let same = ap (λ (k : ℕ). length (closeInto B′ (openAt T m) (levels (openAt T) (m + 1) k) .build .nodes)) q in
-        omega (arith, c .full z, l, same, ap (λ (x : Interned). length (x .build .nodes)) interned, ap (λ (x : Joined). length (x .build .nodes)) closed-one)
+        omega (arith, short, l, same, ap (λ (x : Interned). length (x .build .nodes)) interned, ap (λ (x : Joined). length (x .build .nodes)) closed-one)
 
     module _ {out′ : List ℕ} {row′ : List (List ℕ)} {T′ : Tables} {next : ℕ} (j : JoinedAt (closedTo B₂′ T e (e + 1)) T e out′ row′ T′ next) (two′ : length row′ ≡ 2) where
       here : join (openAt T e) (finish B₂′ p) ≡ joined (buildIs out′ next row′) (openAt T′ e)
