@@ -27,7 +27,7 @@ use Rattle.walks.specs.Steps.{computes, copies, drops}
 use Rattle.walks.specs.Structs.{yields, room}
 use Rattle.walks.specs.SliceSteps.{stores}
 use Rattle.walks.specs.Theorem.{Shown, meets-free}
-use Rattle.pack_cell.specs.FillingLaws.{Filling, filling-none, filling-step, filling-length, filling-all}
+use Rattle.pack_zero.specs.FillingLaws.{Filling, filling-none, filling-step, filling-length, filling-all}
 use Rattle.pack_cell.specs.declared.Cell.{Cell as Cellᶜ}
 use Rattle.pack_cell.proofs.Sides.{word, num, R, cell, ptr}
 use Rattle.pack_cell.proofs.Claims.{fill-ps as ps, unit-r as r, FillPre, FillPost}
