@@ -1,0 +1,2 @@
+pub mod RowClosing
+pub mod RowClosingLaws

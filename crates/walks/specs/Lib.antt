@@ -1,0 +1,5 @@
+pub mod Walk
+pub mod Steps
+pub mod Structs
+pub mod SliceSteps
+pub mod Theorem
