@@ -1,7 +1,9 @@
 -- What the values of this crate stand for, against `MarkCalls` (crate marking).
 --     stated n d xs       the first n of xs; those that are stated and not held are d
 --     markIs, marksIs     a mark: its name and its reading; the marks below the count, so that more than 16 are seen as that many
---     headTest            whether one mark is right, the later ones beside it
+--     nameRight           whether the name of one mark is right, the later ones beside it
+--     NamesAre            names by themselves, each in the place of its mark
+--     NameTold            what is told of one of them, of any marks that have these names
 --     SeekTold            the first place of a name, from a place on
 --     noMarks, putAt      no marks; the marks with one put at a place
 -- Assumes nothing.
@@ -18,6 +20,7 @@ use Rattle.stream.specs.declared.Plain.{Plain}
 use Rattle.stream.specs.Plains.{plainIs}
 use Rattle.marks_held.specs.declared.Mark.{Mark}
 use Rattle.marks_held.specs.declared.Marks.{Marks}
+use Rattle.marks_held.specs.declared.Name.{Name}
 use Rattle.marks_held.specs.declared.Place.{Place}
 use Rattle.marks_held.specs.declared.Place.the-variants.{At, Nowhere}
 
@@ -41,10 +44,15 @@ marksIs m = stated (m .count) noMark (map markIs (m .marks))
 abbrev pub markAt : List M.Mark → ℕ → M.Mark
 markAt ms i = getD ms i noMark
 
--- as eachRight judges its first mark
-abbrev pub headTest : ℕ → List M.Mark → ℕ → Bool
-headTest len ms i =
-    nameTest (markAt ms i .name) && (stateTest (markAt ms i .held .view) len && not (isThere (marked (markAt ms i .name) (drop (i + 1) ms))))
+-- as eachRight judges its first mark's name
+abbrev pub nameRight : List M.Mark → ℕ → Bool
+nameRight ms i = nameTest (markAt ms i .name) && not (isThere (marked (markAt ms i .name) (drop (i + 1) ms)))
+
+abbrev pub NamesAre : List M.Mark → List Name → Type 0
+NamesAre ms names = (j : ℕ) (d : Name) → j < length ms → markAt ms j .name ≡ stated (getD names j d .len) 0 (getD names j d .bytes)
+
+abbrev pub NameTold : List Name → ℕ → ℕ → Bool → Type 0
+NameTold names count i r = (ms : List M.Mark) → length ms ≡ count → NamesAre ms names → r ≡ nameRight ms i
 
 -- none before it, from a place on
 pub data SeekTold (n : List ℕ) (ms : List M.Mark) (from : ℕ) : Place → Type 0 where

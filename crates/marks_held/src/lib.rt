@@ -4,7 +4,7 @@ ghost use mathlib.Core.Path.{_≡_};
 ghost use Prim.Native.Nat.{_≤_, _<_};
 ghost use lib.ListN.{length};
 ghost use Rattle.marking.specs.MarkCalls as M;
-ghost use Rattle.marks_held.specs.MarkViews.{stated, marksIs, headTest, noMarks, SeekTold, putAt};
+ghost use Rattle.marks_held.specs.MarkViews.{stated, marksIs, NamesAre, NameTold, noMarks, SeekTold, putAt};
 use stream::Plain;
 
 // How many marks are held at most.
@@ -23,6 +23,12 @@ pub struct Mark {
 pub struct Marks {
     pub count: usize,
     pub marks: [Mark; MARKS],
+}
+
+// A mark's name by itself, as Mark holds it.
+struct Name {
+    len: usize,
+    bytes: [u8; MAX_NAME],
 }
 
 // The place of a name among the marks.
@@ -93,40 +99,71 @@ pub fn name_from(marks: Marks, from: usize, name: [u8; MAX_NAME], len: usize) ->
     Place::Nowhere
 }
 
-// Whether the mark at a place is right: a name of 1 to 8 bytes, which no later mark has, and a reading that can go on with a file of this length.
-fn mark_right(marks: Marks, i: usize, len: usize) -> bool
-    requires { ⌜ (marks .count ≤ 16) × (i < marks .count) ⌝ }
-    ensures { λ r. ⌜ r ≡ headTest len (marksIs marks) i ⌝ }
+// The names of the marks, each in its place: to judge a name takes no reading, and a name is 16 bytes of a mark's 4,176.
+fn names_of(marks: Marks) -> [Name; MARKS]
+    requires { ⌜ marks .count ≤ 16 ⌝ }
+    ensures { λ r. ⌜ NamesAre (marksIs marks) r ⌝ }
 {
-    let held = marks.marks[i];
-    let name = held.name;
-    let plain = held.reading;
-    let reading = plain.reading;
-    if held.name_len == 0 {
-        return false;
+    let none = Name {
+        len: 0,
+        bytes: [0; MAX_NAME],
+    };
+    let mut names = [none; MARKS];
+    let mut i = 0;
+    while i < marks.count {
+        let held = marks.marks[i];
+        let bytes = held.name;
+        names[i] = Name {
+            len: held.name_len,
+            bytes,
+        };
+        i += 1;
     }
-    if MAX_NAME < held.name_len {
-        return false;
-    }
-    if stream_bounds::state_right(reading.levels, reading.bound_len, reading.len, len) {} else {
-        return false;
-    }
-    match name_from(marks, i + 1, name, held.name_len) {
-        Place::At(_) => false,
-        Place::Nowhere => true,
-    }
+    names
 }
 
-// Whether the marks are right: at most 16, each by itself, and no name twice.
+// Whether the name at a place is right: of 1 to 8 bytes, and no later mark has it.
+fn name_right(names: [Name; MARKS], count: usize, i: usize) -> bool
+    requires { ⌜ (count ≤ 16) × (i < count) ⌝ }
+    ensures { λ r. ⌜ NameTold names count i r ⌝ }
+{
+    let held = names[i];
+    let name = held.bytes;
+    if held.len == 0 {
+        return false;
+    }
+    if MAX_NAME < held.len {
+        return false;
+    }
+    let mut j = i + 1;
+    while j < count {
+        let later = names[j];
+        let later_name = later.bytes;
+        if same_name(later_name, later.len, name, held.len) {
+            return false;
+        }
+        j += 1;
+    }
+    true
+}
+
+// Whether the marks are right: at most 16, each with a reading that can go on with a file of this length, and a right name.
 pub fn marks_right(marks: Marks, len: usize) -> bool
     ensures { λ r. ⌜ r ≡ M.marksTest len (marksIs marks) ⌝ }
 {
     if MARKS < marks.count {
         return false;
     }
+    let names = names_of(marks);
     let mut i = 0;
     while i < marks.count {
-        if mark_right(marks, i, len) {} else {
+        let held = marks.marks[i];
+        let plain = held.reading;
+        let reading = plain.reading;
+        if stream_bounds::state_right(reading.levels, reading.bound_len, reading.len, len) {} else {
+            return false;
+        }
+        if name_right(names, marks.count, i) {} else {
             return false;
         }
         i += 1;
