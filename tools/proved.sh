@@ -27,19 +27,21 @@ announce() {
 # The lines of rt where nothing changed.
 quiet='\(unchanged since it was last proved\)$|^rt: ok, '
 
-# Proves a crate, and builds it if it is a program, unless nothing changed since.
-proved() { # CRATE
-    local line
-    # A kept proof does not bring back a program that was removed.
-    if [ -f "$top/crates/$1/src/main.rt" ] && [ ! -x "$top/target/bin/$1" ]; then
-        rm -f "$top/target/stamp/$1"
-    fi
-    [ -f "$top/target/stamp/$1" ] || announce
-    (cd "$top" && exec rt check "$1") 2>&1 </dev/null | while IFS= read -r line; do
+# Proves crates, and builds those that are programs, unless nothing changed since. One call of rt, since each takes a while to find that.
+proved() { # CRATE...
+    local line crate
+    for crate in "$@"; do
+        # A kept proof does not bring back a program that was removed.
+        if [ -f "$top/crates/$crate/src/main.rt" ] && [ ! -x "$top/target/bin/$crate" ]; then
+            rm -f "$top/target/stamp/$crate"
+        fi
+        [ -f "$top/target/stamp/$crate" ] || announce
+    done
+    (cd "$top" && exec rt check "$@") 2>&1 </dev/null | while IFS= read -r line; do
         printf '%s\n' "$line" >>"$log"
         [[ $line =~ $quiet ]] || announce
     done
-    [ "${PIPESTATUS[0]}" -eq 0 ] || failed "crate $1 is not proved"
+    [ "${PIPESTATUS[0]}" -eq 0 ] || failed "not proved: $*"
     # the loop is a process of its own, and what it announced is known here by the log
     ! grep -Evq "$quiet" "$log" || announced=yes
 }
@@ -56,15 +58,13 @@ make_known() { # NAME FILE...
 
 # Proves the library for C and writes it to target/staticlib/libbaxhiso.a.
 library() {
-    local crate stamps=()
-    while read -r crate; do
-        proved "$crate"
-        stamps+=("target/stamp/$crate")
-    done <"$top/tools/library.txt"
+    local crates
+    mapfile -t crates <"$top/tools/library.txt"
+    proved "${crates[@]}"
     if ! made libbaxhiso; then
         announce
         bash "$top/tools/library.sh" >>"$log" 2>&1 </dev/null || failed "the library for C is not built"
-        make_known libbaxhiso tools/library.sh tools/library.txt "${stamps[@]}" target/staticlib/libbaxhiso.a
+        make_known libbaxhiso tools/library.sh tools/library.txt "${crates[@]/#/target/stamp/}" target/staticlib/libbaxhiso.a
     fi
 }
 
