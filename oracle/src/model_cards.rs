@@ -1,5 +1,4 @@
-// A plain model of one call of an operation over several files, from any cards whatsoever (docs/FORMAT.md, "Several files as one"; document 02, N5, with
-// its settled points): rounds of steps, each followed by a look at the keys that are held. Readings are stepped by model_reading.rs.
+// A plain model of one call of an operation over several files, from any cards whatsoever (docs/FORMAT.md, "Operations"): rounds of steps, each followed by a look at the keys that are held. Readings are stepped by model_reading.rs.
 
 use crate::answers::{Held, Reading, LEVELS, SPACE, STATE};
 use crate::model::Model;

@@ -59,6 +59,15 @@ fn seen(card: &Card) -> (Slot, Option<u64>, crate::answers::Reading) {
     (card.slot, value, card.reading.clone())
 }
 
+// The arrays of a reading, where the value of a key that is not pending is 0, as the exported function puts it back.
+fn meant(held: &Held) -> Held {
+    let mut held = held.clone();
+    if held.head[3] == 0 {
+        held.head[4] = 0;
+    }
+    held
+}
+
 // A reading's arrays with something in every entry.
 fn filled(prng: &mut Prng) -> Held {
     let mut held = Held::new();
@@ -159,6 +168,7 @@ impl<'a> Run<'a> {
                 same("slots after a refusal", input, ("as given", held.slots), ("ours", lent.slots))?;
                 same("values after a refusal", input, ("as given", held.values), ("ours", lent.values))?;
                 for (was, is) in held.readings.iter().zip(&lent.readings) {
+                    let (was, is) = (meant(was), meant(is));
                     same("a reading after a refusal", input, ("as given", was.all()), ("ours", is.all()))?;
                 }
             } else {
