@@ -7,6 +7,7 @@ use std::fmt::Debug;
 use crate::answers::{Answers, At, ConvertAnswers, FileAnswers, ReadingAnswers, Record};
 use crate::generate::INPUTS;
 use crate::given;
+use crate::model_cards::CardAnswers;
 use crate::model_carry::CarryAnswers;
 use crate::model_marks::MarkAnswers;
 use crate::model_ops::OpsAnswers;
@@ -17,6 +18,7 @@ use crate::prng::Prng;
 
 mod admission;
 mod boundaries;
+mod cards;
 mod carry;
 mod convert;
 mod counting;
@@ -159,6 +161,8 @@ pub struct Run<'a> {
     ours_seats: Option<&'a dyn SeatAnswers>,
     // and on several files as one
     ours_ops: Option<&'a dyn OpsAnswers>,
+    // and on single calls of them
+    ours_cards: Option<&'a dyn CardAnswers>,
     // and on marks
     ours_marks: Option<&'a dyn MarkAnswers>,
     // a whole run has every random case, another one in so many
@@ -203,6 +207,7 @@ impl<'a> Run<'a> {
             ours_carry: None,
             ours_seats: None,
             ours_ops: None,
+            ours_cards: None,
             ours_marks: None,
             one_in,
             prng: Prng::new(2),
@@ -237,6 +242,11 @@ impl<'a> Run<'a> {
 
     pub fn operating(mut self, ours: Option<&'a dyn OpsAnswers>) -> Run<'a> {
         self.ours_ops = ours;
+        self
+    }
+
+    pub fn calling(mut self, ours: Option<&'a dyn CardAnswers>) -> Run<'a> {
+        self.ours_cards = ours;
         self
     }
 
@@ -313,7 +323,16 @@ impl<'a> Run<'a> {
 
     // Those of several files as one alone.
     pub fn all_operations(&mut self, print: bool) -> Checked {
-        self.sections(print, &[("several files as one", Run::operations)])
+        self.sections(print, &[("several files as one", Run::operations)])?;
+        self.single_calls(print)
+    }
+
+    // Those of single calls from any cards alone.
+    pub fn single_calls(&mut self, print: bool) -> Checked {
+        self.sections(
+            print,
+            &[("several files as one: damaged files, and cards that no begin gave", Run::made_cards)],
+        )
     }
 
     // Those of marks alone.

@@ -44,6 +44,7 @@ mod given_reading;
 mod hand_made;
 mod listing;
 mod model;
+mod model_cards;
 mod model_carry;
 mod model_convert;
 mod model_file;
@@ -56,6 +57,8 @@ mod model_reading;
 mod model_seats;
 #[cfg(library)]
 mod ours;
+#[cfg(library)]
+mod ours_cards;
 #[cfg(library)]
 mod ours_carry;
 #[cfg(library)]
@@ -84,6 +87,7 @@ mod replay_reading;
 mod replay_rows;
 mod sparse;
 mod wrong;
+mod wrong_cards;
 mod wrong_carry;
 mod wrong_convert;
 mod wrong_file;
@@ -97,6 +101,7 @@ use std::process;
 
 use crate::answers::ConvertAnswers;
 use crate::compare::{Difference, Ours, Run};
+use crate::model_cards::CardAnswers;
 use crate::model_carry::CarryAnswers;
 use crate::model_marks::MarkAnswers;
 use crate::model_ops::OpsAnswers;
@@ -171,6 +176,16 @@ fn library_operates() -> Option<&'static dyn OpsAnswers> {
 
 #[cfg(not(library))]
 fn library_operates() -> Option<&'static dyn OpsAnswers> {
+    None
+}
+
+#[cfg(library)]
+fn library_calls() -> Option<&'static dyn CardAnswers> {
+    Some(&ours::Library)
+}
+
+#[cfg(not(library))]
+fn library_calls() -> Option<&'static dyn CardAnswers> {
     None
 }
 
@@ -302,7 +317,7 @@ fn compare_seats() -> bool {
 
 // Several files as one alone.
 fn compare_ops() -> bool {
-    match Run::new(library(), 1).operating(library_operates()).all_operations(true) {
+    match Run::new(library(), 1).operating(library_operates()).calling(library_calls()).all_operations(true) {
         Ok(()) => true,
         Err(difference) => {
             report(&difference);
@@ -376,7 +391,7 @@ fn self_test() -> bool {
             }
         }
     }
-    self_test_packs() && self_test_range() && self_test_conversions() && self_test_carries() && self_test_marks() && self_test_seats()
+    self_test_packs() && self_test_range() && self_test_conversions() && self_test_carries() && self_test_cards() && self_test_marks() && self_test_seats()
 }
 
 // The part with no slip agrees, and with each of its slips it does not; a slip is made by `with`.
@@ -450,6 +465,14 @@ fn self_test_range() -> bool {
         }
     }
     true
+}
+
+// The same of single calls of an operation.
+fn self_test_cards() -> bool {
+    each_noticed(wrong_cards::SLIPS, |slip| {
+        let wrong = wrong_cards::WrongCards { slip };
+        Run::new((None, None, None), 20).calling(Some(&wrong)).single_calls(false)
+    })
 }
 
 // The same of marks.
@@ -528,6 +551,7 @@ fn main() {
         Some("self-test") => match args.get(2).map(String::as_str) {
             Some("convert") => self_test_conversions(),
             Some("carry") => self_test_carries(),
+            Some("ops") => self_test_cards(),
             Some("marks") => self_test_marks(),
             Some("seats") => self_test_seats(),
             _ => self_test(),

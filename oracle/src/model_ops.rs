@@ -90,7 +90,7 @@ impl Source {
     }
 }
 
-fn takes(op: Op, n: usize, pairs: &[(u64, usize)]) -> bool {
+pub fn takes(op: Op, n: usize, pairs: &[(u64, usize)]) -> bool {
     match op {
         Op::Union => true,
         Op::Intersection => pairs.len() == n,

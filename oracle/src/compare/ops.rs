@@ -44,7 +44,7 @@ fn fitting(mut bound: Bound) -> Bound {
 }
 
 // Keys with values that several files draw from.
-fn pool(prng: &mut Prng) -> BTreeMap<Vec<u8>, u64> {
+pub fn pool(prng: &mut Prng) -> BTreeMap<Vec<u8>, u64> {
     let kind =
         if prng.one_in(10) { prng.pick(&KEYS) } else { prng.pick(&[Keys::Letters, Keys::Digits, Keys::FewBytes]) };
     let n = prng.pick(&[1, 3, 6, 10, 20]);
@@ -53,7 +53,7 @@ fn pool(prng: &mut Prng) -> BTreeMap<Vec<u8>, u64> {
 }
 
 // A file of some of these keys, most of them with the value that they have there.
-fn source(prng: &mut Prng, pool: &BTreeMap<Vec<u8>, u64>, version: u64) -> Source {
+pub fn source(prng: &mut Prng, pool: &BTreeMap<Vec<u8>, u64>, version: u64) -> Source {
     let kept = prng.pick(&[0, 2, 3, 3, 4, 4]);
     let mut pairs = Vec::new();
     for (key, &value) in pool {
