@@ -1,4 +1,4 @@
--- `node_compile::targets_ok` meets its contract. The loop's invariant: the first i targets are 0 or from 16 to F - 1. The measure is
+-- `node_record::targets_ok` meets its contract. The loop's invariant: the first i targets are 0 or from 16 to F - 1. The measure is
 -- the length less i.
 -- Assumes nothing.
 use Prim.Native.Nat.{_-_, _≤_}
@@ -6,9 +6,9 @@ use borrow.Author.Needs.{needs}
 use denote.Ref.{now}
 use lib.ListN.{length}
 use Rattle.buffers.specs.DecideLaws.{decides-true, decides-false}
-use Rattle.node_compile.proofs.Record.{TargetsTo, targets-none, targets-step, targets-all, not-targets}
-use Rattle.node_compile.proofs.targets_ok.Statement.{statement}
-use Rattle.node_compile.proofs.targets_ok.Tie as tie
+use Rattle.node_record.proofs.Targets.{TargetsTo, targets-none, targets-step, targets-all, not-targets}
+use Rattle.node_record.proofs.targets_ok.Statement.{statement}
+use Rattle.node_record.proofs.targets_ok.Tie as tie
 
 abbrev Inv-loop : tie.InvT-loop
 Inv-loop targets first i₀ i = (i ≤ length targets) × TargetsTo first targets i

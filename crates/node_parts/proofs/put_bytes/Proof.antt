@@ -1,11 +1,11 @@
--- `node_compile::put_bytes` meets its contract. The loop's invariant: the bytes from i on are written, last first, up to place p. The
+-- `node_parts::put_bytes` meets its contract. The loop's invariant: the bytes from i on are written, last first, up to place p. The
 -- measure is i.
 -- Assumes nothing.
 use borrow.Author.Needs.{needs}
 use denote.Ref.{now}
-use Rattle.node_compile.proofs.Storing.{BytesFrom, bytes-none, bytes-room, bytes-step, bytes-all}
-use Rattle.node_compile.proofs.put_bytes.Statement.{statement}
-use Rattle.node_compile.proofs.put_bytes.Tie as tie
+use Rattle.node_parts.proofs.Storing.{BytesFrom, bytes-none, bytes-room, bytes-step, bytes-all}
+use Rattle.node_parts.proofs.put_bytes.Statement.{statement}
+use Rattle.node_parts.proofs.put_bytes.Tie as tie
 
 abbrev Inv-loop : tie.InvT-loop
 Inv-loop out₀ at bytes p₀ i₀ out p i = BytesFrom out₀ at bytes out p i

@@ -1,13 +1,13 @@
--- `node_compile::put_index` meets its contract.
+-- `node_parts::put_index` meets its contract.
 -- Assumes nothing.
 use mathlib.Core.Path.{ap}
 use native.Mathlib.Omega.{arith}
 use borrow.Author.Needs.{needs}
 use denote.Ref.{now}
 use lib.ListN.{length}
-use Rattle.node_compile.proofs.Heads.{index-many, index-few, put-none}
-use Rattle.node_compile.proofs.put_index.Statement.{statement}
-use Rattle.node_compile.proofs.put_index.Tie as tie
+use Rattle.node_parts.proofs.Heads.{index-many, index-few, put-none}
+use Rattle.node_parts.proofs.put_index.Statement.{statement}
+use Rattle.node_parts.proofs.put_index.Tie as tie
 
 index-of-requires : tie.Need-index-of-requires
 index-of-requires c κs = search needs

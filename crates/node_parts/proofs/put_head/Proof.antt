@@ -1,4 +1,4 @@
--- `node_compile::put_head` meets its contract.
+-- `node_parts::put_head` meets its contract.
 -- Assumes nothing.
 use mathlib.Core.Logic.{⊎-elim}
 use Prim.Native.Nat.{_<_}
@@ -8,9 +8,9 @@ use borrow.Author.Needs.{needs}
 use borrow.Author.Tests.{ltb-true, ltb-false}
 use denote.Ref.{now}
 use lib.ListN.{length-set}
-use Rattle.node_compile.proofs.Heads.{final-flag-le, head-short-room, head-short-put, head-long-room, head-long-put}
-use Rattle.node_compile.proofs.put_head.Statement.{statement}
-use Rattle.node_compile.proofs.put_head.Tie as tie
+use Rattle.node_parts.proofs.Heads.{final-flag-le, head-short-room, head-short-put, head-long-room, head-long-put}
+use Rattle.node_parts.proofs.put_head.Statement.{statement}
+use Rattle.node_parts.proofs.put_head.Tie as tie
 
 -- by either way, the count does not go into the state byte
 not-short : (c : tie.After-count-byte) → ¬ ((0 < c .before .before .before .before .args .n) × (c .before .before .before .before .args .n < 64))

@@ -1,4 +1,4 @@
--- `node_compile::inputs_ascend` meets its contract. The loop's invariant: the first i inputs ascend, and i is at least 1. The measure
+-- `node_record::inputs_ascend` meets its contract. The loop's invariant: the first i inputs ascend, and i is at least 1. The measure
 -- is the length less i.
 -- Assumes nothing.
 use mathlib.Core.List.{List}
@@ -10,9 +10,9 @@ use borrow.Author.Count.{falls}
 use denote.Ref.{now}
 use lib.ListN.{length}
 use Rattle.buffers.specs.DecideLaws.{decides-true, decides-false}
-use Rattle.node_compile.proofs.Ascending.{AscendingTo, ascending-one, ascending-step, ascending-all, not-ascending}
-use Rattle.node_compile.proofs.inputs_ascend.Statement.{statement}
-use Rattle.node_compile.proofs.inputs_ascend.Tie as tie
+use Rattle.node_record.proofs.Ascending.{AscendingTo, ascending-one, ascending-step, ascending-all, not-ascending}
+use Rattle.node_record.proofs.inputs_ascend.Statement.{statement}
+use Rattle.node_record.proofs.inputs_ascend.Tie as tie
 
 abbrev Inv-loop : tie.InvT-loop
 Inv-loop inputs i₀ i = (1 ≤ i) × AscendingTo inputs i

@@ -1,4 +1,4 @@
--- `node_compile::index_of` meets its contract. The loop's invariant: the first i inputs have their places in the index. The measure is
+-- `node_parts::index_of` meets its contract. The loop's invariant: the first i inputs have their places in the index. The measure is
 -- the length less i.
 -- Assumes nothing.
 use Prim.Native.Nat.{_-_}
@@ -6,9 +6,9 @@ use native.Mathlib.Omega.{arith}
 use borrow.Author.Needs.{needs}
 use denote.Ref.{now}
 use lib.ListN.{length}
-use Rattle.node_compile.proofs.Marking.{Marked, marked-none, marked-step, marked-all}
-use Rattle.node_compile.proofs.index_of.Statement.{statement}
-use Rattle.node_compile.proofs.index_of.Tie as tie
+use Rattle.node_parts.proofs.Marking.{Marked, marked-none, marked-step, marked-all}
+use Rattle.node_parts.proofs.index_of.Statement.{statement}
+use Rattle.node_parts.proofs.index_of.Tie as tie
 
 abbrev Inv-loop : tie.InvT-loop
 Inv-loop inputs index₀ i₀ index i = Marked inputs index i

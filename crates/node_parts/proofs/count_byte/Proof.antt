@@ -1,9 +1,9 @@
--- `node_compile::count_byte` meets its contract.
+-- `node_parts::count_byte` meets its contract.
 -- Assumes nothing.
 use borrow.Author.Needs.{needs}
 use borrow.Author.Tests.{eq-eqb, ne-eqb}
-use Rattle.node_compile.proofs.count_byte.Statement.{statement}
-use Rattle.node_compile.proofs.count_byte.Tie as tie
+use Rattle.node_parts.proofs.count_byte.Statement.{statement}
+use Rattle.node_parts.proofs.count_byte.Tie as tie
 
 cast-result : tie.Need-cast-result
 cast-result c = search needs

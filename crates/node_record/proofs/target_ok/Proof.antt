@@ -1,10 +1,10 @@
--- `node_compile::target_ok` meets its contract.
+-- `node_record::target_ok` meets its contract.
 -- Assumes nothing.
 use borrow.Author.Tests.{eq-eqb, lt-leb}
 use Rattle.format.specs.Limits.{firstNode}
-use Rattle.node_compile.proofs.Record.{target-zero, target-above, target-below}
-use Rattle.node_compile.proofs.target_ok.Statement.{statement}
-use Rattle.node_compile.proofs.target_ok.Tie as tie
+use Rattle.node_record.proofs.Targets.{target-zero, target-above, target-below}
+use Rattle.node_record.proofs.target_ok.Statement.{statement}
+use Rattle.node_record.proofs.target_ok.Tie as tie
 
 -- target 0
 returns : tie.Need-returns

@@ -1,4 +1,4 @@
--- `node_compile::put_all` meets its contract. The loop's invariant: the first i bytes are written from place at on. The measure is the
+-- `node_parts::put_all` meets its contract. The loop's invariant: the first i bytes are written from place at on. The measure is the
 -- length less i.
 -- Assumes nothing.
 use Prim.Native.Nat.{_-_}
@@ -6,9 +6,9 @@ use native.Mathlib.Omega.{arith}
 use borrow.Author.Needs.{needs}
 use denote.Ref.{now}
 use lib.ListN.{length}
-use Rattle.node_compile.proofs.Storing.{AllTo, all-none, all-step, all-done}
-use Rattle.node_compile.proofs.put_all.Statement.{statement}
-use Rattle.node_compile.proofs.put_all.Tie as tie
+use Rattle.node_parts.proofs.Storing.{AllTo, all-none, all-step, all-done}
+use Rattle.node_parts.proofs.put_all.Statement.{statement}
+use Rattle.node_parts.proofs.put_all.Tie as tie
 
 abbrev Inv-loop : tie.InvT-loop
 Inv-loop out₀ at bytes i₀ out i = AllTo out₀ at bytes out i
