@@ -1,4 +1,4 @@
--- `node_step::one_choice` meets its contract: the node is that of the form 10, and its one output fits or not.
+-- `node_fit::one_choice` meets its contract: the node is that of the form 10, and its one output fits or not.
 -- Assumes nothing.
 use mathlib.Core.Path.{_≡_, refl, sym}
 use mathlib.Core.Bool.{false}
@@ -13,22 +13,22 @@ use Rattle.node_sound.specs.JudgingLaws.{sound-low, shape-sound}
 use Rattle.node.specs.AccessorLaws.{delta-le, input-one}
 use Rattle.format.specs.laws.StoredLaws.{length-numbers-down}
 use Rattle.format.specs.laws.LookupLaws.{key-goes-on-final}
-use Rattle.node_step.proofs.Fits.{single-over, single-fits, choice-none, choice-to, choice-on, fit-yes}
+use Rattle.node_fit.proofs.Fits.{single-over, single-fits, choice-none, choice-to, choice-on, fit-yes}
 use Rattle.node.specs.declared.Node.{Node}
 use Rattle.node.specs.declared.Judged.the-variants.{Sound}
-use Rattle.node_step.specs.declared.Choice.{Choice}
-use Rattle.node_step.specs.declared.Choice.the-variants.{To as Along, Absent as None}
-use Rattle.node_step.specs.declared.Fit.the-variants.{Sound as Fitted}
+use Rattle.node_fit.specs.declared.Choice.{Choice}
+use Rattle.node_fit.specs.declared.Choice.the-variants.{To as Along, Absent as None}
+use Rattle.node_fit.specs.declared.Fit.the-variants.{Sound as Fitted}
 use Rattle.node.specs.Read.{Readable, Judges, meaning, transitionsIn, nodeDeltas}
-use Rattle.node_step.specs.Ways.{fittingIn, fitOf}
+use Rattle.node_fit.specs.Choices.{fittingIn, fitOf}
 use Rattle.format.specs.Node.{numbersDown, nodeAt}
 use lib.ListN.{getD}
 use Rattle.node_sound.specs.ShapesLaws.{oneShape, shape-one}
 use borrow.Author.Needs.{needs}
 use native.Mathlib.Omega.{arith}
 use denote.Ref.{now}
-use Rattle.node_step.proofs.one_choice.Statement.{statement}
-use Rattle.node_step.proofs.one_choice.Tie as tie
+use Rattle.node_fit.proofs.one_choice.Statement.{statement}
+use Rattle.node_fit.proofs.one_choice.Tie as tie
 
 -- a sound node's address
 low : (b : tie.Start) → 16 ≤ b .args .addr

@@ -22,10 +22,10 @@ use Rattle.node.specs.Read.{Readable, Judges, meaning, transitionsIn, nodeDelta
 use Rattle.node.specs.ReadLaws.{node-transition, length-node-transitions}
 use Rattle.node.specs.AccessorLaws.{output-is}
 use Rattle.node.specs.JudgedLaws.{judged-empty}
-use Rattle.node_step.specs.declared.Choice.{Choice}
-use Rattle.node_step.specs.declared.Choice.the-variants.{Ends, To as Along, Absent as None}
-use Rattle.node_step.specs.declared.Fit.the-variants.{Sound as Fitted, Unsound as Unfit}
-use Rattle.node_step.specs.Ways.{Leading, fittingIn, choiceIn, fitOf}
+use Rattle.node_fit.specs.declared.Choice.{Choice}
+use Rattle.node_fit.specs.declared.Choice.the-variants.{Ends, To as Along, Absent as None}
+use Rattle.node_fit.specs.declared.Fit.the-variants.{Sound as Fitted, Unsound as Unfit}
+use Rattle.node_fit.specs.Choices.{Leading, fittingIn, choiceIn, fitOf}
 
 -- ---- the loop: the first i numbers are not above v
 

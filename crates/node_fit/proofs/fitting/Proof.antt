@@ -1,14 +1,14 @@
--- `node_step::fitting` meets its contract. The invariant: the first i numbers are not above what is left. The measure is n less i.
+-- `node_fit::fitting` meets its contract. The invariant: the first i numbers are not above what is left. The measure is n less i.
 -- Assumes nothing.
 use Prim.Native.Nat.{_-_}
 use Rattle.format.specs.Node.{numbersDown}
 use Rattle.format.specs.laws.StoredLaws.{length-numbers-down}
-use Rattle.node_step.proofs.Fits.{Passed, passed-none, passed-step, leading-stop, leading-all}
+use Rattle.node_fit.proofs.Fits.{Passed, passed-none, passed-step, leading-stop, leading-all}
 use borrow.Author.Needs.{needs}
 use native.Mathlib.Omega.{arith}
 use denote.Ref.{now}
-use Rattle.node_step.proofs.fitting.Statement.{statement}
-use Rattle.node_step.proofs.fitting.Tie as tie
+use Rattle.node_fit.proofs.fitting.Statement.{statement}
+use Rattle.node_fit.proofs.fitting.Tie as tie
 
 abbrev Inv-loop : tie.InvT-loop
 Inv-loop file at size n left i₀ i = Passed (numbersDown file at size n) left i

@@ -1,4 +1,4 @@
--- `node_step::any_fit` meets its contract: each way out is a condition of soundness, at the shape that was read, and past them all the
+-- `node_fit::any_fit` meets its contract: each way out is a condition of soundness, at the shape that was read, and past them all the
 -- search ends at the node with this shape, or goes on along its choice.
 -- Assumes nothing.
 use mathlib.Core.Path.{_≡_, refl, sym, ap, _∙_}
@@ -10,22 +10,22 @@ use Rattle.node_sound.specs.declared.Shape.{Shape}
 use Rattle.node_sound.specs.Shapes.{shapeIs}
 use Rattle.node_sound.specs.JudgingLaws.{Parts, parts, shape-sound, shape-right, right-parts}
 use Rattle.node.specs.JudgedLaws.{codeNode, judged-yes}
-use Rattle.node_step.proofs.Steps.{readable-any}
-use Rattle.node_step.proofs.Fits.{fit-no, fit-yes, choice-ends, choice-on}
+use Rattle.node_step.specs.WaysLaws.{readable-any}
+use Rattle.node_fit.proofs.Fits.{fit-no, fit-yes, choice-ends, choice-on}
 use Rattle.node.specs.declared.Node.{Node}
 use Rattle.node.specs.declared.Judged.the-variants.{Sound}
-use Rattle.node_step.specs.declared.Fit.the-variants.{Unsound as Unfit}
-use Rattle.node_step.specs.declared.Choice.the-variants.{Ends}
+use Rattle.node_fit.specs.declared.Fit.the-variants.{Unsound as Unfit}
+use Rattle.node_fit.specs.declared.Choice.the-variants.{Ends}
 use Rattle.node.specs.Read.{Judges, meaning}
-use Rattle.node_step.specs.Ways.{fitOf}
+use Rattle.node_fit.specs.Choices.{fitOf}
 use Rattle.format.specs.Node.{nodeAt}
 use Rattle.format.specs.Bytes.{le}
 use lib.ListN.{take, drop}
 use borrow.Author.Needs.{needs}
 use native.Mathlib.Omega.{arith}
 use denote.Ref.{now}
-use Rattle.node_step.proofs.any_fit.Statement.{statement}
-use Rattle.node_step.proofs.any_fit.Tie as tie
+use Rattle.node_fit.proofs.any_fit.Statement.{statement}
+use Rattle.node_fit.proofs.any_fit.Tie as tie
 
 -- the parameters and the shape, seen from where the shape is read
 abbrev start : tie.After-shape-of → tie.Start

@@ -1,13 +1,13 @@
--- `node_step::fit_at` meets its contract: address 0, a state byte outside its range, or one of the three forms.
+-- `node_fit::fit_at` meets its contract: address 0, a state byte outside its range, or one of the three forms.
 -- Assumes nothing.
 use native.Mathlib.Nat.{not-le-of-lt}
 use denote.Ref.{now}
 use Rattle.node_sound.specs.Shapes.{AtForm}
 use Rattle.node_sound.specs.JudgingLaws.{sound-low}
-use Rattle.node_step.proofs.Fits.{fit-no}
+use Rattle.node_fit.proofs.Fits.{fit-no}
 use borrow.Author.Needs.{needs}
-use Rattle.node_step.proofs.fit_at.Statement.{statement}
-use Rattle.node_step.proofs.fit_at.Tie as tie
+use Rattle.node_fit.proofs.fit_at.Statement.{statement}
+use Rattle.node_fit.proofs.fit_at.Tie as tie
 
 zero-fit-requires : tie.Need-zero-fit-requires
 zero-fit-requires c κs = search needs

@@ -1,8 +1,8 @@
--- `node_step::ends` meets its contract.
+-- `node_fit::ends` meets its contract.
 -- Assumes nothing.
 use borrow.Author.Tests.{eq-eqb, ne-eqb}
-use Rattle.node_step.proofs.ends.Statement.{statement}
-use Rattle.node_step.proofs.ends.Tie as tie
+use Rattle.node_fit.proofs.ends.Statement.{statement}
+use Rattle.node_fit.proofs.ends.Tie as tie
 
 -- nothing is left: whether the node is final decides
 returns : tie.Need-returns

@@ -1,4 +1,4 @@
--- `node_step::next_choice` meets its contract: the node is that of the form 11, and its one output is 0, so it fits.
+-- `node_fit::next_choice` meets its contract: the node is that of the form 11, and its one output is 0, so it fits.
 -- Assumes nothing.
 use mathlib.Core.Path.{_≡_, refl, sym, ap}
 use mathlib.Core.Bool.{false}
@@ -10,17 +10,17 @@ use Rattle.node.specs.JudgedLaws.{codeNode, judged-yes}
 use Rattle.node_sound.specs.JudgingLaws.{sound-low, shape-sound}
 use Rattle.format.specs.laws.LookupLaws.{key-goes-on-final}
 use Rattle.node.specs.AccessorLaws.{input-one}
-use Rattle.node_step.proofs.Fits.{single-fits, choice-to, choice-on, fit-yes}
+use Rattle.node_fit.proofs.Fits.{single-fits, choice-to, choice-on, fit-yes}
 use Rattle.node.specs.declared.Node.{Node}
 use Rattle.node.specs.declared.Judged.the-variants.{Sound}
-use Rattle.node_step.specs.declared.Choice.the-variants.{To as Along}
+use Rattle.node_fit.specs.declared.Choice.the-variants.{To as Along}
 use Rattle.node.specs.Read.{Readable, Judges, meaning}
 use Rattle.format.specs.laws.StoredLaws.{length-numbers-down, getD-numbers-down}
 use mathlib.Core.List.{List, [], _∷_}
 use Rattle.node_sound.specs.ShapesLaws.{nextShape, shape-next}
 use native.Mathlib.Omega.{arith}
-use Rattle.node_step.proofs.next_choice.Statement.{statement}
-use Rattle.node_step.proofs.next_choice.Tie as tie
+use Rattle.node_fit.proofs.next_choice.Statement.{statement}
+use Rattle.node_fit.proofs.next_choice.Tie as tie
 
 -- a sound node's address
 low : (b : tie.Start) → 16 ≤ b .args .addr

@@ -1,17 +1,17 @@
--- `node_step::any_choice` meets its contract: as many outputs as fit lead, and the last of them is the transition.
+-- `node_fit::any_choice` meets its contract: as many outputs as fit lead, and the last of them is the transition.
 -- Assumes nothing.
 use mathlib.Core.Path.{refl}
 use mathlib.Core.List.{List}
 use Prim.Native.Nat.{ℕ, _-_, _<_}
 use Rattle.node.specs.declared.Node.{Node}
 use Rattle.node_step.specs.Ways.{anyNode}
 use Rattle.node.specs.AccessorLaws.{input-any, delta-le}
-use Rattle.node_step.proofs.Fits.{choice-none, count-lt, choice-to}
+use Rattle.node_fit.proofs.Fits.{choice-none, count-lt, choice-to}
 use borrow.Author.Needs.{needs}
 use native.Mathlib.Omega.{arith}
 use denote.Ref.{now}
-use Rattle.node_step.proofs.any_choice.Statement.{statement}
-use Rattle.node_step.proofs.any_choice.Tie as tie
+use Rattle.node_fit.proofs.any_choice.Statement.{statement}
+use Rattle.node_fit.proofs.any_choice.Tie as tie
 
 -- the node that the parameters make up, which can be read
 abbrev m : tie.Start → Node
