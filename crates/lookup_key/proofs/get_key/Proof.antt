@@ -1,4 +1,4 @@
--- `lookup::get_key` meets its contract: what opening and the search answered lead to an equation of `getKey`.
+-- `lookup_key::get_key` meets its contract: what opening and the search answered lead to an equation of `getKey`.
 -- Assumes nothing.
 use mathlib.Core.Path.{_≡_, refl, sym, ap, _∙_}
 use mathlib.Core.List.{List}
@@ -10,13 +10,13 @@ use Rattle.format.specs.laws.LookupLaws.{get-key-opened, get-key-blank, get-key
 use Rattle.format.specs.laws.OpeningLaws.{version-blank, version-some}
 use Rattle.fst.specs.Open.{metaIs, openingIs}
 use Rattle.format.specs.Opening as O
-use Rattle.lookup.specs.Answers.{keyIs}
-use Rattle.lookup.proofs.KeyAnswers.{written-none, written-refused, written-key, key-fits}
+use Rattle.lookup_key.specs.KeyAnswers.{keyIs}
+use Rattle.lookup_key.proofs.KeyWritings.{written-none, written-refused, written-key, key-fits}
 use borrow.Author.Needs.{needs}
 use native.Mathlib.Omega.{arith}
 use denote.Ref.{now}
-use Rattle.lookup.proofs.get_key.Statement.{statement}
-use Rattle.lookup.proofs.get_key.Tie as tie
+use Rattle.lookup_key.proofs.get_key.Statement.{statement}
+use Rattle.lookup_key.proofs.get_key.Tie as tie
 
 -- what the file says, where it opens
 opens : (q : tie.After-opened2) → O.opening (now (q .before .before .before .before .before .args .file)) ≡ O.opened (metaIs (q .opened2 .given .0 .0))
