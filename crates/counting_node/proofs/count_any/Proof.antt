@@ -1,4 +1,4 @@
--- `counting::count_any` meets its contract. The loop's invariant: `total` is the node's own key and those of the transitions passed. The
+-- `counting_node::count_any` meets its contract. The loop's invariant: `total` is the node's own key and those of the transitions passed. The
 -- measure is the number of transitions left. Assumes nothing.
 use mathlib.Core.Path.{_≡_}
 use mathlib.Core.List.{List}
@@ -8,11 +8,11 @@ use lib.ListN.{length}
 use Rattle.format.specs.declared.Transition.{Transition}
 use Rattle.node.specs.Read.{transitionsIn}
 use Rattle.node.specs.ReadLaws.{length-node-transitions}
-use Rattle.counting.proofs.Adding.{CountedTo, counted-none, target-inside, counted-step, counted-all}
+use Rattle.counting_node.proofs.Adding.{CountedTo, counted-none, target-inside, counted-step, counted-all}
 use borrow.Author.Needs.{needs}
 use native.Mathlib.Omega.{arith}
-use Rattle.counting.proofs.count_any.Statement.{statement}
-use Rattle.counting.proofs.count_any.Tie as tie
+use Rattle.counting_node.proofs.count_any.Statement.{statement}
+use Rattle.counting_node.proofs.count_any.Tie as tie
 
 abbrev Inv-loop : tie.InvT-loop
 Inv-loop file node counts n total₀ i₀ total i = CountedTo counts (node .«is_final») (transitionsIn file node) i total

@@ -1,30 +1,27 @@
--- One node, by the entries of its targets: what is known after the first i of its transitions, and that the sum is the number of keys.
+-- One node, by the entries of its targets: what is known after the first i of its transitions.
 --     CountedTo ..        their keys and the node's own, as a total
 -- Assumes nothing.
 use mathlib.Core.Path.{_≡_, sym, ap, _∙_}
 use mathlib.Core.Bool.{Bool, true, false}
-use mathlib.Core.List.{List, List·Memᴰ}
+use mathlib.Core.List.{List}
 use Prim.Native.Nat.{ℕ, _+_, _≤_, _<_}
 use native.Mathlib.Numerals.{add-one}
-use native.Mathlib.Decide.{ℕ-discrete, decLe}
+use native.Mathlib.Decide.{decLe}
 use native.Mathlib.Omega.{arith}
 use borrow.Author.Tests.{le-leb, lt-leb}
-use lib.ListN.{length, getD, take}
+use lib.ListN.{length, take}
 use lib.Seq.{take-all}
 use Rattle.format.specs.declared.Transition.{Transition}
 use Rattle.format.specs.Limits.{maxSum}
-use Rattle.format.specs.Node.{Node, sound, transitionAt}
-use Rattle.format.specs.Paths.{Fst, nodeIn}
-use Rattle.format.specs.Tables.{one, sumOf, keysFrom, keysAt}
-use Rattle.format.specs.laws.NodeLaws.{sound-not-empty}
+use Rattle.format.specs.Node.{transitionAt}
+use Rattle.format.specs.Tables.{one, sumOf, keysAt}
 use Rattle.format.specs.laws.TransitionLaws.{at-member}
-use Rattle.format.specs.laws.KeysLaws.{sum-same, sum-take-step, keys-of, keys-zero}
+use Rattle.format.specs.laws.KeysLaws.{sum-take-step}
 use Rattle.admission_node.specs.declared.Total.{Total}
 use Rattle.admission_node.specs.declared.Total.the-variants.{Is, Over}
 use Rattle.admission_node.specs.Entries.{totalAs}
 use Rattle.admission_node.specs.TotalLaws.{total-of-le}
-use Rattle.admission_node.specs.ChildLaws.{child-zero, child-entry}
-use Rattle.counting.specs.CountPasses.{addedTo, keysBy, Inside}
+use Rattle.counting_node.specs.CountNodes.{addedTo, keysBy, Inside}
 
 -- ---- a total and more
 
@@ -83,22 +80,3 @@ module _ {c : List ℕ} {ts : List Transition} (i : ℕ) (l : i < length ts) (a 
 pub counted-all : {c : List ℕ} {final : Bool} {ts : List Transition} {i : ℕ} {total : Total} → CountedTo c final ts i total → length ts ≤ i
     → total ≡ totalAs (keysBy c final ts)
 counted-all {c} {final} {ts} {i} h l = h .total-is ∙ ap (λ u. totalAs (keysBy c final u)) (take-all i ts l)
-
--- ---- the number of keys
-
--- the entries of the targets are right, so what they give for the node is right
-pub keys-by-is : (f : Fst) (a : ℕ) (m : Node) → nodeIn f a ≡ sound m → (c : List ℕ)
-    → ((t : Transition) → List·Memᴰ t (m .transitions) → ¬ (t .addr ≡ 0) → getD c (t .addr) 0 ≡ keysFrom f (t .addr))
-    → keysBy c (m .final) (m .transitions) ≡ keysFrom f a
-unfolding keysBy
-keys-by-is f a m e c right =
-    ap (λ n. one (m .final) + n) (sum-same (λ t. keysAt c (t .addr)) (λ t. keysFrom f (t .addr)) (m .transitions) same) ∙ sym (keys-of f a m e)
-  where
-    same : (t : Transition) → List·Memᴰ t (m .transitions) → keysAt c (t .addr) ≡ keysFrom f (t .addr)
-    same t mem =
-        elim (ℕ-discrete (t .addr) 0) [
-          | yes z ↦
-              let pos = sound-not-empty (f .bytes) (f .version) (f .root) a m e in
-              omega (arith, child-zero 1 c (t .addr) z, ap (keysFrom f) z, keys-zero f pos)
-          | no z ↦ omega (arith, child-entry 1 c (t .addr) z, right t mem z)
-        ]

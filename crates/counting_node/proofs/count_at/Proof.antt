@@ -1,11 +1,11 @@
--- `counting::count_at` meets its contract: what its targets say of a sound node, by the form of its state. Assumes nothing.
+-- `counting_node::count_at` meets its contract: what its targets say of a sound node, by the form of its state. Assumes nothing.
 use mathlib.Core.Path.{refl, ap}
 use Rattle.node_sound.specs.Shapes.{isAny}
-use Rattle.counting.proofs.Judged.{targets-inside, node-counted}
+use Rattle.counting_node.proofs.Judged.{targets-inside, node-counted}
 use borrow.Author.Needs.{needs}
 use native.Mathlib.Omega.{arith}
-use Rattle.counting.proofs.count_at.Statement.{statement}
-use Rattle.counting.proofs.count_at.Tie as tie
+use Rattle.counting_node.proofs.count_at.Statement.{statement}
+use Rattle.counting_node.proofs.count_at.Tie as tie
 
 abbrev start : tie.After-small → tie.Start
 start q = q .before .before .before .before

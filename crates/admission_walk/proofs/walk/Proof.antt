@@ -1,4 +1,4 @@
--- `admission::walk` meets its contract. The loop's invariant: the addresses passed have their marks and lie above `a`, and what is left
+-- `admission_walk::walk` meets its contract. The loop's invariant: the addresses passed have their marks and lie above `a`, and what is left
 -- of the chain is the chain from `a`. The measure is `a`, since the next node lies below. Assumes nothing.
 use mathlib.Core.Path.{_≡_, sym, ap, _∙_}
 use mathlib.Core.List.{List, []}
@@ -10,12 +10,12 @@ use Rattle.format.specs.Paths.{Fst, nodeIn}
 use Rattle.admission_node.specs.Entries.{Kept, MarksTargets}
 use Rattle.format.specs.Paths.{fstWith}
 use Rattle.admission_node.specs.KeptLaws.{kept-none, kept-set, kept-then, kept-lt}
-use Rattle.admission.proofs.SoundNodes.{sound-node, unsound-node}
-use Rattle.admission.proofs.Walking.{Walking, walking-none, walking-broken, walked-inside, walked-below, walked-first-low, mark-high, walking-last, walking-next}
+use Rattle.admission_walk.specs.SoundNodeLaws.{sound-node, unsound-node}
+use Rattle.admission_walk.proofs.Walking.{Walking, walking-none, walking-broken, walked-inside, walked-below, walked-first-low, mark-high, walking-last, walking-next}
 use borrow.Author.Needs.{needs}
 use native.Mathlib.Omega.{arith}
-use Rattle.admission.proofs.walk.Statement.{statement}
-use Rattle.admission.proofs.walk.Tie as tie
+use Rattle.admission_walk.proofs.walk.Statement.{statement}
+use Rattle.admission_walk.proofs.walk.Tie as tie
 
 abbrev Inv-loop : tie.InvT-loop
 Inv-loop file version root depths₀ a₀ depths a =

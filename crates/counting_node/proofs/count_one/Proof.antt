@@ -1,15 +1,15 @@
--- `counting::count_one` meets its contract: the one turn of the loop that passes all transitions.
+-- `counting_node::count_one` meets its contract: the one turn of the loop that passes all transitions.
 -- Assumes nothing.
 use mathlib.Core.Path.{_≡_, _∙_}
 use denote.Ref.{now}
 use lib.ListN.{length}
 use Rattle.node.specs.Read.{transitionsIn}
 use Rattle.node.specs.ReadLaws.{length-node-transitions}
-use Rattle.counting.proofs.Adding.{counted-none, target-inside, counted-step, counted-all}
+use Rattle.counting_node.proofs.Adding.{counted-none, target-inside, counted-step, counted-all}
 use borrow.Author.Needs.{needs}
 use native.Mathlib.Omega.{arith}
-use Rattle.counting.proofs.count_one.Statement.{statement}
-use Rattle.counting.proofs.count_one.Tie as tie
+use Rattle.counting_node.proofs.count_one.Statement.{statement}
+use Rattle.counting_node.proofs.count_one.Tie as tie
 
 abbrev start : tie.After-transition-addr → tie.Start
 start q = q .before .before .before

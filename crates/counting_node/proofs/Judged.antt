@@ -14,7 +14,7 @@ use Rattle.node.specs.declared.Judged.the-variants.{Sound}
 use Rattle.node.specs.Read.{meaning, Judges, transitionsIn}
 use Rattle.admission_node.specs.declared.Total.{Total}
 use Rattle.admission_node.specs.Entries.{totalAs}
-use Rattle.counting.specs.CountPasses.{keysBy, Inside, CountedAt}
+use Rattle.counting_node.specs.CountNodes.{keysBy, Inside, CountedAt}
 
 module _ {s : List ℕ} {v root a : ℕ} {m : Node} (j : Judges s v root a (Sound m)) where
   node-is : nodeIn (fstWith s v root) a ≡ sound (meaning s m)

@@ -1,10 +1,10 @@
--- `counting::added` meets its contract: b + x passes the limit exactly where u64::MAX - x is below b.
+-- `counting_node::added` meets its contract: b + x passes the limit exactly where u64::MAX - x is below b.
 -- Assumes nothing.
 use borrow.Author.Needs.{needs}
 use native.Mathlib.Omega.{arith}
-use Rattle.counting.proofs.Adding.{added-over, added-is}
-use Rattle.counting.proofs.added.Statement.{statement}
-use Rattle.counting.proofs.added.Tie as tie
+use Rattle.counting_node.proofs.Adding.{added-over, added-is}
+use Rattle.counting_node.proofs.added.Statement.{statement}
+use Rattle.counting_node.proofs.added.Tie as tie
 
 enum-told : tie.Need-enum-told
 enum-told c = search needs

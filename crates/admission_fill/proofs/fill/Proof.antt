@@ -1,4 +1,4 @@
--- `admission::fill` meets its contract. The loop's invariant: the addresses below `a` are filled in at the marks of the entry, as
+-- `admission_fill::fill` meets its contract. The loop's invariant: the addresses below `a` are filled in at the marks of the entry, as
 -- `Filling` says, with the two flags. The measure is what is left of the file. Assumes nothing.
 use mathlib.Core.Path.{_≡_, ap, _∙_}
 use mathlib.Core.Logic.{⊎-elim}
@@ -6,13 +6,13 @@ use Prim.Native.Nat.{_-_, _≤_, _<_}
 use denote.Ref.{now}
 use lib.ListN.{length, set}
 use Rattle.format.specs.Paths.{Fst, fstWith}
-use Rattle.admission.specs.declared.Verdict.the-variants.{Good, Lost, Deep, Heavy}
+use Rattle.admission_fill.specs.declared.Verdict.the-variants.{Good, Lost, Deep, Heavy}
 use Rattle.admission_node.specs.KeptLaws.{kept-lt}
-use Rattle.admission.proofs.Filling.{Filling, filling-none, filling-skip, surveyable-at, filling-lost, filling-store, filling-as, filling-ends, passed-all, filled-heavy, filled-good}
+use Rattle.admission_fill.proofs.Filling.{Filling, filling-none, filling-skip, surveyable-at, filling-lost, filling-store, filling-as, filling-ends, passed-all, filled-heavy, filled-good}
 use borrow.Author.Needs.{needs}
 use native.Mathlib.Omega.{arith}
-use Rattle.admission.proofs.fill.Statement.{statement}
-use Rattle.admission.proofs.fill.Tie as tie
+use Rattle.admission_fill.proofs.fill.Statement.{statement}
+use Rattle.admission_fill.proofs.fill.Tie as tie
 
 abbrev Inv-loop : tie.InvT-loop
 Inv-loop file version root depths₀ sums₀ deep₀ heavy₀ a₀ depths sums deep heavy a =

@@ -23,13 +23,14 @@ use Rattle.format.specs.Tables.{longest, largestSum}
 use Rattle.admission_node.specs.declared.Total.{Total}
 use Rattle.admission_node.specs.declared.Total.the-variants.{Is}
 use Rattle.admission_node.specs.declared.Survey.{Survey}
-use Rattle.admission.specs.declared.Verdict.{Verdict}
+use Rattle.admission_fill.specs.declared.Verdict.{Verdict}
 use Rattle.admission_node.specs.Entries.{Kept, deepest, heaviest, totalAs, entryIs, orOver, Surveyable, SurveyableAt, SurveyedAt}
-use Rattle.admission.specs.Passes.{Live, AllPassed, Fillable, LostOne, DeepOne, HeavyOne, GoodAll, HeavyCase, FillCase, Filled}
+use Rattle.admission_walk.specs.Walks.{Live}
+use Rattle.admission_fill.specs.Fills.{AllPassed, Fillable, LostOne, DeepOne, HeavyOne, GoodAll, HeavyCase, FillCase, Filled}
 use Rattle.admission_node.specs.KeptLaws.{kept-none, kept-set}
 use Rattle.admission_node.specs.TotalLaws.{total-cases}
-use Rattle.admission.proofs.SoundNodes.{sound-node}
-use Rattle.admission.proofs.HalfFilled.{Half, half-none, half-skip, half-store, half-map}
+use Rattle.admission_walk.specs.SoundNodeLaws.{sound-node}
+use Rattle.admission_fill.proofs.HalfFilled.{Half, half-none, half-skip, half-store, half-map}
 use Rattle.admission_node.specs.ChildLaws.{child-depth-le, deepest-is, heaviest-is}
 
 pub record DepthE (f : Fst) (d₀ : List ℕ) (deep : Bool) (j x : ℕ) : Type 0 where

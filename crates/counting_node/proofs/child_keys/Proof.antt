@@ -1,11 +1,11 @@
--- `counting::child_keys` meets its contract: both ways out are a test of the definition.
+-- `counting_node::child_keys` meets its contract: both ways out are a test of the definition.
 -- Assumes nothing.
 use mathlib.Core.Path.{sym}
 use borrow.Author.Needs.{needs}
 use denote.Ref.{now}
 use Rattle.admission_node.specs.ChildLaws.{child-zero, child-entry}
-use Rattle.counting.proofs.child_keys.Statement.{statement}
-use Rattle.counting.proofs.child_keys.Tie as tie
+use Rattle.counting_node.proofs.child_keys.Statement.{statement}
+use Rattle.counting_node.proofs.child_keys.Tie as tie
 
 -- address 0
 returns : tie.Need-returns

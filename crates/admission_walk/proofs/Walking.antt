@@ -18,7 +18,7 @@ use Rattle.format.specs.Admitted.{Chain, last, next}
 use Rattle.format.specs.laws.ChainLaws.{ChainLast, ChainNext, chain-cases}
 use Rattle.format.specs.laws.ReachedLaws.{reached-root, reached-by}
 use Rattle.admission_node.specs.Entries.{TargetIn, MarksTargets}
-use Rattle.admission.specs.Passes.{Hit, Live, Source, Entered, Walkable, ChainMarked}
+use Rattle.admission_walk.specs.Walks.{Hit, Live, Source, Entered, Walkable, ChainMarked}
 use Rattle.admission_node.specs.KeptLaws.{at-set}
 
 -- ---- one step of a chain, where the node is known
