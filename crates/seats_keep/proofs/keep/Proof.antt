@@ -1,10 +1,10 @@
--- `baxhiso_seats::keep` meets its contract: the reading is put into the rows of the seat, and then the three numbers are written.
+-- `seats_keep::keep` meets its contract: the reading is put into the rows of the seat, and then the three numbers are written.
 -- Assumes nothing.
 use mathlib.Core.Path.{refl}
 use borrow.Author.Needs.{needs}
 use native.Mathlib.Omega.{arith}
-use Rattle.baxhiso_seats.proofs.keep.Statement.{statement}
-use Rattle.baxhiso_seats.proofs.keep.Tie as tie
+use Rattle.seats_keep.proofs.keep.Statement.{statement}
+use Rattle.seats_keep.proofs.keep.Tie as tie
 
 put-plain-requires : tie.Need-put-plain-requires
 put-plain-requires c κs = search needs
