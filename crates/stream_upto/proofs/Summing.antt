@@ -19,9 +19,9 @@ use Rattle.format.specs.laws.NodeFacts.{node-ascending, node-inside, node-targe
 use Rattle.format.specs.laws.TransitionLaws.{search-absent, at-member}
 use Rattle.plain.specs.Numbers.{keysBelow}
 use Rattle.plain.specs.UpToLaws.{below-take}
-use Rattle.stream_number.specs.declared.Total.{Total}
-use Rattle.stream_number.specs.Totals.{HasEntry, HasEntries, totalAs, addedTo}
-use Rattle.stream_number.proofs.TotalLaws.{added-total}
+use Rattle.stream_upto.specs.declared.Total.{Total}
+use Rattle.stream_upto.specs.Counts.{HasEntry, HasEntries, totalAs, addedTo}
+use Rattle.stream_upto.proofs.TotalLaws.{added-total}
 
 abbrev pub firstKeys : List ℕ → ℕ → List Transition → ℕ
 firstKeys c i ts = sumOf (λ (t : Transition). keysAt c (t .addr)) (take i ts)

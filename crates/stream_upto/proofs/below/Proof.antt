@@ -1,4 +1,4 @@
--- `stream_number::below` meets its contract. The invariant: the keys from the targets of the first i transitions are added. The measure is p
+-- `stream_upto::below` meets its contract. The invariant: the keys from the targets of the first i transitions are added. The measure is p
 -- less i.
 -- Assumes nothing.
 use Prim.Native.Nat.{_+_, _-_, _≤_, _<_}
@@ -8,13 +8,13 @@ use lib.ListN.{length}
 use Rattle.format.specs.declared.Transition.{Transition}
 use Rattle.node.specs.Read.{transitionsIn}
 use Rattle.node.specs.ReadLaws.{length-node-transitions}
-use Rattle.stream_number.specs.Totals.{totalAs}
-use Rattle.stream_number.proofs.Summing.{firstKeys, SummedTo, summed-none, summed-step, has-entry}
+use Rattle.stream_upto.specs.Counts.{totalAs}
+use Rattle.stream_upto.proofs.Summing.{firstKeys, SummedTo, summed-none, summed-step, has-entry}
 use denote.Ref.{now}
 use borrow.Author.Needs.{needs}
 use native.Mathlib.Omega.{arith}
-use Rattle.stream_number.proofs.below.Statement.{statement}
-use Rattle.stream_number.proofs.below.Tie as tie
+use Rattle.stream_upto.proofs.below.Statement.{statement}
+use Rattle.stream_upto.proofs.below.Tie as tie
 
 abbrev Inv-loop : tie.InvT-loop
 Inv-loop file node p counts sum₀ i₀ sum i = (i ≤ p) × SummedTo counts (transitionsIn file node) sum₀ i sum

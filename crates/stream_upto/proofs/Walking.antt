@@ -17,13 +17,13 @@ use Rattle.format.specs.Paths.{Fst, nodeIn}
 use Rattle.format.specs.Tables.{one}
 use Rattle.plain.specs.Numbers.{Tally, comes-to, refused, plus, keysBelow, upTo}
 use Rattle.plain.specs.UpToLaws.{up-to-unsound, up-to-end, up-to-absent, up-to-at}
-use Rattle.stream_number.specs.declared.Total.{Total}
-use Rattle.stream_number.specs.declared.Turned.the-variants.{On, Gone, Unsound}
-use Rattle.stream_number.specs.declared.Walked.{Walked}
-use Rattle.stream_number.specs.declared.Walked.the-variants.{Came, Halted}
-use Rattle.stream_number.specs.Totals.{totalAs, addedTo, turnOf, walkedAs}
-use Rattle.stream_number.proofs.TotalLaws.{added-total}
-use Rattle.stream_number.proofs.Summing.{firstKeys, below-at, below-absent}
+use Rattle.stream_upto.specs.declared.Total.{Total}
+use Rattle.stream_upto.specs.declared.Turned.the-variants.{On, Gone, Unsound}
+use Rattle.stream_upto.specs.declared.Walked.{Walked}
+use Rattle.stream_upto.specs.declared.Walked.the-variants.{Came, Halted}
+use Rattle.stream_upto.specs.Counts.{totalAs, addedTo, turnOf, walkedAs}
+use Rattle.stream_upto.proofs.TotalLaws.{added-total}
+use Rattle.stream_upto.proofs.Summing.{firstKeys, below-at, below-absent}
 
 -- ---- tallies with more
 

@@ -1,13 +1,13 @@
--- `stream_number::at_end` meets its contract: the last node is judged, and its own key added.
+-- `stream_upto::at_end` meets its contract: the last node is judged, and its own key added.
 -- Assumes nothing.
 use Rattle.format.specs.Paths.{fstWith}
 use Rattle.node.specs.Read.{meaning}
 use Rattle.node.specs.ReadLaws.{answer-sound, answer-unsound}
-use Rattle.stream_number.proofs.Walking.{end-unsound, end-sound}
+use Rattle.stream_upto.proofs.Walking.{end-unsound, end-sound}
 use denote.Ref.{now}
 use borrow.Author.Needs.{needs}
-use Rattle.stream_number.proofs.at_end.Statement.{statement}
-use Rattle.stream_number.proofs.at_end.Tie as tie
+use Rattle.stream_upto.proofs.at_end.Statement.{statement}
+use Rattle.stream_upto.proofs.at_end.Tie as tie
 
 node-at-requires : tie.Need-node-at-requires
 node-at-requires c κs = search needs

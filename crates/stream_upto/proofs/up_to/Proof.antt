@@ -1,16 +1,16 @@
--- `stream_number::up_to` meets its contract. The invariant: the keys so far, and what is left of the string from the node at addr, decide the
+-- `stream_upto::up_to` meets its contract. The invariant: the keys so far, and what is left of the string from the node at addr, decide the
 -- answer. The measure is the length of the string less k.
 -- Assumes nothing.
 use mathlib.Core.Path.{_≡_, sym, _∙_}
 use Prim.Native.Nat.{_-_}
 use lib.ListN.{length, getD}
 use Rattle.format.specs.Paths.{Fst, fstWith}
-use Rattle.stream_number.specs.Totals.{turnOf}
-use Rattle.stream_number.proofs.Walking.{Walking, walking-none, walking-end, walking-bad, walking-gone, walking-step}
+use Rattle.stream_upto.specs.Counts.{turnOf}
+use Rattle.stream_upto.proofs.Walking.{Walking, walking-none, walking-end, walking-bad, walking-gone, walking-step}
 use denote.Ref.{now}
 use borrow.Author.Needs.{needs}
-use Rattle.stream_number.proofs.up_to.Statement.{statement}
-use Rattle.stream_number.proofs.up_to.Tie as tie
+use Rattle.stream_upto.proofs.up_to.Statement.{statement}
+use Rattle.stream_upto.proofs.up_to.Tie as tie
 
 abbrev Inv-loop : tie.InvT-loop
 Inv-loop file version root own x counts k₀ addr₀ total₀ k addr total = Walking (fstWith file version root) counts own x k addr total

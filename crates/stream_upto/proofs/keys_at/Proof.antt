@@ -1,10 +1,10 @@
--- `stream_number::keys_at` meets its contract: both ways out are a test of the definition.
+-- `stream_upto::keys_at` meets its contract: both ways out are a test of the definition.
 -- Assumes nothing.
-use Rattle.stream_number.proofs.NumberCases.{keys-zero, keys-entry}
+use Rattle.stream_upto.specs.CountsLaws.{keys-zero, keys-entry}
 use denote.Ref.{now}
 use native.Mathlib.Omega.{arith}
-use Rattle.stream_number.proofs.keys_at.Statement.{statement}
-use Rattle.stream_number.proofs.keys_at.Tie as tie
+use Rattle.stream_upto.proofs.keys_at.Statement.{statement}
+use Rattle.stream_upto.proofs.keys_at.Tie as tie
 
 -- address 0
 returns : tie.Need-returns

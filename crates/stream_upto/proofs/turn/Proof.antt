@@ -1,4 +1,4 @@
--- `stream_number::turn` meets its contract: the node is judged, its own key added, then the keys by smaller inputs, as many as the place of the
+-- `stream_upto::turn` meets its contract: the node is judged, its own key added, then the keys by smaller inputs, as many as the place of the
 -- byte says. Its targets' entries stand in the table, since they lie below it.
 -- Assumes nothing.
 use mathlib.Core.Path.{_≡_, ap, _∙_}
@@ -10,15 +10,15 @@ use Rattle.format.specs.Tables.{one}
 use Rattle.node.specs.declared.Node.{Node}
 use Rattle.node.specs.Read.{meaning, transitionsIn, Readable}
 use Rattle.node.specs.ReadLaws.{answer-sound, answer-unsound, search-is, search-gone, place-lt, gone-le}
-use Rattle.stream_number.specs.Totals.{HasEntries, totalAs, addedTo}
-use Rattle.stream_number.proofs.TotalLaws.{added-total}
-use Rattle.stream_number.proofs.Summing.{has-entries}
-use Rattle.stream_number.proofs.Walking.{turn-unsound, turn-gone, turn-on}
+use Rattle.stream_upto.specs.Counts.{HasEntries, totalAs, addedTo}
+use Rattle.stream_upto.proofs.TotalLaws.{added-total}
+use Rattle.stream_upto.proofs.Summing.{has-entries}
+use Rattle.stream_upto.proofs.Walking.{turn-unsound, turn-gone, turn-on}
 use denote.Ref.{now}
 use borrow.Author.Needs.{needs}
 use native.Mathlib.Omega.{arith}
-use Rattle.stream_number.proofs.turn.Statement.{statement}
-use Rattle.stream_number.proofs.turn.Tie as tie
+use Rattle.stream_upto.proofs.turn.Statement.{statement}
+use Rattle.stream_upto.proofs.turn.Tie as tie
 
 -- ---- what is known where the byte is looked for
 

@@ -1,10 +1,10 @@
--- `stream_number::added` meets its contract: x + n passes the limit exactly where u64::MAX - n is below x.
+-- `stream_upto::added` meets its contract: x + n passes the limit exactly where u64::MAX - n is below x.
 -- Assumes nothing.
-use Rattle.stream_number.proofs.TotalLaws.{added-past, added-over, added-is}
+use Rattle.stream_upto.proofs.TotalLaws.{added-past, added-over, added-is}
 use borrow.Author.Needs.{needs}
 use native.Mathlib.Omega.{arith}
-use Rattle.stream_number.proofs.added.Statement.{statement}
-use Rattle.stream_number.proofs.added.Tie as tie
+use Rattle.stream_upto.proofs.added.Statement.{statement}
+use Rattle.stream_upto.proofs.added.Tie as tie
 
 enum-told : tie.Need-enum-told
 enum-told c = search needs
