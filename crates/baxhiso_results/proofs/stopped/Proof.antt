@@ -1,11 +1,11 @@
--- `baxhiso_readings::stopped` meets its contract: each stop has its result.
+-- `baxhiso_results::stopped` meets its contract: each stop has its result.
 -- Assumes nothing.
 use mathlib.Core.Path.{sym, ap, _∙_}
 use borrow.Author.Needs.{needs}
-use Rattle.baxhiso_readings.specs.Readings.{stopOf}
+use Rattle.baxhiso_results.specs.Results.{stopOf}
 use Rattle.baxhiso.specs.ResultLaws.{code-is}
-use Rattle.baxhiso_readings.proofs.stopped.Statement.{statement}
-use Rattle.baxhiso_readings.proofs.stopped.Tie as tie
+use Rattle.baxhiso_results.proofs.stopped.Statement.{statement}
+use Rattle.baxhiso_results.proofs.stopped.Tie as tie
 
 enum-told : tie.Need-enum-told
 enum-told c = search needs

@@ -1,10 +1,10 @@
--- `baxhiso_readings::answered` meets its contract: the result, the length and the value are those of the answer.
+-- `baxhiso_results::answered` meets its contract: the result, the length and the value are those of the answer.
 -- Assumes nothing.
 use borrow.Author.Needs.{needs}
 use Rattle.baxhiso.specs.ResultLaws.{code-is}
-use Rattle.baxhiso_readings.proofs.ReadingResults.{key-leaves, end-leaves, no-leaves}
-use Rattle.baxhiso_readings.proofs.answered.Statement.{statement}
-use Rattle.baxhiso_readings.proofs.answered.Tie as tie
+use Rattle.baxhiso_results.proofs.AnswerResults.{key-leaves, end-leaves, no-leaves}
+use Rattle.baxhiso_results.proofs.answered.Statement.{statement}
+use Rattle.baxhiso_results.proofs.answered.Tie as tie
 
 enum-known-answer : tie.Need-enum-known-answer
 enum-known-answer c = search needs
