@@ -56,14 +56,21 @@ make_known() { # NAME FILE...
     (cd "$top" && sha256sum "${@:2}" >"$known.new" && mv "$known.new" "$known") || fail "$known cannot be written"
 }
 
-# Proves the library for C and writes it to target/staticlib/libbaxhiso.a.
+# Proves the library for C and writes it to target/staticlib/libbaxhiso.a. The archive of a crate that has not changed is kept, and joined again as it is.
 library() {
-    local crates
+    local crates crate
     mapfile -t crates <"$top/tools/library.txt"
     proved "${crates[@]}"
     if ! made libbaxhiso; then
         announce
-        bash "$top/tools/library.sh" >>"$log" 2>&1 </dev/null || failed "the library for C is not built"
+        for crate in "${crates[@]}"; do
+            if ! made "kept-$crate"; then
+                (cd "$top" && rt staticlib "$crate" && mkdir -p target/staticlib/kept && mv "target/staticlib/lib$crate.a" "target/staticlib/kept/$crate.a") >>"$log" 2>&1 </dev/null ||
+                    failed "the library for C is not built"
+                make_known "kept-$crate" "target/stamp/$crate" "target/staticlib/kept/$crate.a"
+            fi
+        done
+        bash "$top/tools/library.sh" join >>"$log" 2>&1 </dev/null || failed "the library for C is not built"
         make_known libbaxhiso tools/library.sh tools/library.txt "${crates[@]/#/target/stamp/}" target/staticlib/libbaxhiso.a
     fi
 }

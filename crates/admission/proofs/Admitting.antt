@@ -19,8 +19,8 @@ use Rattle.fst.specs.declared.Opened.the-variants.{Meta as Read, Refused as Tur
 use Rattle.fst.specs.Open.{metaIs, openingIs}
 use Rattle.admission.specs.declared.Admission.{Admission}
 use Rattle.admission.specs.declared.Admission.the-variants.{Refused}
-use Rattle.admission.specs.declared.Verdict.{Verdict}
-use Rattle.admission.specs.declared.Verdict.the-variants.{Good, Lost, Deep, Heavy}
+use Rattle.admission_fill.specs.declared.Verdict.{Verdict}
+use Rattle.admission_fill.specs.declared.Verdict.the-variants.{Good, Lost, Deep, Heavy}
 use Rattle.admission_node.specs.Entries.{Kept}
 use Rattle.format.specs.Paths.{fstWith}
 use Rattle.admission.specs.Outcome.{Holds, Wiped, RefusedFor, not-opened, no-space, no-nodes, too-deep, too-heavy, Admits, Outcome, Opens, Cleared, JudgeCase, Judges}

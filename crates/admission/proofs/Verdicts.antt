@@ -21,10 +21,11 @@ use Rattle.format.specs.Admitted.{Chain, empty, rooted, Nodes, Shallow, Light}
 use Rattle.format.specs.laws.ChainLaws.{chain-sound, chain-low, chain-head, root-chain-cases, root-chain-unique, dec-mem}
 use Rattle.format.specs.Tables.{longest, largestSum, InTable}
 use Rattle.format.specs.laws.TableLaws.{longest-zero, largest-zero, longest-bound, largest-bound, longest-attained, largest-attained}
-use Rattle.admission.specs.declared.Verdict.{Verdict}
-use Rattle.admission.specs.declared.Verdict.the-variants.{Good, Lost, Deep, Heavy}
+use Rattle.admission_fill.specs.declared.Verdict.{Verdict}
+use Rattle.admission_fill.specs.declared.Verdict.the-variants.{Good, Lost, Deep, Heavy}
 use Rattle.admission_node.specs.Entries.{Kept}
-use Rattle.admission.specs.Passes.{Hit, Live, Source, ChainMarked, AllPassed, Fillable, LostOne, DeepOne, HeavyOne, GoodAll, FillCase, Filled}
+use Rattle.admission_walk.specs.Walks.{Hit, Live, Source, ChainMarked}
+use Rattle.admission_fill.specs.Fills.{AllPassed, Fillable, LostOne, DeepOne, HeavyOne, GoodAll, FillCase, Filled}
 use Rattle.admission.specs.Outcome.{Holds, LongPath, LargeSum, Cleared, GoodNodes, JudgeCase, Judges}
 use Rattle.admission_node.specs.KeptLaws.{at-set, kept-none, kept-then}
 

@@ -1,4 +1,3 @@
-pub mod Passes
 pub mod Outcome
 pub mod Exactly
 pub mod WipingLaws

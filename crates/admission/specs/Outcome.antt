@@ -19,8 +19,8 @@ use Rattle.format.specs.Tables.{longest, largestSum, InTable}
 use Rattle.admission_node.specs.Entries.{Kept}
 use Rattle.admission.specs.declared.Admission.{Admission}
 use Rattle.admission.specs.declared.Admission.the-variants.{Admitted as Yes, Refused}
-use Rattle.admission.specs.declared.Verdict.{Verdict}
-use Rattle.admission.specs.declared.Verdict.the-variants.{Good, Lost, Deep, Heavy}
+use Rattle.admission_fill.specs.declared.Verdict.{Verdict}
+use Rattle.admission_fill.specs.declared.Verdict.the-variants.{Good, Lost, Deep, Heavy}
 
 -- ---- the tables
 

@@ -15,9 +15,10 @@ use Rattle.fst.specs.declared.Opened.the-variants.{Meta as Read, Refused as Tur
 use Rattle.fst.specs.Open.{metaIs, checksumIs, openingIs}
 use Rattle.lookup.specs.declared.Answer.{Answer}
 use Rattle.lookup.specs.declared.Answer.the-variants.{Value, None, Refused}
-use Rattle.lookup.specs.declared.KeyAnswer.{KeyAnswer}
-use Rattle.lookup.specs.declared.KeyAnswer.the-variants.{Key, None as NoKey, Refused as KeyRefused}
-use Rattle.lookup.specs.Answers.{answerIs, KeyWritten}
+use Rattle.lookup_key.specs.declared.KeyAnswer.{KeyAnswer}
+use Rattle.lookup_key.specs.declared.KeyAnswer.the-variants.{Key, None as NoKey, Refused as KeyRefused}
+use Rattle.lookup.specs.Answers.{answerIs}
+use Rattle.lookup_key.specs.KeyAnswers.{KeyWritten}
 use Rattle.admission.specs.declared.Admission.{Admission}
 use Rattle.admission.specs.declared.Admission.the-variants.{Admitted as Yes, Refused as No}
 use Rattle.admission.specs.Outcome.{RefusedFor, Admits, Outcome}

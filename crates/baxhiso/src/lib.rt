@@ -12,7 +12,7 @@ use admission::Admission;
 use fst::Checksum;
 use fst::Opened;
 use lookup::Answer;
-use lookup::KeyAnswer;
+use lookup_key::KeyAnswer;
 
 const OK: i32 = 0;
 
@@ -79,7 +79,7 @@ pub extern "C" fn fst_get_key(file: &[u8], value: u64, key: &mut [u8], len: &mut
     ensures { λ r. ⌜ KeyLeaves (L.getKey (now (file .entry)) value (length (now (key .entry))))
         (now (key .entry)) (now (key .exit)) (now (len .entry)) (now (len .exit)) r ⌝ }
 {
-    let answer = lookup::get_key(file, value, key);
+    let answer = lookup_key::get_key(file, value, key);
     match answer {
         KeyAnswer::Key(n) => {
             *len = n;

@@ -7,7 +7,7 @@ ghost use Rattle.stream_arrays.specs.Arrays.{kindIs};
 ghost use Rattle.patterned.specs.Patterns.{givenIs};
 ghost use Rattle.baxhiso_readings.specs.Readings.{RangeLeaves};
 ghost use Rattle.baxhiso_find.specs.FindArguments.{restIs};
-use baxhiso_readings::stopped;
+use baxhiso_results::stopped;
 use stream_arrays::kind_of;
 
 // Up to `most` keys between two bounds that fit a pattern, the least first, each in a row of 256 bytes with its value beside it, and how many. A position

@@ -17,8 +17,6 @@ use Rattle.range.specs.RangedRows.{RangedBy}
 use Rattle.stream_start.specs.declared.Bound.{Bound}
 use Rattle.stream_start.specs.Views.{boundIs}
 use Rattle.stream_start.specs.declared.Begins.the-variants.{Began, Refused as NotStarted}
-use Rattle.stream_step.specs.declared.Answer.{Answer}
-use Rattle.stream_step.specs.declared.Answer.the-variants.{Key, End, Refused}
 use Rattle.stream_step.specs.Stepped.{answerAs}
 use Rattle.stream.specs.declared.Started.{Started}
 use Rattle.stream.specs.declared.Step.{Step}
@@ -26,7 +24,7 @@ use Rattle.stream.specs.Plains.{plainIs, begunIs, beganIs, PlainStepped}
 use Rattle.stream_arrays.specs.Arrays.{kindIs, Held, PlainPut}
 use Rattle.stream_arrays.specs.ArraysLaws.{plain-back}
 use Rattle.baxhiso.specs.Exports.{OK, code}
-use Rattle.baxhiso_readings.specs.Readings.{END, CountLeaves, StartLeaves, nextResult, nextLen, nextValue, resultOf, lenOf, valueOf, AnswerLeaves, NextLeaves}
+use Rattle.baxhiso_readings.specs.Readings.{CountLeaves, StartLeaves, nextResult, nextLen, nextValue, resultOf, lenOf, valueOf, AnswerLeaves, NextLeaves}
 use Rattle.baxhiso_readings.specs.ReadingsLaws.{counted-not-0}
 
 -- ---- the table of keys
@@ -90,16 +88,6 @@ next-leaves {w} {k₀} {k} {len₀} {len} {v₀} {v} {s} st h n put r z same lef
       len-is = left .len-is ∙ ap (λ a. lenOf a len₀) is ∙ len-is (w .answer) len₀;
       value-is = left .value-is ∙ ap (λ a. valueOf a v₀) is ∙ value-is (w .answer) v₀;
     }
-
--- the result, the length and the value of an answer that is known
-pub key-leaves : (a : Answer) (n x len₀ v₀ : ℕ) → a ≡ Key n x → AnswerLeaves a len₀ n v₀ x OK
-key-leaves a n x len₀ v₀ is = rw is (record { result = refl; len-is = refl; value-is = refl })
-
-pub end-leaves : (a : Answer) (len₀ v₀ : ℕ) → a ≡ End → AnswerLeaves a len₀ len₀ v₀ v₀ END
-end-leaves a len₀ v₀ is = rw is (record { result = refl; len-is = refl; value-is = refl })
-
-pub no-leaves : (a : Answer) (n : ℕ) (z : ℤ) (len₀ v₀ : ℕ) → a ≡ Refused n → z ≡ code n → AnswerLeaves a len₀ len₀ v₀ v₀ z
-no-leaves a n z len₀ v₀ is is-z = rw (is, is-z) (record { result = refl; len-is = refl; value-is = refl })
 
 -- ---- a range
 

@@ -1,10 +1,8 @@
 -- What the functions of readings for C answer, and what they leave in each buffer and number, in every case (include/baxhiso.h). `stream_arrays`
 -- has the arrays that hold a reading between calls.
---     END                     the result of a reading that has no more keys
 --     CountLeaves s ..        filling the table of keys of the bytes s: the result and the three tables
 --     StartLeaves w ..        a start that answers w: the result and the arrays
 --     NextLeaves w ..         a call of next that answers w: the result, the arrays, the key buffer, the key's length and its value
---     MORE                    the result of a range that handed out as many keys as asked for
 --     RangeLeaves w ..        a range that answers w: the result, the rows, the values and how many
 -- A name with ₀ is what the caller handed in. Assumes nothing.
 use mathlib.Core.Path.{_≡_}
@@ -17,13 +15,10 @@ use Rattle.reading.specs.Reading.{key, end, written}
 use Rattle.plain.specs.Plain as P
 use Rattle.paging.specs.Paging as G
 use Rattle.paging.specs.Paging.{Page, ended, more, rowsAfter, valuesAfter}
-use Rattle.stream_step.specs.declared.Answer.{Answer}
-use Rattle.stream_step.specs.declared.Answer.the-variants.{Key, End, Refused}
-use Rattle.range.specs.declared.Stop.{Stop}
-use Rattle.range.specs.declared.Stop.the-variants.{End as Ended, More, Refused as Stopped}
 use Rattle.counting.specs.CountOutcomes.{Counts, CountRefusedFor}
 use Rattle.stream_arrays.specs.Arrays.{Held, heldPlain}
 use Rattle.baxhiso.specs.Exports.{OK, code}
+pub use Rattle.baxhiso_results.specs.Results.{END, MORE, resultOf, lenOf, valueOf, AnswerLeaves, stopOf}
 
 -- ---- the table of keys
 
@@ -47,10 +42,6 @@ pub record StartLeaves (w : P.Begun) (h₀ : Held) (n₀ : List ℕ) (h : Held) 
 
 -- ---- next
 
--- minus 2: the end is no refusal, and not "none"
-abbrev pub END : ℤ
-END = negsuc 1
-
 abbrev pub nextResult : R.Answer → ℤ
 nextResult (key k v) = OK
 nextResult end = END
@@ -66,27 +57,6 @@ nextValue (key k v) v₀ = v
 nextValue end v₀ = v₀
 nextValue (R.Answer.refused n) v₀ = v₀
 
--- the same of an answer of the code
-abbrev pub resultOf : Answer → ℤ
-resultOf (Key n x) = OK
-resultOf End = END
-resultOf (Refused n) = code n
-
-abbrev pub lenOf : Answer → ℕ → ℕ
-lenOf (Key n x) len₀ = n
-lenOf End len₀ = len₀
-lenOf (Refused n) len₀ = len₀
-
-abbrev pub valueOf : Answer → ℕ → ℕ
-valueOf (Key n x) v₀ = x
-valueOf End v₀ = v₀
-valueOf (Refused n) v₀ = v₀
-
-pub record AnswerLeaves (a : Answer) (len₀ len v₀ v : ℕ) (r : ℤ) : Type 0 where
-  pub result : r ≡ resultOf a
-  pub len-is : len ≡ lenOf a len₀
-  pub value-is : v ≡ valueOf a v₀
-
 pub record NextLeaves (w : P.PlainStep) (h : Held) (n k₀ k : List ℕ) (len₀ len v₀ v : ℕ) (r : ℤ) : Type 0 where
   pub result : r ≡ nextResult (w .answer)
   -- after a refusal the definition gives the reading as it was (ReadingsLaws, `refused-stays`)
@@ -97,19 +67,10 @@ pub record NextLeaves (w : P.PlainStep) (h : Held) (n k₀ k : List ℕ) (len₀
 
 -- ---- a range
 
-abbrev pub MORE : ℤ
-MORE = negsuc 2
-
 abbrev pub rangeResult : G.Stop → ℤ
 rangeResult ended = END
 rangeResult more = MORE
 rangeResult (G.Stop.refused n) = code n
-
--- the same of a stop of the code
-abbrev pub stopOf : Stop → ℤ
-stopOf Ended = END
-stopOf More = MORE
-stopOf (Stopped n) = code n
 
 -- the keys that were found stand in their rows, also beside a refusal, and the rest as given
 pub record RangeLeaves (w : Page) (rows₀ rows values₀ values : List ℕ) (count : ℕ) (r : ℤ) : Type 0 where

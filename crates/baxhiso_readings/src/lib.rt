@@ -3,28 +3,23 @@
 // asks anything of its arguments' values.
 //
 // A reading stands in the arrays of `stream_arrays`, which C has as one struct: the header's fst_start and fst_next lend each of its fields.
-ghost use mathlib.Core.Path.{_≡_};
 ghost use lib.ListN.{length};
 ghost use Rattle.plain.specs.Plain as P;
 ghost use Rattle.paging.specs.Paging as G;
-ghost use Rattle.baxhiso_readings.specs.Readings.{CountLeaves, StartLeaves, AnswerLeaves, NextLeaves, stopOf, RangeLeaves};
+ghost use Rattle.baxhiso_readings.specs.Readings.{CountLeaves, StartLeaves, NextLeaves, RangeLeaves};
 ghost use Rattle.stream_start.specs.Views.{boundIs};
 ghost use Rattle.stream_arrays.specs.Arrays.{kindIs, held, heldPlain};
 use baxhiso::code;
+use baxhiso_results::answered;
+use baxhiso_results::stopped;
 use counting::Counting;
-use range::Stop;
 use stream::Plain;
 use stream_arrays::kind_of;
 use stream_arrays::put_plain;
 use stream_arrays::reading_of;
 use stream_start::Begins;
-use stream_step::Answer as Next;
 
 const OK: i32 = 0;
-
-const END: i32 = -2;
-
-const MORE: i32 = -3;
 
 // Admits a file, and fills the two tables and the table of keys, or refuses it.
 #[no_mangle]
@@ -83,22 +78,6 @@ pub extern "C" fn fst_start_arrays(
     }
 }
 
-// An answer of a reading as a result. A key's length and value are written on 0 only.
-fn answered(answer: Next, len: &mut usize, value: &mut u64) -> i32
-    ensures { λ r. ⌜ AnswerLeaves answer (now (len .entry)) (now (len .exit)) (now (value .entry))
-        (now (value .exit)) r ⌝ }
-{
-    match answer {
-        Next::Key(length, output) => {
-            *len = length;
-            *value = output;
-            OK
-        }
-        Next::End => END,
-        Next::Refused(why) => code(why),
-    }
-}
-
 // The next key of the reading that the arrays hold, and the reading after it. On 0 the key stands from the buffer's first byte on, and its length
 // and its value are written; else all three stay as given.
 #[no_mangle]
@@ -143,17 +122,6 @@ pub extern "C" fn fst_next_arrays(
 }
 
 // ---- a range
-
-// Why a range stopped, as a result.
-pub fn stopped(stop: Stop) -> i32
-    ensures { λ r. ⌜ r ≡ stopOf stop ⌝ }
-{
-    match stop {
-        Stop::End => END,
-        Stop::More => MORE,
-        Stop::Refused(why) => code(why),
-    }
-}
 
 // Up to `most` keys between two bounds, the least first, each in a row of 256 bytes with its value beside it, and how many.
 #[no_mangle]

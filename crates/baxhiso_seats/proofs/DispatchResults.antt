@@ -25,7 +25,8 @@ use Rattle.seats_arrays.specs.SeatArrays.{flag, heldIf, seatOf, Rows, rowsSet, 
 use Rattle.seats_arrays.specs.SeatArraysLaws.{table-set, seat-in}
 use Rattle.baxhiso.specs.Exports.{NONE, code}
 use Rattle.baxhiso_readings.specs.Readings.{resultOf, lenOf, valueOf, AnswerLeaves}
-use Rattle.baxhiso_seats.specs.Seats.{isRefused, KeptIn, Kept, ServeLeaves, DispatchLeaves}
+use Rattle.seats_keep.specs.Keeps.{isRefused, KeptIn}
+use Rattle.baxhiso_seats.specs.Seats.{Kept, ServeLeaves, DispatchLeaves}
 
 -- ---- one call of a seat's reading
 

@@ -3,11 +3,10 @@
 --     EmptyLeaves ..         the arrays of no readings
 --     RaiseLeaves q ..       raising that answers q: the result and the arrays; RaiseTold of any readings
 --     SeatLeaves q ..        seating that answers q
---     KeptIn, ServeLeaves    the arrays after a seat was served; one call of a seat's reading
+--     ServeLeaves            one call of a seat's reading
 --     DispatchLeaves q ..    a dispatch that answers q: the result, the arrays, the key buffer, the seat, the key's length and its value
 -- A name with ₀ is what the caller handed in. Assumes nothing.
 use mathlib.Core.Path.{_≡_}
-use mathlib.Core.Bool.{Bool, true, false}
 use mathlib.Core.List.{List}
 use Prim.Native.Nat.{ℕ}
 use lib.IntN.{ℤ}
@@ -16,12 +15,11 @@ use Rattle.reading.specs.Reading as R
 use Rattle.reading.specs.Reading.{key, end, written}
 use Rattle.plain.specs.Plain as P
 use Rattle.turns.specs.Turns as T
-use Rattle.stream_step.specs.declared.Answer.{Answer}
-use Rattle.stream_step.specs.declared.Answer.the-variants.{Key, End, Refused}
 use Rattle.stream.specs.declared.Plain.{Plain}
 use Rattle.stream.specs.Plains.{plainIs}
 use Rattle.stream_arrays.specs.Arrays.{Held, heldAs}
-use Rattle.seats_arrays.specs.SeatArrays.{FlagPut, Rows, rowsSet, RowPut, Flat, flat, flatIs}
+use Rattle.seats_arrays.specs.SeatArrays.{Rows, rowsSet, Flat, flat, flatIs}
+use Rattle.seats_keep.specs.Keeps.{KeptIn}
 use Rattle.seats.specs.SeatCalls.{bufferAfter}
 use Rattle.baxhiso.specs.Exports.{OK, NONE, code}
 use Rattle.baxhiso_readings.specs.Readings.{nextResult, nextLen, nextValue}
@@ -66,18 +64,6 @@ pub record SeatLeaves (q : T.Done) (a₀ : Flat) (i : ℕ) (h : Held) (n : ℕ) 
   pub arrays : a ≡ afterSeat q a₀ i h n
 
 -- ---- one call of a seat's reading
-
-abbrev pub isRefused : Answer → Bool
-isRefused (Key n v) = false
-isRefused End = false
-isRefused (Refused n) = true
-
--- seat i holds the reading p and waits no more, and the next turn begins after it
-pub record KeptIn (p : Plain) (i : ℕ) (w₀ : List ℕ) (r₀ : Rows) (last : ℕ) (w : List ℕ) (r : Rows) (seat : ℕ) : Type 0 where
-  pub last-is : last ≡ i
-  pub waits : FlagPut i 0 w₀ w
-  pub row : RowPut p i r₀ r
-  pub seat-is : seat ≡ i
 
 pub record Kept (q : P.Plain) (i : ℕ) (w₀ : List ℕ) (r₀ : Rows) (last : ℕ) (w : List ℕ) (r : Rows) (seat : ℕ) : Type 0 where
   pub plain : Plain

@@ -1,7 +1,6 @@
 // Eight seats on one index for the C caller. include/baxhiso.h declares the functions; results and conventions are those of crate `baxhiso`.
 // The seats stand in the arrays of `seats_arrays`, which C has as one struct: the header's fst_seat, fst_raise and fst_dispatch lend its fields. No
 // function asks anything of its arguments' values.
-ghost use mathlib.Core.Path.{_≡_};
 ghost use Prim.Native.Nat.{_<_};
 ghost use lib.ListN.{length, replicate};
 ghost use Rattle.plain.specs.Plain as P;
@@ -9,18 +8,18 @@ ghost use Rattle.turns.specs.Turns as T;
 ghost use Rattle.stream_arrays.specs.Arrays.{held, heldPlain};
 ghost use Rattle.seats_arrays.specs.SeatArrays.{rows, plainAt, flat, flatIs};
 ghost use Rattle.baxhiso_readings.specs.Readings.{AnswerLeaves};
-ghost use Rattle.baxhiso_seats.specs.Seats.{EmptyLeaves, RaiseTold, SeatLeaves, isRefused, KeptIn, ServeLeaves, DispatchLeaves};
+ghost use Rattle.baxhiso_seats.specs.Seats.{EmptyLeaves, RaiseTold, SeatLeaves, ServeLeaves, DispatchLeaves};
 use baxhiso::code;
 use format::SEAT;
 use seats_arrays::plain_at;
 use seats_arrays::put_flag;
-use seats_arrays::put_plain;
 use seats_arrays::put_rows;
 use seats_arrays::seats_right;
 use seats_arrays::turn_of;
+use seats_keep::is_refused;
+use seats_keep::keep;
 use seats_turn::LAST_SEAT;
 use seats_turn::Turn;
-use stream::Plain;
 use stream_step::Answer;
 
 const OK: i32 = 0;
@@ -131,17 +130,6 @@ pub extern "C" fn fst_seat_arrays(
     OK
 }
 
-// Whether a call was refused.
-fn is_refused(answer: Answer) -> bool
-    ensures { λ r. ⌜ r ≡ isRefused answer ⌝ }
-{
-    match answer {
-        Answer::Refused(_) => true,
-        Answer::End => false,
-        Answer::Key(_, _) => false,
-    }
-}
-
 // An answer of a reading as a result. A key's length and value are written on 0 only.
 fn answered(answer: Answer, len: &mut usize, value: &mut u64) -> i32
     ensures { λ r. ⌜ AnswerLeaves answer (now (len .entry)) (now (len .exit)) (now (value .entry))
@@ -156,35 +144,6 @@ fn answered(answer: Answer, len: &mut usize, value: &mut u64) -> i32
         Answer::End => END,
         Answer::Refused(why) => code(why),
     }
-}
-
-// A seat was served: it holds the reading that its call gave back and waits no more, and the next turn begins after it.
-fn keep(
-    plain: Plain,
-    number: usize,
-    last: &mut usize,
-    waiting: &mut [u8; 8],
-    heads: &mut [[u64; 7]; 8],
-    bounds: &mut [[u8; 255]; 8],
-    addrs: &mut [[u32; 256]; 8],
-    inps: &mut [[u8; 256]; 8],
-    trans: &mut [[u16; 256]; 8],
-    outs: &mut [[u64; 256]; 8],
-    keys: &mut [u64; 8],
-    seat: &mut usize,
-)
-    requires { ⌜ number < 8 ⌝ }
-    ensures { λ _. ⌜ KeptIn plain number (now (waiting .entry))
-        (rows (now (heads .entry)) (now (bounds .entry)) (now (addrs .entry)) (now (inps .entry))
-        (now (trans .entry)) (now (outs .entry)) (now (keys .entry))) (now (last .exit))
-        (now (waiting .exit))
-        (rows (now (heads .exit)) (now (bounds .exit)) (now (addrs .exit)) (now (inps .exit))
-        (now (trans .exit)) (now (outs .exit)) (now (keys .exit))) (now (seat .exit)) ⌝ }
-{
-    put_plain(plain, number, heads, bounds, addrs, inps, trans, outs, keys);
-    put_flag(waiting, number, 0);
-    *last = number;
-    *seat = number;
 }
 
 // One call of the reading of a seat, which is kept unless it was refused.

@@ -19,8 +19,9 @@ use Rattle.admission_node.specs.declared.Total.{Total}
 use Rattle.admission_node.specs.Entries.{Kept, totalAs, entryIs, orOver}
 use Rattle.admission_node.specs.KeptLaws.{at-set, kept-none, kept-set, kept-lt}
 use Rattle.admission_node.specs.TotalLaws.{total-cases}
-use Rattle.counting.specs.CountPasses.{CountedAt, HasEntry, ZerosTo, Countable, KeysEntry, OverOne}
-use Rattle.counting.proofs.Adding.{keys-by-is}
+use Rattle.counting_node.specs.CountNodes.{CountedAt}
+use Rattle.counting.specs.CountPasses.{HasEntry, ZerosTo, Countable, KeysEntry, OverOne}
+use Rattle.counting_node.specs.CountNodesLaws.{keys-by-is}
 
 -- ---- zeros, up to an address
 

@@ -1,47 +1,24 @@
 -- What the inner functions ask and promise; what filling the table itself promises is in `CountOutcomes`. Nothing of `CountOutcomes` says how the
 -- reached nodes are found: here it is by the entries of the depths that are not 0.
---     addedTo                 a sum that may pass the limit, and more
---     keysBy c final ts       the keys from a node, by the table c: 1 if it is final, and those from its transitions' targets
---     CountedAt               what counting at an address answers
 --     HasEntry d j            the address j has an entry in the depths d
 --     ZerosTo                 zeros up to the next address that has one
 --     Countable, Passed       what the pass asks and answers
 --     Leaves                  the same, with the table wiped where a number does not fit
 -- Assumes nothing.
 use mathlib.Core.Path.{_≡_}
-use mathlib.Core.Bool.{Bool, true, false, cond}
+use mathlib.Core.Bool.{Bool, true, false}
 use mathlib.Core.List.{List, List·Memᴰ}
-use Prim.Native.Nat.{ℕ, _+_, _≤_, _<_}
-use lib.Dec.{leb}
+use Prim.Native.Nat.{ℕ, _≤_, _<_}
 use lib.ListN.{length, getD}
 use Rattle.format.specs.declared.Transition.{Transition}
 use Rattle.format.specs.Limits.{maxSum, COUNT}
 use Rattle.format.specs.Node.{Node, sound, SoundAt}
 use Rattle.format.specs.Paths.{Fst, nodeIn}
-use Rattle.format.specs.Tables.{one, sumOf, keysFrom, keysAt}
-use Rattle.admission_node.specs.declared.Total.{Total}
-use Rattle.admission_node.specs.declared.Total.the-variants.{Is, Over}
-use Rattle.admission_node.specs.Entries.{Kept, totalAs}
+use Rattle.format.specs.Tables.{keysFrom}
+use Rattle.admission_node.specs.Entries.{Kept}
 use Rattle.admission.specs.Outcome.{Wiped}
 use Rattle.counting.specs.declared.Counting.{Counting}
 use Rattle.counting.specs.declared.Counting.the-variants.{Counted, Refused}
-
--- ---- one node, by the entries of its targets
-
-abbrev pub addedTo : Total → ℕ → Total
-addedTo (Is b) x = cond (leb (b + x) maxSum) (Is (b + x)) Over
-addedTo Over x = Over
-
-unfoldable pub keysBy : List ℕ → Bool → List Transition → ℕ
-unfolding sumOf
-keysBy c final ts = one final + sumOf (λ t. keysAt c (t .addr)) ts
-
--- the targets lie within the table
-pub record Inside (c : List ℕ) (ts : List Transition) : Type 0 where
-  pub each : (t : Transition) → List·Memᴰ t ts → t .addr < length c
-
-pub record CountedAt (f : Fst) (c : List ℕ) (a : ℕ) (r : Total) : Type 0 where
-  pub each : (m : Node) → nodeIn f a ≡ sound m → r ≡ totalAs (keysBy c (m .final) (m .transitions))
 
 -- ---- the pass
 

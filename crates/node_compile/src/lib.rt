@@ -11,9 +11,9 @@ ghost use lib.ListN.{length};
 ghost use Rattle.buffers.specs.Decide.{Decides};
 ghost use Rattle.format.specs.Limits.{firstNode, maxTrans};
 ghost use Rattle.format.specs.Bytes.{packSize, largest};
-ghost use Rattle.format.specs.Node.{Ascending, endLen, indexLen};
-ghost use Rattle.format.specs.Packed.{TargetOk, TargetsOk, RecordOk, deltaOf, storedNumbers, storedBytes, indexOf, indexBytes};
-ghost use Rattle.format.specs.Packed.{outputSize, deltaSize, sizesOf, inputBytes, packed, packedNext, packedOne, finalFlag, headOf, lastAddr};
+ghost use Rattle.format.specs.Node.{endLen, indexLen};
+ghost use Rattle.format.specs.Packed.{TargetsOk, RecordOk, deltaOf, storedNumbers};
+ghost use Rattle.format.specs.Packed.{outputSize, deltaSize, sizesOf, inputBytes, packed, packedNext, packedOne, lastAddr};
 ghost use Rattle.node_compile.specs.Compile.{builderWith, Compiles};
 ghost use Rattle.node_compile.specs.Parts.{stateBytes, anyIn, anyBytes, RecordFits, AnyFits, anyLen, Fitted};
 ghost use Rattle.buffers.specs.Put.{PutAt};
@@ -27,6 +27,11 @@ use format::TRANS_INDEX_THRESHOLD;
 use le_bytes::pack_size;
 use le_bytes::pack_uint_in;
 use le_bytes::small;
+use node_parts::put_bytes;
+use node_parts::put_head;
+use node_parts::put_index;
+use node_record::inputs_ascend;
+use node_record::targets_ok;
 
 // What packing answers.
 pub enum Compiled {
@@ -37,41 +42,6 @@ pub enum Compiled {
 }
 
 // ---- RECORD
-
-// Whether the inputs ascend strictly.
-fn inputs_ascend(inputs: &[u8]) -> bool
-    ensures { λ r. ⌜ Decides r (Ascending (now (inputs .entry))) ⌝ }
-{
-    let mut i = 1;
-    while i < inputs.len() {
-        if inputs[i] <= inputs[i - 1] {
-            return false;
-        }
-        i += 1;
-    }
-    true
-}
-
-// Whether a target is 0 or from 16 to F - 1.
-fn target_ok(target: usize, first: usize) -> bool
-    ensures { λ r. ⌜ Decides r (TargetOk first target) ⌝ }
-{
-    target == 0 || (FIRST_NODE <= target && target < first)
-}
-
-// Whether every target is 0 or from 16 to F - 1.
-fn targets_ok(targets: &[usize], first: usize) -> bool
-    ensures { λ r. ⌜ Decides r (TargetsOk first (now (targets .entry))) ⌝ }
-{
-    let mut i = 0;
-    while i < targets.len() {
-        if target_ok(targets[i], first) {} else {
-            return false;
-        }
-        i += 1;
-    }
-    true
-}
 
 // Whether RECORD has nothing to refuse.
 fn record_ok(
@@ -222,97 +192,6 @@ fn put_deltas(out: &mut [u8], at: usize, targets: &[usize], first: usize, size: 
         p += size;
     }
     p
-}
-
-// Writes the bytes, last first, from place at on; returns the place past them.
-fn put_bytes(out: &mut [u8], at: usize, bytes: &[u8]) -> usize
-    requires { ⌜ at + length (storedBytes (now bytes)) ≤ length (now out) ⌝ }
-    ensures { λ r. ⌜ PutAt (now (out .entry)) at (storedBytes (now (bytes .entry)))
-        (now (out .exit)) r ⌝ }
-{
-    let mut p = at;
-    let mut i = bytes.len();
-    while 0 < i {
-        i -= 1;
-        out[p] = bytes[i];
-        p += 1;
-    }
-    p
-}
-
-// The place of each byte among the inputs, and 255 for a byte that is none of them.
-fn index_of(inputs: &[u8]) -> [u8; 256]
-    requires { ⌜ (length (now inputs) ≤ maxTrans) × Ascending (now inputs) ⌝ }
-    ensures { λ r. ⌜ r ≡ indexOf (now (inputs .entry)) ⌝ }
-{
-    let mut index: [u8; 256] = [255; 256];
-    let mut i = 0;
-    while i < inputs.len() {
-        let input = small(inputs[i]);
-        index[input] = i as u8;
-        i += 1;
-    }
-    index
-}
-
-// Writes the bytes in their order from place at on; returns the place past them.
-fn put_all(out: &mut [u8], at: usize, bytes: &[u8]) -> usize
-    requires { ⌜ at + length (now bytes) ≤ length (now out) ⌝ }
-    ensures { λ r. ⌜ PutAt (now (out .entry)) at (now (bytes .entry)) (now (out .exit)) r ⌝ }
-{
-    let mut i = 0;
-    while i < bytes.len() {
-        out[at + i] = bytes[i];
-        i += 1;
-    }
-    at + i
-}
-
-// Writes the index of a node with more than 32 transitions from place at on; returns the place past
-// it.
-fn put_index(out: &mut [u8], at: usize, inputs: &[u8]) -> usize
-    requires { ⌜ (at + length (indexBytes (now inputs)) ≤ length (now out))
-        × (length (now inputs) ≤ maxTrans)
-        × Ascending (now inputs) ⌝ }
-    ensures { λ r. ⌜ PutAt (now (out .entry)) at (indexBytes (now (inputs .entry)))
-        (now (out .exit)) r ⌝ }
-{
-    if TRANS_INDEX_THRESHOLD < inputs.len() {
-        let index = index_of(inputs);
-        return put_all(out, at, &index);
-    }
-    at
-}
-
-// 64 for a final node.
-fn flag_of(is_final: bool) -> u8
-    ensures { λ r. ⌜ r ≡ finalFlag «is_final» ⌝ }
-{
-    if is_final { 64 } else { 0 }
-}
-
-// The count byte: 1 stands for 256, since a count of 1 is always in the state byte.
-fn count_byte(n: usize) -> u8
-    requires { ⌜ n ≤ maxTrans ⌝ }
-    ensures { λ r. ⌜ r ≡ cond (eqb n maxTrans) 1 n ⌝ }
-{
-    if n == MAX_TRANS { 1 } else { n as u8 }
-}
-
-// Writes the state byte, and the count byte before it where it is not 1 to 63; returns the place
-// past them.
-fn put_head(out: &mut [u8], at: usize, is_final: bool, n: usize) -> usize
-    requires { ⌜ (at + length (headOf «is_final» n) ≤ length (now out)) × (n ≤ maxTrans) ⌝ }
-    ensures { λ r. ⌜ PutAt (now (out .entry)) at (headOf «is_final» n) (now (out .exit)) r ⌝ }
-{
-    let flag = flag_of(is_final);
-    if 0 < n && n < 64 {
-        out[at] = flag + n as u8;
-        return at + 1;
-    }
-    out[at] = count_byte(n);
-    out[at + 1] = flag;
-    at + 2
 }
 
 // The bytes that the input takes before the state byte: none where the state byte keeps it.

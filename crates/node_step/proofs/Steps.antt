@@ -17,9 +17,9 @@ use Rattle.node_step.specs.declared.Step.the-variants.{Sound as Stepped,
 use Rattle.node_step.specs.declared.Way.{Way}
 use Rattle.node_step.specs.declared.Way.the-variants.{To, Absent as Nowhere}
 use Rattle.node.specs.Read.{Readable, Judges, transitionsIn, nodeInputs, nodeDeltas, searchIs, Finds, emptyNode}
-use Rattle.node_step.specs.Ways.{anyNode, wayIn, stepOf}
+use Rattle.node_step.specs.Ways.{wayIn, stepOf}
 use Rattle.node.specs.ReadLaws.{finds-at, finds-missing, node-find, node-transition, length-node-inputs}
-use Rattle.node.specs.JudgedLaws.{codeNode, judged-empty}
+use Rattle.node.specs.JudgedLaws.{judged-empty}
 
 -- ---- where an input leads from a node that can be read
 
@@ -37,20 +37,6 @@ module _ (s : List ℕ) (m : Node) (r : Readable s m) (b : ℕ) (f : Found) (h :
   way-to i out target e is-out is-target =
       let place : Search.at i ≡ findInput (transitionsIn s m) b = sym (ap searchIs e) ∙ node-find s m r b f h in
       rw (← place, node-transition s m r i (place-lt i e), is-out, is-target)
-
--- a node that is read for its transitions alone
-pub readable-any : (s : List ℕ) (first outs n tsize osize entries fo : ℕ) (h : F.Shape) → codeNode h first fo 0 outs .state ≡ anyNode first outs n tsize osize entries .state
-    → h .ntrans ≡ n → h .tsize ≡ tsize → h .osize ≡ osize → h .indexed ≡ entries → Readable s (codeNode h first fo 0 outs) → Readable s (anyNode first outs n tsize osize entries)
-readable-any s first outs n tsize osize entries fo h is-state is-n is-t is-o is-e r = rw (← is-n, ← is-t, ← is-o, ← is-e) (record {
-  room = rw is-state at (r .room);
-  tsize-le = r .tsize-le;
-  osize-le = r .osize-le;
-  single = λ z. absurd (let y : _≡_ {A = ℕ} 0 1 = cc in omega arith);
-  ascending = rw is-state at (r .ascending);
-  targets = rw is-state at (r .targets);
-  entries-len = r .entries-len;
-  entries = rw is-state at (r .entries);
-})
 
 -- ---- the answers
 

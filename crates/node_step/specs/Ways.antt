@@ -1,33 +1,19 @@
--- One step of a lookup, as a definition over what judging a node says.
+-- One step of a lookup by key, as a definition over what judging a node says.
 --     wayIn ts b              where the input b leads among the transitions ts
 --     stepOf j b              one step of a lookup by key, from what judging says
---     fittingIn ts v          the transition of ts that fits what is left, v
---     fitOf j v               one step of a lookup by value, from what judging says
---     Leading os v r          r of the leading numbers of os are not above v
 -- Assumes nothing.
-use mathlib.Core.Path.{_≡_}
-use mathlib.Core.Bool.{false, cond, _&&_}
-use mathlib.Core.Logic.{_⊎_}
+use mathlib.Core.Bool.{false}
 use mathlib.Core.List.{List}
-use Prim.Native.Nat.{ℕ, _≤_, _<_}
-use lib.Dec.{eqb}
-use lib.ListN.{length, getD}
+use Prim.Native.Nat.{ℕ}
 use Rattle.format.specs.declared.State.the-variants.{AnyTrans}
 use Rattle.format.specs.declared.Transition.{Transition}
 use Rattle.format.specs.Node as F
-use Rattle.format.specs.Node.{Judgement, sound, unsound, Place, at, absent, Search}
-use Rattle.format.specs.Lookup.{lastFitting}
+use Rattle.format.specs.Node.{Judgement, sound, unsound, Search}
 use Rattle.node.specs.declared.Node.{Node}
 use Rattle.node_step.specs.declared.Step.{Step}
 use Rattle.node_step.specs.declared.Step.the-variants.{Sound as Stepped, Unsound as Stuck}
 use Rattle.node_step.specs.declared.Way.{Way}
 use Rattle.node_step.specs.declared.Way.the-variants.{To, Absent as Nowhere}
-use Rattle.node_step.specs.declared.Fit.{Fit}
-use Rattle.node_step.specs.declared.Fit.the-variants.{Sound as Fitted, Unsound as Unfit}
-use Rattle.node_step.specs.declared.Choice.{Choice}
-use Rattle.node_step.specs.declared.Choice.the-variants.{Ends, To as Along, Absent as None}
-
--- ---- by key
 
 -- where b leads among these transitions
 abbrev pub wayAs : List Transition → Search → Way
@@ -41,31 +27,6 @@ wayIn ts b = wayAs ts (F.findInput ts b)
 abbrev pub stepOf : Judgement → ℕ → Step
 stepOf (sound m) b = Stepped (wayIn (m .transitions) b)
 stepOf unsound b = Stuck
-
--- ---- by value
-
--- the transition at this place
-abbrev pub choiceAs : List Transition → Place → Choice
-choiceAs ts (at i) = Along (F.transitionAt ts i .inp) (F.transitionAt ts i .out) (F.transitionAt ts i .addr)
-choiceAs ts absent = None
-
-abbrev pub fittingIn : List Transition → ℕ → Choice
-fittingIn ts v = choiceAs ts (lastFitting ts v)
-
--- the search ends where nothing is left and the node is final
-abbrev pub choiceIn : F.Node → ℕ → Choice
-choiceIn m v = cond (eqb v 0 && m .final) Ends (fittingIn (m .transitions) v)
-
--- one step of a lookup by value, from what judging says
-abbrev pub fitOf : Judgement → ℕ → Fit
-fitOf (sound m) v = Fitted (choiceIn m v)
-fitOf unsound v = Unfit
-
--- r of the leading numbers of os are not above v, and no more
-pub record Leading (os : List ℕ) (v r : ℕ) : Type 0 where
-  pub within : r ≤ length os
-  pub fit : (j : ℕ) → j < r → getD os j 0 ≤ v
-  pub stop : (r ≡ length os) ⊎ (v < getD os r 0)
 
 -- ---- reading without a node
 

@@ -15,7 +15,7 @@ use counting::Counting;
 use fst::Checksum;
 use fst::Opened;
 use lookup::Answer;
-use lookup::KeyAnswer;
+use lookup_key::KeyAnswer;
 
 // ---- opening
 
@@ -131,7 +131,7 @@ pub extern "C" fn oracle_get_key(file: &[u8], value: u64, key: &mut [u8]) -> u64
     ensures { λ r. ⌜ KeyTold (L.getKey (now (file .entry)) value (length (now (key .entry))))
         (now (key .entry)) (now (key .exit)) r ⌝ }
 {
-    match lookup::get_key(file, value, key) {
+    match lookup_key::get_key(file, value, key) {
         KeyAnswer::Key(n) => n as u64,
         KeyAnswer::None => 1000,
         KeyAnswer::Refused(why) => 2000 + (why as u64),

@@ -12,7 +12,7 @@ use fst::Meta;
 use fst::Opened;
 use libc::STDIN_FILENO;
 use lookup::Answer;
-use lookup::KeyAnswer;
+use lookup_key::KeyAnswer;
 use replay_list::Entry;
 use replay_list::FILE;
 use replay_list::KEPT;
@@ -210,7 +210,7 @@ fn finds_alike(list: &[u8], file: &[u8], entry: Entry) -> bool
 {
     let space = at_most(entry.c, 4096);
     let mut key = [KEPT; 4096];
-    let answer = lookup::get_key(file, entry.b, &mut key[..space]);
+    let answer = lookup_key::get_key(file, entry.b, &mut key[..space]);
     if key_number(answer) != entry.a {
         return false;
     }

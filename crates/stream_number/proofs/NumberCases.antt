@@ -1,5 +1,4 @@
 -- The ways out of `number` and of its parts.
---     keys-zero, keys-entry       the keys from a node by the table
 --     walked-halted, walked-came  which tally a walk's answer stands for
 --     cross-by                    bounds that cross, by their kinds
 --     within-.., before-..        the keys within the upper bound and before the lower, by the bound's kind
@@ -21,24 +20,18 @@ use Rattle.plain.specs.Numbers.{Tally, comes-to, refused, upTo, less, crosses, 
 use Rattle.stream_start.specs.declared.Bound.{Bound}
 use Rattle.stream_start.specs.declared.Bound.the-variants.{Included, Excluded, Unbounded}
 use Rattle.stream_start.specs.Views.{boundIs}
-use Rattle.stream_number.specs.declared.Total.{Total}
-use Rattle.stream_number.specs.declared.Total.the-variants.{Is}
-use Rattle.stream_number.specs.declared.Walked.{Walked}
-use Rattle.stream_number.specs.declared.Walked.the-variants.{Came, Halted}
-use Rattle.stream_number.specs.Totals.{totalAs, walkedAs}
+use Rattle.stream_upto.specs.declared.Total.{Total}
+use Rattle.stream_upto.specs.declared.Total.the-variants.{Is}
+use Rattle.stream_upto.specs.declared.Walked.{Walked}
+use Rattle.stream_upto.specs.declared.Walked.the-variants.{Came, Halted}
+use Rattle.stream_upto.specs.Counts.{totalAs, walkedAs}
+use Rattle.stream_upto.specs.CountsLaws.{keys-zero, keys-entry}
 use Rattle.stream_number.proofs.TotalLaws.{total-le}
 
 -- ---- the table
 
-module _ (c : List ℕ) (a : ℕ) where
-  pub keys-zero : a ≡ 0 → 1 ≡ keysAt c a
-  keys-zero z = rw (eq-eqb a 0 z)
-
-  pub keys-entry : ¬ (a ≡ 0) → getD c a 0 ≡ keysAt c a
-  keys-entry ne = rw (ne-eqb a 0 ne)
-
-  keys-fit : getD c a 0 ≤ maxSum → keysAt c a ≤ maxSum
-  keys-fit h = elim (ℕ-discrete a 0) [ yes z ↦ omega (arith, keys-zero z) | no ne ↦ omega (arith, keys-entry ne) ]
+keys-fit : (c : List ℕ) (a : ℕ) → getD c a 0 ≤ maxSum → keysAt c a ≤ maxSum
+keys-fit c a h = elim (ℕ-discrete a 0) [ yes z ↦ omega (arith, keys-zero c a z) | no ne ↦ omega (arith, keys-entry c a ne) ]
 
 -- ---- two walks
 

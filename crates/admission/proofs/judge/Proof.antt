@@ -8,7 +8,7 @@ use denote.Ref.{now}
 use lib.ListN.{length, set}
 use Rattle.format.specs.Paths.{Fst}
 use Rattle.admission_node.specs.Entries.{Kept}
-use Rattle.admission.specs.Passes.{Walked}
+use Rattle.admission_walk.specs.Walks.{Walked}
 use Rattle.format.specs.Paths.{fstWith}
 use Rattle.admission_node.specs.KeptLaws.{kept-none, kept-set}
 use Rattle.admission.proofs.Verdicts.{root-zero-judges, broken-nodes, Marks, marks-of, marks-fillable, filled-judges}

@@ -13,7 +13,7 @@ use Rattle.format.specs.Node.{endLen}
 use Rattle.format.specs.Packed.{BuilderNode, deltaOf, storedNumbers, storedBytes, indexBytes, sizesOf, headOf}
 use Rattle.node_compile.specs.Compile.{builderWith}
 use Rattle.node_compile.specs.Parts.{anyIn}
-use Rattle.node_compile.proofs.Heads.{put-one-byte}
+use Rattle.node_parts.specs.ByteLaws.{put-one-byte}
 use Rattle.buffers.specs.WritingLaws.{Writing, writing-none, writing-room, part-room, part-written, last-written}
 use Rattle.node_compile.proofs.Whole.{number-written, number-room, any-parts}
 use Rattle.node_compile.proofs.put_any.Statement.{statement}

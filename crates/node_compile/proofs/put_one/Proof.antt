@@ -12,7 +12,7 @@ use Rattle.format.specs.laws.BytesLaws.{pack-size-high}
 use Rattle.format.specs.Packed.{outputSize, sizesOf, packedOne}
 use Rattle.format.specs.laws.PackedLaws.{output-size-le}
 use Rattle.node_compile.specs.Parts.{stateBytes}
-use Rattle.node_compile.proofs.Heads.{put-one-byte}
+use Rattle.node_parts.specs.ByteLaws.{put-one-byte}
 use Rattle.buffers.specs.WritingLaws.{Writing, writing-none, writing-room, part-room, part-written, last-written}
 use Rattle.node_compile.proofs.Whole.{number-written, number-room, one-parts}
 use Rattle.node_compile.proofs.put_one.Statement.{statement}

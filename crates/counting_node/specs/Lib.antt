@@ -1,0 +1,2 @@
+pub mod CountNodes
+pub mod CountNodesLaws

@@ -1,0 +1,3 @@
+pub mod TotalLaws
+pub mod Summing
+pub mod Walking
