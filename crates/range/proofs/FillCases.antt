@@ -27,10 +27,10 @@ use Rattle.range_node.specs.Entries.{SoundTo}
 use Rattle.range_turn.specs.declared.Turn.{Turn}
 use Rattle.range_turn.specs.declared.Turn.the-variants.{Key, End, Refused}
 use Rattle.range_turn.specs.Turns.{viewAt, stepOf, Turned, goes-on, ends, stops}
-use Rattle.range_turn.specs.StartStateLaws.{StateRight, next-walk}
+use Rattle.range_turn.specs.StartStateLaws.{next-walk}
 use Rattle.range.specs.declared.Stop.the-variants as Why
 use Rattle.range.specs.declared.Ranged.{Ranged}
-use Rattle.range.specs.RangedRows.{OpensAs, unpending}
+use Rattle.range.specs.RangedRows.{OpensAs, viewFrom}
 use Rattle.range.specs.FillLaws.{Filling, FilledFrom, filling-key, filled-more, filled-end, filled-refused}
 
 -- ---- a call of next, and a turn
@@ -130,16 +130,16 @@ module _ {s : List ℕ} {version root : ℕ} (o : OpensAs s version root) {hi : 
       pub inputs-len : length is′ ≡ maxLevels
       inputs-len = found 0 .arrays .inps-len
 
-      pub inputs-hold : k ≤ length (take maxPath (drop 1 is′))
-      inputs-hold = rw (length-take-le maxPath (drop 1 is′) (simp length-drop (omega (arith, inputs-len)))) (omega (arith, key-low))
+      pub inputs-hold : k ≤ length (take (length is′ - 1) (drop 1 is′))
+      inputs-hold = rw (length-take-le (length is′ - 1) (drop 1 is′) (simp length-drop (omega arith))) (omega (arith, key-low, inputs-len))
 
       pub row-within : count * 256 + rowLen ≤ length rows
       row-within = omega (arith, g .rows-len)
 
-      pub going-key : {rows′ : List ℕ} → rows′ ≡ put rows (count * 256) (k ∷ take k (take maxPath (drop 1 is′)))
+      pub going-key : {rows′ : List ℕ} → rows′ ≡ put rows (count * 256) (k ∷ take k (take (length is′ - 1) (drop 1 is′)))
           → Going (fstWith s version root) s hi b n r₀ first most rows₀ values₀ rows′ (set values count v) xs′ is′ ps′ os′ (k + 1) (count + 1) agreed false
       going-key {rows′} put-is =
-          let same : take k (take maxPath (drop 1 is′)) ≡ take k (drop 1 is′) = take-take k maxPath (drop 1 is′) (omega (arith, key-low)) in
+          let same : take k (take (length is′ - 1) (drop 1 is′)) ≡ take k (drop 1 is′) = take-take k (length is′ - 1) (drop 1 is′) (omega (arith, key-low, inputs-len)) in
           let len : length (take k (drop 1 is′)) ≡ k = length-take-le k (drop 1 is′) (simp length-drop (omega (arith, inputs-len, key-low))) in
           let put-key : rows′ ≡ put rows (count * 256) (k ∷ take k (drop 1 is′)) = put-is ∙ ap (λ (l : List ℕ). put rows (count * 256) (k ∷ l)) same in
           record {
@@ -166,27 +166,28 @@ module _ {s : List ℕ} {version root : ℕ} (o : OpensAs s version root) {hi : 
 abbrev pendingStep : View → ℕ → Bool → Step
 pendingStep r x b = cond b (record { answer = end; reading = moved r [] (r .total) }) (record { answer = key [] x; reading = moved r (r .levels) (r .total) })
 
-module _ {s : List ℕ} {version root : ℕ} (o : OpensAs s version root) (r : View) (right : StateRight s r) where
-  pending-next : (x : ℕ) → r .empty ≡ some x → next s r maxPath ≡ walk (fstOf s (o .meta)) r (some x)
-  pending-next x e = next-walk s (o .meta) (o .opens) r right ∙ ap (walk (fstOf s (o .meta)) r) e
+module _ {s : List ℕ} {version root : ℕ} (o : OpensAs s version root) (hi : S.Bound) (n : ℕ) (empty : Option ℕ) (levels : List Level) (short : n ≤ maxPath)
+    (few : length levels ≤ maxLevels) where
+  abbrev r : View
+  r = viewFrom (length s) hi n empty levels
 
-  pub pending-ends : (x : ℕ) → r .empty ≡ some x → passesTest (r .bound) [] ≡ true → next s r maxPath .answer ≡ end
+  pending-next : (x : ℕ) → empty ≡ some x → next s r maxPath ≡ walk (fstOf s (o .meta)) r (some x)
+  pending-next x e = next-walk s (o .meta) (o .opens) r (record { few = few; short = short; same = refl }) ∙ ap (walk (fstOf s (o .meta)) r) e
+
+  pub pending-ends : (x : ℕ) → empty ≡ some x → passesTest hi [] ≡ true → next s r maxPath .answer ≡ end
   pending-ends x e p =
       ap (λ (q : Step). q .answer) (pending-next x e)
       ∙ ap (λ (b : Bool). pendingStep r x b .answer) p
 
-  pub pending-key : (x : ℕ) → r .empty ≡ some x → passesTest (r .bound) [] ≡ false → next s r maxPath .answer ≡ key [] x
+  pub pending-key : (x : ℕ) → empty ≡ some x → passesTest hi [] ≡ false → next s r maxPath .answer ≡ key [] x
   pending-key x e p =
       ap (λ (q : Step). q .answer) (pending-next x e)
       ∙ ap (λ (b : Bool). pendingStep r x b .answer) p
 
-  pub pending-reading : (x : ℕ) → r .empty ≡ some x → passesTest (r .bound) [] ≡ false → next s r maxPath .reading ≡ unpending r
+  pub pending-reading : (x : ℕ) → empty ≡ some x → passesTest hi [] ≡ false → next s r maxPath .reading ≡ viewFrom (length s) hi n none levels
   pending-reading x e p =
       ap (λ (q : Step). q .reading) (pending-next x e)
       ∙ ap (λ (b : Bool). pendingStep r x b .reading) p
-
-pub absent-same : (r : View) → r .empty ≡ none → r ≡ unpending r
-absent-same r e = ap (λ (x : Option ℕ). record { len = r .len; bound = r .bound; boundLen = r .boundLen; empty = x; total = r .total; levels = r .levels }) e
 
 pub first-row-len : (rows : List ℕ) {rows′ : List ℕ} → 256 ≤ length rows → rows′ ≡ put rows 0 (0 ∷ []) → length rows′ ≡ length rows
 first-row-len rows room e = ap length e ∙ length-put rows 0 (0 ∷ []) (omega arith)

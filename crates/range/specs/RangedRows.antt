@@ -2,18 +2,24 @@
 --     stopAs w                  the stop that stands for one of the definition
 --     refusedRange why          refused before any key
 --     OpensAs s version root    the file opens, with this version and this root
---     unpending r               the reading with nothing pending
+--     Ready s .. n              the levels in the arrays can be gone on from, to an upper bound of n bytes
+--     viewFrom len hi n empty levels     the reading that a start gave
 --     RangedBy w rows₀ rows values₀ values r     the answer and the two buffers of a call whose definition answers w
 -- Assumes nothing.
 use mathlib.Core.Path.{_≡_}
-use mathlib.Core.Option.{none}
+use mathlib.Core.Option.{Option}
 use mathlib.Core.List.{List}
-use Prim.Native.Nat.{ℕ}
+use Prim.Native.Nat.{ℕ, _≤_}
 use lib.ListN.{length}
+use Rattle.format.specs.Limits.{maxPath, maxLevels}
 use Rattle.format.specs.Opening.{Meta, opened, opening}
-use Rattle.reading.specs.Reading.{View}
+use Rattle.format.specs.Paths.{fstWith}
+use Rattle.format.specs.Strings as S
+use Rattle.reading.specs.Reading.{View, Level}
 use Rattle.paging.specs.Paging as P
 use Rattle.paging.specs.Paging.{Page, ended, more, rowsAfter, valuesAfter}
+use Rattle.stream_start.specs.Views.{Arrays}
+use Rattle.range_node.specs.Entries.{SoundTo}
 use Rattle.range.specs.declared.Stop.{Stop}
 use Rattle.range.specs.declared.Stop.the-variants.{End, More, Refused}
 use Rattle.range.specs.declared.Ranged.{Ranged}
@@ -32,8 +38,17 @@ pub record OpensAs (s : List ℕ) (version root : ℕ) : Type 0 where
   pub version-is : meta .version ≡ version
   pub root-is : meta .root ≡ root
 
-abbrev pub unpending : View → View
-unpending r = record { len = r .len; bound = r .bound; boundLen = r .boundLen; empty = none; total = r .total; levels = r .levels }
+-- the levels in the arrays can be gone on from, to an upper bound of n bytes
+pub record Ready (s : List ℕ) (version root levels : ℕ) (xs is ps os b : List ℕ) (n : ℕ) : Type 0 where
+  pub opens : OpensAs s version root
+  pub arrays : Arrays xs is ps os
+  pub few : levels ≤ maxLevels
+  pub sounds : SoundTo (fstWith s version root) xs levels
+  pub bound-held : length b ≡ maxPath
+  pub short : n ≤ maxPath
+
+abbrev pub viewFrom : ℕ → S.Bound → ℕ → Option ℕ → List Level → View
+viewFrom len hi n empty levels = record { len = len; bound = hi; boundLen = n; empty = empty; total = 0; levels = levels }
 
 pub record RangedBy (w : Page) (rows₀ rows values₀ values : List ℕ) (r : Ranged) : Type 0 where
   pub count : r .count ≡ length (w .entries)

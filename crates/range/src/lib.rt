@@ -1,17 +1,18 @@
 // A range in one call (src/raw/mod.rs: `range`, `ge` to `lt`, and the loop of `next` over it): up to so many keys between two bounds, each in a row of
 // 256 bytes with its value beside it, on any file, admitted or not.
 ghost use mathlib.Core.Path.{_≡_};
+ghost use mathlib.Core.Bool.{true};
+ghost use mathlib.Core.Option.{none};
 ghost use Prim.Native.Nat.{_-_, _*_, _≤_};
-ghost use lib.ListN.{length};
-ghost use Rattle.format.specs.Paths.{fstWith};
+ghost use lib.ListN.{length, take};
 ghost use Rattle.reading.specs.Reading as R;
 ghost use Rattle.paging.specs.Paging as P;
-ghost use Rattle.stream_start.specs.Views.{viewIs, boundIs};
-ghost use Rattle.range_node.specs.Entries.{SoundTo};
-ghost use Rattle.range_turn.specs.StartStateLaws.{StateRight};
-ghost use Rattle.range.specs.RangedRows.{OpensAs, unpending, RangedBy, refusedRange};
+ghost use Rattle.stream_start.specs.Views.{boundIs, emptyIs, stackIs};
+ghost use Rattle.range.specs.RangedRows.{OpensAs, Ready, viewFrom, RangedBy, refusedRange};
 ghost use Rattle.range.specs.FillLaws.{FilledFrom};
 use format::BOUND;
+use format::LEVELS;
+use format::MAX_KEY;
 use format::SPACE;
 use fst::Opened;
 use range_bound::stand;
@@ -22,11 +23,12 @@ use range_rows::put_row;
 use range_turn::Turn;
 use range_turn::step_on;
 use stream_bounds::exceeded;
-use stream_start::Begins;
+use stream_seek::Sought;
 use stream_start::Bound;
 use stream_start::EmptyOutput;
-use stream_start::Reading;
-use stream_start::start;
+use stream_start::len_of;
+use stream_start::pending_at;
+use stream_start::start_levels;
 
 // Why a range stopped: no key is left; as many were handed out as asked for; or the number of a refusal.
 pub enum Stop {
@@ -58,35 +60,38 @@ fn depth_of(levels: usize) -> usize
     if 0 < levels { levels - 1 } else { 0 }
 }
 
-// The keys of a reading with nothing pending, from row `first` on up to `most`. The levels are in local arrays, so a key costs no copy of a reading, and each
-// is that of a node that was judged as it was entered. A refusal stands beside the keys before it.
+// The keys after the levels in the arrays, from row `first` on up to `most`, with nothing pending. The arrays are lent on to each step, so a key costs no copy
+// of a reading, and each level is that of a node that was judged as it was entered. A refusal stands beside the keys before it.
 fn fill(
     file: &[u8],
     version: u64,
     root: usize,
-    reading: Reading,
+    levels: usize,
+    addrs: &mut [u32; LEVELS],
+    inps: &mut [u8; LEVELS],
+    trans: &mut [u16; LEVELS],
+    outs: &mut [u64; LEVELS],
+    bound: &[u8; MAX_KEY],
+    bound_len: usize,
+    kind: Bound,
     first: usize,
     most: usize,
     rows: &mut [u8],
     values: &mut [u64],
 ) -> Ranged
     requires { ⌜ (P.rowLen * most ≤ length (now rows)) × (most ≤ length (now values)) ⌝ }
-    requires { ⌜ OpensAs (now file) version root × StateRight (now file) (viewIs reading)
-        × SoundTo (fstWith (now file) version root) (reading .addrs) (reading .levels) ⌝ }
-    ensures { λ r. ⌜ FilledFrom (now (file .entry)) (unpending (viewIs reading)) first most
-        (now (rows .entry)) (now (rows .exit)) (now (values .entry)) (now (values .exit)) r ⌝ }
+    requires { ⌜ Ready (now file) version root levels (now addrs) (now inps) (now trans) (now outs)
+        (now bound) «bound_len» ⌝ }
+    ensures { λ r. ⌜ FilledFrom (now (file .entry)) (viewFrom (length (now (file .entry)))
+        (boundIs kind (take «bound_len» (now (bound .entry)))) «bound_len» none
+        (stackIs levels (now (addrs .entry)) (now (inps .entry)) (now (trans .entry))
+        (now (outs .entry)))) first most (now (rows .entry)) (now (rows .exit))
+        (now (values .entry)) (now (values .exit)) r ⌝ }
 {
-    let mut addrs = reading.addrs;
-    let mut inps = reading.inps;
-    let mut trans = reading.trans;
-    let mut outs = reading.outs;
-    let bound = reading.bound;
-    let bound_len = reading.bound_len;
-    let kind = reading.kind;
-    let mut levels = reading.levels;
+    let mut height = levels;
     let mut count = first;
     let depth = depth_of(levels);
-    let standing = stand(&inps, depth, &bound, bound_len, kind);
+    let standing = stand(inps, depth, bound, bound_len, kind);
     let mut same = standing.same;
     let mut over = standing.over;
     while count < most {
@@ -94,12 +99,12 @@ fn fill(
             file,
             version,
             root,
-            levels,
-            &mut addrs,
-            &mut inps,
-            &mut trans,
-            &mut outs,
-            &bound,
+            height,
+            addrs,
+            inps,
+            trans,
+            outs,
+            bound,
             bound_len,
             kind,
             same,
@@ -121,9 +126,10 @@ fn fill(
                 // a key that is handed out does not pass the bound
                 same = agreed;
                 over = false;
-                put_row(&inps[1..], k, count * ROW, rows);
+                let bytes = &inps[..];
+                put_row(&bytes[1..], k, count * ROW, rows);
                 values[count] = value;
-                levels = k + 1;
+                height = k + 1;
                 count += 1;
             }
         }
@@ -134,21 +140,32 @@ fn fill(
     }
 }
 
-// The keys of a reading, up to `most`: a pending empty key comes first, or ends the range where it passes the upper bound.
+// The keys after the levels in the arrays, up to `most`: a pending empty key comes first, or ends the range where it passes the upper bound.
 fn fill_all(
     file: &[u8],
     version: u64,
     root: usize,
-    reading: Reading,
+    levels: usize,
+    addrs: &mut [u32; LEVELS],
+    inps: &mut [u8; LEVELS],
+    trans: &mut [u16; LEVELS],
+    outs: &mut [u64; LEVELS],
+    bound: &[u8; MAX_KEY],
+    bound_len: usize,
+    kind: Bound,
+    empty: EmptyOutput,
     most: usize,
     rows: &mut [u8],
     values: &mut [u64],
 ) -> Ranged
     requires { ⌜ (P.rowLen * most ≤ length (now rows)) × (most ≤ length (now values)) ⌝ }
-    requires { ⌜ OpensAs (now file) version root × StateRight (now file) (viewIs reading)
-        × SoundTo (fstWith (now file) version root) (reading .addrs) (reading .levels) ⌝ }
-    ensures { λ r. ⌜ RangedBy (P.fold (now (file .entry)) (viewIs reading) most)
-        (now (rows .entry)) (now (rows .exit)) (now (values .entry)) (now (values .exit)) r ⌝ }
+    requires { ⌜ Ready (now file) version root levels (now addrs) (now inps) (now trans) (now outs)
+        (now bound) «bound_len» ⌝ }
+    ensures { λ r. ⌜ RangedBy (P.fold (now (file .entry)) (viewFrom (length (now (file .entry)))
+        (boundIs kind (take «bound_len» (now (bound .entry)))) «bound_len» (emptyIs empty)
+        (stackIs levels (now (addrs .entry)) (now (inps .entry)) (now (trans .entry))
+        (now (outs .entry)))) most) (now (rows .entry)) (now (rows .exit)) (now (values .entry))
+        (now (values .exit)) r ⌝ }
 {
     if most == 0 {
         return Ranged {
@@ -156,28 +173,55 @@ fn fill_all(
             stop: Stop::More,
         };
     }
-    let empty = reading.empty_output;
     match empty {
-        EmptyOutput::Absent => fill(file, version, root, reading, 0, most, rows, values),
+        EmptyOutput::Absent => fill(
+            file,
+            version,
+            root,
+            levels,
+            addrs,
+            inps,
+            trans,
+            outs,
+            bound,
+            bound_len,
+            kind,
+            0,
+            most,
+            rows,
+            values,
+        ),
         EmptyOutput::Pending(value) => {
-            let inps = reading.inps;
-            let bound = reading.bound;
-            let bound_len = reading.bound_len;
-            let kind = reading.kind;
-            if exceeded(&inps, 0, &bound, bound_len, kind) {
+            if exceeded(inps, 0, bound, bound_len, kind) {
                 return Ranged {
                     count: 0,
                     stop: Stop::End,
                 };
             }
-            put_row(&inps, 0, 0, rows);
+            put_row(inps, 0, 0, rows);
             values[0] = value;
-            fill(file, version, root, reading, 1, most, rows, values)
+            fill(
+                file,
+                version,
+                root,
+                levels,
+                addrs,
+                inps,
+                trans,
+                outs,
+                bound,
+                bound_len,
+                kind,
+                1,
+                most,
+                rows,
+                values,
+            )
         }
     }
 }
 
-// The walk, where the file opens, the bounds are short and the buffers have room.
+// The walk, where the file opens, the bounds are short and the buffers have room. The start's levels are written to arrays of its own and read on there.
 fn range_from(
     file: &[u8],
     version: u64,
@@ -191,17 +235,49 @@ fn range_from(
     values: &mut [u64],
 ) -> Ranged
     requires { ⌜ (P.rowLen * most ≤ length (now rows)) × (most ≤ length (now values)) ⌝ }
-    requires { ⌜ OpensAs (now file) version root ⌝ }
+    requires { ⌜ OpensAs (now file) version root
+        × (R.boundsTest (boundIs «lower_kind» (now lower)) (boundIs «upper_kind» (now upper)) ≡ true) ⌝ }
     ensures { λ r. ⌜ RangedBy (P.pageFrom (now (file .entry)) most (R.start (now (file .entry))
         (boundIs «lower_kind» (now (lower .entry))) (boundIs «upper_kind» (now (upper .entry)))))
         (now (rows .entry)) (now (rows .exit)) (now (values .entry)) (now (values .exit)) r ⌝ }
 {
-    let started = start(file, lower_kind, lower, upper_kind, upper);
-    let answer = started.answer;
-    let reading = started.reading;
-    match answer {
-        Begins::Refused(why) => refused(why),
-        Begins::Began => fill_all(file, version, root, reading, most, rows, values),
+    let bound_len = len_of(upper_kind, upper);
+    let mut bound = [0u8; MAX_KEY];
+    buffers::copy_front(upper, bound_len, &mut bound);
+    let empty = pending_at(file, version, root, lower_kind, lower);
+    let mut addrs = [0u32; LEVELS];
+    let mut inps = [0u8; LEVELS];
+    let mut trans = [0u16; LEVELS];
+    let mut outs = [0u64; LEVELS];
+    match start_levels(
+        file,
+        version,
+        root,
+        lower_kind,
+        lower,
+        &mut addrs,
+        &mut inps,
+        &mut trans,
+        &mut outs,
+    ) {
+        Sought::Halted(why) => refused(why),
+        Sought::Levels(levels) => fill_all(
+            file,
+            version,
+            root,
+            levels,
+            &mut addrs,
+            &mut inps,
+            &mut trans,
+            &mut outs,
+            &bound,
+            bound_len,
+            upper_kind,
+            empty,
+            most,
+            rows,
+            values,
+        ),
     }
 }
 

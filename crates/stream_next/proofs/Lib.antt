@@ -1,2 +1,3 @@
 -- Lemmas on the cases of next, for the proofs of this crate.
 mod NextCases
+pub mod WalkCases

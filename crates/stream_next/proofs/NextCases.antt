@@ -1,27 +1,27 @@
 -- The cases of `next`, each by what leads to it: the answer, the reading and the buffer.
 --     pending-..          the pending empty key
---     walk-..             what the pops lead to
+--     pops-is             what the pops answer
+--     walk-..             what the walk comes to
 --     state-.., next-..   the refusals before the walk, and the walk
 -- Assumes nothing.
-use mathlib.Core.Path.{_≡_, refl, sym, _∙_, ap}
+use mathlib.Core.Path.{_≡_, refl, sym, _∙_, ap, subst}
 use mathlib.Core.Bool.{Bool, true, false, _&&_}
 use mathlib.Core.Option.{Option, none, some}
 use mathlib.Core.List.{List, []}
-use Prim.Native.Nat.{ℕ, _<_, _≤_}
+use Prim.Native.Nat.{ℕ, _+_, _<_, _≤_}
 use native.Mathlib.Omega.{arith}
 use borrow.Author.Tests.{lt-leb, le-leb, leb-true}
 use lib.Dec.{leb, eqb}
 use lib.ListN.{length}
-use Rattle.format.specs.Limits.{NODE, SPACE, STATE}
+use Rattle.format.specs.Limits.{SPACE, STATE}
 use Rattle.format.specs.Opening as Opening
 use Rattle.format.specs.Opening.{Meta, opened, opening}
 use Rattle.format.specs.Paths.{Fst, fstWith, fstOf}
-use Rattle.node.specs.declared.Node.{Node}
-use Rattle.node.specs.Read.{meaning}
 use Rattle.reading.specs.Reading as R
-use Rattle.reading.specs.Reading.{passesTest, top, used-up, bad, pop, afterDescend, stateTest, refuse}
+use Rattle.reading.specs.Reading.{passesTest, pop, stateTest, refuse}
 use Rattle.stream_start.specs.declared.Reading.{Reading}
-use Rattle.stream_start.specs.Views.{levelAt, stackIs, viewIs, emptyIs}
+use Rattle.stream_start.specs.declared.EmptyOutput.the-variants.{Absent}
+use Rattle.stream_start.specs.Views.{stackIs, viewIs, emptyIs}
 use Rattle.stream_start.specs.StackLaws.{stack-length}
 use Rattle.stream_bounds.specs.State.{stateRight}
 use Rattle.stream_pop.specs.declared.Popped.{Popped}
@@ -29,7 +29,10 @@ use Rattle.stream_pop.specs.Pops.{popSeen, Pops}
 use Rattle.stream_step.specs.declared.Answer.the-variants.{Key, Refused}
 use Rattle.stream_step.specs.declared.Step.{Step}
 use Rattle.stream_step.specs.Stepped.{Stepped}
-use Rattle.stream_step.specs.Steps.{downOf, placedAt, endedAt}
+use Rattle.stream_step.specs.Steps.{placedAt, endedAt}
+use Rattle.stream_next.specs.declared.Gone.{Gone}
+use Rattle.stream_next.specs.declared.Gone.the-variants as G
+use Rattle.stream_next.specs.Going.{GoneBy}
 
 -- ---- the pending empty key
 
@@ -48,19 +51,39 @@ pub pops-is : {s : List ℕ} {v root : ℕ} {xs ps : List ℕ} {levels : ℕ} {p
     → pop (fstWith s v root) (stackIs levels xs is ps os) ≡ popSeen s xs is ps os p′
 pops-is {s} {xs = xs} {ps = ps} h e is os = sym (h .seen is os) ∙ ap (popSeen s xs is ps os) e
 
-module _ (s : List ℕ) (v root : ℕ) (r : Reading) where
-  pub walk-empty : (buf : List ℕ) → pop (fstWith s v root) (viewIs r .levels) ≡ used-up → (x : Step) → Stepped (endedAt (viewIs r) (r .total)) buf buf x
-      → Stepped (R.walk (fstWith s v root) (viewIs r) none) buf buf x
-  walk-empty buf e x h = rw e h
+-- ---- what the walk comes to, as the reading that is handed back
 
-  pub walk-bad : (buf : List ℕ) → pop (fstWith s v root) (viewIs r .levels) ≡ bad
-      → Stepped (R.walk (fstWith s v root) (viewIs r) none) buf buf (record { answer = Refused NODE; reading = r })
-  walk-bad buf e = rw e (record { answer = refl; reading = refl; buffer = refl })
+-- the reading behind a key, its levels in these arrays
+abbrev pub behind : Reading → ℕ → ℕ → List ℕ → List ℕ → List ℕ → List ℕ → Reading
+behind r k t xs is ps os = record {
+  len = r .len;
+  kind = r .kind;
+  «bound_len» = r .«bound_len»;
+  bound = r .bound;
+  «empty_output» = Absent;
+  total = t;
+  levels = k + 1;
+  addrs = xs;
+  inps = is;
+  trans = ps;
+  outs = os;
+}
 
-  pub walk-at : (buf₀ buf : List ℕ) (k : ℕ) (m : Node)
-      → pop (fstWith s v root) (viewIs r .levels) ≡ top (levelAt k (r .addrs) (r .inps) (r .trans) (r .outs)) (meaning s m) (stackIs k (r .addrs) (r .inps) (r .trans) (r .outs))
-      → (x : Step) → Stepped (afterDescend (viewIs r) (downOf s v root r k m)) buf₀ buf x → Stepped (R.walk (fstWith s v root) (viewIs r) none) buf₀ buf x
-  walk-at buf₀ buf k m e x h = rw (e, stack-length k (r .addrs) (r .inps) (r .trans) (r .outs)) h
+module _ {w : R.Step} (r : Reading) {buf₀ buf xs is ps os : List ℕ} {g : Gone} (h : GoneBy w (viewIs r) buf₀ buf xs is ps os g) where
+  as-gone : {d : Gone} → g ≡ d → GoneBy w (viewIs r) buf₀ buf xs is ps os d
+  as-gone e = subst (GoneBy w (viewIs r) buf₀ buf xs is ps os) e h
+
+  pub gone-low : (k v t : ℕ) → g ≡ G.Key k v t → k < 256
+  gone-low k v t e = as-gone e .low
+
+  pub walk-refused : (n : ℕ) → g ≡ G.Refused n → Stepped w buf₀ buf (record { answer = Refused n; reading = r })
+  walk-refused n e = let q = as-gone e in record { answer = q .answer; reading = q .reading; buffer = q .buffer }
+
+  pub walk-ended : (t : ℕ) → g ≡ G.End t → {b : List ℕ} (x : Step) → Stepped (endedAt (viewIs r) t) b b x → Stepped w buf₀ buf x
+  walk-ended t e x o = let q = as-gone e in record { answer = o .answer ∙ q .answer; reading = o .reading ∙ q .reading; buffer = q .buffer }
+
+  pub walk-key : (k v t : ℕ) → g ≡ G.Key k v t → Stepped w buf₀ buf (record { answer = Key k v; reading = behind r k t xs is ps os })
+  walk-key k v t e = let q = as-gone e in record { answer = q .answer; reading = q .reading; buffer = q .buffer }
 
 -- ---- what comes before the walk
 

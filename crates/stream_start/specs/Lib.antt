@@ -1,3 +1,4 @@
 pub mod Views
 pub mod StackLaws
-pub mod Seeks
+pub mod Starts
+pub mod StartLaws

@@ -1,23 +1,23 @@
 -- What the values of this crate stand for: document 01's number and values for each case of an answer, and the view of a reading that
 -- drops what carries no meaning.
---     Arrays xs is ps os             four arrays of 256 entries
---     levelAt k .., stackIs k ..     level k of the four arrays; the first k levels, highest first
+--     Arrays, levelAt, stackIs       the levels in four arrays, of stream_levels
 --     boundIs kind bytes             a bound
 --     viewIs r                       what a reading says
 --     startedIs r                    what a start answered
 --     noReading                      a reading without levels
 --     refusedStart why               a refused start, with that reading beside the refusal
 -- Assumes nothing.
-use mathlib.Core.Path.{_≡_}
 use mathlib.Core.Option.{Option, none, some}
-use mathlib.Core.List.{List, [], _∷_}
-use Prim.Native.Nat.{ℕ, zero, suc}
-use lib.ListN.{length, getD, take, replicate}
+use mathlib.Core.List.{List}
+use Prim.Native.Nat.{ℕ}
+use lib.ListN.{take, replicate}
 use Rattle.format.specs.Limits.{maxPath, maxLevels}
 use Rattle.format.specs.Strings as S
 use Rattle.format.specs.Strings.{unbounded, included, excluded}
 use Rattle.reading.specs.Reading as R
-use Rattle.reading.specs.Reading.{Level, View, levelWith}
+use Rattle.reading.specs.Reading.{View}
+pub use Rattle.stream_levels.specs.Stacks.{Arrays, levelAt}
+unfoldable pub use Rattle.stream_levels.specs.Stacks.{stackIs}
 use Rattle.stream_start.specs.declared.Bound.{Bound}
 use Rattle.stream_start.specs.declared.Bound.the-variants.{Included, Excluded, Unbounded}
 use Rattle.stream_start.specs.declared.EmptyOutput.{EmptyOutput}
@@ -26,19 +26,6 @@ use Rattle.stream_start.specs.declared.Reading.{Reading}
 use Rattle.stream_start.specs.declared.Started.{Started}
 use Rattle.stream_start.specs.declared.Begins.{Begins}
 use Rattle.stream_start.specs.declared.Begins.the-variants.{Began, Refused}
-
-pub record Arrays (xs is ps os : List ℕ) : Type 0 where
-  pub addrs-len : length xs ≡ maxLevels
-  pub inps-len : length is ≡ maxLevels
-  pub trans-len : length ps ≡ maxLevels
-  pub outs-len : length os ≡ maxLevels
-
-abbrev pub levelAt : ℕ → List ℕ → List ℕ → List ℕ → List ℕ → Level
-levelAt k xs is ps os = levelWith (getD xs k 0) (getD is k 0) (getD ps k 0) (getD os k 0)
-
-unfoldable pub stackIs : ℕ → List ℕ → List ℕ → List ℕ → List ℕ → List Level
-stackIs zero xs is ps os = []
-stackIs (suc k) xs is ps os = levelAt k xs is ps os ∷ stackIs k xs is ps os
 
 abbrev pub boundIs : Bound → List ℕ → S.Bound
 boundIs Included bs = included bs

@@ -2,23 +2,22 @@
 // and gives back (crate stream_next).
 ghost use mathlib.Core.Path.{_≡_};
 ghost use mathlib.Core.List.{List, []};
-ghost use mathlib.Core.Option.{none};
-ghost use Prim.Native.Nat.{ℕ, _-_, _≤_, _<_};
-ghost use lib.ListN.{length, take, getD};
-ghost use Rattle.format.specs.Limits.{maxPath, maxLevels};
+ghost use Prim.Native.Nat.{ℕ, _≤_, _<_};
+ghost use lib.ListN.{length, take};
+ghost use Rattle.format.specs.Limits.{maxPath};
 ghost use Rattle.format.specs.Paths.{fstWith, nodeIn};
-ghost use Rattle.node.specs.Read.{transitionsIn, Readable};
 ghost use Rattle.reading.specs.Reading as R;
-ghost use Rattle.stream_start.specs.Views.{Arrays, stackIs, boundIs, emptyIs, startedIs, noReading, refusedStart};
-ghost use Rattle.stream_start.specs.Seeks.{enterOf, placeIn, soughtIs, LevelPut, LevelsEnd, BoundTaken, pendingIf, readingAt, startFrom, BlankTold};
+ghost use Rattle.stream_levels.specs.Stacks.{Arrays};
+ghost use Rattle.stream_seek.specs.Seeks.{SoughtAs};
+ghost use Rattle.stream_start.specs.Views.{boundIs, emptyIs, startedIs, noReading, refusedStart};
+ghost use Rattle.stream_start.specs.Starts.{BoundTaken, pendingIf, pendingFrom, walkFrom, readingAt, startFrom, BlankTold};
 use format::BOUND;
 use format::LEVELS;
 use format::MAX_KEY;
-use format::NODE;
 use fst::Opened;
-use node::Found;
 use node::Judged;
-use node::Node;
+use stream_seek::Sought;
+use stream_seek::seek;
 
 // Which kind a bound is; its bytes stand beside it. The bytes beside an unbounded one carry no meaning.
 pub enum Bound {
@@ -67,148 +66,6 @@ pub struct Started {
 }
 
 // ---- start
-
-// A byte looked for at a node: its place, with the target and the output; the place of the first greater input; or the node is not sound.
-enum Entered {
-    Hit(u16, u32, u64),
-    Miss(u16),
-    Unsound,
-}
-
-// What the walk along a lower bound finds: how many levels it wrote, or the number of a refusal.
-enum Sought {
-    Levels(usize),
-    Halted(u8),
-}
-
-// The byte b looked for at the node at addr, which is judged first.
-fn enter(file: &[u8], version: u64, root: usize, addr: usize, b: u8) -> Entered
-    requires { ⌜ root < 4294967296 ⌝ }
-    ensures { λ r. ⌜ (r ≡ enterOf (fstWith (now (file .entry)) version root) addr b)
-        × (placeIn r ≤ maxLevels) ⌝ }
-{
-    let Judged::Sound(m) = node::node_at(file, version, root, addr) else {
-        return Entered::Unsound;
-    };
-    let found = node::find_input(file, m, b);
-    match found {
-        Found::Absent(p) => Entered::Miss(p as u16),
-        Found::At(p) => {
-            let target = node::transition_addr(file, m, p);
-            let out = node::output(file, m, p);
-            let place = p as u16;
-            let to = target as u32;
-            Entered::Hit(place, to, out)
-        }
-    }
-}
-
-// Writes level k.
-fn put_level(
-    k: usize,
-    addr: u32,
-    inp: u8,
-    place: u16,
-    out: u64,
-    addrs: &mut [u32; LEVELS],
-    inps: &mut [u8; LEVELS],
-    trans: &mut [u16; LEVELS],
-    outs: &mut [u64; LEVELS],
-)
-    requires { ⌜ (k < maxLevels) × Arrays (now addrs) (now inps) (now trans) (now outs) ⌝ }
-    ensures { λ _. ⌜ LevelPut k (R.levelWith addr inp place out)
-        (stackIs k (now (addrs .entry)) (now (inps .entry)) (now (trans .entry))
-        (now (outs .entry))) (now (addrs .exit)) (now (inps .exit)) (now (trans .exit))
-        (now (outs .exit)) ⌝ }
-{
-    addrs[k] = addr;
-    inps[k] = inp;
-    trans[k] = place;
-    outs[k] = out;
-}
-
-// Where the bound ends, k levels below the node at addr: the level of that node is written, or for a bound that is included the last
-// level goes back to the transition that led there. The answer is the number of levels.
-fn last_levels(
-    k: usize,
-    inclusive: bool,
-    addr: u32,
-    inp: u8,
-    out: u64,
-    addrs: &mut [u32; LEVELS],
-    inps: &mut [u8; LEVELS],
-    trans: &mut [u16; LEVELS],
-    outs: &mut [u64; LEVELS],
-) -> usize
-    requires { ⌜ (k < maxLevels) × Arrays (now addrs) (now inps) (now trans) (now outs)
-        × (0 < k → 0 < getD (now trans) (k - 1) 0) ⌝ }
-    ensures { λ r. ⌜ LevelsEnd r (R.lastLevels inclusive (R.levelWith addr inp 0 out)
-        (stackIs k (now (addrs .entry)) (now (inps .entry)) (now (trans .entry))
-        (now (outs .entry)))) (now (addrs .exit)) (now (inps .exit)) (now (trans .exit))
-        (now (outs .exit)) ⌝ }
-{
-    if inclusive {
-        if 0 < k {
-            let last = k - 1;
-            trans[last] -= 1;
-            return k;
-        }
-    }
-    put_level(k, addr, inp, 0, out, addrs, inps, trans, outs);
-    k + 1
-}
-
-// Follows the lower bound from the root of a file that opens, and writes the levels. Each node is judged as it is entered, the last
-// included, and then the running sum up to it.
-fn seek(
-    file: &[u8],
-    version: u64,
-    root: usize,
-    lower: &[u8],
-    inclusive: bool,
-    addrs: &mut [u32; LEVELS],
-    inps: &mut [u8; LEVELS],
-    trans: &mut [u16; LEVELS],
-    outs: &mut [u64; LEVELS],
-) -> Sought
-    requires { ⌜ (root < 4294967296) × (length (now lower) ≤ maxPath) × Arrays (now addrs)
-        (now inps) (now trans) (now outs) ⌝ }
-    ensures { λ r. ⌜ soughtIs r (now (addrs .exit)) (now (inps .exit)) (now (trans .exit))
-        (now (outs .exit)) ≡ R.seek (fstWith (now (file .entry)) version root) inclusive root 0 0 []
-        (now (lower .entry)) ⌝ }
-{
-    let mut k = 0;
-    let mut addr = root as u32;
-    let mut inp: u8 = 0;
-    let mut sum: u64 = 0;
-    while k < lower.len() {
-        let b = lower[k];
-        let entered = enter(file, version, root, addr as usize, b);
-        match entered {
-            Entered::Unsound => {
-                return Sought::Halted(NODE);
-            }
-            Entered::Miss(p) => {
-                put_level(k, addr, inp, p, sum, addrs, inps, trans, outs);
-                return Sought::Levels(k + 1);
-            }
-            Entered::Hit(p, target, out) => {
-                if u64::MAX - sum < out {
-                    return Sought::Halted(fst::past_sum(file, version, root, target as usize));
-                }
-                put_level(k, addr, inp, p + 1, sum, addrs, inps, trans, outs);
-                addr = target;
-                inp = b;
-                sum += out;
-                k += 1;
-            }
-        }
-    }
-    let Judged::Sound(_) = node::node_at(file, version, root, addr as usize) else {
-        return Sought::Halted(NODE);
-    };
-    Sought::Levels(last_levels(k, inclusive, addr, inp, sum, addrs, inps, trans, outs))
-}
 
 // How many bytes a bound has: none where it is unbounded, whatever stands beside it.
 pub fn len_of(kind: Bound, bytes: &[u8]) -> usize
@@ -290,34 +147,94 @@ pub fn refused(why: u8) -> Started
     }
 }
 
-// The walk along the bytes of a lower bound, and the reading that it gives with this upper bound and this pending empty key.
+// The empty key that is pending at a start on a file that opens.
+pub fn pending_at(
+    file: &[u8],
+    version: u64,
+    root: usize,
+    lower_kind: Bound,
+    lower: &[u8],
+) -> EmptyOutput
+    requires { ⌜ BlankTold (now file) version ⌝ }
+    ensures { λ r. ⌜ emptyIs r ≡ pendingFrom (fstWith (now (file .entry)) version root)
+        (boundIs «lower_kind» (now (lower .entry))) ⌝ }
+{
+    // version 0 is a file without bytes
+    if version == 0 {
+        return EmptyOutput::Absent;
+    }
+    let n = len_of(lower_kind, lower);
+    let meets = meets_empty(lower_kind, n);
+    empty_output(file, version, root, meets)
+}
+
+// The levels of a start on a file that opens, written to four arrays: none in a file without bytes, since there is no node to enter, and in any other those of
+// the walk along the lower bound.
+pub fn start_levels(
+    file: &[u8],
+    version: u64,
+    root: usize,
+    lower_kind: Bound,
+    lower: &[u8],
+    addrs: &mut [u32; LEVELS],
+    inps: &mut [u8; LEVELS],
+    trans: &mut [u16; LEVELS],
+    outs: &mut [u64; LEVELS],
+) -> Sought
+    requires { ⌜ (root < 4294967296) × BlankTold (now file) version
+        × (length (R.boundBytes (boundIs «lower_kind» (now lower))) ≤ maxPath) × Arrays (now addrs)
+        (now inps) (now trans) (now outs) ⌝ }
+    ensures { λ r. ⌜ SoughtAs (walkFrom (fstWith (now (file .entry)) version root)
+        (boundIs «lower_kind» (now (lower .entry)))) r (now (addrs .exit)) (now (inps .exit))
+        (now (trans .exit)) (now (outs .exit)) ⌝ }
+{
+    if version == 0 {
+        return Sought::Levels(0);
+    }
+    let n = len_of(lower_kind, lower);
+    let inclusive = is_inclusive(lower_kind);
+    seek(
+        file,
+        version,
+        root,
+        &lower[..n],
+        inclusive,
+        addrs,
+        inps,
+        trans,
+        outs,
+    )
+}
+
+// The reading that a start gives with this upper bound and this pending empty key.
 fn reading_from(
     file: &[u8],
     version: u64,
     root: usize,
+    lower_kind: Bound,
     lower: &[u8],
-    inclusive: bool,
     kind: Bound,
     bound_len: usize,
     bound: [u8; MAX_KEY],
     empty_output: EmptyOutput,
 ) -> Started
-    requires { ⌜ (root < 4294967296) × (length (now lower) ≤ maxPath) ⌝ }
+    requires { ⌜ (root < 4294967296) × BlankTold (now file) version
+        × (length (R.boundBytes (boundIs «lower_kind» (now lower))) ≤ maxPath) ⌝ }
     ensures { λ r. ⌜ startedIs r ≡ readingAt (length (now (file .entry)))
         (boundIs kind (take «bound_len» bound)) «bound_len» (emptyIs «empty_output»)
-        (R.seek (fstWith (now (file .entry)) version root) inclusive root 0 0 []
-        (now (lower .entry))) ⌝ }
+        (walkFrom (fstWith (now (file .entry)) version root)
+        (boundIs «lower_kind» (now (lower .entry)))) ⌝ }
 {
     let mut addrs = [0u32; LEVELS];
     let mut inps = [0u8; LEVELS];
     let mut trans = [0u16; LEVELS];
     let mut outs = [0u64; LEVELS];
-    let sought = seek(
+    let sought = start_levels(
         file,
         version,
         root,
+        lower_kind,
         lower,
-        inclusive,
         &mut addrs,
         &mut inps,
         &mut trans,
@@ -347,31 +264,6 @@ fn reading_from(
     }
 }
 
-// The reading of a file without bytes, with this upper bound: nothing pending and no level, since there is no node to enter.
-fn blank_reading(kind: Bound, bound_len: usize, bound: [u8; MAX_KEY]) -> Started
-    ensures { λ r. ⌜ startedIs r ≡ readingAt 0 (boundIs kind (take «bound_len» bound)) «bound_len»
-        none (R.got []) ⌝ }
-{
-    let levels: usize = 0;
-    let reading = Reading {
-        len: 0,
-        kind,
-        bound_len,
-        bound,
-        empty_output: EmptyOutput::Absent,
-        total: 0,
-        levels,
-        addrs: [0; LEVELS],
-        inps: [0; LEVELS],
-        trans: [0; LEVELS],
-        outs: [0; LEVELS],
-    };
-    Started {
-        answer: Begins::Began,
-        reading,
-    }
-}
-
 // A start on a file that opens.
 fn start_from(
     file: &[u8],
@@ -396,19 +288,13 @@ fn start_from(
     }
     let mut bound = [0u8; MAX_KEY];
     buffers::copy_front(upper, bound_len, &mut bound);
-    // version 0 is a file without bytes
-    if version == 0 {
-        return blank_reading(upper_kind, bound_len, bound);
-    }
-    let meets = meets_empty(lower_kind, n);
-    let empty_output = empty_output(file, version, root, meets);
-    let inclusive = is_inclusive(lower_kind);
+    let empty_output = pending_at(file, version, root, lower_kind, lower);
     reading_from(
         file,
         version,
         root,
-        &lower[..n],
-        inclusive,
+        lower_kind,
+        lower,
         upper_kind,
         bound_len,
         bound,

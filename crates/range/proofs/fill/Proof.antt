@@ -1,19 +1,15 @@
 -- `range::fill` meets its contract. The invariant: the rows before `count` are written, and the page goes on from the levels in the arrays. The measure is
 -- how many keys are still asked for.
 -- Assumes nothing.
-use mathlib.Core.Path.{_≡_, sym, ap, subst}
+use mathlib.Core.Path.{_≡_, subst}
 use Prim.Native.Nat.{ℕ, _-_, _≤_, _<_}
 use denote.Ref.{now}
 use lib.ListN.{length, take, drop}
 use Rattle.format.specs.laws.OpeningLaws.{root-fits}
-use Rattle.format.specs.Limits.{maxPath, maxLevels}
 use Rattle.format.specs.Paths.{fstWith}
-use Rattle.stream_start.specs.Views.{Arrays, boundIs, stackIs, viewIs}
-use Rattle.stream_start.specs.StackLaws.{stack-length}
+use Rattle.stream_start.specs.Views.{boundIs, stackIs}
 use Rattle.range_bound.specs.Besides.{Beside}
 use Rattle.range_turn.specs.Turns.{viewAt}
-use Rattle.range.specs.RangedRows.{unpending}
-use Rattle.range.specs.FillLaws.{filled-as}
 use Rattle.range.proofs.FillCases.{Going, going-none, going-key, going-end, going-refused, going-more, key-low, inputs-len, inputs-hold, row-within}
 use borrow.Author.Needs.{needs}
 use native.Mathlib.Omega.{arith}
@@ -21,13 +17,13 @@ use Rattle.range.proofs.fill.Statement.{statement}
 use Rattle.range.proofs.fill.Tie as tie
 
 abbrev Inv-loop : tie.InvT-loop
-Inv-loop file version root first most rows₀ values₀ addrs₀ inps₀ trans₀ outs₀ bound bound-len kind levels₀ count₀ depth same₀ over₀ rows values addrs inps trans outs levels count same over =
+Inv-loop file version root levels addrs₀ inps₀ trans₀ outs₀ bound bound-len kind first most rows₀ values₀ height₀ count₀ depth same₀ over₀ addrs inps trans outs rows values height count same over =
     Going (fstWith file version root) file (boundIs kind (take bound-len bound)) (take bound-len bound) bound-len
-    (λ t. viewAt (length file) (boundIs kind (take bound-len bound)) bound-len t (stackIs levels₀ addrs₀ inps₀ trans₀ outs₀)) count₀ most rows₀ values₀ rows values
-    addrs inps trans outs levels count same over
+    (λ t. viewAt (length file) (boundIs kind (take bound-len bound)) bound-len t (stackIs levels addrs₀ inps₀ trans₀ outs₀)) first most rows₀ values₀ rows values
+    addrs inps trans outs height count same over
 
 abbrev μ-loop : tie.MeasureT-loop
-μ-loop file version root first most rows₀ values₀ addrs₀ inps₀ trans₀ outs₀ bound bound-len kind levels₀ count₀ depth same₀ over₀ rows values addrs inps trans outs levels count same over =
+μ-loop file version root levels addrs₀ inps₀ trans₀ outs₀ bound bound-len kind first most rows₀ values₀ height₀ count₀ depth same₀ over₀ addrs inps trans outs rows values height count same over =
     most - count
 
 -- ---- what is known at a turn, after it, and where it found a key
@@ -36,25 +32,16 @@ abbrev Loop : Type 0
 Loop = tie.At-loop Inv-loop μ-loop
 
 abbrev start : Loop → tie.Start Inv-loop μ-loop
-start l = l .before .before .before .before .before .before .before .before .before .before .before .before .before
+start l = l .before .before .before .before .before .before .before
 
 abbrev Call : Type 0
 Call = tie.After-step-on Inv-loop μ-loop
 
 abbrev loop-of : Call → Loop
-loop-of q = q .before .before .before .before .before .before .before
+loop-of q = q .before .before .before .before .before .before
 
 left : (q : Call) → loop-of q .loop .count < start (loop-of q) .args .most
-left q = q .before .before .before .before .before .before .loop-test .taken
-
--- the reading with nothing pending, as the loop has it
-as-view : (l : Loop) → unpending (viewIs (start l .args .reading)) ≡ (let r = start l .args .reading in
-    viewAt (length (now (start l .args .file))) (boundIs (r .kind) (take (r .«bound_len») (r .bound))) (r .«bound_len») (r .total)
-    (stackIs (r .levels) (r .addrs) (r .inps) (r .trans) (r .outs)))
-as-view l =
-    let r = start l .args .reading in
-    ap (λ (n : ℕ). viewAt n (boundIs (r .kind) (take (r .«bound_len») (r .bound))) (r .«bound_len») (r .total)
-    (stackIs (r .levels) (r .addrs) (r .inps) (r .trans) (r .outs))) (start l .pre .1 .1 .same)
+left q = q .before .before .before .before .before .loop-test .taken
 
 abbrev Key-at : Type 0
 Key-at = tie.After-known-told2 Inv-loop μ-loop
@@ -62,52 +49,44 @@ Key-at = tie.After-known-told2 Inv-loop μ-loop
 abbrev q-of : Key-at → Call
 q-of w = w .before .before .before
 
--- the reading's arrays
-arrays : (q : tie.Start Inv-loop μ-loop) → Arrays (q .args .reading .addrs) (q .args .reading .inps) (q .args .reading .trans) (q .args .reading .outs)
-arrays q = record { addrs-len = search needs; inps-len = search needs; trans-len = search needs; outs-len = search needs }
-
-bound-held : (q : tie.Start Inv-loop μ-loop) → length (q .args .reading .bound) ≡ maxPath
-bound-held q = search needs
-
-few : (q : tie.Start Inv-loop μ-loop) → q .args .reading .levels ≤ maxLevels
-few q = let r = q .args .reading in rw (stack-length (r .levels) (r .addrs) (r .inps) (r .trans) (r .outs)) at (q .pre .1 .1 .few)
-
 depth-of-requires : tie.Need-depth-of-requires Inv-loop μ-loop
 depth-of-requires c κs = search needs
 
 -- the key of the levels has at most 255 bytes
 stand-requires : tie.Need-stand-requires Inv-loop μ-loop
 stand-requires c κs =
-    let call = c .before .before in
-    let s = call .before .before .before .before .before .before .before .before .before in
-    (arrays s .inps-len, bound-held s, omega (arith, call .depth-of .ensures, few s), s .pre .1 .1 .short)
+    let call = c .before in
+    let h = call .before .before .before .before .pre .1 in
+    (h .arrays .inps-len, h .bound-held, omega (arith, call .depth-of .ensures, h .few), h .short)
+
+abbrev begin : tie.After-stand Inv-loop μ-loop → tie.Start Inv-loop μ-loop
+begin c = c .before .before .before .before .before .before
 
 -- how it stands to the upper bound
-standing : (c : tie.After-stand Inv-loop μ-loop) → (let s = c .before .before .before .before .before .before .before .before .before .before .before .before in
-    let r = s .args .reading in
-    Beside (boundIs (r .kind) (take (r .«bound_len») (r .bound))) (take (r .«bound_len») (r .bound)) (drop 1 (r .inps)) (r .levels - 1) (c .stand .result .same)
+standing : (c : tie.After-stand Inv-loop μ-loop) → (let a = begin c .args in
+    Beside (boundIs (a .kind) (take (a .bound-len) (now (a .bound)))) (take (a .bound-len) (now (a .bound))) (drop 1 (now (a .inps))) (a .levels - 1) (c .stand .result .same)
     (c .stand .result .over))
 standing c =
-    let s = c .before .before .before .before .before .before .before .before .before .before .before .before in
-    let r = s .args .reading in
-    subst (λ (j : ℕ). Beside (boundIs (r .kind) (take (r .«bound_len») (r .bound))) (take (r .«bound_len») (r .bound)) (drop 1 (r .inps)) j (c .stand .result .same)
-    (c .stand .result .over)) (c .before .before .before .depth-of .ensures) (c .stand .ensures)
+    let a = begin c .args in
+    subst (λ (j : ℕ). Beside (boundIs (a .kind) (take (a .bound-len) (now (a .bound)))) (take (a .bound-len) (now (a .bound))) (drop 1 (now (a .inps))) j (c .stand .result .same)
+    (c .stand .result .over)) (c .before .before .depth-of .ensures) (c .stand .ensures)
 
 loop-holds : tie.Need-loop-holds Inv-loop μ-loop
 loop-holds c =
-    let s = c .before .before .before .before .before .before .before .before .before .before .before .before in
+    let s = begin c in
     let a = s .args in
-    let r = a .reading in
-    going-none (fstWith (now (a .file)) (a .version) (a .root)) (now (a .file)) (boundIs (r .kind) (take (r .«bound_len») (r .bound)))
-    (take (r .«bound_len») (r .bound)) (r .«bound_len») (a .first) (a .most) (now (a .rows)) (now (a .values)) (r .addrs) (r .inps) (r .trans) (r .outs) (r .levels)
-    (c .stand .result .same) (c .stand .result .over) (arrays s) (few s) (s .pre .1 .2) (standing c)
+    let h = s .pre .1 in
+    going-none (fstWith (now (a .file)) (a .version) (a .root)) (now (a .file)) (boundIs (a .kind) (take (a .bound-len) (now (a .bound))))
+    (take (a .bound-len) (now (a .bound))) (a .bound-len) (a .first) (a .most) (now (a .rows)) (now (a .values)) (now (a .addrs)) (now (a .inps)) (now (a .trans)) (now (a .outs))
+    (a .levels) (c .stand .result .same) (c .stand .result .over) (h .arrays) (h .few) (h .sounds) (standing c)
 
 step-on-requires : tie.Need-step-on-requires Inv-loop μ-loop
 step-on-requires c κs =
-    let l = c .before .before .before .before .before .before in
+    let l = c .before .before .before .before .before in
     let s = start l in
-    let o = s .pre .1 .0 in (
-      (l .loop .inv .arrays, bound-held s, s .pre .1 .1 .short),
+    let h = s .pre .1 in
+    let o = h .opens in (
+      (l .loop .inv .arrays, h .bound-held, h .short),
       (l .loop .inv .few, omega (arith, root-fits (now (s .args .file)) (o .meta) (o .opens), o .root-is), l .loop .inv .sounds, l .loop .inv .beside),
     )
 
@@ -125,9 +104,8 @@ returns c =
     let q = c .before .before in
     let l = loop-of q in
     let s = start l in
-    filled-as (sym (as-view l))
-    (going-end (s .pre .1 .0) (s .pre .1 .1 .short) (s .pre .0 .0) (s .pre .0 .1) (l .loop .inv) (left q)
-    (q .step-on .ensures (length (now (s .args .file))) (s .args .reading .«bound_len»)) (c .enum-told .given .1) (s .args .reading .total))
+    going-end (s .pre .1 .opens) (s .pre .1 .short) (s .pre .0 .0) (s .pre .0 .1) (l .loop .inv) (left q)
+    (q .step-on .ensures (length (now (s .args .file))) (s .args .bound-len)) (c .enum-told .given .1) 0
 
 enum-known-why : tie.Need-enum-known-why Inv-loop μ-loop
 enum-known-why c = search needs
@@ -143,9 +121,8 @@ returns-2 c =
     let q = c .before .before .before in
     let l = loop-of q in
     let s = start l in
-    filled-as (sym (as-view l))
-    (going-refused (s .pre .1 .0) (s .pre .1 .1 .short) (s .pre .0 .0) (s .pre .0 .1) (l .loop .inv) (left q)
-    (q .step-on .ensures (length (now (s .args .file))) (s .args .reading .«bound_len»)) _ (c .before .why .given .1) (s .args .reading .total))
+    going-refused (s .pre .1 .opens) (s .pre .1 .short) (s .pre .0 .0) (s .pre .0 .1) (l .loop .inv) (left q)
+    (q .step-on .ensures (length (now (s .args .file))) (s .args .bound-len)) _ (c .before .why .given .1) 0
 
 enum-known-k : tie.Need-enum-known-k Inv-loop μ-loop
 enum-known-k c = search needs
@@ -158,86 +135,86 @@ part-put-row-start c = search needs
 
 part-put-row-end : tie.Need-part-put-row-end Inv-loop μ-loop
 part-put-row-end c =
-    let w = c .before in
-    let q = q-of w in
-    let l = loop-of q in
-    let s = start l in
-    let t = q .step-on .ensures (length (now (s .args .file))) (s .args .reading .«bound_len») in
-    let e = w .before .k .given .1 in
-    let h = inputs-len (s .pre .1 .0) (s .pre .1 .1 .short) (s .pre .0 .0) (s .pre .0 .1) (l .loop .inv) (left q) t _ _ _ e in
-    omega arith
-
-mul-put-row : tie.Need-mul-put-row Inv-loop μ-loop
-mul-put-row c =
     let w = c .before .before in
     let q = q-of w in
     let l = loop-of q in
     let s = start l in
-    let t = q .step-on .ensures (length (now (s .args .file))) (s .args .reading .«bound_len») in
+    let t = q .step-on .ensures (length (now (s .args .file))) (s .args .bound-len) in
     let e = w .before .k .given .1 in
-    omega (arith, left q, s .pre .0 .0, s .good .1 .1 .1 .1 .1 .1 .0 .1)
+    let h = inputs-len (s .pre .1 .opens) (s .pre .1 .short) (s .pre .0 .0) (s .pre .0 .1) (l .loop .inv) (left q) t _ _ _ e in
+    omega arith
 
-put-row-requires : tie.Need-put-row-requires Inv-loop μ-loop
-put-row-requires c κs =
+mul-put-row : tie.Need-mul-put-row Inv-loop μ-loop
+mul-put-row c =
     let w = c .before .before .before in
     let q = q-of w in
     let l = loop-of q in
     let s = start l in
-    let t = q .step-on .ensures (length (now (s .args .file))) (s .args .reading .«bound_len») in
+    let t = q .step-on .ensures (length (now (s .args .file))) (s .args .bound-len) in
+    let e = w .before .k .given .1 in
+    omega (arith, left q, s .pre .0 .0, s .good .1 .1 .1 .1 .1 .1 .1 .1 .1 .1 .1 .1 .1 .0 .1)
+
+put-row-requires : tie.Need-put-row-requires Inv-loop μ-loop
+put-row-requires c κs =
+    let w = c .before .before .before .before in
+    let q = q-of w in
+    let l = loop-of q in
+    let s = start l in
+    let t = q .step-on .ensures (length (now (s .args .file))) (s .args .bound-len) in
     let e = w .before .k .given .1 in (
-      inputs-hold (s .pre .1 .0) (s .pre .1 .1 .short) (s .pre .0 .0) (s .pre .0 .1) (l .loop .inv) (left q) t _ _ _ e,
-      omega (arith, key-low (s .pre .1 .0) (s .pre .1 .1 .short) (s .pre .0 .0) (s .pre .0 .1) (l .loop .inv) (left q) t _ _ _ e),
-      row-within (s .pre .1 .0) (s .pre .1 .1 .short) (s .pre .0 .0) (s .pre .0 .1) (l .loop .inv) (left q) t _ _ _ e,
+      inputs-hold (s .pre .1 .opens) (s .pre .1 .short) (s .pre .0 .0) (s .pre .0 .1) (l .loop .inv) (left q) t _ _ _ e,
+      omega (arith, key-low (s .pre .1 .opens) (s .pre .1 .short) (s .pre .0 .0) (s .pre .0 .1) (l .loop .inv) (left q) t _ _ _ e),
+      row-within (s .pre .1 .opens) (s .pre .1 .short) (s .pre .0 .0) (s .pre .0 .1) (l .loop .inv) (left q) t _ _ _ e,
     )
 
 mul-values : tie.Need-mul-values Inv-loop μ-loop
 mul-values c =
-    let w = c .before .before .before .before .before .before in
+    let w = c .before .before .before .before .before .before .before in
     let q = q-of w in
     let l = loop-of q in
     let s = start l in
-    let t = q .step-on .ensures (length (now (s .args .file))) (s .args .reading .«bound_len») in
+    let t = q .step-on .ensures (length (now (s .args .file))) (s .args .bound-len) in
     let e = w .before .k .given .1 in
-    omega (arith, left q, s .pre .0 .1, s .good .1 .1 .1 .1 .1 .1 .1 .0 .1)
+    omega (arith, left q, s .pre .0 .1, s .good .1 .1 .1 .1 .1 .1 .1 .1 .1 .1 .1 .1 .1 .1 .0 .1)
 
 slice-write-values : tie.Need-slice-write-values Inv-loop μ-loop
 slice-write-values c =
-    let w = c .before .before .before .before .before .before in
+    let w = c .before .before .before .before .before .before .before in
     let q = q-of w in
     let l = loop-of q in
     let s = start l in
-    let t = q .step-on .ensures (length (now (s .args .file))) (s .args .reading .«bound_len») in
+    let t = q .step-on .ensures (length (now (s .args .file))) (s .args .bound-len) in
     let e = w .before .k .given .1 in
     omega (arith, l .loop .inv .values-len, left q, s .pre .0 .1)
 
-add-levels : tie.Need-add-levels Inv-loop μ-loop
-add-levels c =
-    let w = c .before .before .before .before .before .before in
+add-height : tie.Need-add-height Inv-loop μ-loop
+add-height c =
+    let w = c .before .before .before .before .before .before .before in
     let q = q-of w in
     let l = loop-of q in
     let s = start l in
-    let t = q .step-on .ensures (length (now (s .args .file))) (s .args .reading .«bound_len») in
+    let t = q .step-on .ensures (length (now (s .args .file))) (s .args .bound-len) in
     let e = w .before .k .given .1 in
-    omega (arith, key-low (s .pre .1 .0) (s .pre .1 .1 .short) (s .pre .0 .0) (s .pre .0 .1) (l .loop .inv) (left q) t _ _ _ e)
+    omega (arith, key-low (s .pre .1 .opens) (s .pre .1 .short) (s .pre .0 .0) (s .pre .0 .1) (l .loop .inv) (left q) t _ _ _ e)
 
 add-count : tie.Need-add-count Inv-loop μ-loop
 add-count c =
-    let q = q-of (c .before .before .before .before .before .before) in
+    let q = q-of (c .before .before .before .before .before .before .before) in
     let s = start (loop-of q) in
-    omega (arith, left q, s .pre .0 .1, s .good .1 .1 .1 .1 .1 .1 .1 .0 .1)
+    omega (arith, left q, s .pre .0 .1, s .good .1 .1 .1 .1 .1 .1 .1 .1 .1 .1 .1 .1 .1 .1 .0 .1)
 
 loop-less : tie.Need-loop-less Inv-loop μ-loop
 loop-less c = search needs
 
 loop-again : tie.Need-loop-again Inv-loop μ-loop
 loop-again c =
-    let w = c .before .before .before .before .before .before in
+    let w = c .before .before .before .before .before .before .before in
     let q = q-of w in
     let l = loop-of q in
     let s = start l in
-    let t = q .step-on .ensures (length (now (s .args .file))) (s .args .reading .«bound_len») in
+    let t = q .step-on .ensures (length (now (s .args .file))) (s .args .bound-len) in
     let e = w .before .k .given .1 in
-    going-key (s .pre .1 .0) (s .pre .1 .1 .short) (s .pre .0 .0) (s .pre .0 .1) (l .loop .inv) (left q) t _ _ _ e (c .before .before .put-row .ensures)
+    going-key (s .pre .1 .opens) (s .pre .1 .short) (s .pre .0 .0) (s .pre .0 .1) (l .loop .inv) (left q) t _ _ _ e (c .before .before .put-row .ensures)
 
 same-length-5 : tie.Need-same-length-5 Inv-loop μ-loop
 same-length-5 c = c .before .loop .inv .rows-len
@@ -249,7 +226,7 @@ returns-3 : tie.Need-returns-3 Inv-loop μ-loop
 returns-3 c =
     let l = c .before in
     let s = start l in
-    filled-as (sym (as-view l)) (going-more (s .pre .1 .0) (s .pre .1 .1 .short) (s .pre .0 .0) (s .pre .0 .1) (l .loop .inv) (c .loop-test .left) (s .args .reading .total))
+    going-more (s .pre .1 .opens) (s .pre .1 .short) (s .pre .0 .0) (s .pre .0 .1) (l .loop .inv) (c .loop-test .left) 0
 
 pub fill-spec : {M : Type 1} → statement M
 fill-spec =
@@ -277,7 +254,7 @@ fill-spec =
     put-row-requires
     mul-values
     slice-write-values
-    add-levels
+    add-height
     add-count
     loop-less
     loop-again

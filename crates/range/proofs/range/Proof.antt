@@ -101,7 +101,7 @@ range-from-requires c κs =
     let a = begin q .args in (
       decides-and (leb (rowLen * a .most) (length (now (a .rows)))) (leb (a .most) (length (now (a .values))))
           (decides-le (rowLen * a .most) (length (now (a .rows)))) (decides-le (a .most) (length (now (a .values)))) .yes (roomy v),
-      record { meta = metaIs (meta q); opens = opens q; version-is = refl; root-is = refl },
+      (record { meta = metaIs (meta q); opens = opens q; version-is = refl; root-is = refl }, short (v .before)),
     )
 
 -- the file does not open

@@ -4,7 +4,7 @@ use mathlib.Core.Path.{_≡_, refl, sym, ap, _∙_}
 use Rattle.format.specs.Paths.{fstWith, nodeIn}
 use Rattle.node.specs.Read.{meaning}
 use Rattle.node.specs.ReadLaws.{answer-sound, answer-unsound}
-use Rattle.stream_start.proofs.StartLaws.{pending-not, pending-unsound, pending-final, pending-no-key}
+use Rattle.stream_start.specs.StartLaws.{pending-not, pending-unsound, pending-final, pending-no-key}
 use denote.Ref.{now}
 use borrow.Author.Needs.{needs}
 use native.Mathlib.Omega.{arith}

@@ -1,7 +1,7 @@
 -- `stream_start::is_inclusive` meets its contract, kind by kind.
 -- Assumes nothing.
 use mathlib.Core.Path.{_≡_, refl, sym, ap, _∙_}
-use Rattle.stream_start.proofs.StartLaws.{inclusive-included, inclusive-excluded, inclusive-unbounded}
+use Rattle.stream_start.specs.StartLaws.{inclusive-included, inclusive-excluded, inclusive-unbounded}
 use borrow.Author.Needs.{needs}
 use native.Mathlib.Omega.{arith}
 use Rattle.stream_start.proofs.is_inclusive.Statement.{statement}

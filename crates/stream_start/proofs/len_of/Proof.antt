@@ -1,7 +1,7 @@
 -- `stream_start::len_of` meets its contract: the bytes beside an unbounded bound are not counted.
 -- Assumes nothing.
 use mathlib.Core.Path.{_≡_, refl, sym, ap, _∙_}
-use Rattle.stream_start.proofs.StartLaws.{taken-included, taken-excluded, taken-unbounded}
+use Rattle.stream_start.specs.StartLaws.{taken-included, taken-excluded, taken-unbounded}
 use denote.Ref.{now}
 use borrow.Author.Needs.{needs}
 use native.Mathlib.Omega.{arith}

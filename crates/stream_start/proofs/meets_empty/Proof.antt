@@ -1,7 +1,7 @@
 -- `stream_start::meets_empty` meets its contract, kind by kind: the empty key meets an included bound of no bytes.
 -- Assumes nothing.
 use mathlib.Core.Path.{_≡_, refl, sym, ap, _∙_}
-use Rattle.stream_start.proofs.StartLaws.{meets-included, meets-excluded, meets-unbounded}
+use Rattle.stream_start.specs.StartLaws.{meets-included, meets-excluded, meets-unbounded}
 use borrow.Author.Needs.{needs}
 use native.Mathlib.Omega.{arith}
 use Rattle.stream_start.proofs.meets_empty.Statement.{statement}

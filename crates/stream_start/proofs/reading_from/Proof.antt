@@ -3,7 +3,7 @@
 use mathlib.Core.Path.{_≡_, refl, sym, ap, _∙_}
 use lib.ListN.{length, take}
 use Rattle.stream_start.specs.Views.{boundIs, emptyIs}
-use Rattle.stream_start.proofs.StartLaws.{reading-halted, reading-levels}
+use Rattle.stream_start.specs.StartLaws.{reading-halted, reading-levels}
 use denote.Ref.{now}
 use borrow.Author.Needs.{needs}
 use native.Mathlib.Omega.{arith}
@@ -11,9 +11,9 @@ use Rattle.stream_start.proofs.reading_from.Statement.{statement}
 use Rattle.stream_start.proofs.reading_from.Tie as tie
 
 -- the root fits, the bound has at most 255 bytes, and each array has 256 entries
-seek-requires : tie.Need-seek-requires
-seek-requires c κs = let start = c .before .before .before .before .before .before in
-    (start .pre .0, start .pre .1, record { addrs-len = refl; inps-len = refl; trans-len = refl; outs-len = refl })
+start-levels-requires : tie.Need-start-levels-requires
+start-levels-requires c κs = let start = c .before .before .before .before .before .before in
+    (start .pre .0, start .pre .1, start .pre .2, record { addrs-len = refl; inps-len = refl; trans-len = refl; outs-len = refl })
 
 enum-known-sought : tie.Need-enum-known-sought
 enum-known-sought c = search needs
@@ -29,20 +29,20 @@ returns : tie.Need-returns
 returns c = let given = c .before .before in
     let w = given .before .before in
     let a = w .before .before .before .before .before .before .before .args in
-    rw (c .refused .ensures) (reading-halted (length (now (a .file))) (boundIs (a .kind) (take (a .bound-len) (a .bound))) (a .bound-len) (emptyIs (a .empty-output)) _ (rw (given .sought .given .1) at (w .seek .ensures)))
+    rw (c .refused .ensures) (reading-halted (length (now (a .file))) (boundIs (a .kind) (take (a .bound-len) (a .bound))) (a .bound-len) (emptyIs (a .empty-output)) _ (rw (given .sought .given .1) at (w .start-levels .ensures .found)))
 
 -- the walk gives levels
 returns-2 : tie.Need-returns-2
 returns-2 c = let given = c .before in
     let w = given .before .before in
     let a = w .before .before .before .before .before .before .before .args in
-    reading-levels (length (now (a .file))) (boundIs (a .kind) (take (a .bound-len) (a .bound))) (a .bound-len) (emptyIs (a .empty-output)) _ (rw (given .sought2 .given .1) at (w .seek .ensures))
+    reading-levels (length (now (a .file))) (boundIs (a .kind) (take (a .bound-len) (a .bound))) (a .bound-len) (emptyIs (a .empty-output)) _ (rw (given .sought2 .given .1) at (w .start-levels .ensures .found))
 
 pub reading-from-spec : {M : Type 1} → statement M
 reading-from-spec =
     tie.close
     (tie.spec
-    seek-requires
+    start-levels-requires
     enum-known-sought
     refused-requires
     enum-known-sought-2

@@ -5,7 +5,7 @@ use Rattle.format.specs.Opening as O
 use Rattle.format.specs.laws.OpeningLaws.{root-fits, version-blank, version-some}
 use Rattle.fst.specs.Open.{metaIs, openingIs}
 use Rattle.stream_start.specs.Views.{boundIs}
-use Rattle.stream_start.proofs.StartLaws.{start-opened, start-refused}
+use Rattle.stream_start.specs.StartLaws.{start-opened, start-refused}
 use denote.Ref.{now}
 use borrow.Author.Needs.{needs}
 use native.Mathlib.Omega.{arith}

@@ -16,10 +16,10 @@ use Rattle.format.specs.laws.NodeFacts.{find-member, node-count}
 use Rattle.format.specs.laws.LiveLaws.{target-below-root}
 use Rattle.format.specs.laws.TransitionLaws.{at-member}
 use Rattle.reading.specs.Reading.{levelWith, got, halted, lastLevels, seek}
-use Rattle.stream_start.specs.declared.Entered.the-variants.{Hit, Miss, Unsound}
-use Rattle.stream_start.specs.Views.{Arrays, stackIs}
-use Rattle.stream_start.specs.Seeks.{enterOf, LevelPut, LevelsEnd}
-use Rattle.stream_start.proofs.SeekCases.{seek-unsound, bound-done, bound-bad, bound-miss, bound-on}
+use Rattle.stream_levels.specs.Stacks.{Arrays, stackIs, LevelPut, LevelsEnd}
+use Rattle.stream_seek.specs.declared.Entered.the-variants.{Hit, Miss, Unsound}
+use Rattle.stream_seek.specs.Seeks.{enterOf}
+use Rattle.stream_seek.proofs.SeekCases.{seek-unsound, bound-done, bound-bad, bound-miss, bound-on}
 
 -- ---- the place and the target that a byte leads to
 

@@ -1,4 +1,4 @@
--- `stream_start::seek` meets its contract. The invariant: what is left of the bound, from the node at addr over the levels written so far,
+-- `stream_seek::seek` meets its contract. The invariant: what is left of the bound, from the node at addr over the levels written so far,
 -- decides the answer. The measure is the length of the bound less k.
 -- Assumes nothing.
 use mathlib.Core.Path.{_≡_, refl, sym, ap, _∙_}
@@ -9,16 +9,16 @@ use Rattle.format.specs.Paths.{Fst, fstWith, nodeIn}
 use Rattle.node.specs.Read.{meaning}
 use Rattle.node.specs.ReadLaws.{answer-sound, answer-unsound}
 use Rattle.reading.specs.Reading.{levelWith, halted}
-use Rattle.stream_start.specs.declared.Entered.the-variants.{Hit}
-use Rattle.stream_start.specs.Seeks.{enterOf}
-use Rattle.stream_start.specs.Views.{stackIs}
-use Rattle.stream_start.proofs.Seeking.{Seeking, seeking-none, seeking-unsound, seeking-done, seeking-bad, seeking-miss, seeking-on, seeking-step}
-use Rattle.stream_start.proofs.SeekCases.{seek-past}
+use Rattle.stream_levels.specs.Stacks.{stackIs}
+use Rattle.stream_seek.specs.declared.Entered.the-variants.{Hit}
+use Rattle.stream_seek.specs.Seeks.{enterOf}
+use Rattle.stream_seek.proofs.Seeking.{Seeking, seeking-none, seeking-unsound, seeking-done, seeking-bad, seeking-miss, seeking-on, seeking-step}
+use Rattle.stream_seek.proofs.SeekCases.{seek-past}
 use denote.Ref.{now}
 use borrow.Author.Needs.{needs}
 use native.Mathlib.Omega.{arith}
-use Rattle.stream_start.proofs.seek.Statement.{statement}
-use Rattle.stream_start.proofs.seek.Tie as tie
+use Rattle.stream_seek.proofs.seek.Statement.{statement}
+use Rattle.stream_seek.proofs.seek.Tie as tie
 
 abbrev Inv-loop : tie.InvT-loop
 Inv-loop file version root lower inclusive addrs₀ inps₀ trans₀ outs₀ k₀ addr₀ inp₀ sum₀ addrs inps trans outs k addr inp sum =
@@ -81,7 +81,7 @@ enum-told c = search needs
 -- the node is not sound
 returns : tie.Need-returns Inv-loop μ-loop
 returns c = let q = c .before .before in
-    seeking-bad (at-loop q .loop .inv .1) (q .before .before .loop-test .taken) (sym (q .enter .ensures .0) ∙ c .enum-told .given .1)
+    record { arrays = at-loop q .loop .inv .1 .arrays; found = seeking-bad (at-loop q .loop .inv .1) (q .before .before .loop-test .taken) (sym (q .enter .ensures .0) ∙ c .enum-told .given .1) }
 
 enum-known-entered : tie.Need-enum-known-entered Inv-loop μ-loop
 enum-known-entered c = search needs
@@ -99,7 +99,7 @@ returns-2 : tie.Need-returns-2 Inv-loop μ-loop
 returns-2 c = let known = c .before .before .before .before .before in
     let q = known .before .before .before in
     let w = known .before .entered .given in
-    seeking-miss (at-loop q .loop .inv .1) (q .before .before .loop-test .taken) (w .0 .0) (sym (q .enter .ensures .0) ∙ w .1) (c .put-level .ensures)
+    record { arrays = c .put-level .ensures .arrays; found = seeking-miss (at-loop q .loop .inv .1) (q .before .before .loop-test .taken) (w .0 .0) (sym (q .enter .ensures .0) ∙ w .1) (c .put-level .ensures) }
 
 enum-known-entered-2 : tie.Need-enum-known-entered-2 Inv-loop μ-loop
 enum-known-entered-2 c = search needs
@@ -120,9 +120,11 @@ returns-3 c = let w = c .before .before in
     let l = at-loop q .loop in
     let sum = l .sum + w .before .entered2 .given .0 .1 .1 .0 in
     let levels = levelWith (l .addr) (l .inp) (w .before .entered2 .given .0 .0 + 1) (l .sum) ∷ stackIs (l .k) (l .addrs) (l .inps) (l .trans) (l .outs) in
+    let found =
     ap halted (c .past-sum .ensures)
     ∙ sym (seek-past (f q) (start q .args .inclusive) (w .before .entered2 .given .0 .1 .0) (getD (lower q) (l .k) 0) sum levels (drop (l .k + 1) (lower q)) (omega (arith, c .before .if1 .taken, l .inv .1 .fits)))
-    ∙ sym (seeking-on (l .inv .1) (q .before .before .loop-test .taken) (w .before .entered2 .given .0 .0) (w .before .entered2 .given .0 .1 .0) (w .before .entered2 .given .0 .1 .1 .0) (hit w))
+    ∙ sym (seeking-on (l .inv .1) (q .before .before .loop-test .taken) (w .before .entered2 .given .0 .0) (w .before .entered2 .given .0 .1 .0) (w .before .entered2 .given .0 .1 .1 .0) (hit w)) in
+    record { arrays = l .inv .1 .arrays; found = found }
 
 add-put-level : tie.Need-add-put-level Inv-loop μ-loop
 add-put-level c = omega (arith, low (c .before))
@@ -164,7 +166,8 @@ enum-told-3 c = search needs
 -- the last node is not sound
 returns-4 : tie.Need-returns-4 Inv-loop μ-loop
 returns-4 c = let call = c .before .before in
-    seeking-unsound (call .before .before .loop .inv .1) (answer-unsound (call .node-at .ensures) (c .enum-told3 .given .1))
+    let h = call .before .before .loop .inv .1 in
+    record { arrays = h .arrays; found = seeking-unsound h (answer-unsound (call .node-at .ensures) (c .enum-told3 .given .1)) }
 
 -- level k is one of 256, and the level before it has followed a transition
 last-levels-requires : tie.Need-last-levels-requires Inv-loop μ-loop
@@ -177,7 +180,10 @@ returns-5 c = let told = c .before .before .before .before .before in
     let call = told .before .before in
     let at = call .before .before in
     let m = told .enum-told2 .given .0 .0 in
-    seeking-done (at .loop .inv .1) (call .before .loop-test .left) (meaning (now (at .before .before .before .args .file)) m) (answer-sound (call .node-at .ensures) m (told .enum-told2 .given .1)) (c .last-levels .ensures)
+    record {
+      arrays = c .last-levels .ensures .arrays;
+      found = seeking-done (at .loop .inv .1) (call .before .loop-test .left) (meaning (now (at .before .before .before .args .file)) m) (answer-sound (call .node-at .ensures) m (told .enum-told2 .given .1)) (c .last-levels .ensures);
+    }
 
 pub seek-spec : {M : Type 1} → statement M
 seek-spec =

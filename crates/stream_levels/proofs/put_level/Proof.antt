@@ -1,12 +1,12 @@
--- `stream_start::put_level` meets its contract: four writes.
+-- `stream_levels::put_level` meets its contract: four writes.
 -- Assumes nothing.
 use mathlib.Core.Path.{_≡_, refl, sym, ap, _∙_}
-use Rattle.stream_start.proofs.LevelWrites.{level-put}
+use Rattle.stream_levels.proofs.LevelWrites.{level-put}
 use denote.Ref.{now}
 use borrow.Author.Needs.{needs}
 use native.Mathlib.Omega.{arith}
-use Rattle.stream_start.proofs.put_level.Statement.{statement}
-use Rattle.stream_start.proofs.put_level.Tie as tie
+use Rattle.stream_levels.proofs.put_level.Statement.{statement}
+use Rattle.stream_levels.proofs.put_level.Tie as tie
 
 mul-addrs : tie.Need-mul-addrs
 mul-addrs c = search needs

@@ -18,9 +18,9 @@ use Rattle.format.specs.Node.{Node, Judgement, sound, unsound, Search, findInpu
 use Rattle.format.specs.Paths.{Fst, nodeIn}
 use Rattle.format.specs.Lookup.{pastSum}
 use Rattle.reading.specs.Reading.{Level, levelWith, onNode, onSearch, Sought, got, halted, lastLevels, seek}
-use Rattle.stream_start.specs.declared.Entered.{Entered}
-use Rattle.stream_start.specs.declared.Entered.the-variants.{Hit, Miss, Unsound}
-use Rattle.stream_start.specs.Seeks.{enterOf}
+use Rattle.stream_seek.specs.declared.Entered.{Entered}
+use Rattle.stream_seek.specs.declared.Entered.the-variants.{Hit, Miss, Unsound}
+use Rattle.stream_seek.specs.Seeks.{enterOf}
 
 -- ---- a byte looked for at a node
 

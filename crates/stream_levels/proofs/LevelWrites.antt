@@ -12,9 +12,8 @@ use native.Mathlib.Omega.{arith}
 use lib.ListN.{length, getD, set, length-set}
 use lib.Seq.{getD-set-same, getD-set-other}
 use Rattle.reading.specs.Reading.{Level, levelWith, lastLevels}
-use Rattle.stream_start.specs.Views.{Arrays, levelAt, stackIs}
-use Rattle.stream_start.specs.Seeks.{LevelPut, LevelsEnd}
-use Rattle.stream_start.specs.StackLaws.{stack-more, stack-suc, stack-ext}
+use Rattle.stream_levels.specs.Stacks.{Arrays, levelAt, stackIs, LevelPut, LevelsEnd}
+use Rattle.stream_levels.specs.StackLaws.{stack-more, stack-suc, stack-ext}
 
 module _ (k : ℕ) (xs is ps os : List ℕ) (fits : k < 256) (h : Arrays xs is ps os) (a i p o : ℕ) where
   below-same : stackIs k (set xs k a) (set is k i) (set ps k p) (set os k o) ≡ stackIs k xs is ps os

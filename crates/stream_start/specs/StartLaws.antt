@@ -1,11 +1,11 @@
 -- Laws of a start around its walk: the bounds, the pending empty key, and each answer by what leads to it.
 --     taken-.., inclusive-.., meets-..       what each kind of bound says
 --     bound-is                               the reading holds the upper bound
---     pending-..                             the pending empty key
---     same-walk, reading-.., from-..         the answers on a file that opens
+--     pending-.., walk-.., same-walk         the pending empty key and the walk, on a file that opens
+--     reading-.., from-..                    the answers on a file that opens
 --     start-opened, start-refused            and on any file
 -- Assumes nothing.
-use mathlib.Core.Path.{_≡_, refl, sym, _∙_, ap}
+use mathlib.Core.Path.{_≡_, refl, sym, _∙_, ap, ap₂}
 use mathlib.Core.Bool.{Bool, true, false, cond, not, _&&_}
 use mathlib.Core.Option.{Option, none, some}
 use mathlib.Core.List.{List, [], _∷_, _++_}
@@ -25,11 +25,11 @@ use Rattle.format.specs.Paths.{Fst, fstOf, nodeIn}
 use Rattle.format.specs.Strings as S
 use Rattle.format.specs.Strings.{unbounded, included, excluded, beforeTest}
 use Rattle.reading.specs.Reading as R
-use Rattle.reading.specs.Reading.{Level, got, meetsTest, isInclusive, boundBytes, pendingAt}
+use Rattle.reading.specs.Reading.{Level, got, meetsTest, isInclusive, boundBytes, boundsTest, pendingAt}
 use Rattle.stream_start.specs.declared.Bound.{Bound}
 use Rattle.stream_start.specs.declared.Bound.the-variants.{Included, Excluded, Unbounded}
 use Rattle.stream_start.specs.Views.{boundIs}
-use Rattle.stream_start.specs.Seeks.{BoundTaken, pendingIf, readingAt, startFrom}
+use Rattle.stream_start.specs.Starts.{BoundTaken, pendingIf, pendingFrom, walkFrom, readingAt, startFrom}
 
 -- ---- a bound, by its kind
 
@@ -121,40 +121,54 @@ module _ (len : ℕ) (b : S.Bound) (n : ℕ) (empty : Option ℕ) {w : R.Sought}
       → R.started (record { len = len; bound = b; boundLen = n; empty = empty; total = 0; levels = s }) ≡ readingAt len b n empty w
   reading-levels s e = ap (readingAt len b n empty) e
 
+-- the pending empty key and the walk, by whether the file has bytes
+module _ (f : Fst) (lo : S.Bound) where
+  pub pending-blank : length (f .bytes) ≡ 0 → none ≡ pendingFrom f lo
+  pending-blank z = rw (eq-eqb (length (f .bytes)) 0 z)
+
+  pub pending-some : 0 < length (f .bytes) → pendingAt lo (nodeIn f (f .root)) ≡ pendingFrom f lo
+  pending-some pos =
+      let ne : ¬ (length (f .bytes) ≡ 0) = λ z. omega arith in
+      rw (ne-eqb (length (f .bytes)) 0 ne)
+
+  pub walk-blank : length (f .bytes) ≡ 0 → got [] ≡ walkFrom f lo
+  walk-blank z = rw (eq-eqb (length (f .bytes)) 0 z)
+
+  pub walk-some : 0 < length (f .bytes) → R.seek f (isInclusive lo) (f .root) 0 0 [] (boundBytes lo) ≡ walkFrom f lo
+  walk-some pos =
+      let ne : ¬ (length (f .bytes) ≡ 0) = λ z. omega arith in
+      rw (ne-eqb (length (f .bytes)) 0 ne)
+
+pub bounds-short : (lo hi : S.Bound) → length (boundBytes lo) ≤ maxPath → length (boundBytes hi) ≤ maxPath → boundsTest lo hi ≡ true
+bounds-short lo hi short-lo short-hi = rw (le-leb (length (boundBytes lo)) maxPath short-lo, le-leb (length (boundBytes hi)) maxPath short-hi)
+
 module _ (f : Fst) (lo hi : S.Bound) where
   pub from-lower : maxPath < length (boundBytes lo) → R.Started.refused BOUND ≡ startFrom f lo hi
-  unfolding startFrom
   from-lower h = rw (lt-leb (length (boundBytes lo)) maxPath h)
 
   pub from-upper : maxPath < length (boundBytes hi) → R.Started.refused BOUND ≡ startFrom f lo hi
-  unfolding startFrom
   from-upper h = rw (lt-leb (length (boundBytes hi)) maxPath h) (go (leb (length (boundBytes lo)) maxPath) _)
     where
       go : (t : Bool) (r : R.Started) → R.Started.refused BOUND ≡ cond (t && false) r (R.Started.refused BOUND)
       go true r = refl
       go false r = refl
 
-  module _ (short-lo : length (boundBytes lo) ≤ maxPath) (short-hi : length (boundBytes hi) ≤ maxPath) where
-    pub from-blank : (b : S.Bound) (n : ℕ) → length (f .bytes) ≡ 0 → b ≡ hi → n ≡ length (boundBytes hi) → readingAt 0 b n none (got []) ≡ startFrom f lo hi
-    unfolding startFrom
-    from-blank b n z eb en =
-        rw (le-leb (length (boundBytes lo)) maxPath short-lo, le-leb (length (boundBytes hi)) maxPath short-hi, eq-eqb (length (f .bytes)) 0 z, eb, en, z)
-
-    from-walk : 0 < length (f .bytes) → startFrom f lo hi ≡ R.startedAt (f .bytes) hi (pendingAt lo (nodeIn f (f .root))) (R.seek f (isInclusive lo) (f .root) 0 0 [] (boundBytes lo))
-    unfolding startFrom
-    from-walk pos =
-        let ne : ¬ (length (f .bytes) ≡ 0) = λ z. omega arith in
-        rw (le-leb (length (boundBytes lo)) maxPath short-lo, le-leb (length (boundBytes hi)) maxPath short-hi, ne-eqb (length (f .bytes)) 0 ne)
-
-    pub from-reading : 0 < length (f .bytes) → (b : S.Bound) (n : ℕ) (empty : Option ℕ) (w : R.Sought)
-        → b ≡ hi → n ≡ length (boundBytes hi) → empty ≡ pendingAt lo (nodeIn f (f .root)) → w ≡ R.seek f (isInclusive lo) (f .root) 0 0 [] (boundBytes lo)
-        → readingAt (length (f .bytes)) b n empty w ≡ startFrom f lo hi
-    from-reading pos b n empty w eb en ee ew = rw (eb, en, ee) (reading-at (f .bytes) hi (pendingAt lo (nodeIn f (f .root))) w ∙ sym (from-walk pos ∙ rw (← ew)))
+  pub from-reading : boundsTest lo hi ≡ true → (b : S.Bound) (n : ℕ) (empty : Option ℕ) (w : R.Sought)
+      → b ≡ hi → n ≡ length (boundBytes hi) → empty ≡ pendingFrom f lo → w ≡ walkFrom f lo
+      → readingAt (length (f .bytes)) b n empty w ≡ startFrom f lo hi
+  from-reading short b n empty w eb en ee ew =
+      rw (eb, en) (reading-at (f .bytes) hi empty w ∙ sym (ap (λ t. cond t (R.startedAt (f .bytes) hi (pendingFrom f lo) (walkFrom f lo)) (R.Started.refused BOUND)) short
+      ∙ ap₂ (R.startedAt (f .bytes) hi) (sym ee) (sym ew)))
 
 module _ (s : List ℕ) (lo hi : S.Bound) where
   pub start-opened : (m : Meta) → opening s ≡ opened m → R.start s lo hi ≡ startFrom (fstOf s m) lo hi
-  unfolding R.start startFrom
-  start-opened m e = rw e
+  unfolding R.start
+  start-opened m e = rw e (ap (λ (r : R.Started). cond (boundsTest lo hi) r (R.Started.refused BOUND)) (go (eqb (length s) 0) _ _))
+    where
+      go : (t : Bool) (p : Option ℕ) (w : R.Sought)
+          → cond t (R.startedAt s hi none (got [])) (R.startedAt s hi p w) ≡ R.startedAt s hi (cond t none p) (cond t (got []) w)
+      go true p w = refl
+      go false p w = refl
 
   pub start-refused : (n : ℕ) → opening s ≡ O.refused n → R.start s lo hi ≡ R.Started.refused n
   unfolding R.start

@@ -1,4 +1,4 @@
--- `stream_start::enter` meets its contract: the node is judged, then the byte is found or not. The numbers of a level fit, since the root fits
+-- `stream_seek::enter` meets its contract: the node is judged, then the byte is found or not. The numbers of a level fit, since the root fits
 -- and a node has at most 256 transitions.
 -- Assumes nothing.
 use mathlib.Core.Path.{_≡_, refl, sym, ap, _∙_}
@@ -11,14 +11,14 @@ use Rattle.format.specs.Paths.{Fst, fstWith, nodeIn}
 use Rattle.node.specs.declared.Node.{Node}
 use Rattle.node.specs.Read.{meaning, transitionsIn, Readable}
 use Rattle.node.specs.ReadLaws.{answer-sound, answer-unsound, search-is, search-gone, place-lt, gone-le, length-node-transitions}
-use Rattle.stream_start.specs.declared.Entered.the-variants.{Miss}
-use Rattle.stream_start.proofs.SeekCases.{enter-unsound, enter-miss, enter-hit}
-use Rattle.stream_start.proofs.Seeking.{place-fits, target-fits}
+use Rattle.stream_seek.specs.declared.Entered.the-variants.{Miss}
+use Rattle.stream_seek.proofs.SeekCases.{enter-unsound, enter-miss, enter-hit}
+use Rattle.stream_seek.proofs.Seeking.{place-fits, target-fits}
 use denote.Ref.{now}
 use borrow.Author.Needs.{needs}
 use native.Mathlib.Omega.{arith}
-use Rattle.stream_start.proofs.enter.Statement.{statement}
-use Rattle.stream_start.proofs.enter.Tie as tie
+use Rattle.stream_seek.proofs.enter.Statement.{statement}
+use Rattle.stream_seek.proofs.enter.Tie as tie
 
 -- ---- what is known where the node is read, and where the byte's place is found
 

@@ -1,0 +1,2 @@
+pub mod SeekCases
+pub mod Seeking

@@ -1,4 +1,0 @@
-pub mod SeekCases
-pub mod LevelWrites
-pub mod Seeking
-pub mod StartLaws
