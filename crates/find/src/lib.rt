@@ -6,26 +6,22 @@ ghost use lib.ListN.{length};
 ghost use Rattle.paging.specs.Paging as P;
 ghost use Rattle.pattern.specs.Pattern.{startBy};
 ghost use Rattle.finding.specs.Finding as F;
-ghost use Rattle.stream_start.specs.Views.{viewIs, boundIs};
-ghost use Rattle.patterned.specs.Patterns.{heldIs, givenIs};
+ghost use Rattle.stream_start.specs.Views.{boundIs};
+ghost use Rattle.patterned.specs.Patterns.{givenIs};
 ghost use Rattle.range.specs.RangedRows.{RangedBy, refusedRange};
+use find_fill::fill;
 use format::BOUND;
 use format::MAX_KEY;
 use format::PATTERN;
 use format::SPACE;
 use fst::Opened;
-use patterned::Patterned;
-use patterned::next;
 use patterned::start;
 use range::Ranged;
 use range::Stop;
-use range_rows::ROW;
 use range_rows::bounds_right;
 use range_rows::has_room;
-use range_rows::put_row;
 use stream_start::Begins;
 use stream_start::Bound;
-use stream_step::Answer;
 
 // A page that is refused before any key.
 fn refused(why: u8) -> Ranged
@@ -34,46 +30,6 @@ fn refused(why: u8) -> Ranged
     Ranged {
         count: 0,
         stop: Stop::Refused(why),
-    }
-}
-
-// The keys of a reading by pattern, up to `most`. A refusal stands beside the keys before it.
-fn fill(file: &[u8], first: Patterned, most: usize, rows: &mut [u8], values: &mut [u64]) -> Ranged
-    requires { ⌜ (P.rowLen * most ≤ length (now rows)) × (most ≤ length (now values)) ⌝ }
-    ensures { λ r. ⌜ RangedBy (F.foldBy (now (file .entry)) (heldIs (first .pattern))
-        (viewIs (first .reading)) most) (now (rows .entry)) (now (rows .exit))
-        (now (values .entry)) (now (values .exit)) r ⌝ }
-{
-    let mut key = [0u8; MAX_KEY];
-    let mut here = first;
-    let mut count = 0;
-    while count < most {
-        let step = next(file, here, &mut key);
-        let answer = step.answer;
-        here = step.patterned;
-        match answer {
-            Answer::End => {
-                return Ranged {
-                    count,
-                    stop: Stop::End,
-                };
-            }
-            Answer::Refused(why) => {
-                return Ranged {
-                    count,
-                    stop: Stop::Refused(why),
-                };
-            }
-            Answer::Key(n, value) => {
-                put_row(&key, n, count * ROW, rows);
-                values[count] = value;
-                count += 1;
-            }
-        }
-    }
-    Ranged {
-        count,
-        stop: Stop::More, // as many as asked for
     }
 }
 

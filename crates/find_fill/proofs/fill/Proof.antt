@@ -1,4 +1,4 @@
--- `find::fill` meets its contract. The invariant: the rows before `count` are written, and the page goes on from the reading `here`. The measure is how
+-- `find_fill::fill` meets its contract. The invariant: the rows before `count` are written, and the page goes on from the reading `here`. The measure is how
 -- many keys are still asked for.
 -- Assumes nothing.
 use Prim.Native.Nat.{_-_, _<_}
@@ -6,11 +6,11 @@ use denote.Ref.{now}
 use Rattle.finding.specs.Finding.{foldBy}
 use Rattle.stream_start.specs.Views.{viewIs}
 use Rattle.patterned.specs.Patterns.{heldIs}
-use Rattle.find.proofs.GoingBy.{Going, going-none, going-key, going-more, going-end, going-refused, key-fits}
+use Rattle.find_fill.proofs.GoingBy.{Going, going-none, going-key, going-more, going-end, going-refused, key-fits}
 use borrow.Author.Needs.{needs}
 use native.Mathlib.Omega.{arith}
-use Rattle.find.proofs.fill.Statement.{statement}
-use Rattle.find.proofs.fill.Tie as tie
+use Rattle.find_fill.proofs.fill.Statement.{statement}
+use Rattle.find_fill.proofs.fill.Tie as tie
 
 abbrev Inv-loop : tie.InvT-loop
 Inv-loop file most rows₀ values₀ key₀ here₀ count₀ rows values key here count =
