@@ -27,6 +27,7 @@ use borrow.Rule.Local.{InMem, AfterLend, AfterBack, Φsc-borrow, Φback-sc, t-sc
 use borrow.Rule.Array.Repeat.{n-repeat, t-repeat}
 use borrow.Fn.Frame.{EnvOf}
 use Rattle.walks.specs.Walk.{Knows, Does, Turns}
+
 abbrev pub repeats : {K : Knows} {L : List Ty} {Γ : Cx} (R : RattleType) (n nd : ℕ) (x : Oper (out nd (Γ .locals))) (v : R .Denot)
     → ((M : Type 1) (𝓤 : URA M) (H : Heap 𝓤) (A : Atoms 𝓤) (W : Given 𝓤 H A) (bs : List ℕ)
     → Lawful 𝓤 H A R × Copy 𝓤 H A R × Makes 𝓤 H A R (Is R) × ToRoom 𝓤 H A (getRow nd (Γ .locals) .1) (tyArray (lone (R .mir)) n) × HasO 𝓤 H A (EnvOf 𝓤 H L bs) (out nd (Γ .locals)) x
