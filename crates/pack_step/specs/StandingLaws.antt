@@ -8,10 +8,10 @@
 --     refused-any, written-on          the end
 -- Assumes nothing.
 use mathlib.Core.Path.{_≡_, refl, sym, ap, ap₂, _∙_, subst}
-use mathlib.Core.Bool.{Bool, true, false, cond}
-use mathlib.Core.Logic.{_⊎_, inl, inr, ⊎-elim}
+use mathlib.Core.Bool.{Bool, true, false}
+use mathlib.Core.Logic.{_⊎_, ⊎-elim}
 use mathlib.Core.List.{List, [], _∷_}
-use Prim.Native.Nat.{ℕ, zero, suc, _+_, _-_, _*_, _/_, _%_, _≤_, _<_}
+use Prim.Native.Nat.{ℕ, _+_, _-_, _*_, _/_, _%_, _≤_, _<_}
 use native.Mathlib.Omega.{arith}
 use lib.ListN.{length, getD, set, replicate, length-set, length-replicate}
 use Rattle.format.specs.Packed.{BuilderNode}
@@ -44,7 +44,7 @@ use Rattle.pack_ahead.specs.Ahead.{wayWith, Underway, wayLeft, Started, GoesAhe
 use Rattle.pack_ahead.specs.AheadLaws.{underway-none, underway-close, underway-full, root-asked, root-done, row-asked, record-next}
 use Rattle.pack_step.specs.declared.Turn.{Turn}
 use Rattle.pack_step.specs.declared.Stepped.{Stepped}
-use Rattle.pack_step.specs.Standing.{Sound, Judged, nodeNext, Going, Ended, Standing, turnLeft, StepAsked, Steps}
+use Rattle.pack_step.specs.Standing.{Sound, Judged, nodeNext, Going, Standing, turnLeft, Steps}
 
 false-true : ¬ (false ≡ true)
 false-true e = let z : _≡_ {A = ℕ} 0 1 = cc in omega arith

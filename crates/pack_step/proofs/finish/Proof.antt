@@ -6,7 +6,6 @@ use lib.ListN.{replicate}
 use Rattle.pack_blank.specs.PackBlankLaws.{refused-not}
 use Rattle.pack_step.specs.StandingLaws.{refused-any, written-on}
 use borrow.Author.Needs.{needs}
-use native.Mathlib.Omega.{arith}
 use Rattle.pack_step.proofs.finish.Statement.{statement}
 use Rattle.pack_step.proofs.finish.Tie as tie
 

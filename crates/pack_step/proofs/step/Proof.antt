@@ -1,7 +1,6 @@
 -- `pack_step::step` meets its contract.
 -- Assumes nothing.
 use borrow.Author.Needs.{needs}
-use native.Mathlib.Omega.{arith}
 use Rattle.pack_step.proofs.step.Statement.{statement}
 use Rattle.pack_step.proofs.step.Tie as tie
 
