@@ -18,7 +18,8 @@ use Rattle.pack_cell.specs.Cells.{empty}
 use Rattle.pack_cell.specs.declared.Cell.{Cell}
 use Rattle.pack_cells.specs.Pairs.{pairsIs}
 use Rattle.pack_cells.specs.PairsLaws.{pairs-length, pairs-empty}
-use Rattle.pack_step.specs.Standing.{Ended, Finishes, refusedTest}
+use Rattle.pack_step.specs.Standing.{Ended}
+use Rattle.pack_end.specs.Ending.{Finishes, refusedTest}
 use Rattle.pack_step.specs.declared.Turn.{Turn}
 use Rattle.pack.specs.PackList.{Settled, PacksBy}
 

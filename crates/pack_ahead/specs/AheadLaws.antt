@@ -9,32 +9,31 @@
 --     gone-none, gone-from, gone-open  the loop over the keys
 --     row-asked, row-given, row-next-is, record-next   the row of the node to be finished
 -- Assumes nothing.
-use mathlib.Core.Path.{_≡_, refl, sym, ap, ap₂, _∙_, subst}
+use mathlib.Core.Path.{_≡_, refl, sym, ap, _∙_, subst}
 use mathlib.Core.Bool.{Bool, true, false, cond}
-use mathlib.Core.Logic.{_⊎_, inl, inr, ⊎-elim}
+use mathlib.Core.Logic.{inl}
 use mathlib.Core.List.{List, [], _∷_}
 use Prim.Native.Nat.{ℕ, zero, suc, _+_, _-_, _*_, _/_, _%_, _≤_, _<_}
 use native.Mathlib.Decide.{ℕ-discrete}
 use native.Mathlib.Omega.{arith}
-use borrow.Author.Tests.{eq-eqb, ne-eqb}
+use borrow.Author.Tests.{ne-eqb}
 use lib.Dec.{eqb}
 use lib.ListN.{length, getD, take, drop, replicate, length-take, length-replicate, List·getD-eq-default}
 use lib.Seq.{getD-take, getD-drop}
 use Rattle.format.specs.Packed.{BuilderNode}
 use Rattle.packing.specs.Lists.{IsList, countIn, beginAt, endAt, keyAt, valueAt, pairsOf}
-use Rattle.packing.specs.Registry.{Cell, emptyCell, hashOf, rowOf, Interned, intern}
+use Rattle.packing.specs.Registry.{Cell, emptyCell, hashOf, intern}
 use Rattle.packing.specs.Packing.{State, insertAll, start, packNodes, leastAt, recordOf}
 use Rattle.packing_rows.specs.WorkTables.{Tables, tablesWith, rowIn, zipArcs, countAt, openAt, levels, leastFrom, Sized}
 use Rattle.packing_rows.specs.WorkTableLaws.{length-row, open-least, record-row}
 use Rattle.pack_intern.specs.Interning.{cellsIs, buildIs, InternIs}
-use Rattle.pack_intern.specs.InterningLaws.{length-cells}
 use Rattle.pack_intern.specs.declared.Placed.{Placed}
-use Rattle.pack_finish.specs.FinishRow.{AllAtLeast, rowNode, Finishable}
+use Rattle.pack_finish.specs.FinishRow.{rowNode, Finishable}
 use Rattle.pack_finish.specs.LeastLaws.{from-each, from-value}
 use Rattle.pack_close.specs.declared.Closed.the-variants as closed
-use Rattle.pack_close.specs.Closing.{Closable, closedTo, StepTo, JoinedAt, ClosesTo, ClosingTo}
+use Rattle.pack_close.specs.Closing.{closedTo, StepTo, JoinedAt, ClosesTo}
 use Rattle.pack_close.specs.ClosingLaws.{closing-none, closing-step, closing-full, closing-all, step-done, step-no-room}
-use Rattle.pack_insert.specs.Inserting.{CommonIs, Opened, stateOf, Between, Insertable}
+use Rattle.pack_insert.specs.Inserting.{CommonIs, Opened, stateOf, Between}
 use Rattle.pack_insert.specs.InsertingLaws.{inserted, insert-done, insert-full}
 use Rattle.pack_keys.specs.declared.Built.the-variants as built
 use Rattle.pack_keys.specs.AddKeys.{BuildsTo, Builds, Building}
@@ -43,7 +42,7 @@ use Rattle.pack_run.specs.Running.{Blank, Runs}
 use Rattle.pack_run.specs.RunningLaws.{fresh, run-full, run-closed-full, root-finishable, run-done}
 use Rattle.pack_row.specs.Row.{RowGiven}
 use Rattle.pack_ahead.specs.declared.Way.{Way}
-use Rattle.pack_ahead.specs.Ahead.{whole, wayWith, LeavesAt, OpensKey, Underway, wayLeft, Started, GoneTo, rowNext, baseNext, RowAsked}
+use Rattle.pack_ahead.specs.Ahead.{whole, wayWith, LeavesAt, OpensKey, Underway, Started, GoneTo, rowNext, baseNext, RowAsked}
 
 pub key-short : (s : List ℕ) → IsList s → (i : ℕ) → i < countIn s → length (keyAt s i) < 256
 key-short s ok i l =

@@ -5,28 +5,26 @@
 --     Standing             one of the two
 --     turnLeft             a number that falls with each step
 --     StepAsked, Steps     what a step asks of some table, and leaves of every table
---     RootAsked, NodeAsked what it asks of the root, and of another node
---     EndAsked, Finishes   what the end asks, and leaves; Ends: before the output is emptied
---     refusedTest          an answer is a refusal
+--     RootAsked            what it asks of the root
+--     TurnAfter            the turn after a node that is not the root
 -- Assumes nothing.
 use mathlib.Core.Path.{_≡_}
 use mathlib.Core.Bool.{Bool, true, false, cond}
 use mathlib.Core.Logic.{_⊎_}
 use mathlib.Core.List.{List}
 use Prim.Native.Nat.{ℕ, _+_, _*_, _/_, _%_, _≤_, _<_}
-use lib.ListN.{length, replicate}
+use lib.ListN.{length}
+use Rattle.format.specs.Limits.{SPACE}
 use Rattle.packing.specs.Lists.{IsList, countIn, pairsOf}
-use Rattle.packing.specs.Registry.{hashOf}
 use Rattle.packing.specs.Packing.{packNodes, refused, packAnswer}
 use Rattle.packing_rows.specs.WorkTables.{Tables}
 use Rattle.pack_cell.specs.declared.Cell.{Cell}
 use Rattle.pack_row.specs.Row.{putPair, TakenFrom}
 use Rattle.pack_turn.specs.RowClosing.{pairOf}
 use Rattle.pack_run.specs.Running.{RunAt}
-use Rattle.pack_blank.specs.PackBlank.{Answers}
-use Rattle.pack_blank.specs.declared.Packed.{Packed}
-use Rattle.pack_blank.specs.declared.Packed.the-variants.{Len, Refused}
-use Rattle.pack_ahead.specs.Ahead.{Underway, wayLeft, rowNext}
+use Rattle.pack_ahead.specs.Ahead.{Underway, wayLeft}
+use Rattle.pack_node.specs.NodeSteps.{hashNext}
+use Rattle.pack_node.specs.declared.NodeStep.{NodeStep}
 use Rattle.pack_step.specs.declared.Turn.{Turn}
 use Rattle.pack_step.specs.declared.Stepped.{Stepped}
 
@@ -44,15 +42,12 @@ pub record Judged (s : List ℕ) (tables : Bool) (cells room why : ℕ) : Type 0
 
 -- ---- where packing stands
 
-abbrev pub nodeNext : Tables → ℕ → ℕ
-nodeNext T d = hashOf (rowNext (T .inputs) (T .leasts) (T .targets) (T .counts) (T .finals) (T .values) d)
-
 pub record Going (s : List ℕ) (tables : Bool) (cells : ℕ) (out : List ℕ) (table : List (List ℕ)) (T : Tables) (t : Turn) : Type 0 where
   pub sound : Sound s tables cells
   pub underway : Underway s cells out table T (t .next) (t .way)
   -- there is a node below where the next key leaves, or no key is left
   pub node : (t .way .to < t .way .depth) ⊎ (countIn s ≤ t .way .keys)
-  pub row : t .row ≡ 2 * (nodeNext T (t .way .depth) % (cells / 2))
+  pub row : t .row ≡ 2 * (hashNext T (t .way .depth) % (cells / 2))
   pub within : t .row + 1 < cells
 
 pub record Ended (s : List ℕ) (tables : Bool) (cells room : ℕ) (out : List ℕ) (table : List (List ℕ)) (t : Turn) : Type 0 where
@@ -79,10 +74,6 @@ pub record StepAsked (s : List ℕ) (cells : ℕ) (out : List ℕ) (one two : Ce
   pub going : t .going ≡ true
   pub taken : TakenFrom table (t .row) (pairOf one two)
 
-pub record NodeAsked (s : List ℕ) (cells : ℕ) (out : List ℕ) (one two : Cell) (T : Tables) (t : Turn) : Type 0 where
-  pub asked : StepAsked s cells out one two T t
-  pub low : 0 < t .way .depth
-
 pub record RootAsked (s out : List ℕ) (one two : Cell) (T : Tables) (t : Turn) : Type 0 where
   pub cells : ℕ
   pub asked : StepAsked s cells out one two T t
@@ -94,22 +85,12 @@ pub record Steps (s : List ℕ) (cells : ℕ) (out : List ℕ) (one two : Cell) 
       → Standing s tables cells (length out) out′ (putPair table (t .row) (pairOf (r .one) (r .two))) T′ (r .turn)
   pub less : t .going ≡ true → turnLeft s (r .turn) < turnLeft s t
 
--- ---- the end
-
-pub record EndAsked (s out : List ℕ) (t : Turn) : Type 0 where
-  pub tables : Bool
-  pub cells : ℕ
-  pub table : List (List ℕ)
-  pub ended : Ended s tables cells (length out) out table t
-
-abbrev pub Ends : ℕ → List ℕ → List ℕ → Turn → List ℕ → Packed → Type 0
-Ends limit s out t out′ r =
-    (tables : Bool) (cells : ℕ) (table : List (List ℕ)) → Ended s tables cells (length out) out table t → Answers (packAnswer limit s tables cells (length out)) out′ table r
-
-pub record Finishes (limit : ℕ) (s out : List ℕ) (t : Turn) (out′ : List ℕ) (r : Packed) : Type 0 where
-  pub answers : Ends limit s out t out′ r
-  pub emptied : (k : ℕ) → r ≡ Refused k → out′ ≡ replicate (length out) 0
-
-abbrev pub refusedTest : Packed → Bool
-refusedTest (Len n) = false
-refusedTest (Refused k) = true
+-- by what finishing the node leaves
+pub record TurnAfter (n : NodeStep) (r : Stepped) : Type 0 where
+  pub one-is : r .one ≡ n .one
+  pub two-is : r .two ≡ n .two
+  pub full : n .done ≡ false → (r .turn .going ≡ false) × (r .turn .placed ≡ false) × (r .turn .why ≡ SPACE)
+  pub going : n .done ≡ true → r .turn .going ≡ true
+  pub next-is : n .done ≡ true → r .turn .next ≡ n .next
+  pub way-is : n .done ≡ true → r .turn .way ≡ n .way
+  pub row-is : n .done ≡ true → r .turn .row ≡ n .row

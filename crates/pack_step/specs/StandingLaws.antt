@@ -3,48 +3,44 @@
 --     stands-refused, stands-going     where packing stands
 --     begin-refused, begin-started, begin-asked, begin-stands      the start
 --     steps-ended, steps-going         a step brings the end nearer
---     node-asked, node-full, node-started, node-next, node-stands      a node that is not the root
+--     node-of-turn, node-asked-of, steps-node, after-full, after-done      a node that is not the root
 --     root-in-pair, root-stands, root-full             the root
---     refused-any, written-on          the end
 -- Assumes nothing.
-use mathlib.Core.Path.{_≡_, refl, sym, ap, ap₂, _∙_, subst}
-use mathlib.Core.Bool.{Bool, true, false, cond}
-use mathlib.Core.Logic.{_⊎_, inl, inr, ⊎-elim}
+use mathlib.Core.Path.{_≡_, refl, sym, ap, _∙_, subst}
+use mathlib.Core.Bool.{Bool, true, false}
+use mathlib.Core.Logic.{_⊎_, ⊎-elim}
 use mathlib.Core.List.{List, [], _∷_}
-use Prim.Native.Nat.{ℕ, zero, suc, _+_, _-_, _*_, _/_, _%_, _≤_, _<_}
+use Prim.Native.Nat.{ℕ, _+_, _-_, _*_, _/_, _%_, _≤_, _<_}
 use native.Mathlib.Omega.{arith}
-use lib.ListN.{length, getD, set, replicate, length-set, length-replicate}
+use lib.ListN.{length, getD, replicate, length-replicate}
 use Rattle.format.specs.Packed.{BuilderNode}
 use Rattle.format.specs.Limits.{LIST, SPACE}
 use Rattle.packing.specs.Lists.{IsList, countIn, pairsOf}
 use Rattle.packing.specs.Registry.{hashOf, rowOf, intern}
-use Rattle.packing.specs.Packing.{packNodes, leastAt, recordOf, Answer, refused, packAnswer}
+use Rattle.packing.specs.Packing.{packNodes, refused, packAnswer}
 use Rattle.packing.specs.laws.ListedLaws.{answer-list, answer-tables, answer-cells, answer-room}
 use Rattle.packing.specs.laws.TrailerLaws.{length-file}
-use Rattle.packing_rows.specs.WorkTables.{Tables, tablesWith, countAt, openAt}
+use Rattle.packing_rows.specs.WorkTables.{Tables, tablesWith, countAt}
 use Rattle.pack_intern.specs.Interning.{cellsIs, buildIs, InternIs}
-use Rattle.pack_intern.specs.InterningLaws.{length-cells}
 use Rattle.pack_intern.specs.declared.Placed.{Placed}
 use Rattle.pack_intern.specs.declared.Placed.the-variants.{At, Full}
 use Rattle.pack_finish.specs.FinishRow.{rowNode, Finishable}
-use Rattle.pack_close.specs.Closing.{Closable}
 use Rattle.pack_cell.specs.declared.Cell.{Cell}
 use Rattle.pack_row.specs.Row.{putPair, TakenFrom}
-use Rattle.pack_row.specs.RowLaws.{row-ready, row-closable, row-interned}
-use Rattle.pack_turn.specs.declared.RowClosed.{RowClosed}
-use Rattle.pack_turn.specs.RowClosing.{pairOf, ClosesInRow}
-use Rattle.pack_turn.specs.RowClosingLaws.{node-step}
+use Rattle.pack_row.specs.RowLaws.{row-ready, row-interned}
+use Rattle.pack_turn.specs.RowClosing.{pairOf}
 use Rattle.pack_run.specs.Running.{Blank, Runs}
-use Rattle.pack_blank.specs.PackBlank.{tablesTest, Answers}
-use Rattle.pack_blank.specs.PackBlankLaws.{refused-not, sizes, zeros-again, blank-of}
-use Rattle.pack_blank.specs.declared.Packed.{Packed}
-use Rattle.pack_blank.specs.declared.Packed.the-variants.{Len, Refused}
+use Rattle.pack_blank.specs.PackBlank.{tablesTest}
+use Rattle.pack_blank.specs.PackBlankLaws.{sizes, zeros-again, blank-of}
+use Rattle.pack_node.specs.declared.NodeStep.{NodeStep}
+use Rattle.pack_node.specs.NodeSteps.{NodeAt, NodeAsked, NodeSteps}
+use Rattle.pack_node.specs.NodeStepsLaws.{row-of-record, put-length}
 use Rattle.pack_ahead.specs.declared.Way.{Way}
 use Rattle.pack_ahead.specs.Ahead.{wayWith, Underway, wayLeft, Started, GoesAhead, rowNext, RowAsked}
-use Rattle.pack_ahead.specs.AheadLaws.{underway-none, underway-close, underway-full, root-asked, root-done, row-asked, record-next}
+use Rattle.pack_ahead.specs.AheadLaws.{underway-none, root-asked, root-done, row-asked}
 use Rattle.pack_step.specs.declared.Turn.{Turn}
 use Rattle.pack_step.specs.declared.Stepped.{Stepped}
-use Rattle.pack_step.specs.Standing.{Sound, Judged, nodeNext, Going, Ended, Standing, turnLeft, StepAsked, Steps}
+use Rattle.pack_step.specs.Standing.{Sound, Judged, Going, Standing, turnLeft, StepAsked, Steps, TurnAfter}
 
 false-true : ¬ (false ≡ true)
 false-true e = let z : _≡_ {A = ℕ} 0 1 = cc in omega arith
@@ -160,9 +156,6 @@ module _ {s : List ℕ} {cells : ℕ} {out : List ℕ} {one two : Cell} {T : Tab
   pub steps-going : r .turn .going ≡ true → wayLeft s (r .turn .way) < wayLeft s (t .way) → Steps s cells out one two T t out′ T′ r
   steps-going h l = record { stands = stands; less = λ g. going-less s t (r .turn) g h l }
 
-put-length : (table : List (List ℕ)) (i : ℕ) (row : List (List ℕ)) → length (putPair table i row) ≡ length table
-put-length table i row = length-set (set table i (getD row 0 [])) (i + 1) (getD row 1 []) ∙ length-set table i (getD row 0 [])
-
 module _ {s : List ℕ} {cells : ℕ} {out : List ℕ} {one two : Cell} {T : Tables} {t : Turn} {tables : Bool} {table : List (List ℕ)}
     (st : Standing s tables cells (length out) out table T t) (going : t .going ≡ true) (taken : TakenFrom table (t .row) (pairOf one two)) where
   G : Going s tables cells out table T t
@@ -171,72 +164,16 @@ module _ {s : List ℕ} {cells : ℕ} {out : List ℕ} {one two : Cell} {T : Tab
   u : Underway s cells out table T (t .next) (t .way)
   u = G .underway
 
-  -- the turn's row is a record's
-  row-of-record : (b : BuilderNode) → rowNext (T .inputs) (T .leasts) (T .targets) (T .counts) (T .finals) (T .values) (t .way .depth) ≡ b → t .row ≡ rowOf (cellsIs table) b
-  unfolding rowOf
-  row-of-record b e = G .row ∙ ap₂ (λ (x : BuilderNode) (n : ℕ). 2 * (hashOf x % (n / 2))) e (sym (length-cells table ∙ st .count))
-
-  -- ---- a node that is not the root
-
-  module _ (e : ℕ) (deep : t .way .depth ≡ e + 1) where
-    low : t .way .to ≤ e
-    low = ⊎-elim (λ l. omega arith) (λ l. omega (arith, u .leaves .last l)) (G .node)
-
-    C : Closable out (t .next) table T (e + 1)
-    C = subst (Closable out (t .next) table T) deep (u .closing .closable)
-
-    at-row : t .row ≡ rowOf (cellsIs table) (recordOf (openAt T (e + 1)) (leastAt (openAt T (e + 1))))
-    at-row =
-        row-of-record (recordOf (openAt T (e + 1)) (leastAt (openAt T (e + 1))))
-        (ap (rowNext (T .inputs) (T .leasts) (T .targets) (T .counts) (T .finals) (T .values)) deep
-        ∙ record-next T (e + 1) (C .sized) (C .low) (C .orderly .few (e + 1) (omega arith)) (omega arith))
-
-    pub node-asked : Closable out (t .next) (pairOf one two) T (e + 1)
-    node-asked = row-closable out (t .next) table T e (t .row) (pairOf one two) C taken
-
-    module _ {out′ : List ℕ} {T₁ : Tables} {r : RowClosed} (w : ClosesInRow out (t .next) (pairOf one two) T e out′ T₁ r) (same : length out′ ≡ length out) where
-      abbrev table′ : List (List ℕ)
-      table′ = putPair table (t .row) (pairOf (r .one) (r .two))
-
-      pub node-full : r .done ≡ false → (q : Turn) → q .going ≡ false → q .placed ≡ false → q .why ≡ SPACE → {T′ : Tables} → Standing s tables cells (length out) out′ table′ T′ q
-      node-full d q g p y {T′} =
-          let f = node-step out (t .next) table T e (t .row) (pairOf one two) C taken at-row w .1 d in
-          let short = underway-full u (G .sound .list) (G .sound .two) e deep low out′ f in
-          stands-refused s tables cells (length out) q same (put-length table (t .row) (pairOf (r .one) (r .two)) ∙ st .count) g p
-          (λ limit. no-room s tables cells (length out) (G .sound) (omega (arith, short, same)) limit ∙ ap refused (sym y))
-
-      module _ (d : r .done ≡ true) (led-same : T₁ .led ≡ T .led) where
-        node-on : Underway s cells out′ table′ T₁ (r .next) (wayWith e (t .way .to) (t .way .keys))
-        node-on = underway-close u (G .sound .list) e deep low (node-step out (t .next) table T e (t .row) (pairOf one two) C taken at-row w .0 d) led-same
-
-        pub node-started : Started s (T₁ .counts) (T₁ .led) (T₁ .finals) (T₁ .values) (wayWith e (t .way .to) (t .way .keys))
-        node-started = record {
-          cells = cells;
-          out = out′;
-          table = table′;
-          inputs = T₁ .inputs;
-          leasts = T₁ .leasts;
-          targets = T₁ .targets;
-          next = r .next;
-          underway = node-on;
-        }
-
-        module _ {counts′ led′ : List ℕ} {finals′ : List Bool} {values′ : List ℕ} {v : Way}
-            (go : GoesAhead s (T₁ .counts) (T₁ .led) (T₁ .finals) (T₁ .values) (wayWith e (t .way .to) (t .way .keys)) counts′ led′ finals′ values′ v) where
-          abbrev T₂ : Tables
-          T₂ = tablesWith (T₁ .inputs) (T₁ .leasts) (T₁ .targets) counts′ led′ finals′ values′
-
-          node-after : Underway s cells out′ table′ T₂ (r .next) v
-          node-after = go .gone .on cells out′ table′ (T₁ .inputs) (T₁ .leasts) (T₁ .targets) (r .next) node-on
-
-          pub node-next : RowAsked cells (v .depth) (T₁ .inputs) (T₁ .leasts) (T₁ .targets) counts′
-          node-next = row-asked node-after (G .sound .two)
-
-          pub node-stands : (q : Turn) → q .going ≡ true → q .next ≡ r .next → q .way ≡ v → (q .row ≡ 2 * (nodeNext T₂ (v .depth) % (cells / 2))) × (q .row + 1 < cells)
-              → Standing s tables cells (length out) out′ table′ T₂ q
-          node-stands q g n-is w-is row =
-              stands-going s tables cells (length out) q same (put-length table (t .row) (pairOf (r .one) (r .two)) ∙ st .count) g
-              (record { sound = G .sound; underway = rw (n-is, w-is) node-after; node = rw w-is (go .stops); row = rw w-is (row .0); within = row .1 })
+  pub node-of-turn : NodeAt s cells out table T (t .next) (t .way) (t .row)
+  node-of-turn = record {
+    list = G .sound .list;
+    two = G .sound .two;
+    count = st .count;
+    underway = u;
+    node = G .node;
+    row-is = G .row;
+    within = G .within;
+  }
 
   -- ---- the root
 
@@ -264,7 +201,7 @@ module _ {s : List ℕ} {cells : ℕ} {out : List ℕ} {one two : Cell} {T : Tab
     }
 
     root-row : t .row ≡ rowOf (cellsIs table) node
-    root-row = row-of-record node (ap (rowNext (T .inputs) (T .leasts) (T .targets) (T .counts) (T .finals) (T .values)) top)
+    root-row = row-of-record node-of-turn node (ap (rowNext (T .inputs) (T .leasts) (T .targets) (T .counts) (T .finals) (T .values)) top)
 
     module _ {out′ : List ℕ} {c d : Cell} {p : Placed} (w : InternIs (intern (buildIs out (t .next) (pairOf one two)) node) (t .next) out′ (pairOf c d) p) (same : length out′ ≡ length out) where
       runs : Runs (packNodes (pairsOf s) cells) out′ (putPair table (t .row) (pairOf c d)) p
@@ -285,10 +222,60 @@ module _ {s : List ℕ} {cells : ℕ} {out : List ℕ} {one two : Cell} {T : Tab
           stands-refused s tables cells (length out) q same (put-length table (t .row) (pairOf c d) ∙ st .count) g y
           (λ limit. no-room s tables cells (length out) (G .sound) (omega (arith, runs .full f, same)) limit ∙ ap refused (sym k))
 
--- ---- the end
+-- ---- a node that is not the root
 
-pub refused-any : {A : Answer} {out : List ℕ} {table : List (List ℕ)} {r : Packed} {k : ℕ} → Answers A out table r → r ≡ Refused k → (out′ : List ℕ) → Answers A out′ table (Refused k)
-refused-any a e out′ = record { answer = sym e ∙ a .answer; output = λ n q. absurd (refused-not q); cells-left = λ n q. absurd (refused-not q) }
+pub node-asked-of : {s : List ℕ} {cells : ℕ} {out : List ℕ} {one two : Cell} {T : Tables} {t : Turn} → StepAsked s cells out one two T t → 0 < t .way .depth
+    → NodeAsked s cells out one two T (t .next) (t .way)
+node-asked-of {t = t} a l = record { table = a .table; row = t .row; at = node-of-turn (a .standing) (a .going) (a .taken); taken = a .taken; low = l }
 
-pub written-on : {A : Answer} {out : List ℕ} {table : List (List ℕ)} {r : Packed} {n : ℕ} → Answers A out table r → r ≡ Len n → Answers A out table (Len n)
-written-on {A} {out} {table} a e = subst (Answers A out table) e a
+module _ {s : List ℕ} {cells : ℕ} {out : List ℕ} {one two : Cell} {T : Tables} {t : Turn} {out′ : List ℕ} {T′ : Tables} {n : NodeStep} {r : Stepped}
+    (w : NodeSteps s cells out one two T (t .next) (t .way) out′ T′ n) (a : TurnAfter n r) (same : length out′ ≡ length out) where
+  full-stands : n .done ≡ false → (tables : Bool) (table : List (List ℕ)) → Standing s tables cells (length out) out table T t → t .going ≡ true → TakenFrom table (t .row) (pairOf one two)
+      → Standing s tables cells (length out) out′ (putPair table (t .row) (pairOf (r .one) (r .two))) T′ (r .turn)
+  full-stands d tables table st going taken =
+      let short = w .full d table (t .row) (node-of-turn st going taken) taken in
+      stands-refused s tables cells (length out) (r .turn) same (put-length table (t .row) (pairOf (r .one) (r .two)) ∙ st .count) (a .full d .0) (a .full d .1)
+      (λ limit. no-room s tables cells (length out) (st .on going .sound) (omega (arith, short, same)) limit ∙ ap refused (sym (a .full d .2)))
+
+  done-stands : n .done ≡ true → (tables : Bool) (table : List (List ℕ)) → Standing s tables cells (length out) out table T t → t .going ≡ true → TakenFrom table (t .row) (pairOf one two)
+      → Standing s tables cells (length out) out′ (putPair table (t .row) (pairOf (r .one) (r .two))) T′ (r .turn)
+  done-stands d tables table st going taken =
+      let A = w .at d table (t .row) (node-of-turn st going taken) taken in
+      stands-going s tables cells (length out) (r .turn) same (put-length table (t .row) (pairOf (r .one) (r .two)) ∙ st .count) (a .going d)
+      (record {
+        sound = st .on going .sound;
+        underway = rw (a .one-is, a .two-is, a .next-is d, a .way-is d) (A .underway);
+        node = rw (a .way-is d) (A .node);
+        row = rw (a .row-is d, a .way-is d) (A .row-is);
+        within = rw (a .row-is d) (A .within);
+      })
+
+  pub steps-node : Steps s cells out one two T t out′ T′ r
+  steps-node = go (n .done) refl
+    where
+      go : (b : Bool) → n .done ≡ b → Steps s cells out one two T t out′ T′ r
+      go false d = steps-ended (full-stands d) (a .full d .0)
+      go true d = steps-going (done-stands d) (a .going d) (rw (a .way-is d) (w .less d))
+
+pub after-full : {n : NodeStep} {r : Stepped} → n .done ≡ false → r .one ≡ n .one → r .two ≡ n .two → (r .turn .going ≡ false) × (r .turn .placed ≡ false) × (r .turn .why ≡ SPACE) → TurnAfter n r
+after-full e p q f = record {
+  one-is = p;
+  two-is = q;
+  full = λ d. f;
+  going = λ d. absurd (false-true (sym e ∙ d));
+  next-is = λ d. absurd (false-true (sym e ∙ d));
+  way-is = λ d. absurd (false-true (sym e ∙ d));
+  row-is = λ d. absurd (false-true (sym e ∙ d));
+}
+
+pub after-done : {n : NodeStep} {r : Stepped} → n .done ≡ true → r .one ≡ n .one → r .two ≡ n .two → r .turn .going ≡ true → r .turn .next ≡ n .next → r .turn .way ≡ n .way → r .turn .row ≡ n .row
+    → TurnAfter n r
+after-done e p q g n-is w-is r-is = record {
+  one-is = p;
+  two-is = q;
+  full = λ d. absurd (false-true (sym d ∙ e));
+  going = λ d. g;
+  next-is = λ d. n-is;
+  way-is = λ d. w-is;
+  row-is = λ d. r-is;
+}

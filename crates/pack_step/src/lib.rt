@@ -7,15 +7,14 @@ ghost use Prim.Native.Nat.{ℕ};
 ghost use lib.ListN.{length, replicate};
 ghost use Rattle.packing_rows.specs.WorkTables.{tablesWith};
 ghost use Rattle.pack_blank.specs.PackBlank.{tablesTest};
-ghost use Rattle.pack_step.specs.Standing.{Judged, Standing, RootAsked, NodeAsked, StepAsked, Steps, EndAsked, Ends, Finishes, refusedTest};
+ghost use Rattle.pack_step.specs.Standing.{Judged, Standing, RootAsked, StepAsked, Steps, TurnAfter};
 use format::FIRST_NODE;
-use format::LARGE;
 use format::LIST;
 use format::SPACE;
 use pack_ahead::Way;
-use pack_blank::Packed;
 use pack_cell::Cell;
 use pack_intern::Placed;
+use pack_node::NodeStep;
 
 // Where packing stands between two nodes.
 pub struct Turn {
@@ -72,15 +71,6 @@ pub fn second_of(stepped: Stepped) -> Cell
     ensures { λ r. ⌜ r ≡ stepped .two ⌝ }
 {
     stepped.two
-}
-
-pub fn is_refused(answer: Packed) -> bool
-    ensures { λ r. ⌜ r ≡ refusedTest answer ⌝ }
-{
-    match answer {
-        Packed::Len(n) => false,
-        Packed::Refused(why) => true,
-    }
 }
 
 // ---- the start
@@ -239,78 +229,32 @@ fn step_root(
     }
 }
 
-// Finishes the deepest node, which is not the root and whose row has these two cells, and opens keys until the next has to be finished.
-fn step_node(
-    list: &[u8],
-    cells: usize,
-    output: &mut [u8],
-    one: Cell,
-    two: Cell,
-    turn: Turn,
-    inputs: &mut [u8],
-    leasts: &mut [u64],
-    targets: &mut [usize],
-    counts: &mut [usize; 256],
-    led: &mut [u8; 256],
-    finals: &mut [bool; 256],
-    values: &mut [u64; 256],
-) -> Stepped
-    requires { ⌜ NodeAsked (now list) cells (now output) one two
-        (tablesWith (now inputs) (now leasts) (now targets) (now counts) (now led) (now finals) (now values)) turn ⌝ }
-    ensures { λ r. ⌜ Steps (now (list .entry)) cells (now (output .entry)) one two
-        (tablesWith (now (inputs .entry)) (now (leasts .entry)) (now (targets .entry)) (now (counts .entry)) (now (led .entry)) (now (finals .entry)) (now (values .entry)))
-        turn (now (output .exit))
-        (tablesWith (now (inputs .exit)) (now (leasts .exit)) (now (targets .exit)) (now (counts .exit)) (now (led .exit)) (now (finals .exit)) (now (values .exit)))
-        r ⌝ }
+// The turn after a node that is not the root.
+fn after_node(made: NodeStep) -> Stepped
+    ensures { λ r. ⌜ TurnAfter made r ⌝ }
 {
-    let way = turn.way;
-    let e = way.depth - 1;
-    let first = turn.next;
-    let done = pack_turn::close_in_row(
-        output,
-        one,
-        two,
-        first,
-        e,
-        inputs,
-        leasts,
-        targets,
-        counts,
-        led,
-        finals,
-        values,
-    );
-    let c = done.one;
-    let f = done.two;
-    let next = done.next;
-    if done.done {} else {
+    let one = made.one;
+    let two = made.two;
+    let way = made.way;
+    if made.done {} else {
         return Stepped {
             turn: refusal(SPACE),
-            one: c,
-            two: f,
+            one,
+            two,
         };
     }
-    let n = pack_list::key_count(list);
-    let from = Way {
-        depth: e,
-        to: way.to,
-        keys: way.keys,
-    };
-    let on = pack_ahead::ahead(list, n, from, counts, led, finals, values);
-    let d = on.depth;
-    let row = pack_ahead::row_next(cells, d, inputs, leasts, targets, counts, finals, values);
     Stepped {
         turn: Turn {
             going: true,
             placed: false,
             why: 0,
-            next,
-            way: on,
-            row,
+            next: made.next,
+            way,
+            row: made.row,
             root: 0,
         },
-        one: c,
-        two: f,
+        one,
+        two,
     }
 }
 
@@ -355,13 +299,15 @@ pub fn step(
             values,
         );
     }
-    step_node(
+    let first = turn.next;
+    let made = pack_node::node_in_row(
         list,
         cells,
         output,
         one,
         two,
-        turn,
+        first,
+        way,
         inputs,
         leasts,
         targets,
@@ -369,43 +315,6 @@ pub fn step(
         led,
         finals,
         values,
-    )
-}
-
-// ---- the end
-
-// Writes the ends of the file, or says why there is none.
-fn ends(limit: usize, list: &[u8], output: &mut [u8], turn: Turn) -> Packed
-    requires { ⌜ EndAsked (now list) (now output) turn ⌝ }
-    ensures { λ r. ⌜ Ends limit (now (list .entry)) (now (output .entry)) turn (now (output .exit)) r ⌝ }
-{
-    if turn.placed {} else {
-        return Packed::Refused(turn.why);
-    }
-    let next = turn.next;
-    let root = turn.root;
-    if output.len() - next < 16 {
-        return Packed::Refused(SPACE);
-    }
-    if limit < next + 16 {
-        return Packed::Refused(LARGE);
-    }
-    let n = pack_list::key_count(list);
-    pack_blank::write_ends(output, n as u64, root as u64, next);
-    Packed::Len(next + 16)
-}
-
-// The answer, once no node is to be finished: the ends of the file are written, or the output is zeros.
-pub fn finish(limit: usize, list: &[u8], output: &mut [u8], turn: Turn) -> Packed
-    requires { ⌜ EndAsked (now list) (now output) turn ⌝ }
-    ensures { λ r. ⌜ Finishes limit (now (list .entry)) (now (output .entry)) turn (now (output .exit)) r ⌝ }
-{
-    let answer = ends(limit, list, output, turn);
-    match answer {
-        Packed::Len(n) => Packed::Len(n),
-        Packed::Refused(why) => {
-            pack_zero::zero_bytes(output);
-            Packed::Refused(why)
-        }
-    }
+    );
+    after_node(made)
 }

@@ -41,10 +41,10 @@ use Rattle.pack_zero.proofs.zero_bytes.Symbol as zero-bytes
 use Rattle.pack_zero.proofs.zero_bytes.Kinds as zero-bytes-kinds
 use Rattle.pack_zero.proofs.zero_bytes.Reads as zero-bytes-reads
 use Rattle.pack_zero.proofs.zero_bytes.Met as zero-bytes-thm
-use Rattle.pack_step.proofs.finish.Symbol as finish
-use Rattle.pack_step.proofs.finish.Kinds as finish-kinds
-use Rattle.pack_step.proofs.finish.Reads as finish-reads
-use Rattle.pack_step.proofs.finish.Met as finish-thm
+use Rattle.pack_end.proofs.finish.Symbol as finish
+use Rattle.pack_end.proofs.finish.Kinds as finish-kinds
+use Rattle.pack_end.proofs.finish.Reads as finish-reads
+use Rattle.pack_end.proofs.finish.Met as finish-thm
 use Rattle.pack_zero.proofs.zero_words.Symbol as zero-words
 use Rattle.pack_zero.proofs.zero_words.Kinds as zero-words-kinds
 use Rattle.pack_zero.proofs.zero_words.Reads as zero-words-reads
@@ -53,10 +53,10 @@ use Rattle.pack_zero.proofs.zero_places.Symbol as zero-places
 use Rattle.pack_zero.proofs.zero_places.Kinds as zero-places-kinds
 use Rattle.pack_zero.proofs.zero_places.Reads as zero-places-reads
 use Rattle.pack_zero.proofs.zero_places.Met as zero-places-thm
-use Rattle.pack_step.proofs.is_refused.Symbol as is-refused
-use Rattle.pack_step.proofs.is_refused.Kinds as is-refused-kinds
-use Rattle.pack_step.proofs.is_refused.Reads as is-refused-reads
-use Rattle.pack_step.proofs.is_refused.Met as is-refused-thm
+use Rattle.pack_end.proofs.is_refused.Symbol as is-refused
+use Rattle.pack_end.proofs.is_refused.Kinds as is-refused-kinds
+use Rattle.pack_end.proofs.is_refused.Reads as is-refused-reads
+use Rattle.pack_end.proofs.is_refused.Met as is-refused-thm
 use Rattle.pack_cell.proofs.empty_cells.Symbol as empty-cells
 use Rattle.pack_cell.proofs.empty_cells.Met as empty-cells-thm
 use Rattle.pack_cells.proofs.run.Symbol as run
@@ -213,9 +213,9 @@ pack-within-spec {M} 𝓤 H 𝓜 𝓖 𝓡 =
       zero-bytes-reads.known w code.env zero-bytes.name zero-bytes.routine code.calls-pack-zero·zero-bytes (zero-bytes-thm.met 𝓤 H 𝓜 𝓖 𝓡),
       known-free 1 empty-ps empty-r EmptyPost w code.env empty-cells.name empty-cells.routine code.calls-pack-cell·empty-cells (empty-cells-thm.met 𝓤 H 𝓜 𝓖 𝓡),
       known 6 run-ps run-r RunPost RunPre w code.env run.name run.routine code.calls-pack-cells·run (run-thm.met 𝓤 H 𝓜 𝓖 𝓡),
-      finish-reads.known w code.env finish.name finish.routine code.calls-pack-step·finish (finish-thm.met 𝓤 H 𝓜 𝓖 𝓡),
+      finish-reads.known w code.env finish.name finish.routine code.calls-pack-end·finish (finish-thm.met 𝓤 H 𝓜 𝓖 𝓡),
       zero-words-reads.known w code.env zero-words.name zero-words.routine code.calls-pack-zero·zero-words (zero-words-thm.met 𝓤 H 𝓜 𝓖 𝓡),
       zero-places-reads.known w code.env zero-places.name zero-places.routine code.calls-pack-zero·zero-places (zero-places-thm.met 𝓤 H 𝓜 𝓖 𝓡),
-      is-refused-reads.known w code.env is-refused.name is-refused.routine code.calls-pack-step·is-refused (is-refused-thm.met 𝓤 H 𝓜 𝓖 𝓡),
+      is-refused-reads.known w code.env is-refused.name is-refused.routine code.calls-pack-end·is-refused (is-refused-thm.met 𝓤 H 𝓜 𝓖 𝓡),
       known-free 1 after-ps after-r AfterPost w code.env empty-after.name empty-after.routine code.calls-pack-cells·empty-after (empty-after-thm.met 𝓤 H 𝓜 𝓖 𝓡),
     ) (λ κs a. tt)

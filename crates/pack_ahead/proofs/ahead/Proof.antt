@@ -3,7 +3,7 @@
 use mathlib.Core.Logic.{inl, inr}
 use Prim.Native.Nat.{_-_}
 use denote.Ref.{now}
-use Rattle.pack_ahead.specs.Ahead.{wayWith, GoneTo, GoesAhead}
+use Rattle.pack_ahead.specs.Ahead.{wayWith, GoneTo}
 use Rattle.pack_ahead.specs.AheadLaws.{gone-none, gone-from, key-goes, gone-open}
 use borrow.Author.Needs.{needs}
 use native.Mathlib.Omega.{arith}

@@ -2,7 +2,6 @@
 -- Assumes nothing.
 use borrow.Author.Tests.{eq-eqb, ne-eqb}
 use borrow.Author.Needs.{needs}
-use native.Mathlib.Omega.{arith}
 use Rattle.pack_ahead.proofs.base_at.Statement.{statement}
 use Rattle.pack_ahead.proofs.base_at.Tie as tie
 

@@ -1,12 +1,11 @@
 -- `pack_ahead::leaves_at` meets its contract.
 -- Assumes nothing.
-use mathlib.Core.Path.{_≡_, refl, ap}
 use Prim.Native.Nat.{_+_, _*_, _≤_, _<_}
 use lib.ListN.{length}
 use denote.Ref.{now}
 use Rattle.packing.specs.Lists.{countIn}
-use Rattle.pack_keys.specs.AddKeysLaws.{cut-is, cut-bounds, cut-length, cut-short}
-use Rattle.pack_ahead.specs.AheadLaws.{leaves-common, leaves-none, opens-key}
+use Rattle.pack_keys.specs.AddKeysLaws.{cut-bounds}
+use Rattle.pack_ahead.specs.AheadLaws.{leaves-common, leaves-none}
 use borrow.Author.Needs.{needs}
 use native.Mathlib.Omega.{arith}
 use Rattle.pack_ahead.proofs.leaves_at.Statement.{statement}

@@ -7,7 +7,6 @@ use Rattle.packing.specs.Packing.{refused}
 use Rattle.pack_blank.specs.PackBlank.{tablesTest}
 use Rattle.pack_step.specs.StandingLaws.{begin-refused, begin-started, begin-asked, begin-stands}
 use borrow.Author.Needs.{needs}
-use native.Mathlib.Omega.{arith}
 use Rattle.pack_step.proofs.begin.Statement.{statement}
 use Rattle.pack_step.proofs.begin.Tie as tie
 

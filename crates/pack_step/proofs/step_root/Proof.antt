@@ -3,7 +3,6 @@
 use mathlib.Core.Path.{refl}
 use Rattle.pack_step.specs.StandingLaws.{steps-ended, root-in-pair, root-stands, root-full}
 use borrow.Author.Needs.{needs}
-use native.Mathlib.Omega.{arith}
 use Rattle.pack_step.proofs.step_root.Statement.{statement}
 use Rattle.pack_step.proofs.step_root.Tie as tie
 

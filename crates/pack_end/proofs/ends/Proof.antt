@@ -1,4 +1,4 @@
--- `pack_step::ends` meets its contract.
+-- `pack_end::ends` meets its contract.
 -- Assumes nothing.
 use mathlib.Core.Path.{refl}
 use lib.ListN.{length}
@@ -6,8 +6,8 @@ use denote.Ref.{now}
 use Rattle.pack_blank.specs.PackBlankLaws.{answer-refused, short-answer, over-answer, done-answer}
 use borrow.Author.Needs.{needs}
 use native.Mathlib.Omega.{arith}
-use Rattle.pack_step.proofs.ends.Statement.{statement}
-use Rattle.pack_step.proofs.ends.Tie as tie
+use Rattle.pack_end.proofs.ends.Statement.{statement}
+use Rattle.pack_end.proofs.ends.Tie as tie
 
 returns : tie.Need-returns
 returns c = λ tables cells table e. let t = c .before .before .before in answer-refused (e .refuses (c .if1 .left) (t .args .limit)) (now (t .args .output)) table

@@ -1,14 +1,13 @@
--- `pack_step::finish` meets its contract.
+-- `pack_end::finish` meets its contract.
 -- Assumes nothing.
 use mathlib.Core.Path.{sym, ap, _∙_}
 use Prim.Native.Nat.{ℕ}
 use lib.ListN.{replicate}
 use Rattle.pack_blank.specs.PackBlankLaws.{refused-not}
-use Rattle.pack_step.specs.StandingLaws.{refused-any, written-on}
+use Rattle.pack_end.specs.EndingLaws.{refused-any, written-on}
 use borrow.Author.Needs.{needs}
-use native.Mathlib.Omega.{arith}
-use Rattle.pack_step.proofs.finish.Statement.{statement}
-use Rattle.pack_step.proofs.finish.Tie as tie
+use Rattle.pack_end.proofs.finish.Statement.{statement}
+use Rattle.pack_end.proofs.finish.Tie as tie
 
 ends-requires : tie.Need-ends-requires
 ends-requires c κs = search needs
