@@ -7,7 +7,8 @@ use lib.ListN.{length}
 use mir.Syntax.{w64, Ty, tyBool, tyUnit, field, Home, valueLocal}
 use denote.Slice.{sliceTy}
 use contract.Lifetimes.{Lfts, Shares}
-use borrow.Table.Row.{Life, lease, dead, sInt, sBool, sUnit}
+use borrow.Table.Row.{Cx, Life, lease, dead, alive, off, sInt, sBool, sUnit}
+use borrow.Table.Rows.{sc-here, any-gone, whole, sslice}
 use borrow.Table.Reads.{room-gone, as-is}
 use borrow.Rule.Scalar.{oFld, reads-sc, room-sc}
 use borrow.Rule.Slice.Shared.{lenV, reads-sslice}
@@ -19,7 +20,7 @@ use borrow.Fn.Enter.{tysP}
 use borrow.Fn.World.{World}
 use borrow.Fn.Function.{Γin, Δret}
 use borrow.Kind.ShrSlice.{spares-sslice}
-use Rattle.walks.specs.Walk.{Knows, Runs, _then_, _so_, returns}
+use Rattle.walks.specs.Walk.{Knows, Runs, standing, _then_, _so_, returns}
 use Rattle.walks.specs.Types.{word, Word, Byte, lent, given, on}
 use Rattle.walks.specs.Steps.{drops}
 use Rattle.walks.specs.Structs.{yields, room}
@@ -35,7 +36,7 @@ use Rattle.pack_step.specs.Standing.{Ended}
 use Rattle.pack_step.proofs.Turn as Turn
 use Rattle.pack_step.proofs.Turn.Laws as TurnLaws
 use Rattle.pack_cells.specs.Pairs.{pairsIs}
-use Rattle.pack_cells.proofs.Sides.{R, turn}
+use Rattle.pack_cells.proofs.Sides.{R, Tn, turn}
 use Rattle.pack_cells.proofs.Claims.{empty-ps, empty-r, EmptyPre, EmptyPost, run-ps, run-r, RunPre, RunPost, after-ps, after-r, AfterPre, AfterPost}
 use Rattle.pack_zero.proofs.zero_bytes.Symbol as zero-bytes
 use Rattle.pack_zero.proofs.zero_bytes.Kinds as zero-bytes-kinds
@@ -87,6 +88,9 @@ abbrev homes : List Home
 homes = valueLocal ∷ valueLocal ∷ valueLocal ∷ valueLocal ∷ valueLocal ∷ valueLocal ∷ valueLocal ∷ valueLocal ∷ valueLocal ∷ valueLocal ∷ valueLocal ∷ valueLocal ∷ valueLocal ∷ valueLocal ∷ valueLocal ∷ valueLocal ∷ valueLocal ∷ valueLocal ∷ valueLocal ∷ valueLocal ∷ valueLocal ∷ valueLocal ∷ valueLocal ∷ valueLocal ∷ valueLocal ∷ valueLocal ∷ valueLocal ∷ valueLocal ∷ valueLocal ∷ valueLocal ∷ valueLocal ∷ valueLocal ∷ valueLocal ∷ valueLocal ∷ valueLocal ∷ valueLocal ∷ []
 
 module _ (κs : Lfts 6) (qs : Shares 6) where
+  abbrev l0 : Life
+  l0 = lease (κs .0) (qs .0)
+
   abbrev l1 : Life
   l1 = lease (κs .1 .0) (qs .1 .0)
 
@@ -101,6 +105,36 @@ module _ (κs : Lfts 6) (qs : Shares 6) where
 
   abbrev l5 : Life
   l5 = lease (κs .1 .1 .1 .1 .1 .0) (qs .1 .1 .1 .1 .1 .0)
+
+  abbrev at1 : Cx
+  at1 = record {
+    locals = (0, any-gone packed) ∷ (1, sc-here (sInt w64)) ∷ (2, sslice Byte (given 0 Byte) 0) ∷ (3, mslice Byte (lent 1 Byte) 1) ∷ (4, mslice R (lent 2 R) 2) ∷ (5, mslice Byte (lent 3 Byte) 3) ∷ (6, mslice Word (lent 4 Word) 4) ∷ (7, mslice Word (lent 5 Word) 5) ∷ (8, any-gone turn) ∷ (9, any-gone packed) ∷ (10, sc-here sUnit) ∷ (11, any-gone (on Byte)) ∷ (12, any-gone (sliceTy (on Byte))) ∷ (13, any-gone (on R)) ∷ (14, any-gone (sliceTy (on R))) ∷ (15, any-gone (on Byte)) ∷ (16, any-gone (sliceTy (on Byte))) ∷ (17, any-gone (on R)) ∷ (18, any-gone (sliceTy (on R))) ∷ (19, any-gone (on Byte)) ∷ (20, any-gone (sliceTy (on Byte))) ∷ (21, any-gone (on Word)) ∷ (22, any-gone (sliceTy (on Word))) ∷ (23, any-gone (on Word)) ∷ (24, any-gone (sliceTy (on Word))) ∷ (25, any-gone (on Byte)) ∷ (26, any-gone (sliceTy (on Byte))) ∷ (27, any-gone (on Byte)) ∷ (28, any-gone (sliceTy (on Byte))) ∷ (29, any-gone (on Word)) ∷ (30, any-gone (sliceTy (on Word))) ∷ (31, any-gone (on Word)) ∷ (32, any-gone (sliceTy (on Word))) ∷ (33, any-gone (on R)) ∷ (34, any-gone (sliceTy (on R))) ∷ (35, any-gone tyBool) ∷ [];
+    slots = l0 ∷ l1 ∷ l2 ∷ l3 ∷ l4 ∷ l5 ∷ off ∷ [];
+  }
+
+  abbrev at2 : Cx
+  at2 = record {
+    locals = (0, any-gone packed) ∷ (1, sc-here (sInt w64)) ∷ (2, sslice Byte (given 0 Byte) 0) ∷ (3, mslice-owed Byte (lent 1 Byte) 1 6 l1) ∷ (4, mslice-owed R (lent 2 R) 2 6 l2) ∷ (5, mslice-owed Byte (lent 3 Byte) 3 6 l3) ∷ (6, mslice Word (lent 4 Word) 4) ∷ (7, mslice Word (lent 5 Word) 5) ∷ (8, any-gone turn) ∷ (9, any-gone packed) ∷ (10, sc-here sUnit) ∷ (11, any-gone (on Byte)) ∷ (12, any-gone (sliceTy (on Byte))) ∷ (13, any-gone (on R)) ∷ (14, any-gone (sliceTy (on R))) ∷ (15, any-gone (on Byte)) ∷ (16, mslice Byte (on Byte) 6) ∷ (17, any-gone (on R)) ∷ (18, mslice R (on R) 6) ∷ (19, any-gone (on Byte)) ∷ (20, mslice Byte (on Byte) 6) ∷ (21, any-gone (on Word)) ∷ (22, any-gone (sliceTy (on Word))) ∷ (23, any-gone (on Word)) ∷ (24, any-gone (sliceTy (on Word))) ∷ (25, any-gone (on Byte)) ∷ (26, any-gone (sliceTy (on Byte))) ∷ (27, any-gone (on Byte)) ∷ (28, any-gone (sliceTy (on Byte))) ∷ (29, any-gone (on Word)) ∷ (30, any-gone (sliceTy (on Word))) ∷ (31, any-gone (on Word)) ∷ (32, any-gone (sliceTy (on Word))) ∷ (33, any-gone (on R)) ∷ (34, any-gone (sliceTy (on R))) ∷ (35, any-gone tyBool) ∷ [];
+    slots = l0 ∷ off ∷ off ∷ off ∷ l4 ∷ l5 ∷ alive ∷ [];
+  }
+
+  abbrev at3 : Cx
+  at3 = record {
+    locals = (0, any-gone packed) ∷ (1, sc-here (sInt w64)) ∷ (2, sslice Byte (given 0 Byte) 0) ∷ (3, mslice Byte (lent 1 Byte) 1) ∷ (4, mslice R (lent 2 R) 2) ∷ (5, mslice Byte (lent 3 Byte) 3) ∷ (6, mslice Word (lent 4 Word) 4) ∷ (7, mslice Word (lent 5 Word) 5) ∷ (8, whole Tn) ∷ (9, any-gone packed) ∷ (10, sc-here sUnit) ∷ (11, any-gone (on Byte)) ∷ (12, any-gone (sliceTy (on Byte))) ∷ (13, any-gone (on R)) ∷ (14, any-gone (sliceTy (on R))) ∷ (15, any-gone (on Byte)) ∷ (16, any-gone (sliceTy (on Byte))) ∷ (17, any-gone (on R)) ∷ (18, any-gone (sliceTy (on R))) ∷ (19, any-gone (on Byte)) ∷ (20, any-gone (sliceTy (on Byte))) ∷ (21, any-gone (on Word)) ∷ (22, any-gone (sliceTy (on Word))) ∷ (23, any-gone (on Word)) ∷ (24, any-gone (sliceTy (on Word))) ∷ (25, any-gone (on Byte)) ∷ (26, any-gone (sliceTy (on Byte))) ∷ (27, any-gone (on Byte)) ∷ (28, any-gone (sliceTy (on Byte))) ∷ (29, any-gone (on Word)) ∷ (30, any-gone (sliceTy (on Word))) ∷ (31, any-gone (on Word)) ∷ (32, any-gone (sliceTy (on Word))) ∷ (33, any-gone (on R)) ∷ (34, any-gone (sliceTy (on R))) ∷ (35, any-gone tyBool) ∷ [];
+    slots = l0 ∷ l1 ∷ l2 ∷ l3 ∷ l4 ∷ l5 ∷ off ∷ [];
+  }
+
+  abbrev at4 : Cx
+  at4 = record {
+    locals = (0, any-gone packed) ∷ (1, sc-here (sInt w64)) ∷ (2, sslice Byte (given 0 Byte) 0) ∷ (3, mslice Byte (lent 1 Byte) 1) ∷ (4, mslice R (lent 2 R) 2) ∷ (5, mslice Byte (lent 3 Byte) 3) ∷ (6, mslice Word (lent 4 Word) 4) ∷ (7, mslice Word (lent 5 Word) 5) ∷ (8, whole Tn) ∷ (9, whole Packed.the-row) ∷ (10, sc-here sUnit) ∷ (11, any-gone (on Byte)) ∷ (12, any-gone (sliceTy (on Byte))) ∷ (13, any-gone (on R)) ∷ (14, any-gone (sliceTy (on R))) ∷ (15, any-gone (on Byte)) ∷ (16, any-gone (sliceTy (on Byte))) ∷ (17, any-gone (on R)) ∷ (18, any-gone (sliceTy (on R))) ∷ (19, any-gone (on Byte)) ∷ (20, any-gone (sliceTy (on Byte))) ∷ (21, any-gone (on Word)) ∷ (22, any-gone (sliceTy (on Word))) ∷ (23, any-gone (on Word)) ∷ (24, any-gone (sliceTy (on Word))) ∷ (25, any-gone (on Byte)) ∷ (26, any-gone (sliceTy (on Byte))) ∷ (27, any-gone (on Byte)) ∷ (28, any-gone (sliceTy (on Byte))) ∷ (29, any-gone (on Word)) ∷ (30, any-gone (sliceTy (on Word))) ∷ (31, any-gone (on Word)) ∷ (32, any-gone (sliceTy (on Word))) ∷ (33, any-gone (on R)) ∷ (34, any-gone (sliceTy (on R))) ∷ (35, any-gone tyBool) ∷ [];
+    slots = l0 ∷ l1 ∷ l2 ∷ l3 ∷ l4 ∷ l5 ∷ off ∷ [];
+  }
+
+  abbrev at5 : Cx
+  at5 = record {
+    locals = (0, any-gone packed) ∷ (1, sc-here (sInt w64)) ∷ (2, sslice Byte (given 0 Byte) 0) ∷ (3, mslice Byte (lent 1 Byte) 1) ∷ (4, mslice R (lent 2 R) 2) ∷ (5, mslice Byte (lent 3 Byte) 3) ∷ (6, mslice Word (lent 4 Word) 4) ∷ (7, mslice Word (lent 5 Word) 5) ∷ (8, whole Tn) ∷ (9, whole Packed.the-row) ∷ (10, sc-here sUnit) ∷ (11, any-gone (on Byte)) ∷ (12, any-gone (sliceTy (on Byte))) ∷ (13, any-gone (on R)) ∷ (14, any-gone (sliceTy (on R))) ∷ (15, any-gone (on Byte)) ∷ (16, any-gone (sliceTy (on Byte))) ∷ (17, any-gone (on R)) ∷ (18, any-gone (sliceTy (on R))) ∷ (19, any-gone (on Byte)) ∷ (20, any-gone (sliceTy (on Byte))) ∷ (21, any-gone (on Word)) ∷ (22, any-gone (sliceTy (on Word))) ∷ (23, any-gone (on Word)) ∷ (24, any-gone (sliceTy (on Word))) ∷ (25, any-gone (on Byte)) ∷ (26, any-gone (sliceTy (on Byte))) ∷ (27, any-gone (on Byte)) ∷ (28, any-gone (sliceTy (on Byte))) ∷ (29, any-gone (on Word)) ∷ (30, any-gone (sliceTy (on Word))) ∷ (31, any-gone (on Word)) ∷ (32, any-gone (sliceTy (on Word))) ∷ (33, any-gone (on R)) ∷ (34, any-gone (sliceTy (on R))) ∷ (35, any-gone tyBool) ∷ [];
+    slots = l0 ∷ l1 ∷ l2 ∷ l3 ∷ l4 ∷ l5 ∷ off ∷ [];
+  }
 
   abbrev walk : Runs told (tyR r ∷ tysP ps xs) (Γin 6 ps r xs 1 κs qs) (code.function .body) (Δret 6 ps r xs 1 κs qs)
   walk =
@@ -122,7 +156,7 @@ module _ (κs : Lfts 6) (qs : Shares 6) where
       then ends 6 refl
       so backs R 14 4 2 6 (lent 2 R) (on R) l2 (λ x. x) (λ x. x) (λ M 𝓤 H A W. (as-is 𝓤 H A (msleft R (on R)), as-is 𝓤 H A (mslice-owed R (lent 2 R) 2 6 l2))) refl refl
       so forgets 6 dead refl
-      so begins 6 (tt, (tt, (tt, (tt, (tt, (tt, (tt, (tt, (tt, (tt, (tt, (tt, (tt, (tt, (tt, (tt, (tt, (tt, (tt, (tt, (tt, (tt, (tt, (tt, (tt, (tt, (tt, (tt, (tt, (tt, (tt, (tt, (tt, (tt, (tt, (tt, tt))))))))))))))))))))))))))))))))))))
+      so standing at1 (begins 6 (tt, (tt, (tt, (tt, (tt, (tt, (tt, (tt, (tt, (tt, (tt, (tt, (tt, (tt, (tt, (tt, (tt, (tt, (tt, (tt, (tt, (tt, (tt, (tt, (tt, (tt, (tt, (tt, (tt, (tt, (tt, (tt, (tt, (tt, (tt, (tt, tt))))))))))))))))))))))))))))))))))))
       so relends Byte 3 15 1 6 (lent 1 Byte) (on Byte) (λ x. x) (λ M 𝓤 H A W bs. (as-is 𝓤 H A (mslice Byte (lent 1 Byte) 1), room-gone 𝓤 H A (on Byte), refl, refl)) refl (λ b o. tt) tt
       then bundles-as Byte (asMut Byte) 15 16 6 (on Byte) (λ x. x) (oFld 3 (field 1 ∷ []) word 8 (λ x. lenV (x .0)))
       (λ M 𝓤 H A W bs. (as-is 𝓤 H A (msptr Byte (on Byte) 6), room-gone 𝓤 H A (sliceTy (on Byte)), (reads-owed-len 𝓤 H A W Byte (lent 1 Byte) 1 6 l1 8 refl, refl), refl, refl)) (λ b o k. tt)
@@ -132,7 +166,7 @@ module _ (κs : Lfts 6) (qs : Shares 6) where
       then relends Byte 5 19 3 6 (lent 3 Byte) (on Byte) (λ x. x) (λ M 𝓤 H A W bs. (as-is 𝓤 H A (mslice Byte (lent 3 Byte) 3), room-gone 𝓤 H A (on Byte), refl, refl)) refl (λ b o. tt) tt
       then bundles-as Byte (asMut Byte) 19 20 6 (on Byte) (λ x. x) (oFld 5 (field 1 ∷ []) word 8 (λ x. lenV (x .0)))
       (λ M 𝓤 H A W bs. (as-is 𝓤 H A (msptr Byte (on Byte) 6), room-gone 𝓤 H A (sliceTy (on Byte)), (reads-owed-len 𝓤 H A W Byte (lent 3 Byte) 3 6 l3 8 refl, refl), refl, refl)) (λ b o k. tt)
-      then relends Word 6 21 4 6 (lent 4 Word) (on Word) (λ x. x) (λ M 𝓤 H A W bs. (as-is 𝓤 H A (mslice Word (lent 4 Word) 4), room-gone 𝓤 H A (on Word), refl, refl)) refl (λ b o. tt) tt
+      then standing at2 (relends Word 6 21 4 6 (lent 4 Word) (on Word) (λ x. x) (λ M 𝓤 H A W bs. (as-is 𝓤 H A (mslice Word (lent 4 Word) 4), room-gone 𝓤 H A (on Word), refl, refl)) refl (λ b o. tt) tt
       then bundles-as Word (asMut Word) 21 22 6 (on Word) (λ x. x) (oFld 6 (field 1 ∷ []) word 8 (λ x. lenV (x .0)))
       (λ M 𝓤 H A W bs. (as-is 𝓤 H A (msptr Word (on Word) 6), room-gone 𝓤 H A (sliceTy (on Word)), (reads-owed-len 𝓤 H A W Word (lent 4 Word) 4 6 l4 8 refl, refl), refl, refl)) (λ b o k. tt)
       then relends Word 7 23 5 6 (lent 5 Word) (on Word) (λ x. x) (λ M 𝓤 H A W bs. (as-is 𝓤 H A (mslice Word (lent 5 Word) 5), room-gone 𝓤 H A (on Word), refl, refl)) refl (λ b o. tt) tt
@@ -147,7 +181,7 @@ module _ (κs : Lfts 6) (qs : Shares 6) where
       so backs Word 22 6 4 6 (lent 4 Word) (on Word) l4 (λ x. x) (λ x. x) (λ M 𝓤 H A W. (as-is 𝓤 H A (msleft Word (on Word)), as-is 𝓤 H A (mslice-owed Word (lent 4 Word) 4 6 l4))) refl refl
       so backs Word 24 7 5 6 (lent 5 Word) (on Word) l5 (λ x. x) (λ x. x) (λ M 𝓤 H A W. (as-is 𝓤 H A (msleft Word (on Word)), as-is 𝓤 H A (mslice-owed Word (lent 5 Word) 5 6 l5))) refl refl
       so forgets 6 dead refl
-      so begins 6 (tt, (tt, (tt, (tt, (tt, (tt, (tt, (tt, (tt, (tt, (tt, (tt, (tt, (tt, (tt, (tt, (tt, (tt, (tt, (tt, (tt, (tt, (tt, (tt, (tt, (tt, (tt, (tt, (tt, (tt, (tt, (tt, (tt, (tt, (tt, (tt, tt))))))))))))))))))))))))))))))))))))
+      so standing at3 (begins 6 (tt, (tt, (tt, (tt, (tt, (tt, (tt, (tt, (tt, (tt, (tt, (tt, (tt, (tt, (tt, (tt, (tt, (tt, (tt, (tt, (tt, (tt, (tt, (tt, (tt, (tt, (tt, (tt, (tt, (tt, (tt, (tt, (tt, (tt, (tt, (tt, tt))))))))))))))))))))))))))))))))))))
       so relends Byte 3 25 1 6 (lent 1 Byte) (on Byte) (λ x. x) (λ M 𝓤 H A W bs. (as-is 𝓤 H A (mslice Byte (lent 1 Byte) 1), room-gone 𝓤 H A (on Byte), refl, refl)) refl (λ b o. tt) tt
       then bundles-as Byte (asMut Byte) 25 26 6 (on Byte) (λ x. x) (oFld 3 (field 1 ∷ []) word 8 (λ x. lenV (x .0)))
       (λ M 𝓤 H A W bs. (as-is 𝓤 H A (msptr Byte (on Byte) 6), room-gone 𝓤 H A (sliceTy (on Byte)), (reads-owed-len 𝓤 H A W Byte (lent 1 Byte) 1 6 l1 8 refl, refl), refl, refl)) (λ b o k. tt)
@@ -165,7 +199,7 @@ module _ (κs : Lfts 6) (qs : Shares 6) where
       then ends 6 refl
       so backs Byte 28 5 3 6 (lent 3 Byte) (on Byte) l3 (λ x. x) (λ x. x) (λ M 𝓤 H A W. (as-is 𝓤 H A (msleft Byte (on Byte)), as-is 𝓤 H A (mslice-owed Byte (lent 3 Byte) 3 6 l3))) refl refl
       so forgets 6 dead refl
-      so begins 6 (tt, (tt, (tt, (tt, (tt, (tt, (tt, (tt, (tt, (tt, (tt, (tt, (tt, (tt, (tt, (tt, (tt, (tt, (tt, (tt, (tt, (tt, (tt, (tt, (tt, (tt, (tt, (tt, (tt, (tt, (tt, (tt, (tt, (tt, (tt, (tt, tt))))))))))))))))))))))))))))))))))))
+      so standing at4 (begins 6 (tt, (tt, (tt, (tt, (tt, (tt, (tt, (tt, (tt, (tt, (tt, (tt, (tt, (tt, (tt, (tt, (tt, (tt, (tt, (tt, (tt, (tt, (tt, (tt, (tt, (tt, (tt, (tt, (tt, (tt, (tt, (tt, (tt, (tt, (tt, (tt, tt))))))))))))))))))))))))))))))))))))
       so relends Word 6 29 4 6 (lent 4 Word) (on Word) (λ x. x) (λ M 𝓤 H A W bs. (as-is 𝓤 H A (mslice Word (lent 4 Word) 4), room-gone 𝓤 H A (on Word), refl, refl)) refl (λ b o. tt) tt
       then bundles-as Word (asMut Word) 29 30 6 (on Word) (λ x. x) (oFld 6 (field 1 ∷ []) word 8 (λ x. lenV (x .0)))
       (λ M 𝓤 H A W bs. (as-is 𝓤 H A (msptr Word (on Word) 6), room-gone 𝓤 H A (sliceTy (on Word)), (reads-owed-len 𝓤 H A W Word (lent 4 Word) 4 6 l4 8 refl, refl), refl, refl)) (λ b o k. tt)
@@ -183,7 +217,7 @@ module _ (κs : Lfts 6) (qs : Shares 6) where
       then ends 6 refl
       so backs Word 32 7 5 6 (lent 5 Word) (on Word) l5 (λ x. x) (λ x. x) (λ M 𝓤 H A W. (as-is 𝓤 H A (msleft Word (on Word)), as-is 𝓤 H A (mslice-owed Word (lent 5 Word) 5 6 l5))) refl refl
       so forgets 6 dead refl
-      so begins 6 (tt, (tt, (tt, (tt, (tt, (tt, (tt, (tt, (tt, (tt, (tt, (tt, (tt, (tt, (tt, (tt, (tt, (tt, (tt, (tt, (tt, (tt, (tt, (tt, (tt, (tt, (tt, (tt, (tt, (tt, (tt, (tt, (tt, (tt, (tt, (tt, tt))))))))))))))))))))))))))))))))))))
+      so standing at5 (begins 6 (tt, (tt, (tt, (tt, (tt, (tt, (tt, (tt, (tt, (tt, (tt, (tt, (tt, (tt, (tt, (tt, (tt, (tt, (tt, (tt, (tt, (tt, (tt, (tt, (tt, (tt, (tt, (tt, (tt, (tt, (tt, (tt, (tt, (tt, (tt, (tt, tt))))))))))))))))))))))))))))))))))))
       so relends R 4 33 2 6 (lent 2 R) (on R) (λ x. x) (λ M 𝓤 H A W bs. (as-is 𝓤 H A (mslice R (lent 2 R) 2), room-gone 𝓤 H A (on R), refl, refl)) refl (λ b o. tt) tt
       then bundles-as R (asMut R) 33 34 6 (on R) (λ x. x) (oFld 4 (field 1 ∷ []) word 8 (λ x. lenV (x .0)))
       (λ M 𝓤 H A W bs. (as-is 𝓤 H A (msptr R (on R) 6), room-gone 𝓤 H A (sliceTy (on R)), (reads-owed-len 𝓤 H A W R (lent 2 R) 2 6 l2 8 refl, refl), refl, refl)) (λ b o k. tt)
@@ -200,7 +234,7 @@ module _ (κs : Lfts 6) (qs : Shares 6) where
       so drops 9 packed (λ M 𝓤 H A W. enum-room Packed.the-type PackedLaws.the-copy 𝓤 H A W)
       so drops 10 tyUnit (λ M 𝓤 H A W. room-sc 𝓤 H A W sUnit)
       so drops 35 tyBool (λ M 𝓤 H A W. room-sc 𝓤 H A W sBool)
-      so returns tt
+      so returns tt)))))
 
 shown : Shown told 6 ps r xs 1 homes (code.function .body) walk WithinPre WithinPost
 shown κs qs a g q = λ γ. (refl, ((λ κ. tt), λ z. (refl, λ n₁. λ γ. (refl, ((λ κ. tt), λ e. (refl, λ n₂. λ γ. (refl, λ γ. (refl, λ γ. (refl, λ γ. (refl, λ γ. (refl, ((λ κ. (zeros-again 0 (length (a .1 .1 .0 .now)) (z .5), zeros-again empty (length (a .1 .1 .1 .0 .now)) (e .5))), λ w. (refl, λ n₃. (refl, λ n₄. (refl, λ n₅. (refl, λ n₆. (refl, λ n₇. λ γ. (refl, ((λ κ. record { tables = tablesTest (length (a .1 .1 .1 .1 .0 .now)) (length (a .1 .1 .1 .1 .1 .0 .now)) (length (a .1 .1 .1 .1 .1 .1 .0 .now)); cells = length (e .2 .0); table = pairsIs (w .2 .1 .1 .0); ended = subst (λ (k : ℕ). Ended (a .1 .0 .now) (tablesTest (length (a .1 .1 .1 .1 .0 .now)) (length (a .1 .1 .1 .1 .1 .0 .now)) (length (a .1 .1 .1 .1 .1 .1 .0 .now))) (length (e .2 .0)) k (w .2 .1 .0) (pairsIs (w .2 .1 .1 .0)) (w .1)) (sym n₃) (w .5) }), λ f. (refl, λ n₈. λ γ. (refl, ((λ κ. tt), λ i. (refl, λ n₉. λ γ. (refl, ((λ κ. tt), λ l. (refl, λ n₁₀. λ γ. (refl, ((λ κ. tt), λ t. (refl, λ n₁₁. λ γ. (refl, ((λ κ. tt), λ b. ((λ κ. tt), λ c. (refl, λ n₁₂. ((tt, (refl, (ap (λ (k : ℕ). (a .1 .1 .0 .ptr, (a .1 .1 .0 .name, k))) (n₈ ∙ n₃ ∙ n₁), (ap (λ (k : ℕ). (a .1 .1 .1 .0 .ptr, (a .1 .1 .1 .0 .name, k))) (n₁₂ ∙ n₄ ∙ n₂), (ap (λ (k : ℕ). (a .1 .1 .1 .1 .0 .ptr, (a .1 .1 .1 .1 .0 .name, k))) (n₉ ∙ n₅), (ap (λ (k : ℕ). (a .1 .1 .1 .1 .1 .0 .ptr, (a .1 .1 .1 .1 .1 .0 .name, k))) (n₁₀ ∙ n₆), (ap (λ (k : ℕ). (a .1 .1 .1 .1 .1 .1 .0 .ptr, (a .1 .1 .1 .1 .1 .1 .0 .name, k))) (n₁₁ ∙ n₇), tt))))))), packs-cells (a .0) (a .1 .0 .now) (tablesTest (length (a .1 .1 .1 .1 .0 .now)) (length (a .1 .1 .1 .1 .1 .0 .now)) (length (a .1 .1 .1 .1 .1 .1 .0 .now))) (length (a .1 .1 .1 .0 .now)) (length (a .1 .1 .0 .now)) n₂ n₁ (w .2 .1 .1 .0) (c .2 .0) (length (w .2 .1 .1 .1 .0)) (length (w .2 .1 .1 .1 .1 .0)) (length (w .2 .1 .1 .1 .1 .1 .0)) (w .5) n₃ (f .5) (b .5) (c .5) n₁₂ (i .5) (l .5) (t .5)))))))))))))))))))))))))))))))))))
