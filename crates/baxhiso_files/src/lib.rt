@@ -5,15 +5,17 @@ ghost use lib.ListN.{length, replicate};
 ghost use Rattle.format.specs.Limits.{maxLen};
 ghost use Rattle.packing.specs.Packing.{packAnswer};
 ghost use Rattle.pack_blank.specs.PackBlank.{tablesTest};
+ghost use Rattle.pack_cells.specs.Pairs.{pairsIs};
 ghost use Rattle.carrying.specs.Carry.{carryPlain};
 ghost use Rattle.stream_arrays.specs.Arrays.{held, heldPlain};
 ghost use Rattle.baxhiso_files.specs.Files.{ConvertLeaves};
-ghost use Rattle.baxhiso_files.specs.PackFiles.{PackLeaves};
+ghost use Rattle.baxhiso_files.specs.PackFiles.{resultOf, lenOf, PackLeaves};
 ghost use Rattle.baxhiso_files.specs.CarryArrays.{CarryLeaves};
 use baxhiso::code;
 use carry::Carries;
 use convert::Converted;
 use pack_blank::Packed;
+use pack_cell::Cell;
 use stream::Plain;
 use stream_arrays::put;
 use stream_arrays::reading_of;
@@ -45,13 +47,26 @@ pub extern "C" fn fst_convert(
     }
 }
 
+// The result of packing; the length is written where a file was.
+fn pack_told(answer: Packed, len: &mut usize) -> i32
+    ensures { λ r. ⌜ (r ≡ resultOf answer) × (now (len .exit) ≡ lenOf answer (now (len .entry))) ⌝ }
+{
+    match answer {
+        Packed::Len(size) => {
+            *len = size;
+            OK
+        }
+        Packed::Refused(why) => code(why),
+    }
+}
+
 // Packs a list of keys and values into a file. On 0 the file stands from the output's first byte on, zeros behind it, and its length is written; on a
 // refusal output and working tables are zeros, every cell is empty, and the length stays as given.
 #[no_mangle]
 pub extern "C" fn fst_pack(
     list: &[u8],
     out: &mut [u8],
-    cells: &mut [[u64; 2]],
+    cells: &mut [Cell],
     inputs: &mut [u8],
     leasts: &mut [u64],
     targets: &mut [usize],
@@ -60,17 +75,11 @@ pub extern "C" fn fst_pack(
     ensures { λ r. ⌜ PackLeaves
         (packAnswer maxLen (now (list .entry)) (tablesTest (length (now (inputs .entry))) (length (now (leasts .entry))) (length (now (targets .entry))))
         (length (now (cells .entry))) (length (now (out .entry)))) (now (out .exit))
-        (now (cells .exit)) (now (inputs .exit)) (now (leasts .exit)) (now (targets .exit))
+        (pairsIs (now (cells .exit))) (now (inputs .exit)) (now (leasts .exit)) (now (targets .exit))
         (now (len .entry)) (now (len .exit)) r ⌝ }
 {
     let answer = pack::pack(list, out, cells, inputs, leasts, targets);
-    match answer {
-        Packed::Len(size) => {
-            *len = size;
-            OK
-        }
-        Packed::Refused(why) => code(why),
-    }
+    pack_told(answer, len)
 }
 
 // Carries the reading that the arrays hold from the old file to the new one, at the same place. On 0 the arrays hold the reading of the new file; on a

@@ -1,7 +1,9 @@
 -- Laws of packing a list: what is left after the last step.
+--     settled-cells        cells that are emptied after a refusal
+--     packs-cells          what the entry point answers and leaves
 -- Assumes nothing.
 use mathlib.Core.Path.{_≡_, refl, sym, ap, _∙_, subst}
-use mathlib.Core.Bool.{Bool}
+use mathlib.Core.Bool.{Bool, cond}
 use mathlib.Core.List.{List, [], _∷_, _++_}
 use Prim.Native.Nat.{ℕ, _-_}
 use lib.ListN.{length, replicate}
@@ -9,24 +11,24 @@ use Rattle.packing.specs.Registry.{emptyCell}
 use Rattle.packing.specs.Packing.{Answer, written, refused, packAnswer}
 use Rattle.pack_intern.specs.Interning.{cellsIs}
 use Rattle.pack_blank.specs.PackBlank.{Answers}
-use Rattle.pack_blank.specs.PackBlankLaws.{refused-not, cells-empty}
+use Rattle.pack_blank.specs.PackBlankLaws.{cells-empty, zeros-again}
 use Rattle.pack_blank.specs.declared.Packed.{Packed}
-use Rattle.pack_blank.specs.declared.Packed.the-variants.{Len, Refused}
+use Rattle.pack_blank.specs.declared.Packed.the-variants.{Refused}
+use Rattle.pack_cell.specs.Cells.{empty}
+use Rattle.pack_cell.specs.declared.Cell.{Cell}
+use Rattle.pack_cells.specs.Pairs.{pairsIs}
+use Rattle.pack_cells.specs.PairsLaws.{pairs-length, pairs-empty}
+use Rattle.pack_step.specs.Standing.{Ended}
+use Rattle.pack_end.specs.Ending.{Finishes, refusedTest}
+use Rattle.pack_step.specs.declared.Turn.{Turn}
 use Rattle.pack.specs.PackList.{Settled, PacksBy}
 
-pub settled-kept : (n : ℕ) (out : List ℕ) (cells : List (List ℕ)) (a : Packed) → a ≡ Len n → Settled a out cells out cells (Len n)
-settled-kept n out cells a e = record { same = sym e; kept = λ k q. (refl, refl); emptied = λ k q. absurd (refused-not (sym q ∙ e)) }
-
-pub settled-emptied : (k : ℕ) (out₀ : List ℕ) (cells₀ : List (List ℕ)) (out : List ℕ) (cells : List (List ℕ)) (a : Packed) → a ≡ Refused k → out ≡ replicate (length out₀) 0
-    → cells ≡ replicate (length cells₀) (1 ∷ 0 ∷ []) → Settled a out₀ cells₀ out cells (Refused k)
-settled-emptied k out₀ cells₀ out cells a e p q = record { same = sym e; kept = λ n z. absurd (refused-not (sym e ∙ z)); emptied = λ n z. (p, q) }
-
-pub answers-as : (limit : ℕ) (s : List ℕ) (tables : Bool) (n′ n room′ room : ℕ) {out : List ℕ} {cells : List (List ℕ)} {r : Packed} → n′ ≡ n → room′ ≡ room
+answers-as : (limit : ℕ) (s : List ℕ) (tables : Bool) (n′ n room′ room : ℕ) {out : List ℕ} {cells : List (List ℕ)} {r : Packed} → n′ ≡ n → room′ ≡ room
     → Answers (packAnswer limit s tables n′ room′) out cells r → Answers (packAnswer limit s tables n room) out cells r
 answers-as limit s tables n′ n room′ room {out} {cells} {r} p q w =
     subst (λ (m : ℕ). Answers (packAnswer limit s tables n m) out cells r) q (subst (λ (k : ℕ). Answers (packAnswer limit s tables k room′) out cells r) p w)
 
-pub packs : (A : Answer) (out₀ : List ℕ) (cells₀ : List (List ℕ)) (r₀ : Packed) (out : List ℕ) (cells : List (List ℕ)) (inputs leasts targets : List ℕ) (r : Packed)
+packs : (A : Answer) (out₀ : List ℕ) (cells₀ : List (List ℕ)) (r₀ : Packed) (out : List ℕ) (cells : List (List ℕ)) (inputs leasts targets : List ℕ) (r : Packed)
     → Answers A out₀ cells₀ r₀ → Settled r₀ out₀ cells₀ out cells r → length out ≡ length out₀ → length cells ≡ length cells₀ → inputs ≡ replicate (length inputs) 0
     → leasts ≡ replicate (length leasts) 0 → targets ≡ replicate (length targets) 0 → PacksBy A out cells inputs leasts targets r
 packs A out₀ cells₀ r₀ out cells inputs leasts targets r w s lo lc i l t = go A w
@@ -52,3 +54,30 @@ packs A out₀ cells₀ r₀ out cells inputs leasts targets r w s lo lc i l t =
           leasts-zero = l;
           targets-zero = t;
         }
+
+-- out′ is zeros after a refusal, and then cells′ is empty too
+module _ {r : Packed} {b : Bool} (test : b ≡ refusedTest r) (out : List ℕ) {out′ : List ℕ} (cells : List Cell) {cells′ : List Cell} (left : cells′ ≡ cond b (replicate (length cells) empty) cells)
+    (zeros : (k : ℕ) → r ≡ Refused k → out′ ≡ replicate (length out) 0) where
+  by-test : {t : Bool} → refusedTest r ≡ t → cells′ ≡ cond t (replicate (length cells) empty) cells
+  by-test e = left ∙ ap (λ (x : Bool). cond x (replicate (length cells) empty) cells) (test ∙ e)
+
+  settled-cells : Settled r out′ (pairsIs cells) out′ (pairsIs cells′) r
+  settled-cells = record {
+    same = refl;
+    kept = λ n e. (refl, ap pairsIs (by-test (ap refusedTest e)));
+    emptied = λ k e. (
+      zeros-again 0 (length out) (zeros k e),
+      ap pairsIs (by-test (ap refusedTest e)) ∙ pairs-empty (length cells) ∙ ap (λ (n : ℕ). replicate n (1 ∷ 0 ∷ [])) (sym (pairs-length cells)),
+    );
+  }
+
+-- the run was given n′ cells and room′ bytes of output, as many as are lent; afterwards cells′ are left of cells
+pub packs-cells : (limit : ℕ) (s : List ℕ) (tables : Bool) (n room : ℕ) {n′ room′ : ℕ} → n′ ≡ n → room′ ≡ room → (cells cells′ : List Cell) (i l w : ℕ)
+    → {out out′ : List ℕ} {t : Turn} {r : Packed} {b : Bool} {inputs leasts targets : List ℕ}
+    → Ended s tables n′ room′ out (pairsIs cells) t → length out ≡ room′ → Finishes limit s out t out′ r → b ≡ refusedTest r → cells′ ≡ cond b (replicate (length cells) empty) cells
+    → length cells′ ≡ length cells → inputs ≡ replicate i 0 → leasts ≡ replicate l 0 → targets ≡ replicate w 0
+    → PacksBy (packAnswer limit s tables n room) out′ (pairsIs cells′) inputs leasts targets r
+packs-cells limit s tables n room {n′} {room′} en er cells cells′ i l w {out} {out′} {t} {r} {b} {inputs} {leasts} {targets} ended long f test left same zi zl zt =
+    packs (packAnswer limit s tables n room) out′ (pairsIs cells) r out′ (pairsIs cells′) inputs leasts targets r
+    (answers-as limit s tables n′ n (length out) room en (long ∙ er) (f .answers tables n′ (pairsIs cells) (subst (λ (k : ℕ). Ended s tables n′ k out (pairsIs cells) t) (sym long) ended)))
+    (settled-cells test out cells left (f .emptied)) refl (pairs-length cells′ ∙ same ∙ sym (pairs-length cells)) (zeros-again 0 i zi) (zeros-again 0 l zl) (zeros-again 0 w zt)

@@ -23,14 +23,14 @@ pub enum Packed {
 pub const TABLE: usize = 65536;
 
 // Whether every working table has its size.
-fn tables_fit(inputs: usize, leasts: usize, targets: usize) -> bool
+pub fn tables_fit(inputs: usize, leasts: usize, targets: usize) -> bool
     ensures { λ r. ⌜ r ≡ tablesTest inputs leasts targets ⌝ }
 {
     TABLE <= inputs && (TABLE <= leasts && TABLE <= targets)
 }
 
 // Writes the version, and after the nodes the number of keys and the root's address.
-fn write_ends(output: &mut [u8], count: u64, root: u64, next: usize)
+pub fn write_ends(output: &mut [u8], count: u64, root: u64, next: usize)
     requires { ⌜ (16 ≤ next) × (next + 16 ≤ length (now output)) ⌝ }
     ensures { λ _. ⌜ now (output .exit) ≡ trailed (now (output .entry)) count root next ⌝ }
 {

@@ -5,6 +5,8 @@ ghost use Prim.Native.Nat.{_+_, _<_};
 ghost use lib.ListN.{length, set, replicate};
 ghost use Rattle.pack_cell.specs.Cells.{empty, at};
 
+// Two words for a C caller: functions for C are lent a table of them.
+#[repr(C)]
 pub struct Cell {
     // the address of a node; 1 when the cell is empty
     pub addr: u64,

@@ -10,7 +10,7 @@ ghost use Rattle.pack_insert.specs.Inserting.{CommonIs, Opened, Insertab
 use pack_close::Closed;
 
 // How many of the key's first bytes lead along the open nodes, the deepest of which is at depth k.
-fn common(key: &[u8], led: &[u8; 256], k: usize) -> usize
+pub fn common(key: &[u8], led: &[u8; 256], k: usize) -> usize
     requires { ⌜ k < 256 ⌝ }
     ensures { λ r. ⌜ CommonIs (now (key .entry)) (now (led .entry)) k r ⌝ }
 {
@@ -28,7 +28,7 @@ fn common(key: &[u8], led: &[u8; 256], k: usize) -> usize
 }
 
 // Opens the nodes along the key below depth m; the key ends at the deepest, with this value.
-fn open_key(
+pub fn open_key(
     key: &[u8],
     m: usize,
     value: u64,

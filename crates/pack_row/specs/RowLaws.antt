@@ -1,7 +1,7 @@
 -- Laws of a row of two cells: what is done in it alone is what is done in the whole table.
 --     intern-in-row        a record interned in its row
 --     row-interned         so of lent cells, which are put back; same-cells: of cells that are the same one by one
---     row-closable         what finishing a node asks, in its row alone
+--     row-ready, row-closable  what interning a record, and finishing a node, asks, in its row alone
 --     step-in-row, step-full   the deepest node finished in its row alone, or the output is full
 -- Assumes nothing.
 use mathlib.Core.Path.{_≡_, refl, sym, ap, ap₂, _∙_, subst}
@@ -171,22 +171,29 @@ same-cells {R} {first} {out} {cells} {cells′} w e l = record {
 
 -- ---- the deepest node finished
 
-module _ (out : List ℕ) (first : ℕ) (cells : List (List ℕ)) (T : Tables) (e i : ℕ) (row : List (List ℕ)) (C : Closable out first cells T (e + 1)) (taken : TakenFrom cells i row) where
-  row-is : cellsIs row ≡ pairAt (cellsIs cells) i
-  row-is = ap cellsIs (taken .is) ∙ cell-of-row cells i (taken .within)
+module _ (out : List ℕ) (first : ℕ) (cells : List (List ℕ)) (i : ℕ) (row : List (List ℕ)) (ready : Ready out first cells) (taken : TakenFrom cells i row) where
+  row-taken : cellsIs row ≡ pairAt (cellsIs cells) i
+  row-taken = ap cellsIs (taken .is) ∙ cell-of-row cells i (taken .within)
 
   pair-fits : (j : ℕ) → CellFit first (cellAt (pairAt (cellsIs cells) i) j)
-  pair-fits zero = C .ready .cells-fit .fit i
-  pair-fits (suc zero) = C .ready .cells-fit .fit (i + 1)
+  pair-fits zero = ready .cells-fit .fit i
+  pair-fits (suc zero) = ready .cells-fit .fit (i + 1)
   pair-fits (suc (suc j)) = inl refl
+
+  pub row-ready : Ready out first row
+  row-ready = record {
+    laid = ready .laid;
+    cells-fit = record { fit = λ j. subst (λ (t : List Cell). CellFit first (cellAt t j)) (sym row-taken) (pair-fits j) };
+    two = subst (λ (t : List (List ℕ)). 2 ≤ length t) (sym (taken .is)) (omega arith);
+  }
+
+module _ (out : List ℕ) (first : ℕ) (cells : List (List ℕ)) (T : Tables) (e i : ℕ) (row : List (List ℕ)) (C : Closable out first cells T (e + 1)) (taken : TakenFrom cells i row) where
+  row-is : cellsIs row ≡ pairAt (cellsIs cells) i
+  row-is = row-taken out first cells i row (C .ready) taken
 
   pub row-closable : Closable out first row T (e + 1)
   row-closable = record {
-    ready = record {
-      laid = C .ready .laid;
-      cells-fit = record { fit = λ j. subst (λ (t : List Cell). CellFit first (cellAt t j)) (sym row-is) (pair-fits j) };
-      two = subst (λ (t : List (List ℕ)). 2 ≤ length t) (sym (taken .is)) (omega arith);
-    };
+    ready = row-ready out first cells i row (C .ready) taken;
     sized = C .sized;
     orderly = C .orderly;
     low = C .low;

@@ -4,6 +4,7 @@
 --     Runs K L Γ b Δ       the code b, with locals of the types L, from the context Γ: what is to be shown at entry (Φ), and the rules' derivation
 --     Does K L Γ a Γ′      one statement, from Γ to Γ′
 --     Turns L Γ Γ′         a step without code
+--     standing             the context written out
 --     _then_, _so_, _also_ a statement and the rest; a step without code and the rest; a statement and a step without code
 --     part, blocks, loops, tests, skips, leaves, returns, last     the code's shape
 -- Assumes the kit's logic (`Given`), as its rules do.
@@ -38,6 +39,10 @@ pub record Does (K : Knows) (L : List Ty) (Γ : Cx) (a : Body) (Γ′ : Cx) : Ty
 pub record Turns (L : List Ty) (Γ Γ′ : Cx) : Type 2 where
   pub φ : Tf Γ Γ′
   pub ghost : (M : Type 1) (𝓤 : URA M) (H : Heap 𝓤) (A : Atoms 𝓤) (W : Given 𝓤 H A) (bs : List ℕ) → Ghost 𝓤 H A (EnvOf 𝓤 H L bs) Γ Γ′ φ
+
+-- what follows is checked against Γ as it is written, and not against what the steps before it compute: in a long walk that is cheaper
+abbrev pub standing : {K : Knows} {L : List Ty} (Γ : Cx) {b : Body} {Δ : Outs} → Runs K L Γ b Δ → Runs K L Γ b Δ
+standing Γ w = w
 
 -- ---- one after the other
 
