@@ -8,7 +8,7 @@ use Rattle.pack_step.proofs.step.Statement.{statement}
 use Rattle.pack_step.proofs.step.Tie as tie
 
 step-root-requires : tie.Need-step-root-requires
-step-root-requires c κs = search needs
+step-root-requires c κs = let t = c .before .before .before .before .before .before .before .before .before .before .before .before .before .before .before .before in record { cells = t .args .cells; asked = t .pre; top = c .before .before .before .before .before .before .before .before .if1 .taken }
 
 same-length : tie.Need-same-length
 same-length c = search needs
