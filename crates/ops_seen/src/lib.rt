@@ -16,7 +16,7 @@ pub struct Seen {
 }
 
 // What is seen of a card.
-fn seen_of(card: Card) -> Seen
+pub fn seen_of(card: Card) -> Seen
     ensures { λ r. ⌜ SeenOf card r ⌝ }
 {
     let reading = card.reading;
@@ -54,7 +54,7 @@ pub fn see(count: usize, cards: [Card; 8]) -> [Seen; 8]
 }
 
 // A card with the slot and the value that are seen.
-fn dealt(card: Card, seen: Seen) -> Card
+pub fn dealt(card: Card, seen: Seen) -> Card
     ensures { λ r. ⌜ r ≡ dealtCard card seen ⌝ }
 {
     let reading = card.reading;
