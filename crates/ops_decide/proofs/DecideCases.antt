@@ -21,17 +21,18 @@ use Rattle.ops_spec.specs.Ops.{Indexed, cardKey, ifHolds, leastKey, sameTest, p
 use Rattle.ops_keys.specs.declared.Head.{Head}
 use Rattle.ops_keys.specs.declared.Order.{Order}
 use Rattle.ops_keys.specs.declared.Order.the-variants.{Less, Equal, Greater}
-use Rattle.ops_keys.specs.Heads.{headKey, HeadOf, less?, Compared}
+use Rattle.ops_keys.specs.Heads.{headKey, less?, Compared}
 use Rattle.ops_pairs.specs.declared.Pairs.{Pairs}
 use Rattle.ops_pairs.specs.Pairs.{padded, PairsAre}
 use Rattle.ops_pairs.specs.PairsLaws.{the-files}
 use Rattle.ops_round.specs.declared.Slot.{Slot}
 use Rattle.ops_round.specs.declared.Slot.the-variants.{Used, Holds, Ended}
-use Rattle.ops_round.specs.declared.Card.{Card}
-use Rattle.ops_round.specs.Cards.{slotIs, cardIs, cardsIs, FewBy, Few}
-use Rattle.ops_round.specs.CardsLaws.{cards-length, cards-cons}
+use Rattle.ops_round.specs.Cards.{slotIs, FewBy}
+use Rattle.ops_seen.specs.declared.Seen.{Seen}
+use Rattle.ops_seen.specs.Sights.{Shows, Sees, Few}
+use Rattle.ops_seen.specs.SightsLaws.{Front, front-is, used-kept}
 use Rattle.ops_item.specs.declared.Least.{Least}
-use Rattle.ops_item.specs.Items.{ifFound, leastIs, LeastBy, AllUsed, CollectedBy}
+use Rattle.ops_item.specs.Items.{ifFound, leastIs, LeastBy, keyTest, AllUsed, CollectedBy}
 use Rattle.ops_decide.specs.declared.Op.{Op}
 use Rattle.ops_decide.specs.declared.Op.the-variants.{Union, Intersection, Difference, SymmetricDifference}
 use Rattle.ops_decide.specs.declared.Verdict.the-variants.{This, Another}
@@ -72,79 +73,71 @@ module _ (op : Op) (n : ℕ) (p : Pairs) (ps : List Indexed) (are : PairsAre ps 
 
 -- ---- at a key
 
-module _ (op : Op) (n : ℕ) (cs : List Card) (k : Head) (long : n ≤ length cs) (p : Pairs) (after : List Card) (taken : Bool)
+module _ (op : Op) (n : ℕ) (cs : List Seen) (k : Head) (p : Pairs) (after : List Seen) (taken : Bool)
     (collected : CollectedBy n cs k p) (used : AllUsed n cs k false after) (takes : (ps : List Indexed) → PairsAre ps p → taken ≡ takesTest (opIs op) n ps)
-    (fs : List (List ℕ)) where
-  abbrev cards : List O.Card
-  cards = cardsIs fs n cs
-
-  key-test : takesTest (opIs op) (length cards) (pairsFrom 0 (headKey k) cards) ≡ taken
+    (X : List O.Card) (S : Sees n cs X) where
+  key-test : takesTest (opIs op) (length X) (pairsFrom 0 (headKey k) X) ≡ taken
   key-test =
-      ap (λ (m : ℕ). takesTest (opIs op) m (pairsFrom 0 (headKey k) cards)) (cards-length fs n cs long)
-      ∙ sym (takes (pairsFrom 0 (headKey k) cards) (collected .is fs))
+      ap (λ (m : ℕ). takesTest (opIs op) m (pairsFrom 0 (headKey k) X)) (S .count) ∙ sym (takes (pairsFrom 0 (headKey k) X) (collected .is X S))
 
   by-taken : (r : Decided) (b : Bool) → taken ≡ b
-      → DecidedBy fs n
-      (cond b (O.this (headKey k) (pairsFrom 0 (headKey k) cards) (useUp (λ l. sameTest l (headKey k)) cards)) (O.another (useUp (λ l. sameTest l (headKey k)) cards))) r
-      → DecidedBy fs n (atKey (opIs op) (headKey k) cards) r
+      → DecidedBy X n
+      (cond b (O.this (headKey k) (pairsFrom 0 (headKey k) X) (useUp (λ l. sameTest l (headKey k)) X)) (O.another (useUp (λ l. sameTest l (headKey k)) X))) r
+      → DecidedBy X n (atKey (opIs op) (headKey k) X) r
   by-taken r b e h =
       subst
       (λ (t : Bool).
-      DecidedBy fs n
-      (cond t (O.this (headKey k) (pairsFrom 0 (headKey k) cards) (useUp (λ l. sameTest l (headKey k)) cards)) (O.another (useUp (λ l. sameTest l (headKey k)) cards))) r)
+      DecidedBy X n
+      (cond t (O.this (headKey k) (pairsFrom 0 (headKey k) X) (useUp (λ l. sameTest l (headKey k)) X)) (O.another (useUp (λ l. sameTest l (headKey k)) X))) r)
       (sym (key-test ∙ e)) h
 
-  pub key-this : taken ≡ true → k .levels ≤ maxLevels
-      → DecidedBy fs n (atKey (opIs op) (headKey k) (cardsIs fs n cs)) (record { verdict = This; key = k; pairs = p; cards = after })
+  pub key-this : taken ≡ true → k .levels ≤ maxLevels → DecidedBy X n (atKey (opIs op) (headKey k) X) (record { verdict = This; key = k; pairs = p; cards = after })
   key-this e few =
       by-taken (record { verdict = This; key = k; pairs = p; cards = after }) true e
-      (record { verdict = refl; key = refl; few = few; pairs = collected .is fs; cards = sym (used .is fs); eight = used .eight })
+      (record {
+        verdict = refl;
+        key = refl;
+        few = few;
+        pairs = collected .is X S;
+        sees = used .is X S;
+        kept = used-kept (keyTest false (headKey k)) X;
+        eight = used .eight;
+      })
 
-  pub key-another : taken ≡ false
-      → DecidedBy fs n (atKey (opIs op) (headKey k) (cardsIs fs n cs)) (record { verdict = Another; key = k; pairs = p; cards = after })
+  pub key-another : taken ≡ false → DecidedBy X n (atKey (opIs op) (headKey k) X) (record { verdict = Another; key = k; pairs = p; cards = after })
   key-another e =
       by-taken (record { verdict = Another; key = k; pairs = p; cards = after }) false e
-      (record { verdict = refl; cards = sym (used .is fs); eight = used .eight })
+      (record { verdict = refl; sees = used .is X S; kept = used-kept (keyTest false (headKey k)) X; eight = used .eight })
 
 -- ---- by the least key
 
-module _ (n : ℕ) (cs : List Card) (l : Least) (least : LeastBy n cs l) (fs : List (List ℕ)) where
-  found-is : (b : Bool) → l .found ≡ b → leastKey (cardsIs fs n cs) ≡ ifFound b (headKey (l .key))
-  found-is b e = least .is fs ∙ ap (λ (x : Bool). ifFound x (headKey (l .key))) e
+module _ (n : ℕ) (cs : List Seen) (l : Least) (least : LeastBy n cs l) (X : List O.Card) (S : Sees n cs X) where
+  found-is : (b : Bool) → l .found ≡ b → leastKey X ≡ ifFound b (headKey (l .key))
+  found-is b e = least .is X S ∙ ap (λ (x : Bool). ifFound x (headKey (l .key))) e
 
-  pub least-some : (op : Op) (r : Decided) → l .found ≡ true → DecidedBy fs n (atKey (opIs op) (headKey (l .key)) (cardsIs fs n cs)) r
-      → DecidedBy fs n (atLeast (opIs op) (leastKey (cardsIs fs n cs)) (cardsIs fs n cs)) r
-  least-some op r e h =
-      subst (λ (o : Option (List ℕ)). DecidedBy fs n (atLeast (opIs op) o (cardsIs fs n cs)) r) (sym (found-is true e)) h
+  pub least-some : (op : Op) (r : Decided) → l .found ≡ true → DecidedBy X n (atKey (opIs op) (headKey (l .key)) X) r → DecidedBy X n (atLeast (opIs op) (leastKey X) X) r
+  least-some op r e h = subst (λ (o : Option (List ℕ)). DecidedBy X n (atLeast (opIs op) o X) r) (sym (found-is true e)) h
 
-  pub least-none : (op : Op) (r : Decided) → l .found ≡ false → DecidedBy fs n O.no-more r
-      → DecidedBy fs n (atLeast (opIs op) (leastKey (cardsIs fs n cs)) (cardsIs fs n cs)) r
-  least-none op r e h =
-      subst (λ (o : Option (List ℕ)). DecidedBy fs n (atLeast (opIs op) o (cardsIs fs n cs)) r) (sym (found-is false e)) h
+  pub least-none : (op : Op) (r : Decided) → l .found ≡ false → DecidedBy X n O.no-more r → DecidedBy X n (atLeast (opIs op) (leastKey X) X) r
+  least-none op r e h = subst (λ (o : Option (List ℕ)). DecidedBy X n (atLeast (opIs op) o X) r) (sym (found-is false e)) h
 
   module _ (k : Head) (r : Decided) where
-    pub first-none : l .found ≡ false → DecidedBy fs n O.no-more r → DecidedBy fs n (atFirst (headKey k) (leastKey (cardsIs fs n cs)) (cardsIs fs n cs)) r
-    first-none e h =
-        subst (λ (o : Option (List ℕ)). DecidedBy fs n (atFirst (headKey k) o (cardsIs fs n cs)) r) (sym (found-is false e)) h
+    pub first-none : l .found ≡ false → DecidedBy X n O.no-more r → DecidedBy X n (atFirst (headKey k) (leastKey X) X) r
+    first-none e h = subst (λ (o : Option (List ℕ)). DecidedBy X n (atFirst (headKey k) o X) r) (sym (found-is false e)) h
 
     module _ (found : l .found ≡ true) (o : Order) (by : Compared (headKey (l .key)) (headKey k) o) where
-      by-less : (b : Bool) → less? o ≡ b
-          → DecidedBy fs n (cond b (O.another (useUp (λ x. beforeTest x (headKey k)) (cardsIs fs n cs))) (atKey O.difference (headKey k) (cardsIs fs n cs))) r
-          → DecidedBy fs n (atFirst (headKey k) (leastKey (cardsIs fs n cs)) (cardsIs fs n cs)) r
+      by-less : (b : Bool) → less? o ≡ b → DecidedBy X n (cond b (O.another (useUp (λ x. beforeTest x (headKey k)) X)) (atKey O.difference (headKey k) X)) r
+          → DecidedBy X n (atFirst (headKey k) (leastKey X) X) r
       by-less b e h =
-          subst (λ (x : Option (List ℕ)). DecidedBy fs n (atFirst (headKey k) x (cardsIs fs n cs)) r) (sym (found-is true found))
-          (subst
-          (λ (t : Bool).
-          DecidedBy fs n (cond t (O.another (useUp (λ x. beforeTest x (headKey k)) (cardsIs fs n cs))) (atKey O.difference (headKey k) (cardsIs fs n cs))) r)
-          (sym (by .less ∙ e)) h)
+          subst (λ (x : Option (List ℕ)). DecidedBy X n (atFirst (headKey k) x X) r) (sym (found-is true found))
+          (subst (λ (t : Bool). DecidedBy X n (cond t (O.another (useUp (λ x. beforeTest x (headKey k)) X)) (atKey O.difference (headKey k) X)) r) (sym (by .less ∙ e)) h)
 
-      pub first-key : less? o ≡ false → DecidedBy fs n (atKey O.difference (headKey k) (cardsIs fs n cs)) r
-          → DecidedBy fs n (atFirst (headKey k) (leastKey (cardsIs fs n cs)) (cardsIs fs n cs)) r
+      pub first-key : less? o ≡ false → DecidedBy X n (atKey O.difference (headKey k) X) r → DecidedBy X n (atFirst (headKey k) (leastKey X) X) r
       first-key e h = by-less false e h
 
-      pub first-less : less? o ≡ true → r .verdict ≡ Another → AllUsed n cs k true (r .cards)
-          → DecidedBy fs n (atFirst (headKey k) (leastKey (cardsIs fs n cs)) (cardsIs fs n cs)) r
-      first-less e v used = by-less true e (record { verdict = v; cards = sym (used .is fs); eight = used .eight })
+      pub first-less : less? o ≡ true → r .verdict ≡ Another → AllUsed n cs k true (r .cards) → DecidedBy X n (atFirst (headKey k) (leastKey X) X) r
+      first-less e v used =
+          by-less true e (record { verdict = v; sees = used .is X S; kept = used-kept (keyTest true (headKey k)) X; eight = used .eight })
 
 -- ---- by the first card
 
@@ -153,54 +146,48 @@ first-is : (X : List O.Card) (c : O.Card) (rest : List O.Card) → X ≡ c ∷ r
 first-is X c rest e =
     subst (λ (Y : List O.Card). O.decide O.difference Y ≡ ifHolds (c .slot) (λ v. atFirst (cardKey c) (leastKey Y) Y) O.no-more) (sym e) refl
 
-module _ (n : ℕ) (cs : List Card) (d : Card) (some-card : 0 < n) (long : n ≤ length cs) (fs : List (List ℕ)) (r : Decided) where
+module _ (n : ℕ) (cs : List Seen) (d : Seen) (some-card : 0 < n) (X : List O.Card) (S : Sees n cs X) (r : Decided) where
+  front : Front X 0
+  front = let len = S .count in front-is X 0 (omega arith)
+
   abbrev first : O.Card
-  first = cardIs (getD fs 0 []) (getD cs 0 d)
+  first = getD X 0 (front .other)
 
-  difference-is : O.decide O.difference (cardsIs fs n cs)
-      ≡ ifHolds (slotIs (getD cs 0 d .slot) (getD cs 0 d .value)) (λ v. atFirst (cardKey first) (leastKey (cardsIs fs n cs)) (cardsIs fs n cs)) O.no-more
-  difference-is = first-is (cardsIs fs n cs) first (drop (0 + 1) (cardsIs fs n cs)) (cards-cons fs n cs long 0 some-card d)
+  shows : Shows (getD cs 0 d) first
+  shows = S .at 0 d (front .other) some-card
 
-  by-slot : (x : Slot) → getD cs 0 d .slot ≡ x
-      → DecidedBy fs n (ifHolds (slotIs x (getD cs 0 d .value)) (λ v. atFirst (cardKey first) (leastKey (cardsIs fs n cs)) (cardsIs fs n cs)) O.no-more) r
-      → DecidedBy fs n (O.decide O.difference (cardsIs fs n cs)) r
-  by-slot x e h =
-      subst (λ (v : O.Verdict). DecidedBy fs n v r) (sym difference-is)
-      (subst
-      (λ (y : Slot).
-      DecidedBy fs n (ifHolds (slotIs y (getD cs 0 d .value)) (λ v. atFirst (cardKey first) (leastKey (cardsIs fs n cs)) (cardsIs fs n cs)) O.no-more) r)
-      (sym e) h)
+  by-slot : (y : Slot) → getD cs 0 d .slot ≡ y
+      → DecidedBy X n (ifHolds (slotIs y (getD cs 0 d .value)) (λ v. atFirst (cardKey first) (leastKey X) X) O.no-more) r → DecidedBy X n (O.decide O.difference X) r
+  by-slot y e h =
+      subst (λ (v : O.Verdict). DecidedBy X n v r) (sym (first-is X first (drop (0 + 1) X) (front .is)))
+      (subst (λ (z : O.Slot). DecidedBy X n (ifHolds z (λ v. atFirst (cardKey first) (leastKey X) X) O.no-more) r)
+      (sym (shows .slot ∙ ap (λ (z : Slot). slotIs z (getD cs 0 d .value)) e)) h)
 
-  pub difference-over : (getD cs 0 d .slot ≡ Used) ⊎ (getD cs 0 d .slot ≡ Ended) → DecidedBy fs n O.no-more r → DecidedBy fs n (O.decide O.difference (cardsIs fs n cs)) r
+  pub difference-over : (getD cs 0 d .slot ≡ Used) ⊎ (getD cs 0 d .slot ≡ Ended) → DecidedBy X n O.no-more r → DecidedBy X n (O.decide O.difference X) r
   difference-over (inl e) h = by-slot Used e h
   difference-over (inr e) h = by-slot Ended e h
 
-  pub difference-held : getD cs 0 d .slot ≡ Holds → Few (getD cs 0 d) → (k : Head) → HeadOf (getD cs 0 d .reading) k
-      → DecidedBy fs n (atFirst (headKey k) (leastKey (cardsIs fs n cs)) (cardsIs fs n cs)) r → DecidedBy fs n (O.decide O.difference (cardsIs fs n cs)) r
-  difference-held e few k is h =
-      by-slot Holds e
-      (subst (λ (x : List ℕ). DecidedBy fs n (atFirst x (leastKey (cardsIs fs n cs)) (cardsIs fs n cs)) r)
-      (is .key (subst (λ (x : Slot). FewBy x (getD cs 0 d .reading .reading .levels)) e few)) h)
+  pub difference-held : getD cs 0 d .slot ≡ Holds → DecidedBy X n (atFirst (headKey (getD cs 0 d .head)) (leastKey X) X) r → DecidedBy X n (O.decide O.difference X) r
+  difference-held e h = by-slot Holds e (subst (λ (k : List ℕ). DecidedBy X n (atFirst k (leastKey X) X) r) (sym (shows .key e)) h)
 
-pub few-first : (cs : List Card) (d : Card) (k : Head) → getD cs 0 d .slot ≡ Holds → Few (getD cs 0 d) → HeadOf (getD cs 0 d .reading) k → k .levels ≤ maxLevels
-few-first cs d k e few is =
-    subst (λ (m : ℕ). m ≤ maxLevels) (sym (is .levels)) (subst (λ (x : Slot). FewBy x (getD cs 0 d .reading .reading .levels)) e few)
+pub few-first : (cs : List Seen) (d : Seen) → getD cs 0 d .slot ≡ Holds → Few (getD cs 0 d) → getD cs 0 d .head .levels ≤ maxLevels
+few-first cs d e few = subst (λ (x : Slot). FewBy x (getD cs 0 d .head .levels)) e few
 
 -- ---- by the operation
 
-pub least-op : (op o : Op) (fs : List (List ℕ)) (n : ℕ) (X : List O.Card) (r : Decided) → op ≡ o → (o ≡ Union) ⊎ ((o ≡ Intersection) ⊎ (o ≡ SymmetricDifference))
-    → DecidedBy fs n (atLeast (opIs op) (leastKey X) X) r → DecidedBy fs n (O.decide (opIs op) X) r
-least-op op o fs n X r e which = by which
+pub least-op : (op o : Op) (n : ℕ) (X : List O.Card) (r : Decided) → op ≡ o → (o ≡ Union) ⊎ ((o ≡ Intersection) ⊎ (o ≡ SymmetricDifference))
+    → DecidedBy X n (atLeast (opIs op) (leastKey X) X) r → DecidedBy X n (O.decide (opIs op) X) r
+least-op op o n X r e which = by which
   where
-    back : (x : Op) → o ≡ x → (DecidedBy fs n (atLeast (opIs x) (leastKey X) X) r → DecidedBy fs n (O.decide (opIs x) X) r)
-        → DecidedBy fs n (atLeast (opIs op) (leastKey X) X) r → DecidedBy fs n (O.decide (opIs op) X) r
-    back x z h = subst (λ (y : Op). DecidedBy fs n (atLeast (opIs y) (leastKey X) X) r → DecidedBy fs n (O.decide (opIs y) X) r) (sym (e ∙ z)) h
+    back : (x : Op) → o ≡ x → (DecidedBy X n (atLeast (opIs x) (leastKey X) X) r → DecidedBy X n (O.decide (opIs x) X) r)
+        → DecidedBy X n (atLeast (opIs op) (leastKey X) X) r → DecidedBy X n (O.decide (opIs op) X) r
+    back x z h = subst (λ (y : Op). DecidedBy X n (atLeast (opIs y) (leastKey X) X) r → DecidedBy X n (O.decide (opIs y) X) r) (sym (e ∙ z)) h
 
-    by : (o ≡ Union) ⊎ ((o ≡ Intersection) ⊎ (o ≡ SymmetricDifference)) → DecidedBy fs n (atLeast (opIs op) (leastKey X) X) r → DecidedBy fs n (O.decide (opIs op) X) r
+    by : (o ≡ Union) ⊎ ((o ≡ Intersection) ⊎ (o ≡ SymmetricDifference)) → DecidedBy X n (atLeast (opIs op) (leastKey X) X) r → DecidedBy X n (O.decide (opIs op) X) r
     by (inl z) = back Union z (λ h. h)
     by (inr (inl z)) = back Intersection z (λ h. h)
     by (inr (inr z)) = back SymmetricDifference z (λ h. h)
 
-pub difference-op : (op : Op) (fs : List (List ℕ)) (n : ℕ) (X : List O.Card) (r : Decided) → op ≡ Difference → DecidedBy fs n (O.decide O.difference X) r
-    → DecidedBy fs n (O.decide (opIs op) X) r
-difference-op op fs n X r e h = subst (λ (o : Op). DecidedBy fs n (O.decide (opIs o) X) r) (sym e) h
+pub difference-op : (op : Op) (n : ℕ) (X : List O.Card) (r : Decided) → op ≡ Difference → DecidedBy X n (O.decide O.difference X) r
+    → DecidedBy X n (O.decide (opIs op) X) r
+difference-op op n X r e h = subst (λ (o : Op). DecidedBy X n (O.decide (opIs o) X) r) (sym e) h

@@ -3,13 +3,12 @@
 ghost use mathlib.Core.Path.{_≡_};
 ghost use mathlib.Core.List.{List};
 ghost use Prim.Native.Nat.{ℕ, _≤_, _<_};
-ghost use lib.ListN.{length, getD};
 ghost use Rattle.format.specs.Limits.{maxLevels};
 ghost use Rattle.ops_spec.specs.Ops as O;
 ghost use Rattle.ops_spec.specs.Ops.{Indexed};
 ghost use Rattle.ops_keys.specs.Heads.{headKey};
 ghost use Rattle.ops_pairs.specs.Pairs.{PairsAre};
-ghost use Rattle.ops_round.specs.Cards.{cardsIs, AllFew};
+ghost use Rattle.ops_seen.specs.Sights.{Sees, Ready};
 ghost use Rattle.ops_decide.specs.Verdicts.{opIs, DecidedBy};
 use format::LEVELS;
 use ops_item::collect;
@@ -18,10 +17,9 @@ use ops_item::use_up;
 use ops_keys::Head;
 use ops_keys::Order;
 use ops_keys::compare;
-use ops_keys::head_of;
 use ops_pairs::Pairs;
-use ops_round::Card;
 use ops_round::Slot;
+use ops_seen::Seen;
 
 // Which keys an operation hands out.
 pub enum Op {
@@ -38,13 +36,13 @@ pub enum Verdict {
     Another,
 }
 
-// What a round comes to, with the item's key and values, and the cards afterwards. The key and the values carry no meaning without an item, the cards
-// none at the end.
+// What a round comes to, with the item's key and values, and what is seen of the cards afterwards. The key and the values carry no meaning without an
+// item, the cards none at the end.
 pub struct Decided {
     pub verdict: Verdict,
     pub key: Head,
     pub pairs: Pairs,
-    pub cards: [Card; 8],
+    pub cards: [Seen; 8],
 }
 
 // Whether a key with these values, among so many files, belongs to an operation.
@@ -68,10 +66,10 @@ fn takes(op: Op, count: usize, pairs: Pairs) -> bool
 }
 
 // At a key: its cards become used up, and it is the item or not.
-fn at_key(op: Op, count: usize, cards: [Card; 8], key: Head) -> Decided
-    requires { ⌜ (count ≤ 8) × AllFew count cards × (key .levels ≤ maxLevels) ⌝ }
-    ensures { λ r. ⌜ ((fs : List (List ℕ)) → DecidedBy fs count (O.atKey (opIs op) (headKey key)
-        (cardsIs fs count cards)) r) ⌝ }
+fn at_key(op: Op, count: usize, cards: [Seen; 8], key: Head) -> Decided
+    requires { ⌜ (count ≤ 8) × Ready count cards × (key .levels ≤ maxLevels) ⌝ }
+    ensures { λ r. ⌜ ((X : List O.Card) → Sees count cards X → DecidedBy X count (O.atKey (opIs op)
+        (headKey key) X) r) ⌝ }
 {
     let pairs = collect(count, cards, key);
     let after = use_up(count, cards, key, false);
@@ -92,8 +90,8 @@ fn at_key(op: Op, count: usize, cards: [Card; 8], key: Head) -> Decided
 }
 
 // The end.
-fn no_more(cards: [Card; 8]) -> Decided
-    ensures { λ r. ⌜ ((fs : List (List ℕ)) (n : ℕ) → DecidedBy fs n O.no-more r) ⌝ }
+fn no_more(cards: [Seen; 8]) -> Decided
+    ensures { λ r. ⌜ ((X : List O.Card) (n : ℕ) → DecidedBy X n O.no-more r) ⌝ }
 {
     let pairs = ops_pairs::none();
     let key = Head {
@@ -109,10 +107,10 @@ fn no_more(cards: [Card; 8]) -> Decided
 }
 
 // By the least key held: the end where there is none.
-fn at_least(op: Op, count: usize, cards: [Card; 8]) -> Decided
-    requires { ⌜ (count ≤ 8) × AllFew count cards ⌝ }
-    ensures { λ r. ⌜ ((fs : List (List ℕ)) → DecidedBy fs count (O.atLeast (opIs op)
-        (O.leastKey (cardsIs fs count cards)) (cardsIs fs count cards)) r) ⌝ }
+fn at_least(op: Op, count: usize, cards: [Seen; 8]) -> Decided
+    requires { ⌜ (count ≤ 8) × Ready count cards ⌝ }
+    ensures { λ r. ⌜ ((X : List O.Card) → Sees count cards X → DecidedBy X count (O.atLeast (opIs op)
+        (O.leastKey X) X) r) ⌝ }
 {
     let least = least_key(count, cards);
     let found = least.found;
@@ -124,10 +122,10 @@ fn at_least(op: Op, count: usize, cards: [Card; 8]) -> Decided
 }
 
 // By the first card's key: another round where a card holds a lesser one, which is used up.
-fn at_first(count: usize, cards: [Card; 8], key: Head) -> Decided
-    requires { ⌜ (count ≤ 8) × AllFew count cards × (key .levels ≤ maxLevels) ⌝ }
-    ensures { λ r. ⌜ ((fs : List (List ℕ)) → DecidedBy fs count (O.atFirst (headKey key)
-        (O.leastKey (cardsIs fs count cards)) (cardsIs fs count cards)) r) ⌝ }
+fn at_first(count: usize, cards: [Seen; 8], key: Head) -> Decided
+    requires { ⌜ (count ≤ 8) × Ready count cards × (key .levels ≤ maxLevels) ⌝ }
+    ensures { λ r. ⌜ ((X : List O.Card) → Sees count cards X → DecidedBy X count (O.atFirst (headKey key)
+        (O.leastKey X) X) r) ⌝ }
 {
     let least = least_key(count, cards);
     let found = least.found;
@@ -153,29 +151,26 @@ fn at_first(count: usize, cards: [Card; 8], key: Head) -> Decided
 }
 
 // A difference: the end where the first reading has ended.
-fn difference(count: usize, cards: [Card; 8]) -> Decided
-    requires { ⌜ (0 < count) × (count ≤ 8) × AllFew count cards ⌝ }
-    ensures { λ r. ⌜ ((fs : List (List ℕ)) → DecidedBy fs count (O.decide O.difference
-        (cardsIs fs count cards)) r) ⌝ }
+fn difference(count: usize, cards: [Seen; 8]) -> Decided
+    requires { ⌜ (0 < count) × (count ≤ 8) × Ready count cards ⌝ }
+    ensures { λ r. ⌜ ((X : List O.Card) → Sees count cards X → DecidedBy X count (O.decide O.difference
+        X) r) ⌝ }
 {
     let first = cards[0];
     let slot = first.slot;
-    let reading = first.reading;
+    let key = first.head;
     match slot {
         Slot::Used => no_more(cards),
         Slot::Ended => no_more(cards),
-        Slot::Holds => {
-            let key = head_of(reading);
-            at_first(count, cards, key)
-        }
+        Slot::Holds => at_first(count, cards, key),
     }
 }
 
 // What a round comes to: an item, the end, or another round.
-pub fn decide(op: Op, count: usize, cards: [Card; 8]) -> Decided
-    requires { ⌜ (0 < count) × (count ≤ 8) × AllFew count cards ⌝ }
-    ensures { λ r. ⌜ ((fs : List (List ℕ)) → DecidedBy fs count (O.decide (opIs op)
-        (cardsIs fs count cards)) r) ⌝ }
+pub fn decide(op: Op, count: usize, cards: [Seen; 8]) -> Decided
+    requires { ⌜ (0 < count) × (count ≤ 8) × Ready count cards ⌝ }
+    ensures { λ r. ⌜ ((X : List O.Card) → Sees count cards X → DecidedBy X count (O.decide (opIs op) X)
+        r) ⌝ }
 {
     match op {
         Op::Union => at_least(op, count, cards),

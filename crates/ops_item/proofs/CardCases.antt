@@ -11,6 +11,7 @@ use mathlib.Core.Option.{Option, none, some}
 use mathlib.Core.Logic.{_⊎_, inl, inr}
 use mathlib.Core.List.{List}
 use Prim.Native.Nat.{ℕ, _≤_}
+use native.Mathlib.Omega.{arith}
 use Rattle.format.specs.Limits.{maxLevels}
 use Rattle.format.specs.Strings.{beforeTest}
 use Rattle.ops_spec.specs.Ops as O
@@ -18,72 +19,69 @@ use Rattle.ops_spec.specs.Ops.{Indexed, indexed, cardKey, ifHolds, sameTest, in
 use Rattle.ops_keys.specs.declared.Head.{Head}
 use Rattle.ops_keys.specs.declared.Order.{Order}
 use Rattle.ops_keys.specs.declared.Order.the-variants.{Less, Equal, Greater}
-use Rattle.ops_keys.specs.Heads.{headKey, HeadOf, less?, greater?, Compared}
+use Rattle.ops_keys.specs.Heads.{headKey, less?, greater?, Compared}
 use Rattle.ops_pairs.specs.declared.Pairs.{Pairs}
 use Rattle.ops_pairs.specs.Pairs.{PairsAre}
 use Rattle.ops_round.specs.declared.Slot.{Slot}
 use Rattle.ops_round.specs.declared.Slot.the-variants.{Used, Holds, Ended}
-use Rattle.ops_round.specs.declared.Card.{Card}
-use Rattle.ops_round.specs.Cards.{slotIs, cardIs, FewBy, Few}
+use Rattle.ops_round.specs.Cards.{slotIs, FewBy}
+use Rattle.ops_seen.specs.declared.Seen.{Seen}
+use Rattle.ops_seen.specs.Sights.{Shows, Few}
+use Rattle.ops_seen.specs.SightsLaws.{used1}
 use Rattle.ops_item.specs.declared.Least.{Least}
 use Rattle.ops_item.specs.Items.{ifFound, leastIs, LesserBy, orderTest, keyTest, UsedBy, GatheredBy}
 
-pub few-held : (c : Card) → c .slot ≡ Holds → Few c → c .reading .reading .levels ≤ maxLevels
-few-held c e h = subst (λ (x : Slot). FewBy x (c .reading .reading .levels)) e h
+pub few-held : (c : Seen) → c .slot ≡ Holds → Few c → c .head .levels ≤ maxLevels
+few-held c e h = subst (λ (x : Slot). FewBy x (c .head .levels)) e h
 
-few-used : (c : Card) → (c .slot ≡ Used) ⊎ (c .slot ≡ Ended) → Few c
-few-used c (inl e) = subst (λ (x : Slot). FewBy x (c .reading .reading .levels)) (sym e) tt
-few-used c (inr e) = subst (λ (x : Slot). FewBy x (c .reading .reading .levels)) (sym e) tt
+few-used : (c : Seen) → (c .slot ≡ Used) ⊎ (c .slot ≡ Ended) → Few c
+few-used c (inl e) = subst (λ (x : Slot). FewBy x (c .head .levels)) (sym e) tt
+few-used c (inr e) = subst (λ (x : Slot). FewBy x (c .head .levels)) (sym e) tt
 
 -- a card that holds no key
-not-held : {A : Type 0} (c : Card) (go : ℕ → A) (stop : A) → (c .slot ≡ Used) ⊎ (c .slot ≡ Ended) → ifHolds (slotIs (c .slot) (c .value)) go stop ≡ stop
-not-held c go stop (inl e) = ap (λ (x : Slot). ifHolds (slotIs x (c .value)) go stop) e
-not-held c go stop (inr e) = ap (λ (x : Slot). ifHolds (slotIs x (c .value)) go stop) e
+not-held : {A : Type 0} (c : Seen) (x : O.Card) (go : ℕ → A) (stop : A) → Shows c x → (c .slot ≡ Used) ⊎ (c .slot ≡ Ended) → ifHolds (x .slot) go stop ≡ stop
+not-held c x go stop s (inl e) = ap (λ (y : O.Slot). ifHolds y go stop) (s .slot ∙ ap (λ (y : Slot). slotIs y (c .value)) e)
+not-held c x go stop s (inr e) = ap (λ (y : O.Slot). ifHolds y go stop) (s .slot ∙ ap (λ (y : Slot). slotIs y (c .value)) e)
 
-is-held : {A : Type 0} (c : Card) (go : ℕ → A) (stop : A) → c .slot ≡ Holds → ifHolds (slotIs (c .slot) (c .value)) go stop ≡ go (c .value)
-is-held c go stop e = ap (λ (x : Slot). ifHolds (slotIs x (c .value)) go stop) e
+is-held : {A : Type 0} (c : Seen) (x : O.Card) (go : ℕ → A) (stop : A) → Shows c x → c .slot ≡ Holds → ifHolds (x .slot) go stop ≡ go (c .value)
+is-held c x go stop s e = ap (λ (y : O.Slot). ifHolds y go stop) (s .slot ∙ ap (λ (y : Slot). slotIs y (c .value)) e)
 
 -- ---- the lesser key
 
-module _ (l : Least) (c : Card) (few : l .key .levels ≤ maxLevels) where
+module _ (l : Least) (c : Seen) (few : l .key .levels ≤ maxLevels) where
   pub lesser-kept : (c .slot ≡ Used) ⊎ (c .slot ≡ Ended) → LesserBy l c l
-  lesser-kept e = record { is = λ f. not-held c (λ v. O.lesser (cardKey (cardIs f c)) (leastIs l)) (leastIs l) e; few = few }
+  lesser-kept e = record { is = λ x s. not-held c x (λ v. O.lesser (cardKey x) (leastIs l)) (leastIs l) s e; few = few }
 
-  module _ (holds : c .slot ≡ Holds) (small : Few c) (h : Head) (is : HeadOf (c .reading) h) where
-    held-key : (f : List ℕ) → cardKey (cardIs f c) ≡ headKey h
-    held-key f = sym (is .key (few-held c holds small))
+  module _ (holds : c .slot ≡ Holds) (small : Few c) where
+    by-key : (x : O.Card) → Shows c x → (o : Option (List ℕ)) → leastIs l ≡ o
+        → ifHolds (x .slot) (λ v. O.lesser (cardKey x) (leastIs l)) (leastIs l) ≡ O.lesser (headKey (c .head)) o
+    by-key x s o e = is-held c x (λ v. O.lesser (cardKey x) (leastIs l)) (leastIs l) s holds ∙ ap₂ O.lesser (s .key holds) e
 
-    new-few : h .levels ≤ maxLevels
-    new-few = subst (λ (n : ℕ). n ≤ maxLevels) (sym (is .levels)) (few-held c holds small)
+    pub lesser-first : l .found ≡ false → LesserBy l c (record { found = true; key = c .head })
+    lesser-first e =
+        record { is = λ x s. by-key x s none (ap (λ (b : Bool). ifFound b (headKey (l .key))) e); few = few-held c holds small }
 
-    by-key : (f : List ℕ) (o : Option (List ℕ)) → leastIs l ≡ o
-        → ifHolds (slotIs (c .slot) (c .value)) (λ v. O.lesser (cardKey (cardIs f c)) (leastIs l)) (leastIs l) ≡ O.lesser (headKey h) o
-    by-key f o e = is-held c (λ v. O.lesser (cardKey (cardIs f c)) (leastIs l)) (leastIs l) holds ∙ ap₂ O.lesser (held-key f) e
-
-    pub lesser-first : l .found ≡ false → LesserBy l c (record { found = true; key = h })
-    lesser-first e = record { is = λ f. by-key f none (ap (λ (b : Bool). ifFound b (headKey (l .key))) e); few = new-few }
-
-    module _ (found : l .found ≡ true) (o : Order) (by : Compared (headKey (l .key)) (headKey h) o) where
+    module _ (found : l .found ≡ true) (o : Order) (by : Compared (headKey (l .key)) (headKey (c .head)) o) where
       found-is : leastIs l ≡ some (headKey (l .key))
       found-is = ap (λ (b : Bool). ifFound b (headKey (l .key))) found
 
       pub lesser-less : o ≡ Less → LesserBy l c l
       lesser-less e =
           record {
-            is = λ f.
-                by-key f (some (headKey (l .key))) found-is
-                ∙ ap (λ (b : Bool). cond b (some (headKey (l .key))) (some (headKey h))) (by .less ∙ ap less? e)
+            is = λ x s.
+                by-key x s (some (headKey (l .key))) found-is
+                ∙ ap (λ (b : Bool). cond b (some (headKey (l .key))) (some (headKey (c .head)))) (by .less ∙ ap less? e)
                 ∙ sym found-is;
             few = few;
           }
 
-      pub lesser-other : less? o ≡ false → LesserBy l c (record { found = true; key = h })
+      pub lesser-other : less? o ≡ false → LesserBy l c (record { found = true; key = c .head })
       lesser-other e =
           record {
-            is = λ f.
-                by-key f (some (headKey (l .key))) found-is
-                ∙ ap (λ (b : Bool). cond b (some (headKey (l .key))) (some (headKey h))) (by .less ∙ e);
-            few = new-few;
+            is = λ x s.
+                by-key x s (some (headKey (l .key))) found-is
+                ∙ ap (λ (b : Bool). cond b (some (headKey (l .key))) (some (headKey (c .head)))) (by .less ∙ e);
+            few = few-held c holds small;
           }
 
 -- ---- the order as a test
@@ -98,47 +96,53 @@ test-is false k x Greater h = ap₂ (λ (a b : Bool). not a && not b) (h .less) 
 
 -- ---- a card used up
 
-module _ (c : Card) (k : Head) (less : Bool) where
-  abbrev after : List ℕ → ℕ → O.Card
-  after f v = cond (keyTest less (headKey k) (cardKey (cardIs f c))) (O.cardIs f (cardIs f c .reading) O.used) (cardIs f c)
+module _ (c : Seen) (k : Head) (less : Bool) where
+  abbrev after : O.Card → ℕ → O.Card
+  after x v = cond (keyTest less (headKey k) (cardKey x)) (O.cardIs (x .file) (x .reading) O.used) x
 
   pub used-kept : (c .slot ≡ Used) ⊎ (c .slot ≡ Ended) → UsedBy c k less c
-  used-kept e = record { is = λ f. not-held c (after f) (cardIs f c) e; few = few-used c e }
+  used-kept e = record { is = λ x s. subst (Shows c) (sym (not-held c x (after x) x s e)) s; few = few-used c e }
 
-  module _ (holds : c .slot ≡ Holds) (small : Few c) (h : Head) (is : HeadOf (c .reading) h) (o : Order) (by : Compared (headKey h) (headKey k) o) where
-    card-test : (f : List ℕ) → keyTest less (headKey k) (cardKey (cardIs f c)) ≡ orderTest less o
-    card-test f = ap (keyTest less (headKey k)) (sym (is .key (few-held c holds small))) ∙ test-is less (headKey k) (headKey h) o by
+  module _ (holds : c .slot ≡ Holds) (small : Few c) (o : Order) (by : Compared (headKey (c .head)) (headKey k) o) where
+    card-test : (x : O.Card) → Shows c x → keyTest less (headKey k) (cardKey x) ≡ orderTest less o
+    card-test x s = ap (keyTest less (headKey k)) (s .key holds) ∙ test-is less (headKey k) (headKey (c .head)) o by
 
-    by-test : (f : List ℕ) (b : Bool) → orderTest less o ≡ b
-        → ifHolds (slotIs (c .slot) (c .value)) (after f) (cardIs f c) ≡ cond b (O.cardIs f (cardIs f c .reading) O.used) (cardIs f c)
-    by-test f b e =
-        is-held c (after f) (cardIs f c) holds ∙ ap (λ (t : Bool). cond t (O.cardIs f (cardIs f c .reading) O.used) (cardIs f c)) (card-test f ∙ e)
+    by-test : (x : O.Card) → Shows c x → (b : Bool) → orderTest less o ≡ b
+        → used1 (keyTest less (headKey k)) x ≡ cond b (O.cardIs (x .file) (x .reading) O.used) x
+    by-test x s b e =
+        is-held c x (after x) x s holds ∙ ap (λ (t : Bool). cond t (O.cardIs (x .file) (x .reading) O.used) x) (card-test x s ∙ e)
 
-    pub used-meant : orderTest less o ≡ true → UsedBy c k less (record { reading = c .reading; slot = Used; value = 0 })
-    used-meant e = record { is = λ f. by-test f true e; few = tt }
+    pub used-meant : orderTest less o ≡ true → UsedBy c k less (record { head = c .head; slot = Used; value = 0 })
+    used-meant e =
+        record {
+          is = λ x s.
+              subst (Shows (record { head = c .head; slot = Used; value = 0 })) (sym (by-test x s true e))
+              (record { slot = refl; key = λ z. let q : _≡_ {A = ℕ} 0 1 = cc in absurd (omega arith) });
+          few = tt;
+        }
 
     pub used-other : orderTest less o ≡ false → UsedBy c k less c
-    used-other e = record { is = λ f. by-test f false e; few = small }
+    used-other e = record { is = λ x s. subst (Shows c) (sym (by-test x s false e)) s; few = small }
 
 -- ---- the values of a key
 
-module _ (p : Pairs) (c : Card) (k : Head) (file : ℕ) where
-  abbrev more : List ℕ → List Indexed → ℕ → List Indexed
-  more f ps v = cond (sameTest (cardKey (cardIs f c)) (headKey k)) (insert (indexed v file) ps) ps
+module _ (p : Pairs) (c : Seen) (k : Head) (file : ℕ) where
+  abbrev more : O.Card → List Indexed → ℕ → List Indexed
+  more x ps v = cond (sameTest (cardKey x) (headKey k)) (insert (indexed v file) ps) ps
 
   pub gather-kept : (c .slot ≡ Used) ⊎ (c .slot ≡ Ended) → GatheredBy p c k file p
-  gather-kept e = record { is = λ f ps are. subst (λ (qs : List Indexed). PairsAre qs p) (sym (not-held c (more f ps) ps e)) are }
+  gather-kept e = record { is = λ x s ps are. subst (λ (qs : List Indexed). PairsAre qs p) (sym (not-held c x (more x ps) ps s e)) are }
 
-  module _ (holds : c .slot ≡ Holds) (small : Few c) (h : Head) (is : HeadOf (c .reading) h) (o : Order) (by : Compared (headKey h) (headKey k) o) where
-    by-same : (f : List ℕ) (ps : List Indexed) (b : Bool) → orderTest false o ≡ b
-        → ifHolds (slotIs (c .slot) (c .value)) (more f ps) ps ≡ cond b (insert (indexed (c .value) file) ps) ps
-    by-same f ps b e =
-        is-held c (more f ps) ps holds
-        ∙ ap (λ (t : Bool). cond t (insert (indexed (c .value) file) ps) ps) (card-test c k false holds small h is o by f ∙ e)
+  module _ (holds : c .slot ≡ Holds) (small : Few c) (o : Order) (by : Compared (headKey (c .head)) (headKey k) o) where
+    by-same : (x : O.Card) → Shows c x → (ps : List Indexed) (b : Bool) → orderTest false o ≡ b
+        → ifHolds (x .slot) (more x ps) ps ≡ cond b (insert (indexed (c .value) file) ps) ps
+    by-same x s ps b e =
+        is-held c x (more x ps) ps s holds
+        ∙ ap (λ (t : Bool). cond t (insert (indexed (c .value) file) ps) ps) (card-test c k false holds small o by x s ∙ e)
 
     pub gather-meant : orderTest false o ≡ true → (r : Pairs) → ((ps : List Indexed) → PairsAre ps p → PairsAre (insert (indexed (c .value) file) ps) r)
         → GatheredBy p c k file r
-    gather-meant e r put = record { is = λ f ps are. subst (λ (qs : List Indexed). PairsAre qs r) (sym (by-same f ps true e)) (put ps are) }
+    gather-meant e r put = record { is = λ x s ps are. subst (λ (qs : List Indexed). PairsAre qs r) (sym (by-same x s ps true e)) (put ps are) }
 
     pub gather-other : orderTest false o ≡ false → GatheredBy p c k file p
-    gather-other e = record { is = λ f ps are. subst (λ (qs : List Indexed). PairsAre qs p) (sym (by-same f ps false e)) are }
+    gather-other e = record { is = λ x s ps are. subst (λ (qs : List Indexed). PairsAre qs p) (sym (by-same x s ps false e)) are }

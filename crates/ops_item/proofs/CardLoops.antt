@@ -5,11 +5,12 @@
 use mathlib.Core.Path.{_≡_, refl, sym, ap, ap₂, _∙_, subst}
 use mathlib.Core.Bool.{Bool, false, cond}
 use mathlib.Core.Option.{Option}
-use mathlib.Core.List.{List, [], _∷_, _++_, append-assoc, append-nil}
-use Prim.Native.Nat.{ℕ, _+_, _-_, _<_, _≤_}
+use mathlib.Core.Logic.{⊎-elim}
+use mathlib.Core.List.{List, [], _∷_}
+use Prim.Native.Nat.{ℕ, zero, suc, _+_, _-_, _<_, _≤_}
 use native.Mathlib.Omega.{arith}
-use lib.ListN.{length, take, drop, getD, set, length-set, length-drop, drop-of-length-le}
-use lib.Seq.{take-length}
+use lib.ListN.{length, drop, getD, set, length-set, length-drop, drop-of-length-le}
+use lib.Seq.{getD-set-same, getD-set-other}
 use Rattle.format.specs.Limits.{maxLevels}
 use Rattle.ops_spec.specs.Ops as O
 use Rattle.ops_spec.specs.Ops.{Indexed, indexed, cardKey, ifHolds, leastKey, sameTest, insert, pairsFrom, useUp}
@@ -18,145 +19,177 @@ use Rattle.ops_keys.specs.declared.Head.{Head}
 use Rattle.ops_keys.specs.Heads.{headKey}
 use Rattle.ops_pairs.specs.declared.Pairs.{Pairs}
 use Rattle.ops_pairs.specs.Pairs.{PairsAre}
-use Rattle.ops_round.specs.declared.Card.{Card}
-use Rattle.ops_round.specs.Cards.{slotIs, cardIs, cardsIs, Few, AllFew}
-use Rattle.ops_round.specs.CardsLaws.{cards-length, cards-cons, put-front, put-back, few-put}
+use Rattle.reading.specs.RunLaws.{lt-or}
+use Rattle.ops_seen.specs.declared.Seen.{Seen}
+use Rattle.ops_seen.specs.Sights.{Shows, Sees, Few, Ready}
+use Rattle.ops_seen.specs.SightsLaws.{Front, front-is, used1, used-count, used-at}
 use Rattle.ops_item.specs.declared.Least.{Least}
 use Rattle.ops_item.specs.Items.{leastIs, LesserBy, LeastBy, keyTest, UsedBy, AllUsed, GatheredBy, CollectedBy}
 
 -- no card is left behind the last
-none-behind : (fs : List (List ℕ)) (n : ℕ) (cs : List Card) → n ≤ length cs → drop n (cardsIs fs n cs) ≡ []
-none-behind fs n cs long = let len = cards-length fs n cs long in drop-of-length-le (cardsIs fs n cs) {i = n} (omega arith)
+none-behind : (n : ℕ) (cs : List Seen) (X : List O.Card) → Sees n cs X → drop n X ≡ []
+none-behind n cs X S = let len = S .count in drop-of-length-le X {i = n} (omega arith)
 
 -- the card at place i - 1, and those behind it
-cons-before : (fs : List (List ℕ)) (n : ℕ) (cs : List Card) (i : ℕ) (d : Card) → n ≤ length cs → 0 < i → i ≤ n
-    → drop (i - 1) (cardsIs fs n cs) ≡ cardIs (getD fs (i - 1) []) (getD cs (i - 1) d) ∷ drop i (cardsIs fs n cs)
-cons-before fs n cs i d long some within =
+pub record Back (n : ℕ) (cs : List Seen) (X : List O.Card) (i : ℕ) (d : Seen) : Type 0 where
+  pub card : O.Card
+  pub is : drop (i - 1) X ≡ card ∷ drop i X
+  pub shows : Shows (getD cs (i - 1) d) card
+
+cons-before : (n : ℕ) (cs : List Seen) (X : List O.Card) (i : ℕ) (d : Seen) → Sees n cs X → 0 < i → i ≤ n → Back n cs X i d
+cons-before n cs X i d S some within =
+    let len = S .count in
     let back : i - 1 + 1 ≡ i = omega arith in
-    cards-cons fs n cs long (i - 1) (omega arith) d ∙ rw back
+    let F : Front X (i - 1) = front-is X (i - 1) (omega arith) in
+    record {
+      card = getD X (i - 1) (F .other);
+      is = F .is ∙ ap (λ (j : ℕ). getD X (i - 1) (F .other) ∷ drop j X) back;
+      shows = S .at (i - 1) d (F .other) (omega arith);
+    }
 
 -- ---- the least key
 
-pub record Leasting (n : ℕ) (cs : List Card) (l : Least) (i : ℕ) : Type 0 where
+pub record Leasting (n : ℕ) (cs : List Seen) (l : Least) (i : ℕ) : Type 0 where
   pub within : i ≤ n
   pub few : l .key .levels ≤ maxLevels
-  pub is : (fs : List (List ℕ)) → leastKey (drop i (cardsIs fs n cs)) ≡ leastIs l
+  pub is : (X : List O.Card) → Sees n cs X → leastKey (drop i X) ≡ leastIs l
 
-pub leasting-none : (n : ℕ) (cs : List Card) → n ≤ length cs → (k : Head) → k .levels ≤ maxLevels → Leasting n cs (record { found = false; key = k }) n
+pub leasting-none : (n : ℕ) (cs : List Seen) (k : Head) → k .levels ≤ maxLevels → Leasting n cs (record { found = false; key = k }) n
 unfolding leastKey
-leasting-none n cs long k few = record { within = omega arith; few = few; is = λ fs. ap leastKey (none-behind fs n cs long) }
+leasting-none n cs k few = record { within = omega arith; few = few; is = λ X S. ap leastKey (none-behind n cs X S) }
 
-pub leasting-on : (n : ℕ) (cs : List Card) (l : Least) (i : ℕ) (d : Card) (r : Least) → n ≤ length cs → 0 < i → Leasting n cs l i → LesserBy l (getD cs (i - 1) d) r
-    → Leasting n cs r (i - 1)
+pub leasting-on : (n : ℕ) (cs : List Seen) (l : Least) (i : ℕ) (d : Seen) (r : Least) → 0 < i → Leasting n cs l i → LesserBy l (getD cs (i - 1) d) r → Leasting n cs r (i - 1)
 unfolding leastKey
-leasting-on n cs l i d r long some L by =
+leasting-on n cs l i d r some L by =
     let within = L .within in
     record {
       within = omega arith;
       few = by .few;
-      is = λ fs.
-          let c : O.Card = cardIs (getD fs (i - 1) []) (getD cs (i - 1) d) in
-          ap leastKey (cons-before fs n cs i d long some (L .within))
-          ∙ ap (λ (o : Option (List ℕ)). ifHolds (c .slot) (λ v. O.lesser (cardKey c) o) o) (L .is fs)
-          ∙ by .is (getD fs (i - 1) []);
+      is = λ X S.
+          let B : Back n cs X i d = cons-before n cs X i d S some (L .within) in
+          let c : O.Card = B .card in
+          ap leastKey (B .is)
+          ∙ ap (λ (o : Option (List ℕ)). ifHolds (c .slot) (λ v. O.lesser (cardKey c) o) o) (L .is X S)
+          ∙ by .is c (B .shows);
     }
 
-pub leasting-all : (n : ℕ) (cs : List Card) (l : Least) (i : ℕ) → i ≡ 0 → Leasting n cs l i → LeastBy n cs l
-leasting-all n cs l i z L = record { is = λ fs. ap (λ (j : ℕ). leastKey (drop j (cardsIs fs n cs))) (sym z) ∙ L .is fs; few = L .few }
+pub leasting-all : (n : ℕ) (cs : List Seen) (l : Least) (i : ℕ) → i ≡ 0 → Leasting n cs l i → LeastBy n cs l
+leasting-all n cs l i z L = record { is = λ X S. ap (λ (j : ℕ). leastKey (drop j X)) (sym z) ∙ L .is X S; few = L .few }
 
 -- ---- keys used up
 
-pub record Using (n : ℕ) (cs : List Card) (k : Head) (less : Bool) (all : List Card) (i : ℕ) : Type 0 where
+pub record Using (n : ℕ) (cs : List Seen) (k : Head) (less : Bool) (all : List Seen) (i : ℕ) : Type 0 where
   pub within : i ≤ n
   pub eight : length all ≡ 8
-  pub few : AllFew n all
-  pub rest : (fs : List (List ℕ))
-      → useUp (keyTest less (headKey k)) (cardsIs fs n cs) ≡ take i (cardsIs fs n all) ++ useUp (keyTest less (headKey k)) (drop i (cardsIs fs n all))
+  pub few : (j : ℕ) (d : Seen) → j < n → Few (getD all j d)
+  pub done : (j : ℕ) (d : Seen) → j < i → (x : O.Card) → Shows (getD cs j d) x → Shows (getD all j d) (used1 (keyTest less (headKey k)) x)
+  pub rest : (j : ℕ) (d : Seen) → i ≤ j → getD all j d ≡ getD cs j d
 
-pub using-none : (n : ℕ) (cs : List Card) (k : Head) (less : Bool) → length cs ≡ 8 → AllFew n cs → Using n cs k less cs 0
-using-none n cs k less eight few = record { within = omega arith; eight = eight; few = few; rest = λ fs. refl }
+pub using-none : (n : ℕ) (cs : List Seen) (k : Head) (less : Bool) → length cs ≡ 8 → Ready n cs → Using n cs k less cs 0
+using-none n cs k less eight ready =
+    record { within = omega arith; eight = eight; few = ready .few; done = λ j d h. absurd (omega arith); rest = λ j d h. refl }
 
-module _ (n : ℕ) (cs : List Card) (k : Head) (less : Bool) (all : List Card) (i : ℕ) (small : n ≤ 8) (U : Using n cs k less all i) where
-  pub using-on : (d r : Card) → i < n → UsedBy (getD all i d) k less r → Using n cs k less (set all i r) (i + 1)
-  unfolding useUp
-  using-on d r h by =
+-- a place within a list has the same element whatever else is named
+default-any : (l : List Seen) (i : ℕ) (a b : Seen) → i < length l → getD l i a ≡ getD l i b
+default-any [] i a b h = absurd (omega arith)
+default-any (x ∷ l) zero a b h = refl
+default-any (x ∷ l) (suc i) a b h = default-any l i a b (omega arith)
+
+module _ (n : ℕ) (cs : List Seen) (k : Head) (less : Bool) (all : List Seen) (i : ℕ) (small : n ≤ 8) (U : Using n cs k less all i) where
+  pub using-on : (d r : Seen) → i < n → UsedBy (getD all i d) k less r → Using n cs k less (set all i r) (i + 1)
+  using-on b r h by =
       let eight = U .eight in
       record {
         within = omega arith;
         eight = length-set all i r ∙ eight;
-        few = λ j e less. few-put all i j r e (omega arith) (by .few) (λ z. U .few j e less);
-        rest = λ fs.
-            let P : List ℕ → Bool = keyTest less (headKey k) in
-            let X : List O.Card = cardsIs fs n all in
-            let f : List ℕ = getD fs i [] in
-            U .rest fs
-            ∙ ap (λ (l : List O.Card). take i X ++ useUp P l) (cards-cons fs n all (omega arith) i h d)
-            ∙ ap (λ (x : O.Card). take i X ++ (x ∷ useUp P (drop (i + 1) X))) (by .is f)
-            ∙ sym (append-assoc (take i X) (cardIs f r ∷ []) (useUp P (drop (i + 1) X)))
-            ∙ ap₂ (λ (a b : List O.Card). a ++ useUp P b) (sym (put-front fs n all (omega arith) i h r)) (sym (put-back fs n all (omega arith) i h r));
+        few = λ j d l. ⊎-elim (λ (z : j < i). few-at j d l (λ q. omega arith)) (λ (g : i ≤ j). ⊎-elim (λ (z : i < j). few-at j d l (λ q. omega arith)) (λ (z : j ≤ i). few-here j d (omega arith)) (lt-or i j)) (lt-or j i);
+        done = λ j d l. ⊎-elim (λ (z : j < i). earlier j d z) (λ (z : i ≤ j). here j d (omega arith)) (lt-or j i);
+        rest = λ j d l. getD-set-other all i j r d (λ z. omega arith) ∙ U .rest j d (omega arith);
       }
+    where
+      few-at : (j : ℕ) (d : Seen) → j < n → ¬ (j ≡ i) → Few (getD (set all i r) j d)
+      few-at j d l ne = subst Few (sym (getD-set-other all i j r d ne)) (U .few j d l)
+
+      few-here : (j : ℕ) (d : Seen) → j ≡ i → Few (getD (set all i r) j d)
+      few-here j d z =
+          let eight = U .eight in
+          subst (λ (m : ℕ). Few (getD (set all i r) m d)) (sym z) (subst Few (sym (getD-set-same all i r d (omega arith))) (by .few))
+
+      earlier : (j : ℕ) (d : Seen) → j < i → (x : O.Card) → Shows (getD cs j d) x → Shows (getD (set all i r) j d) (used1 (keyTest less (headKey k)) x)
+      earlier j d z x s =
+          subst (λ (c : Seen). Shows c (used1 (keyTest less (headKey k)) x)) (sym (getD-set-other all i j r d (λ q. omega arith))) (U .done j d z x s)
+
+      here-at : (d : Seen) (x : O.Card) → Shows (getD cs i d) x → Shows (getD (set all i r) i d) (used1 (keyTest less (headKey k)) x)
+      here-at d x s =
+          let eight = U .eight in
+          subst (λ (c : Seen). Shows c (used1 (keyTest less (headKey k)) x)) (sym (getD-set-same all i r d (omega arith)))
+          (by .is x (subst (λ (c : Seen). Shows c x) (sym (U .rest i d (omega arith)) ∙ default-any all i d b (omega arith)) s))
+
+      here : (j : ℕ) (d : Seen) → j ≡ i → (x : O.Card) → Shows (getD cs j d) x → Shows (getD (set all i r) j d) (used1 (keyTest less (headKey k)) x)
+      here j d z =
+          subst (λ (m : ℕ). (x : O.Card) → Shows (getD cs m d) x → Shows (getD (set all i r) m d) (used1 (keyTest less (headKey k)) x)) (sym z) (here-at d)
 
   pub using-all : n ≤ i → AllUsed n cs k less all
-  unfolding useUp
   using-all h =
       let within = U .within in
-      let eight = U .eight in
-      let same : i ≡ n = omega arith in
       record {
-        is = λ fs.
-            let len = cards-length fs n all (omega arith) in
-            let front : take i (cardsIs fs n all) ≡ cardsIs fs n all = ap (λ (j : ℕ). take j (cardsIs fs n all)) (same ∙ sym len) ∙ take-length (cardsIs fs n all) in
-            let back : drop i (cardsIs fs n all) ≡ [] = ap (λ (j : ℕ). drop j (cardsIs fs n all)) same ∙ none-behind fs n all (omega arith) in
-            U .rest fs ∙ ap₂ (λ (a b : List O.Card). a ++ useUp (keyTest less (headKey k)) b) front back ∙ append-nil (cardsIs fs n all);
-        eight = eight;
+        is = λ X S.
+            record {
+              count = used-count (keyTest less (headKey k)) X ∙ S .count;
+              at = λ j d e l.
+                  let len = S .count in
+                  subst (Shows (getD all j d)) (sym (used-at (keyTest less (headKey k)) X j e (omega arith)))
+                  (U .done j d (omega arith) (getD X j e) (S .at j d e l));
+            };
+        eight = U .eight;
       }
 
 -- ---- the values of a key
 
-pub record Collecting (n : ℕ) (cs : List Card) (k : Head) (p : Pairs) (i : ℕ) : Type 0 where
+pub record Collecting (n : ℕ) (cs : List Seen) (k : Head) (p : Pairs) (i : ℕ) : Type 0 where
   pub within : i ≤ n
-  pub is : (fs : List (List ℕ)) → PairsAre (pairsFrom i (headKey k) (drop i (cardsIs fs n cs))) p
+  pub is : (X : List O.Card) → Sees n cs X → PairsAre (pairsFrom i (headKey k) (drop i X)) p
 
-pub collecting-none : (n : ℕ) (cs : List Card) (k : Head) (p : Pairs) → n ≤ length cs → PairsAre [] p → Collecting n cs k p n
+pub collecting-none : (n : ℕ) (cs : List Seen) (k : Head) (p : Pairs) → PairsAre [] p → Collecting n cs k p n
 unfolding pairsFrom
-collecting-none n cs k p long are =
-    record { within = omega arith; is = λ fs. subst (λ (l : List O.Card). PairsAre (pairsFrom n (headKey k) l) p) (sym (none-behind fs n cs long)) are }
+collecting-none n cs k p are =
+    record { within = omega arith; is = λ X S. subst (λ (l : List O.Card). PairsAre (pairsFrom n (headKey k) l) p) (sym (none-behind n cs X S)) are }
 
 -- there is room for one more
-pub collecting-room : (n : ℕ) (cs : List Card) (k : Head) (p : Pairs) (i : ℕ) → n ≤ length cs → n ≤ 8 → 0 < i → Collecting n cs k p i → p .count < 8
-collecting-room n cs k p i long small some C =
+pub collecting-room : (n : ℕ) (cs : List Seen) (k : Head) (p : Pairs) (i : ℕ) → Ready n cs → n ≤ 8 → 0 < i → Collecting n cs k p i → p .count < 8
+collecting-room n cs k p i ready small some C =
     let within = C .within in
-    let len = cards-length [] n cs long in
-    let drops = length-drop i (cardsIs [] n cs) in
-    let most = pairs-most i (headKey k) (drop i (cardsIs [] n cs)) in
-    let count = C .is [] .count in
+    let X = ready .cards in
+    let len = ready .sees .count in
+    let drops = length-drop i X in
+    let most = pairs-most i (headKey k) (drop i X) in
+    let count = C .is X (ready .sees) .count in
     omega arith
 
-pub collecting-on : (n : ℕ) (cs : List Card) (k : Head) (p : Pairs) (i : ℕ) (d : Card) (r : Pairs) → n ≤ length cs → 0 < i → Collecting n cs k p i
-    → GatheredBy p (getD cs (i - 1) d) k (i - 1) r → Collecting n cs k r (i - 1)
+pub collecting-on : (n : ℕ) (cs : List Seen) (k : Head) (p : Pairs) (i : ℕ) (d : Seen) (r : Pairs) → 0 < i → Collecting n cs k p i → GatheredBy p (getD cs (i - 1) d) k (i - 1) r
+    → Collecting n cs k r (i - 1)
 unfolding pairsFrom
-collecting-on n cs k p i d r long some C by =
+collecting-on n cs k p i d r some C by =
     let within = C .within in
     record {
       within = omega arith;
-      is = λ fs.
-          let c : O.Card = cardIs (getD fs (i - 1) []) (getD cs (i - 1) d) in
+      is = λ X S.
+          let B : Back n cs X i d = cons-before n cs X i d S some (C .within) in
+          let c : O.Card = B .card in
           let back : i - 1 + 1 ≡ i = omega arith in
-          let ps : List Indexed = pairsFrom i (headKey k) (drop i (cardsIs fs n cs)) in
-          let turn : pairsFrom (i - 1) (headKey k) (drop (i - 1) (cardsIs fs n cs))
+          let ps : List Indexed = pairsFrom i (headKey k) (drop i X) in
+          let turn : pairsFrom (i - 1) (headKey k) (drop (i - 1) X)
           ≡ ifHolds (c .slot) (λ v. cond (sameTest (cardKey c) (headKey k)) (insert (indexed v (i - 1)) ps) ps) ps =
-          ap (pairsFrom (i - 1) (headKey k)) (cons-before fs n cs i d long some (C .within))
+          ap (pairsFrom (i - 1) (headKey k)) (B .is)
           ∙ ap
           (λ (j : ℕ).
           ifHolds (c .slot)
-          (λ v.
-          cond (sameTest (cardKey c) (headKey k)) (insert (indexed v (i - 1)) (pairsFrom j (headKey k) (drop i (cardsIs fs n cs))))
-          (pairsFrom j (headKey k) (drop i (cardsIs fs n cs))))
-          (pairsFrom j (headKey k) (drop i (cardsIs fs n cs))))
+          (λ v. cond (sameTest (cardKey c) (headKey k)) (insert (indexed v (i - 1)) (pairsFrom j (headKey k) (drop i X))) (pairsFrom j (headKey k) (drop i X)))
+          (pairsFrom j (headKey k) (drop i X)))
           back in
-          subst (λ (qs : List Indexed). PairsAre qs r) (sym turn) (by .is (getD fs (i - 1) []) ps (C .is fs));
+          subst (λ (qs : List Indexed). PairsAre qs r) (sym turn) (by .is c (B .shows) ps (C .is X S));
     }
 
-pub collecting-all : (n : ℕ) (cs : List Card) (k : Head) (p : Pairs) (i : ℕ) → i ≡ 0 → Collecting n cs k p i → CollectedBy n cs k p
+pub collecting-all : (n : ℕ) (cs : List Seen) (k : Head) (p : Pairs) (i : ℕ) → i ≡ 0 → Collecting n cs k p i → CollectedBy n cs k p
 collecting-all n cs k p i z C =
-    record { is = λ fs. subst (λ (j : ℕ). PairsAre (pairsFrom j (headKey k) (drop j (cardsIs fs n cs))) p) z (C .is fs) }
+    record { is = λ X S. subst (λ (j : ℕ). PairsAre (pairsFrom j (headKey k) (drop j X)) p) z (C .is X S) }

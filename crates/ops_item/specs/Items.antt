@@ -1,4 +1,4 @@
--- What a round looks up in the cards, against `leastKey`, `useUp` and `pairsFrom` (crate ops_spec).
+-- What a round looks up in what is seen of the cards, against `leastKey`, `useUp` and `pairsFrom` (crate ops_spec).
 --     leastIs l                        a key, if one was found
 --     orderTest less o, keyTest less k x     whether a key x is meant: less than k, or the same
 --     LesserBy, LeastBy                the lesser of a key and a card's; the least of all
@@ -21,8 +21,9 @@ use Rattle.ops_keys.specs.declared.Order.the-variants.{Less, Equal, Greater}
 use Rattle.ops_keys.specs.Heads.{headKey}
 use Rattle.ops_pairs.specs.declared.Pairs.{Pairs}
 use Rattle.ops_pairs.specs.Pairs.{PairsAre}
-use Rattle.ops_round.specs.declared.Card.{Card}
-use Rattle.ops_round.specs.Cards.{slotIs, cardIs, cardsIs, Few}
+use Rattle.ops_seen.specs.declared.Seen.{Seen}
+use Rattle.ops_seen.specs.Sights.{Shows, Sees, Few}
+use Rattle.ops_seen.specs.SightsLaws.{used1}
 use Rattle.ops_item.specs.declared.Least.{Least}
 
 -- ---- the least key
@@ -34,12 +35,12 @@ ifFound false k = none
 abbrev pub leastIs : Least → Option (List ℕ)
 leastIs l = ifFound (l .found) (headKey (l .key))
 
-pub record LesserBy (l : Least) (c : Card) (r : Least) : Type 0 where
-  pub is : (f : List ℕ) → ifHolds (slotIs (c .slot) (c .value)) (λ v. O.lesser (cardKey (cardIs f c)) (leastIs l)) (leastIs l) ≡ leastIs r
+pub record LesserBy (l : Least) (c : Seen) (r : Least) : Type 0 where
+  pub is : (x : O.Card) → Shows c x → ifHolds (x .slot) (λ v. O.lesser (cardKey x) (leastIs l)) (leastIs l) ≡ leastIs r
   pub few : r .key .levels ≤ maxLevels
 
-pub record LeastBy (n : ℕ) (cs : List Card) (r : Least) : Type 0 where
-  pub is : (fs : List (List ℕ)) → leastKey (cardsIs fs n cs) ≡ leastIs r
+pub record LeastBy (n : ℕ) (cs : List Seen) (r : Least) : Type 0 where
+  pub is : (X : List O.Card) → Sees n cs X → leastKey X ≡ leastIs r
   pub few : r .key .levels ≤ maxLevels
 
 -- ---- keys used up
@@ -52,23 +53,19 @@ orderTest less Greater = false
 abbrev pub keyTest : Bool → List ℕ → List ℕ → Bool
 keyTest less k x = cond less (beforeTest x k) (sameTest x k)
 
-pub record UsedBy (c : Card) (k : Head) (less : Bool) (r : Card) : Type 0 where
-  pub is : (f : List ℕ)
-      → ifHolds (slotIs (c .slot) (c .value))
-      (λ v. cond (keyTest less (headKey k) (cardKey (cardIs f c))) (O.cardIs f (cardIs f c .reading) O.used) (cardIs f c)) (cardIs f c)
-      ≡ cardIs f r
+pub record UsedBy (c : Seen) (k : Head) (less : Bool) (r : Seen) : Type 0 where
+  pub is : (x : O.Card) → Shows c x → Shows r (used1 (keyTest less (headKey k)) x)
   pub few : Few r
 
-pub record AllUsed (n : ℕ) (cs : List Card) (k : Head) (less : Bool) (r : List Card) : Type 0 where
-  pub is : (fs : List (List ℕ)) → useUp (keyTest less (headKey k)) (cardsIs fs n cs) ≡ cardsIs fs n r
+pub record AllUsed (n : ℕ) (cs : List Seen) (k : Head) (less : Bool) (r : List Seen) : Type 0 where
+  pub is : (X : List O.Card) → Sees n cs X → Sees n r (useUp (keyTest less (headKey k)) X)
   pub eight : length r ≡ 8
 
 -- ---- the values of a key
 
-pub record GatheredBy (p : Pairs) (c : Card) (k : Head) (file : ℕ) (r : Pairs) : Type 0 where
-  pub is : (f : List ℕ) (ps : List Indexed) → PairsAre ps p
-      → PairsAre
-      (ifHolds (slotIs (c .slot) (c .value)) (λ v. cond (sameTest (cardKey (cardIs f c)) (headKey k)) (insert (indexed v file) ps) ps) ps) r
+pub record GatheredBy (p : Pairs) (c : Seen) (k : Head) (file : ℕ) (r : Pairs) : Type 0 where
+  pub is : (x : O.Card) → Shows c x → (ps : List Indexed) → PairsAre ps p
+      → PairsAre (ifHolds (x .slot) (λ v. cond (sameTest (cardKey x) (headKey k)) (insert (indexed v file) ps) ps) ps) r
 
-pub record CollectedBy (n : ℕ) (cs : List Card) (k : Head) (r : Pairs) : Type 0 where
-  pub is : (fs : List (List ℕ)) → PairsAre (pairsFrom 0 (headKey k) (cardsIs fs n cs)) r
+pub record CollectedBy (n : ℕ) (cs : List Seen) (k : Head) (r : Pairs) : Type 0 where
+  pub is : (X : List O.Card) → Sees n cs X → PairsAre (pairsFrom 0 (headKey k) X) r

@@ -1,20 +1,20 @@
-// What a round looks up in the cards: the least key held, the values of a key, and the cards with some keys used up. Each goes over the cards one by one.
+// What a round looks up in what is seen of the cards: the least key held, the values of a key, and the cards with some keys used up. Each goes over the
+// cards one by one.
 ghost use mathlib.Core.Path.{_≡_};
 ghost use mathlib.Core.List.{List};
 ghost use Prim.Native.Nat.{ℕ, _≤_, _<_};
 ghost use lib.ListN.{length};
 ghost use Rattle.format.specs.Limits.{maxLevels};
 ghost use Rattle.ops_keys.specs.Heads.{headKey};
-ghost use Rattle.ops_round.specs.Cards.{Few, AllFew};
+ghost use Rattle.ops_seen.specs.Sights.{Few, Ready};
 ghost use Rattle.ops_item.specs.Items.{orderTest, LesserBy, LeastBy, UsedBy, AllUsed, GatheredBy, CollectedBy};
 use format::LEVELS;
 use ops_keys::Head;
 use ops_keys::Order;
 use ops_keys::compare;
-use ops_keys::head_of;
 use ops_pairs::Pairs;
-use ops_round::Card;
 use ops_round::Slot;
+use ops_seen::Seen;
 
 // A key, if one was found, passed by value.
 pub struct Least {
@@ -23,19 +23,18 @@ pub struct Least {
 }
 
 // The lesser of a key and the one that a card holds.
-fn lesser(least: Least, card: Card) -> Least
+fn lesser(least: Least, card: Seen) -> Least
     requires { ⌜ (least .key .levels ≤ maxLevels) × Few card ⌝ }
     ensures { λ r. ⌜ LesserBy least card r ⌝ }
 {
     let slot = card.slot;
     let found = least.found;
     let key = least.key;
-    let reading = card.reading;
+    let head = card.head;
     match slot {
         Slot::Used => least,
         Slot::Ended => least,
         Slot::Holds => {
-            let head = head_of(reading);
             if !found {
                 return Least {
                     found: true,
@@ -59,8 +58,8 @@ fn lesser(least: Least, card: Card) -> Least
 }
 
 // The least key that the first count cards hold.
-pub fn least_key(count: usize, cards: [Card; 8]) -> Least
-    requires { ⌜ (count ≤ 8) × AllFew count cards ⌝ }
+pub fn least_key(count: usize, cards: [Seen; 8]) -> Least
+    requires { ⌜ (count ≤ 8) × Ready count cards ⌝ }
     ensures { λ r. ⌜ LeastBy count cards r ⌝ }
 {
     let mut least = Least {
@@ -91,21 +90,20 @@ fn is_meant(order: Order, less: bool) -> bool
 }
 
 // A card that holds a key less than this one, or the same, is used up.
-fn used_up(card: Card, key: Head, less: bool) -> Card
+fn used_up(card: Seen, key: Head, less: bool) -> Seen
     requires { ⌜ (key .levels ≤ maxLevels) × Few card ⌝ }
     ensures { λ r. ⌜ UsedBy card key less r ⌝ }
 {
     let slot = card.slot;
-    let reading = card.reading;
+    let head = card.head;
     match slot {
         Slot::Used => card,
         Slot::Ended => card,
         Slot::Holds => {
-            let head = head_of(reading);
             let order = compare(head, key);
             if is_meant(order, less) {
-                return Card {
-                    reading,
+                return Seen {
+                    head,
                     slot: Slot::Used,
                     value: 0,
                 };
@@ -116,8 +114,8 @@ fn used_up(card: Card, key: Head, less: bool) -> Card
 }
 
 // The cards, where those of the first count that hold a key less than this one, or the same, are used up.
-pub fn use_up(count: usize, cards: [Card; 8], key: Head, less: bool) -> [Card; 8]
-    requires { ⌜ (count ≤ 8) × AllFew count cards × (key .levels ≤ maxLevels) ⌝ }
+pub fn use_up(count: usize, cards: [Seen; 8], key: Head, less: bool) -> [Seen; 8]
+    requires { ⌜ (count ≤ 8) × Ready count cards × (key .levels ≤ maxLevels) ⌝ }
     ensures { λ r. ⌜ AllUsed count cards key less r ⌝ }
 {
     let mut all = cards;
@@ -132,17 +130,16 @@ pub fn use_up(count: usize, cards: [Card; 8], key: Head, less: bool) -> [Card; 8
 }
 
 // The values gathered of a key, with that of a card that holds it.
-fn gather(pairs: Pairs, card: Card, key: Head, file: u8) -> Pairs
+fn gather(pairs: Pairs, card: Seen, key: Head, file: u8) -> Pairs
     requires { ⌜ (key .levels ≤ maxLevels) × Few card × (pairs .count < 8) ⌝ }
     ensures { λ r. ⌜ GatheredBy pairs card key file r ⌝ }
 {
     let slot = card.slot;
-    let reading = card.reading;
+    let head = card.head;
     match slot {
         Slot::Used => pairs,
         Slot::Ended => pairs,
         Slot::Holds => {
-            let head = head_of(reading);
             let order = compare(head, key);
             if is_meant(order, false) {
                 return ops_pairs::insert(pairs, card.value, file);
@@ -153,8 +150,8 @@ fn gather(pairs: Pairs, card: Card, key: Head, file: u8) -> Pairs
 }
 
 // The values that the first count cards have of a key, with the numbers of their files.
-pub fn collect(count: usize, cards: [Card; 8], key: Head) -> Pairs
-    requires { ⌜ (count ≤ 8) × AllFew count cards × (key .levels ≤ maxLevels) ⌝ }
+pub fn collect(count: usize, cards: [Seen; 8], key: Head) -> Pairs
+    requires { ⌜ (count ≤ 8) × Ready count cards × (key .levels ≤ maxLevels) ⌝ }
     ensures { λ r. ⌜ CollectedBy count cards key r ⌝ }
 {
     let mut pairs = ops_pairs::none();

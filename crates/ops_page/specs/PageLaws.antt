@@ -1,6 +1,8 @@
 -- Items written one after the other: what a turn of the loop over calls knows, and what each way out of it gives back.
---     Filling w fs op n all most .. done      `done` items are written, and the page w goes on from the cards all
---     filling-none, filling-item              before the first item, after an item
+--     Filling w fs op n all ss i most .. done `done` items are written, the page w goes on by a call that is on its way
+--     filling-none, filling-step              before the first item, after a card's step
+--     filling-item, filling-again             after an item, after a round without one
+--     item-less, round-less                   the measure falls
 --     filled-more, filled-end, filled-refused the ways out
 --     paged-as, refused-by                    by an equation between pages; a refusal before any item
 --     room-of, page-began, page-refused       what has_room shows; a page by what its starts came to
@@ -11,7 +13,8 @@ use mathlib.Core.List.{List, [], _∷_, _++_, map}
 use Prim.Native.Nat.{ℕ, _+_, _-_, _*_, min, _≤_, _<_}
 use native.Mathlib.Omega.{arith}
 use lib.Dec.{ltb, leb}
-use lib.ListN.{length, drop, set, replicate, length-take, length-append, length-set, length-map, length-replicate}
+use denote.Ref.{RefT, now}
+use lib.ListN.{List·getD-map, length, drop, getD, set, replicate, length-take, length-append, length-set, length-map, length-replicate}
 use borrow.Author.Tests.{lt-ltb, le-leb}
 use Rattle.buffers.specs.DecideLaws.{decides-and, decides-le}
 use Rattle.buffers.specs.Put.{put}
@@ -22,7 +25,7 @@ use Rattle.paging.specs.Paging as G
 use Rattle.paging.specs.Paging.{ended, more, rowLen, rowOf, rowsAfter, valuesAfter}
 use Rattle.paging.specs.FoldLaws.{rows-none, rows-snoc, values-none, values-snoc}
 use Rattle.ops_spec.specs.Ops as O
-use Rattle.ops_spec.specs.Ops.{Indexed, indexed, nextItem, afterSteps, stepAll}
+use Rattle.ops_spec.specs.Ops.{Indexed, indexed, nextItem, afterSteps, stepAll, byVerdict, decide}
 use Rattle.ops_spec.specs.OpsLists.{Item, itemIs}
 use Rattle.ops_spec.specs.OpsFuelLaws.{roundsBy, rounds-by, next-item-by}
 use Rattle.ops_paging.specs.ItemPaging.{ItemPage, itemPage, refusedItems, Starts, fold, roomTest, pageFrom, linesOf, eightOf, eightsAfter, indexOf, valueOf}
@@ -35,10 +38,15 @@ use Rattle.ops_pairs.specs.PairsLaws.{in-length, the-values, the-files}
 use Rattle.ops_round.specs.declared.Card.{Card}
 use Rattle.ops_round.specs.Cards.{cardsIs}
 use Rattle.ops_round.specs.CardsLaws.{cards-length}
-use Rattle.ops_rounds.specs.declared.Came.{Came}
-use Rattle.ops_rounds.specs.declared.Came.the-variants as C
-use Rattle.ops_rounds.specs.declared.Called.{Called}
-use Rattle.ops_rounds.specs.Turns.{ItemIs, CalledAs, CalledBy}
+use Rattle.ops_seen.specs.declared.Seen.{Seen}
+use Rattle.ops_seen.specs.Sights.{AllSeen, Sees, Ready, Kept}
+use Rattle.ops_turn.specs.declared.SeenStep.{SeenStep}
+use Rattle.ops_turn.specs.Parts.{dealtAll, SeenStepped, load, Turning}
+use Rattle.ops_turn.specs.LoadLaws.{Lighter, decide-lighter}
+use Rattle.ops_turn.specs.PartsLaws.{toDo, turning-none, turning-on, turn-halted, turn-sees, turn-ready, turn-judged, turning-item, turning-again, step-less, again-less}
+use Rattle.ops_decide.specs.declared.Verdict.the-variants.{This, NoMore, Another}
+use Rattle.ops_decide.specs.declared.Decided.{Decided}
+use Rattle.ops_decide.specs.Verdicts.{DecidedBy}
 use Rattle.stream_start.specs.declared.Begins.{Begins}
 use Rattle.stream_start.specs.declared.Begins.the-variants as B
 use Rattle.stream_start.specs.declared.Begins.the-variants.{Began}
@@ -68,12 +76,16 @@ key-short h few = let t : length (headKey h) ≡ min (h .levels - 1) (length (dr
 
 -- ---- a turn
 
-pub record Filling (w : ItemPage) (fs : List (List ℕ)) (op : O.Op) (n : ℕ) (all : List Card) (most : ℕ)
+pub record Filling (w : ItemPage) (fs : List (List ℕ)) (op : O.Op) (n : ℕ) (all : List Card) (ss : List Seen) (i most : ℕ)
     (rows₀ rows counts₀ counts numbers₀ numbers values₀ values : List ℕ) (done : ℕ) : Type 0 where
   pub items : List Item
   pub done-is : done ≡ length items
   pub within : done ≤ most
-  pub folded : Folded w items (most - done) op (cardsIs fs n all)
+  -- the cards of this call
+  pub cards : List O.Card
+  pub count : length cards ≡ n
+  pub folded : Folded w items (most - done) op cards
+  pub turning : Turning fs op n cards all ss i
   pub rows-are : rows ≡ rowsAfter (linesOf items) rows₀
   pub counts-are : counts ≡ valuesAfter (linesOf items) counts₀
   pub numbers-are : numbers ≡ eightsAfter indexOf items numbers₀
@@ -83,14 +95,18 @@ pub record Filling (w : ItemPage) (fs : List (List ℕ)) (op : O.Op) (n : ℕ) (
   pub numbers-len : length numbers ≡ length numbers₀
   pub values-len : length values ≡ length values₀
 
-pub filling-none : (fs : List (List ℕ)) (op : O.Op) (n : ℕ) (all : List Card) (most : ℕ) (rows counts numbers values : List ℕ)
-    → Filling (fold op (cardsIs fs n all) most) fs op n all most rows rows counts counts numbers numbers values values 0
-filling-none fs op n all most rows counts numbers values =
+pub filling-none : (fs : List (List ℕ)) (op : O.Op) (n : ℕ) (all : List Card) (ss : List Seen) (most : ℕ) (rows counts numbers values : List ℕ) → n ≤ 8 → AllSeen n all ss
+    → Filling (fold op (cardsIs fs n all) most) fs op n all ss 0 most rows rows counts counts numbers numbers values values 0
+filling-none fs op n all ss most rows counts numbers values small seen =
+    let given = seen .given in
     record {
       items = [];
       done-is = refl;
       within = omega arith;
+      cards = cardsIs fs n all;
+      count = cards-length fs n all (omega arith);
       folded = subst (λ (m : ℕ). Folded (fold op (cardsIs fs n all) most) [] m op (cardsIs fs n all)) (omega arith) (folded-none op (cardsIs fs n all) most);
+      turning = turning-none fs op n all ss small seen;
       rows-are = sym (rows-none rows);
       counts-are = sym (values-none counts);
       numbers-are = sym (eights-none indexOf numbers);
@@ -101,8 +117,54 @@ filling-none fs op n all most rows counts numbers values =
       values-len = refl;
     }
 
-module _ {w : ItemPage} {fs : List (List ℕ)} {op : O.Op} {n : ℕ} {all : List Card} {most : ℕ} {rows₀ rows counts₀ counts numbers₀ numbers values₀ values : List ℕ} {done : ℕ}
-    (f : Filling w fs op n all most rows₀ rows counts₀ counts numbers₀ numbers values₀ values done) where
+-- ---- what a round comes to
+
+pub record ThisOf (Y : List O.Card) (n : ℕ) (q : O.Verdict) (v : Decided) : Type 0 where
+  pub pairs : List Indexed
+  pub cards : List O.Card
+  pub are : PairsAre pairs (v .pairs)
+  pub few : v .key .levels ≤ 256
+  pub is : q ≡ O.this (headKey (v .key)) pairs cards
+  pub sees : Sees n (v .cards) cards
+  pub kept : Kept Y cards
+  pub eight : length (v .cards) ≡ 8
+
+pub record AnotherOf (Y : List O.Card) (n : ℕ) (q : O.Verdict) (v : Decided) : Type 0 where
+  pub cards : List O.Card
+  pub is : q ≡ O.another cards
+  pub sees : Sees n (v .cards) cards
+  pub kept : Kept Y cards
+  pub eight : length (v .cards) ≡ 8
+
+module _ (Y : List O.Card) (n : ℕ) (v : Decided) where
+  this-by : (q : O.Verdict) → DecidedBy Y n q v → v .verdict ≡ This → ThisOf Y n q v
+  this-by (O.this k ps ds) h e =
+      record {
+        pairs = ps;
+        cards = ds;
+        are = h .pairs;
+        few = h .few;
+        is = ap (λ (a : List ℕ). O.this a ps ds) (sym (h .key));
+        sees = h .sees;
+        kept = h .kept;
+        eight = h .eight;
+      }
+  this-by O.no-more h e = let z : _≡_ {A = ℕ} 0 1 = cc in absurd (omega arith)
+  this-by (O.another ds) h e = let q = h .verdict in let z : _≡_ {A = ℕ} 0 1 = cc in absurd (omega arith)
+
+  over-by : (q : O.Verdict) → DecidedBy Y n q v → v .verdict ≡ NoMore → q ≡ O.no-more
+  over-by (O.this k ps ds) h e = let q = h .verdict in let z : _≡_ {A = ℕ} 0 1 = cc in absurd (omega arith)
+  over-by O.no-more h e = refl
+  over-by (O.another ds) h e = let q = h .verdict in let z : _≡_ {A = ℕ} 0 1 = cc in absurd (omega arith)
+
+  another-by : (q : O.Verdict) → DecidedBy Y n q v → v .verdict ≡ Another → AnotherOf Y n q v
+  another-by (O.this k ps ds) h e = let q = h .verdict in let z : _≡_ {A = ℕ} 0 1 = cc in absurd (omega arith)
+  another-by O.no-more h e = let z : _≡_ {A = ℕ} 0 1 = cc in absurd (omega arith)
+  another-by (O.another ds) h e = record { cards = ds; is = refl; sees = h .sees; kept = h .kept; eight = h .eight }
+
+module _ {w : ItemPage} {fs : List (List ℕ)} {op : O.Op} {n : ℕ} {all : List Card} {ss : List Seen} {i most : ℕ}
+    {rows₀ rows counts₀ counts numbers₀ numbers values₀ values : List ℕ} {done : ℕ}
+    (f : Filling w fs op n all ss i most rows₀ rows counts₀ counts numbers₀ numbers values₀ values done) where
   -- the page stops with the items that are written
   stops : (why : G.Stop) → w ≡ itemPage (f .items) why
       → PagedBy w rows₀ rows counts₀ counts numbers₀ numbers values₀ values (record { count = done; stop = stopAs why })
@@ -130,81 +192,152 @@ module _ {w : ItemPage} {fs : List (List ℕ)} {op : O.Op} {n : ℕ} {all : List
         value = omega (arith, room .value, f .values-len);
       }
 
-  module _ (some : 0 < n) (few : n ≤ 8) (left : done < most) (d : Called)
-      (by : CalledBy fs n all (roundsBy op maxPath false (cardsIs fs n all)) d) where
-    abbrev X : List O.Card
-    X = cardsIs fs n all
+  -- the page goes on by another state of its call
+  goes-on : {all′ : List Card} {ss′ : List Seen} {i′ : ℕ} → Turning fs op n (f .cards) all′ ss′ i′
+      → Filling w fs op n all′ ss′ i′ most rows₀ rows counts₀ counts numbers₀ numbers values₀ values done
+  goes-on t =
+      record {
+        items = f .items;
+        done-is = f .done-is;
+        within = f .within;
+        cards = f .cards;
+        count = f .count;
+        folded = f .folded;
+        turning = t;
+        rows-are = f .rows-are;
+        counts-are = f .counts-are;
+        numbers-are = f .numbers-are;
+        values-are = f .values-are;
+        rows-len = f .rows-len;
+        counts-len = f .counts-len;
+        numbers-len = f .numbers-len;
+        values-len = f .values-len;
+      }
 
-    called-is : nextItem op X maxPath ≡ roundsBy op maxPath false X
+  module _ (some : 0 < n) (few : n ≤ 8) where
+    called-is : nextItem op (f .cards) maxPath ≡ roundsBy op maxPath false (f .cards)
     called-is =
-        let given = by .given in
-        let len : length X ≡ n = cards-length fs n all (omega arith) in
+        let X : List O.Card = f .cards in
+        let len = f .count in
         let t : (ltb 0 (length X) && leb (length X) 8) ≡ true = ap₂ _&&_ (lt-ltb 0 (length X) (omega arith)) (le-leb (length X) 8 (omega arith)) in
         next-item-by op X maxPath
         ∙ ap (λ (b : Bool). cond b (afterSteps op maxPath false (roundsBy op maxPath true) (stepAll maxPath X)) (O.Merged.refused CARDS)) t
         ∙ sym (rounds-by op maxPath false X)
 
-    as-came : (a : Came) → d .came ≡ a → CalledAs fs n (roundsBy op maxPath false X) d a
-    as-came a e = subst (CalledAs fs n (roundsBy op maxPath false X) d) e (by .is)
+    -- ---- a card's step
 
-    pub filled-end : d .came ≡ C.End → PagedBy w rows₀ rows counts₀ counts numbers₀ numbers values₀ values (record { count = done; stop = End })
-    filled-end e = stops ended (folded-end (f .folded) (omega arith) (cardsIs fs n (d .cards)) (called-is ∙ as-came C.End e))
+    module _ (h : i < n) (d : Card) (e : Seen) (r : SeenStep) (by : SeenStepped (getD fs i []) maxPath (getD all i d) (getD ss i e) r) where
+      pub filled-refused : done < most → r .halted ≡ true → PagedBy w rows₀ rows counts₀ counts numbers₀ numbers values₀ values (record { count = done; stop = Refused (r .why) })
+      filled-refused left t =
+          stops (G.Stop.refused (r .why)) (folded-refused (f .folded) (omega arith) (r .why) (called-is ∙ turn-halted (f .turning) few h d e r by t))
 
-    pub filled-refused : (c : ℕ) → d .came ≡ C.Refused c → PagedBy w rows₀ rows counts₀ counts numbers₀ numbers values₀ values (record { count = done; stop = Refused c })
-    filled-refused c e = stops (G.Stop.refused c) (folded-refused (f .folded) (omega arith) c (called-is ∙ as-came (C.Refused c) e))
+      pub filling-step : r .halted ≡ false
+          → Filling w fs op n (set all i (r .card)) (set ss i (r .seen)) (i + 1) most rows₀ rows counts₀ counts numbers₀ numbers values₀ values done
+      filling-step t = goes-on (turning-on (f .turning) few h d e r by t)
 
-    item-of : d .came ≡ C.Item → ItemIs fs n (roundsBy op maxPath false X) (d .key) (d .pairs) (d .cards)
-    item-of e = as-came C.Item e
+      pub card-less : r .halted ≡ false → toDo fs n (set all i (r .card)) (set ss i (r .seen)) (i + 1) < toDo fs n all ss i
+      card-less t = step-less (f .turning) few h d e r by t
 
-    pub item-fits : d .came ≡ C.Item → d .key .levels ≤ 256
-    item-fits e = item-of e .few
+    -- ---- what the round comes to
 
-    pub pairs-fit : d .came ≡ C.Item → d .pairs .count ≤ 8
-    pairs-fit e = omega (arith, item-of e .are .count, pairs-few (item-of e .pairs) (d .pairs) (item-of e .are))
+    module _ (full : n ≤ i) where
+      abbrev Y : List O.Card
+      Y = cardsIs fs n (dealtAll all ss)
 
-    pub filling-item : HasRoom most rows₀ counts₀ numbers₀ values₀ → d .came ≡ C.Item → {rows′ counts′ numbers′ values′ : List ℕ}
-        → ItemPut (d .key) (d .pairs) done rows rows′ counts counts′ numbers numbers′ values values′
-        → Filling w fs op n (d .cards) most rows₀ rows′ counts₀ counts′ numbers₀ numbers′ values₀ values′ (done + 1)
-    filling-item room e {rows′} {counts′} {numbers′} {values′} put-is =
-        let i = item-of e in
-        let k : List ℕ = headKey (d .key) in
-        let x : Item = itemIs k (i .pairs) in
-        let line : Entry = entry k (length (i .pairs)) in
-        let done-is = f .done-is in
-        let lines-len : length (linesOf (f .items)) ≡ length (f .items) = length-map (f .items) (λ (y : Item). entry (y .key) (length (y .pairs))) in
-        let row-at : done * 256 ≡ rowLen * length (linesOf (f .items)) = omega arith in
-        let count-at : done ≡ length (linesOf (f .items)) = omega arith in
-        let eight-at : done * 8 ≡ 8 * length (f .items) = omega arith in
-        let more-len : length (f .items ++ (x ∷ [])) ≡ length (f .items) + 1 = length-append (f .items) (x ∷ []) in
-        let in-counts : length (linesOf (f .items)) < length counts₀ = omega (arith, room .count) in
-        let short : length k ≤ 255 = key-short (d .key) (item-fits e) in
-        let eight : length (d .pairs .files) ≡ 8 = i .are .files-len in
-        let held : length (d .pairs .values) ≡ 8 = i .are .values-len in
-        record {
-          items = f .items ++ (x ∷ []);
-          done-is = omega arith;
-          within = omega arith;
-          folded = folded-item (f .folded) k (i .pairs) (cardsIs fs n (d .cards)) (most - (done + 1)) (omega arith) (called-is ∙ i .is);
-          rows-are = put-is .row
-              ∙ ap₂ (λ (l : List ℕ) (j : ℕ). put l j (rowOf line)) (f .rows-are) row-at
-              ∙ sym (ap (λ (l : List Entry). rowsAfter l rows₀) (lines-snoc (f .items) x) ∙ rows-snoc (linesOf (f .items)) line rows₀);
-          counts-are = put-is .count
-              ∙ ap (set counts done) (i .are .count)
-              ∙ ap₂ (λ (l : List ℕ) (j : ℕ). set l j (length (i .pairs))) (f .counts-are) count-at
-              ∙ sym (ap (λ (l : List Entry). valuesAfter l counts₀) (lines-snoc (f .items) x) ∙ values-snoc (linesOf (f .items)) line counts₀ in-counts);
-          numbers-are = put-is .number
-              ∙ ap (put numbers (done * 8)) (the-files (i .are))
-              ∙ ap₂ (λ (l : List ℕ) (j : ℕ). put l j (eightOf indexOf x)) (f .numbers-are) eight-at
-              ∙ sym (eights-snoc indexOf (f .items) x numbers₀);
-          values-are = put-is .value
-              ∙ ap (put values (done * 8)) (the-values (i .are))
-              ∙ ap₂ (λ (l : List ℕ) (j : ℕ). put l j (eightOf valueOf x)) (f .values-are) eight-at
-              ∙ sym (eights-snoc valueOf (f .items) x values₀);
-          rows-len = ap length (put-is .row) ∙ length-put rows (done * 256) (rowOf line) (omega (arith, f .rows-len, room .row)) ∙ f .rows-len;
-          counts-len = ap length (put-is .count) ∙ length-set counts done (d .pairs .count) ∙ f .counts-len;
-          numbers-len = ap length (put-is .number) ∙ length-put numbers (done * 8) (d .pairs .files) (omega (arith, f .numbers-len, room .number)) ∙ f .numbers-len;
-          values-len = ap length (put-is .value) ∙ length-put values (done * 8) (d .pairs .values) (omega (arith, f .values-len, room .value)) ∙ f .values-len;
-        }
+      pub page-ready : Ready n ss
+      page-ready = turn-ready (f .turning) few some full
+
+      module _ (v : Decided) (by : (X : List O.Card) → Sees n ss X → DecidedBy X n (decide op X) v) where
+        here : DecidedBy Y n (decide op Y) v
+        here = by Y (turn-sees (f .turning) few some full)
+
+        judged : (q : O.Verdict) → decide op Y ≡ q → nextItem op (f .cards) maxPath ≡ byVerdict Y (roundsBy op maxPath true) q
+        judged q e = called-is ∙ turn-judged (f .turning) few some full ∙ ap (byVerdict Y (roundsBy op maxPath true)) e
+
+        pub filled-end : done < most → v .verdict ≡ NoMore → PagedBy w rows₀ rows counts₀ counts numbers₀ numbers values₀ values (record { count = done; stop = End })
+        filled-end left e = stops ended (folded-end (f .folded) (omega arith) Y (judged O.no-more (over-by Y n v (decide op Y) here e)))
+
+        another-of : v .verdict ≡ Another → AnotherOf Y n (decide op Y) v
+        another-of e = another-by Y n v (decide op Y) here e
+
+        pub filling-again : v .verdict ≡ Another → Filling w fs op n all (v .cards) 0 most rows₀ rows counts₀ counts numbers₀ numbers values₀ values done
+        filling-again e =
+            let a = another-of e in
+            goes-on (turning-again (f .turning) few some full (v .cards) (a .eight) (a .cards) (a .sees) (a .kept) (a .is))
+
+        pub round-less : v .verdict ≡ Another → toDo fs n all (v .cards) 0 < toDo fs n all ss i
+        round-less e =
+            let a = another-of e in
+            again-less (f .turning) few some full (v .cards) (a .eight) (a .cards) (a .sees) (a .kept) (subst (Lighter Y) (a .is) (decide-lighter op Y))
+
+        item-of : v .verdict ≡ This → ThisOf Y n (decide op Y) v
+        item-of e = this-by Y n v (decide op Y) here e
+
+        pub item-fits : v .verdict ≡ This → v .key .levels ≤ 256
+        item-fits e = item-of e .few
+
+        pub pairs-fit : v .verdict ≡ This → v .pairs .count ≤ 8
+        pairs-fit e = omega (arith, item-of e .are .count, pairs-few (item-of e .pairs) (v .pairs) (item-of e .are))
+
+        pub item-less : v .verdict ≡ This → toDo fs n all (v .cards) 0 < toDo fs n all ss i
+        item-less e =
+            let a = item-of e in
+            again-less (f .turning) few some full (v .cards) (a .eight) (a .cards) (a .sees) (a .kept) (subst (Lighter Y) (a .is) (decide-lighter op Y))
+
+        pub filling-item : done < most → HasRoom most rows₀ counts₀ numbers₀ values₀ → v .verdict ≡ This → {rows′ counts′ numbers′ values′ : List ℕ}
+            → ItemPut (v .key) (v .pairs) done rows rows′ counts counts′ numbers numbers′ values values′
+            → Filling w fs op n all (v .cards) 0 most rows₀ rows′ counts₀ counts′ numbers₀ numbers′ values₀ values′ (done + 1)
+        filling-item left room e {rows′} {counts′} {numbers′} {values′} put-is =
+            let a = item-of e in
+            let k : List ℕ = headKey (v .key) in
+            let x : Item = itemIs k (a .pairs) in
+            let line : Entry = entry k (length (a .pairs)) in
+            let done-is = f .done-is in
+            let lines-len : length (linesOf (f .items)) ≡ length (f .items) = length-map (f .items) (λ (y : Item). entry (y .key) (length (y .pairs))) in
+            let row-at : done * 256 ≡ rowLen * length (linesOf (f .items)) = omega arith in
+            let count-at : done ≡ length (linesOf (f .items)) = omega arith in
+            let eight-at : done * 8 ≡ 8 * length (f .items) = omega arith in
+            let more-len : length (f .items ++ (x ∷ [])) ≡ length (f .items) + 1 = length-append (f .items) (x ∷ []) in
+            let in-counts : length (linesOf (f .items)) < length counts₀ = omega (arith, room .count) in
+            let short : length k ≤ 255 = key-short (v .key) (item-fits e) in
+            let eight : length (v .pairs .files) ≡ 8 = a .are .files-len in
+            let held : length (v .pairs .values) ≡ 8 = a .are .values-len in
+            record {
+              items = f .items ++ (x ∷ []);
+              done-is = omega arith;
+              within = omega arith;
+              cards = a .cards;
+              count = a .sees .count;
+              folded = folded-item (f .folded) k (a .pairs) (a .cards) (most - (done + 1)) (omega arith) (judged (O.this k (a .pairs) (a .cards)) (a .is));
+              turning = turning-item (f .turning) few some full (v .cards) (a .eight) (a .cards) (a .sees) (a .kept);
+              rows-are = put-is .row
+                  ∙ ap₂ (λ (l : List ℕ) (j : ℕ). put l j (rowOf line)) (f .rows-are) row-at
+                  ∙ sym (ap (λ (l : List Entry). rowsAfter l rows₀) (lines-snoc (f .items) x) ∙ rows-snoc (linesOf (f .items)) line rows₀);
+              counts-are = put-is .count
+                  ∙ ap (set counts done) (a .are .count)
+                  ∙ ap₂ (λ (l : List ℕ) (j : ℕ). set l j (length (a .pairs))) (f .counts-are) count-at
+                  ∙ sym (ap (λ (l : List Entry). valuesAfter l counts₀) (lines-snoc (f .items) x) ∙ values-snoc (linesOf (f .items)) line counts₀ in-counts);
+              numbers-are = put-is .number
+                  ∙ ap (put numbers (done * 8)) (the-files (a .are))
+                  ∙ ap₂ (λ (l : List ℕ) (j : ℕ). put l j (eightOf indexOf x)) (f .numbers-are) eight-at
+                  ∙ sym (eights-snoc indexOf (f .items) x numbers₀);
+              values-are = put-is .value
+                  ∙ ap (put values (done * 8)) (the-values (a .are))
+                  ∙ ap₂ (λ (l : List ℕ) (j : ℕ). put l j (eightOf valueOf x)) (f .values-are) eight-at
+                  ∙ sym (eights-snoc valueOf (f .items) x values₀);
+              rows-len = ap length (put-is .row) ∙ length-put rows (done * 256) (rowOf line) (omega (arith, f .rows-len, room .row)) ∙ f .rows-len;
+              counts-len = ap length (put-is .count) ∙ length-set counts done (v .pairs .count) ∙ f .counts-len;
+              numbers-len = ap length (put-is .number) ∙ length-put numbers (done * 8) (v .pairs .files) (omega (arith, f .numbers-len, room .number)) ∙ f .numbers-len;
+              values-len = ap length (put-is .value) ∙ length-put values (done * 8) (v .pairs .values) (omega (arith, f .values-len, room .value)) ∙ f .values-len;
+            }
+
+-- the file that a card is lent
+pub at-file : (l : List (RefT (List ℕ))) (i : ℕ) (c : Card) (s : Seen) (r : SeenStep) (d : RefT (List ℕ)) → SeenStepped (now (getD l i d)) maxPath c s r → now d ≡ []
+    → SeenStepped (getD (map (λ (f : RefT (List ℕ)). now f) l) i []) maxPath c s r
+at-file l i c s r d h e =
+    let same : getD (map (λ (f : RefT (List ℕ)). now f) l) i [] ≡ now (getD l i d) =
+    ap (getD (map (λ (f : RefT (List ℕ)). now f) l) i) (sym e) ∙ List·getD-map (λ (f : RefT (List ℕ)). now f) l i d in
+    subst (λ (f : List ℕ). SeenStepped f maxPath c s r) (sym same) h
 
 -- by an equation between pages
 pub paged-as : {v w : ItemPage} {rows₀ rows counts₀ counts numbers₀ numbers values₀ values : List ℕ} {r : Paged} → v ≡ w

@@ -13,12 +13,14 @@ use format::CARDS;
 use format::MAX_KEY;
 use format::SPACE;
 use ops_decide::Op;
+use ops_decide::Verdict;
+use ops_decide::decide;
 use ops_put::has_room;
 use ops_put::put_item;
 use ops_round::Card;
-use ops_rounds::Came;
-use ops_rounds::rounds;
+use ops_seen::see;
 use ops_starts::starts;
+use ops_turn::step_seen;
 use stream_start::Begins;
 use stream_start::Bound;
 
@@ -45,7 +47,8 @@ fn refused(why: u8) -> Paged
     }
 }
 
-// The items of cards, up to `most`. A refusal stands beside the items before it.
+// The items of cards, up to `most`. A refusal stands beside the items before it. Each turn steps one card, or decides once all are stepped: so the cards
+// stay in one place, and what is seen of them stands beside them.
 fn fill(
     files: [&[u8]; 8],
     op: Op,
@@ -64,29 +67,52 @@ fn fill(
         (now (numbers .entry)) (now (numbers .exit)) (now (values .entry)) (now (values .exit)) r ⌝ }
 {
     let mut all = cards;
+    let mut seen = see(count, cards);
     let mut done = 0;
+    let mut i = 0;
     while done < most {
-        let called = rounds(files, op, count, all, MAX_KEY);
-        let came = called.came;
-        let key = called.key;
-        let pairs = called.pairs;
-        match came {
-            Came::End => {
+        if i < count {
+            let file = files[i];
+            let card = all[i];
+            let one = seen[i];
+            let step = step_seen(file, card, one, MAX_KEY);
+            if step.halted {
+                return Paged {
+                    count: done,
+                    stop: Stop::Refused(step.why),
+                };
+            }
+            let after = step.card;
+            let shown = step.seen;
+            all[i] = after;
+            seen[i] = shown;
+            i += 1;
+            continue;
+        }
+        let decided = decide(op, count, seen);
+        let verdict = decided.verdict;
+        let key = decided.key;
+        let pairs = decided.pairs;
+        let marked = decided.cards;
+        match verdict {
+            Verdict::NoMore => {
                 return Paged {
                     count: done,
                     stop: Stop::End,
                 };
             }
-            Came::Refused(why) => {
-                return Paged {
-                    count: done,
-                    stop: Stop::Refused(why),
-                };
-            }
-            Came::Item => {
+            Verdict::This => {
+                let more = done + 1;
                 put_item(key, pairs, done, rows, counts, numbers, values);
-                all = called.cards;
-                done += 1;
+                seen = marked;
+                done = more;
+                i = 0;
+                continue;
+            }
+            Verdict::Another => {
+                seen = marked;
+                i = 0;
+                continue;
             }
         }
     }

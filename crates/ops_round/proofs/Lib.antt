@@ -1,2 +1,1 @@
 mod StepCases
-mod RoundLaws

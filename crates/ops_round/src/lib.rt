@@ -61,7 +61,7 @@ fn step_used(file: &[u8], reading: Plain, space: usize) -> Step
 }
 
 // One card's part in a round: a used-up reading is stepped, a held key is kept unless its reading has over 256 levels, an ended reading is left alone.
-fn step_card(file: &[u8], card: Card, space: usize) -> CardStep
+pub fn step_card(file: &[u8], card: Card, space: usize) -> CardStep
     ensures { λ r. ⌜ OneStepped (now (file .entry)) space card r ⌝ }
 {
     let slot = card.slot;

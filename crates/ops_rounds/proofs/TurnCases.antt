@@ -6,7 +6,7 @@
 -- Assumes nothing.
 use mathlib.Core.Path.{_≡_, refl, sym, ap, ap₂, _∙_, subst}
 use mathlib.Core.Bool.{Bool, true, false, cond, _||_}
-use mathlib.Core.List.{List, []}
+use mathlib.Core.List.{List, [], _∷_}
 use Prim.Native.Nat.{ℕ, _<_, _≤_}
 use native.Mathlib.Omega.{arith}
 use borrow.Author.Tests.{le-leb, lt-leb}
@@ -20,7 +20,10 @@ use Rattle.ops_round.specs.declared.Card.{Card}
 use Rattle.ops_round.specs.declared.Stepping.{Stepping}
 use Rattle.ops_round.specs.declared.Stepping.the-variants as S
 use Rattle.ops_round.specs.declared.RoundStep.{RoundStep}
-use Rattle.ops_round.specs.Cards.{cardsIs, steppedIs, AllStepped}
+use Rattle.ops_round.specs.Cards.{cardsIs, AllFew, steppedIs, AllStepped}
+use Rattle.ops_seen.specs.declared.Seen.{Seen}
+use Rattle.ops_seen.specs.Sights.{AllSeen, AllDealt, Sees, Ready, Kept}
+use Rattle.ops_seen.specs.SightsLaws.{see-few, see-sees, deal-is}
 use Rattle.ops_decide.specs.declared.Verdict.{Verdict}
 use Rattle.ops_decide.specs.declared.Verdict.the-variants.{This, NoMore, Another}
 use Rattle.ops_decide.specs.declared.Decided.{Decided}
@@ -32,55 +35,71 @@ use Rattle.ops_rounds.specs.Turns.{AgainBy, ThisIs, JudgedAs, JudgedBy, 
 
 -- ---- what the stepped cards come to
 
-module _ (fs : List (List ℕ)) (n : ℕ) (d : Decided) where
-  this-by : (v : O.Verdict) → DecidedBy fs n v d → d .verdict ≡ This → ThisIs fs n v (d .key) (d .pairs) (d .cards)
-  this-by (O.this k ps ds) h e = record { pairs = ps; are = h .pairs; few = h .few; is = ap₂ (λ (a : List ℕ) (b : List O.Card). O.this a ps b) (sym (h .key)) (sym (h .cards)) }
+module _ (fs : List (List ℕ)) (n : ℕ) (cs after : List Card) (d : Decided)
+    (deals : (Y : List O.Card) → Sees n (d .cards) Y → Kept (cardsIs fs n cs) Y → cardsIs fs n after ≡ Y) where
+  this-by : (v : O.Verdict) → DecidedBy (cardsIs fs n cs) n v d → d .verdict ≡ This → ThisIs fs n v (d .key) (d .pairs) after
+  this-by (O.this k ps ds) h e =
+      record {
+        pairs = ps;
+        are = h .pairs;
+        few = h .few;
+        is = ap₂ (λ (a : List ℕ) (b : List O.Card). O.this a ps b) (sym (h .key)) (sym (deals ds (h .sees) (h .kept)));
+      }
   this-by O.no-more h e = let z : _≡_ {A = ℕ} 0 1 = cc in absurd (omega arith)
   this-by (O.another ds) h e = let q = h .verdict in let z : _≡_ {A = ℕ} 0 1 = cc in absurd (omega arith)
 
-  over-by : (v : O.Verdict) → DecidedBy fs n v d → d .verdict ≡ NoMore → v ≡ O.no-more
+  over-by : (v : O.Verdict) → DecidedBy (cardsIs fs n cs) n v d → d .verdict ≡ NoMore → v ≡ O.no-more
   over-by (O.this k ps ds) h e = let q = h .verdict in let z : _≡_ {A = ℕ} 0 1 = cc in absurd (omega arith)
   over-by O.no-more h e = refl
   over-by (O.another ds) h e = let q = h .verdict in let z : _≡_ {A = ℕ} 0 1 = cc in absurd (omega arith)
 
-  again-by : (v : O.Verdict) (X : List O.Card) → DecidedBy fs n v d → UsesUp X v → d .verdict ≡ Another → AgainBy fs n v X (d .cards)
+  again-by : (v : O.Verdict) (X : List O.Card) → DecidedBy (cardsIs fs n cs) n v d → UsesUp X v → d .verdict ≡ Another → AgainBy fs n v X after
   again-by (O.this k ps ds) X h u e = let q = h .verdict in let z : _≡_ {A = ℕ} 0 1 = cc in absurd (omega arith)
   again-by O.no-more X h u e = let z : _≡_ {A = ℕ} 0 1 = cc in absurd (omega arith)
   again-by (O.another ds) X h u e =
-      record {
-        is = ap O.another (sym (h .cards));
-        used = subst HasUsed (sym (h .cards)) (u .0);
-        same = ap allLeft (h .cards) ∙ u .1;
-      }
+      let same = deals ds (h .sees) (h .kept) in
+      record { is = ap O.another (sym same); used = subst HasUsed (sym same) (u .0); same = ap allLeft same ∙ u .1 }
 
-  eight-by : (v : O.Verdict) → DecidedBy fs n v d → (d .verdict ≡ NoMore → ⊥) → length (d .cards) ≡ 8
-  eight-by (O.this k ps ds) h ne = h .eight
-  eight-by O.no-more h ne = absurd (ne h)
-  eight-by (O.another ds) h ne = h .eight
+some-of : {A : Type 0} (l : List A) → 0 < length l → A
+some-of [] h = absurd (omega arith)
+some-of (x ∷ l) h = x
 
-this-not-over : ¬ (This ≡ NoMore)
-this-not-over e = let z : _≡_ {A = ℕ} 0 1 = cc in omega arith
+module _ (o : O.Op) (n : ℕ) (cs : List Card) (some-card : 0 < n) (small : n ≤ 8) (few : AllFew n cs) (ss : List Seen) (seen : AllSeen n cs ss) where
+  card : Card
+  card = let g = seen .given in some-of cs (omega arith)
 
-another-not-over : ¬ (Another ≡ NoMore)
-another-not-over e = let z : _≡_ {A = ℕ} 0 1 = cc in omega arith
+  sees : (fs : List (List ℕ)) → Sees n ss (cardsIs fs n cs)
+  sees fs = see-sees n cs ss seen small fs card few
 
-module _ (o : O.Op) (n : ℕ) (cs : List Card) (d : Decided) (by : (fs : List (List ℕ)) → DecidedBy fs n (decide o (cardsIs fs n cs)) d) where
-  pub judged-this : d .verdict ≡ This → JudgedBy o n cs (record { turn = T.Item; key = d .key; pairs = d .pairs; cards = d .cards })
-  judged-this e =
-      record {
-        is = λ fs. this-by fs n d (decide o (cardsIs fs n cs)) (by fs) e;
-        eight = eight-by [] n d (decide o (cardsIs [] n cs)) (by []) (λ q. this-not-over (sym e ∙ q));
-      }
+  pub ready : Ready n ss
+  ready = record { few = λ i d h. see-few n cs ss seen small few i d h card; cards = cardsIs [] n cs; sees = sees [] }
 
-  pub judged-over : d .verdict ≡ NoMore → length cs ≡ 8 → JudgedBy o n cs (record { turn = T.End; key = d .key; pairs = d .pairs; cards = cs })
-  judged-over e len = record { is = λ fs. (over-by fs n d (decide o (cardsIs fs n cs)) (by fs) e, refl); eight = len }
+  module _ (d : Decided) (by : (X : List O.Card) → Sees n ss X → DecidedBy X n (decide o X) d) (after : List Card) (dealt : AllDealt n cs (d .cards) after) where
+    deals : (fs : List (List ℕ)) (Y : List O.Card) → Sees n (d .cards) Y → Kept (cardsIs fs n cs) Y → cardsIs fs n after ≡ Y
+    deals fs Y s k =
+        let g = seen .given in
+        let e = seen .eight in
+        let len = s .count in
+        deal-is n cs (d .cards) after g small dealt fs Y card (some-of ss (omega arith)) (some-of Y (omega arith)) s k
 
-  pub judged-again : d .verdict ≡ Another → JudgedBy o n cs (record { turn = T.Again; key = d .key; pairs = d .pairs; cards = d .cards })
-  judged-again e =
-      record {
-        is = λ fs. again-by fs n d (decide o (cardsIs fs n cs)) (cardsIs fs n cs) (by fs) (decide-uses o (cardsIs fs n cs)) e;
-        eight = eight-by [] n d (decide o (cardsIs [] n cs)) (by []) (λ q. another-not-over (sym e ∙ q));
-      }
+    pub judged-this : d .verdict ≡ This → JudgedBy o n cs (record { turn = T.Item; key = d .key; pairs = d .pairs; cards = after })
+    judged-this e =
+        record { is = λ fs. this-by fs n cs after d (deals fs) (decide o (cardsIs fs n cs)) (by (cardsIs fs n cs) (sees fs)) e; eight = dealt .eight }
+
+    pub judged-over : d .verdict ≡ NoMore → JudgedBy o n cs (record { turn = T.End; key = d .key; pairs = d .pairs; cards = cs })
+    judged-over e =
+        record {
+          is = λ fs. (over-by fs n cs after d (deals fs) (decide o (cardsIs fs n cs)) (by (cardsIs fs n cs) (sees fs)) e, refl);
+          eight = seen .given;
+        }
+
+    pub judged-again : d .verdict ≡ Another → JudgedBy o n cs (record { turn = T.Again; key = d .key; pairs = d .pairs; cards = after })
+    judged-again e =
+        record {
+          is = λ fs.
+              again-by fs n cs after d (deals fs) (decide o (cardsIs fs n cs)) (cardsIs fs n cs) (by (cardsIs fs n cs) (sees fs)) (decide-uses o (cardsIs fs n cs)) e;
+          eight = dealt .eight;
+        }
 
 -- ---- where SPACE is not asked
 

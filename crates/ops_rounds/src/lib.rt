@@ -18,6 +18,8 @@ use ops_pairs::Pairs;
 use ops_round::Card;
 use ops_round::Stepping;
 use ops_round::round;
+use ops_seen::deal;
+use ops_seen::see;
 
 // What one round comes to.
 enum Turn {
@@ -67,16 +69,18 @@ fn halted(why: u8, cards: [Card; 8]) -> Turned
     }
 }
 
-// What the cards come to, once they are stepped.
+// What the cards come to, once they are stepped: by what is seen of them.
 fn judge(op: Op, count: usize, cards: [Card; 8]) -> Turned
     requires { ⌜ (0 < count) × (count ≤ 8) × AllFew count cards ⌝ }
     ensures { λ r. ⌜ JudgedBy (opIs op) count cards r ⌝ }
 {
-    let decided = decide(op, count, cards);
+    let seen = see(count, cards);
+    let decided = decide(op, count, seen);
     let verdict = decided.verdict;
     let key = decided.key;
     let pairs = decided.pairs;
-    let after = decided.cards;
+    let marked = decided.cards;
+    let after = deal(count, cards, marked);
     match verdict {
         Verdict::This => Turned {
             turn: Turn::Item,

@@ -17,76 +17,62 @@ use Rattle.ops_item.proofs.use_up.Reads as use-up-reads
 use Rattle.ops_keys.proofs.compare.Reads as compare-reads
 use Rattle.ops_pairs.proofs.none.Reads as none-reads
 
--- src/lib.rt:132:9
 least-key-requires : tie.Need-least-key-requires
 least-key-requires c κs = search needs
 
--- src/lib.rt:136:9
 no-more-requires : tie.Need-no-more-requires
 no-more-requires c κs = search needs
 
--- src/lib.rt:136:9
 returns : tie.Need-returns
-returns c = λ fs.
+returns c = λ X S.
     let a = c .before .before .before .before .args in
     let l = c .before .before .before .least-key in
-    first-none (a .count) (a .cards) (l .result) (l .ensures) fs (a .key) (c .no-more .result) (not-true (l .result .found) (c .before .if1 .taken)) (c .no-more .ensures fs (a .count))
+    first-none (a .count) (a .cards) (l .result) (l .ensures) X S (a .key) (c .no-more .result) (not-true (l .result .found) (c .before .if1 .taken)) (c .no-more .ensures X (a .count))
 
--- src/lib.rt:138:9
 compare-requires : tie.Need-compare-requires
 compare-requires c κs = search needs
 
--- src/lib.rt:141:17
 enum-told : tie.Need-enum-told
 enum-told c = search needs
 
--- src/lib.rt:141:17
 none-requires : tie.Need-none-requires
 none-requires c κs = search needs
 
--- src/lib.rt:142:17
 use-up-requires : tie.Need-use-up-requires
 use-up-requires c κs = search needs
 
--- src/lib.rt:150:32
 enum-told-2 : tie.Need-enum-told-2
 enum-told-2 c = search needs
 
--- src/lib.rt:150:25
 at-key-requires : tie.Need-at-key-requires
 at-key-requires c κs = search needs
 
--- src/lib.rt:151:34
 enum-told-3 : tie.Need-enum-told-3
 enum-told-3 c = search needs
 
--- src/lib.rt:151:27
 at-key-requires-2 : tie.Need-at-key-requires-2
 at-key-requires-2 c κs = search needs
 
--- src/lib.rt:127:1
 returns-2 : tie.Need-returns-2
-returns-2 c = λ fs.
+returns-2 c = λ X S.
     let a = c .before .before .before .before .before .before .before .before .args in
     let l = c .before .before .before .before .before .before .before .least-key in
-    first-less (a .count) (a .cards) (l .result) (l .ensures) fs (a .key) _ (not-false (l .result .found) (c .before .before .before .before .before .if1 .left))
+    first-less (a .count) (a .cards) (l .result) (l .ensures) X S (a .key) _ (not-false (l .result .found) (c .before .before .before .before .before .if1 .left))
     (c .before .before .before .before .compare .result) (c .before .before .before .before .compare .ensures) (ap less? (c .before .before .enum-told .given .1)) refl (c .use-up .ensures)
 
--- src/lib.rt:127:1
 returns-3 : tie.Need-returns-3
-returns-3 c = λ fs.
+returns-3 c = λ X S.
     let a = c .before .before .before .before .before .before .before .args in
     let l = c .before .before .before .before .before .before .least-key in
-    first-key (a .count) (a .cards) (l .result) (l .ensures) fs (a .key) (c .at-key .result) (not-false (l .result .found) (c .before .before .before .before .if1 .left))
-    (c .before .before .before .compare .result) (c .before .before .before .compare .ensures) (ap less? (c .before .enum-told2 .given .1)) (c .at-key .ensures fs)
+    first-key (a .count) (a .cards) (l .result) (l .ensures) X S (a .key) (c .at-key .result) (not-false (l .result .found) (c .before .before .before .before .if1 .left))
+    (c .before .before .before .compare .result) (c .before .before .before .compare .ensures) (ap less? (c .before .enum-told2 .given .1)) (c .at-key .ensures X S)
 
--- src/lib.rt:127:1
 returns-4 : tie.Need-returns-4
-returns-4 c = λ fs.
+returns-4 c = λ X S.
     let a = c .before .before .before .before .before .before .before .args in
     let l = c .before .before .before .before .before .before .least-key in
-    first-key (a .count) (a .cards) (l .result) (l .ensures) fs (a .key) (c .at-key2 .result) (not-false (l .result .found) (c .before .before .before .before .if1 .left))
-    (c .before .before .before .compare .result) (c .before .before .before .compare .ensures) (ap less? (c .before .enum-told3 .given .1)) (c .at-key2 .ensures fs)
+    first-key (a .count) (a .cards) (l .result) (l .ensures) X S (a .key) (c .at-key2 .result) (not-false (l .result .found) (c .before .before .before .before .if1 .left))
+    (c .before .before .before .compare .result) (c .before .before .before .compare .ensures) (ap less? (c .before .enum-told3 .given .1)) (c .at-key2 .ensures X S)
 
 pub at-first-spec : {M : Type 1} → statement M
 at-first-spec =

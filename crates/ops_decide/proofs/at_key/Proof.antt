@@ -1,7 +1,5 @@
 -- `ops_decide::at_key` meets its contract: a key that belongs is the item, another asks for a round.
 -- Assumes nothing.
-use mathlib.Core.Path.{_≡_}
-use lib.ListN.{length}
 use Rattle.ops_decide.proofs.DecideCases.{key-this, key-another}
 use borrow.Author.Needs.{needs}
 use native.Mathlib.Omega.{arith}
@@ -13,35 +11,28 @@ use Rattle.ops_decide.proofs.takes.Reads as takes-reads
 use Rattle.ops_item.proofs.collect.Reads as collect-reads
 use Rattle.ops_item.proofs.use_up.Reads as use-up-reads
 
--- src/lib.rt:76:9
 collect-requires : tie.Need-collect-requires
 collect-requires c κs = search needs
 
--- src/lib.rt:77:9
 use-up-requires : tie.Need-use-up-requires
 use-up-requires c κs = search needs
 
--- src/lib.rt:78:8
 takes-requires : tie.Need-takes-requires
 takes-requires c κs = search needs
 
--- src/lib.rt:79:9
 returns : tie.Need-returns
-returns c = λ fs.
+returns c = λ X S.
     let a = c .before .before .before .before .args in
     let pre = c .before .before .before .before .pre in
-    let long : length (a .cards) ≡ 8 = search needs in
-    key-this (a .op) (a .count) (a .cards) (a .key) (omega arith) (c .before .before .before .collect .result) (c .before .before .use-up .result) (c .before .takes .result)
-    (c .before .before .before .collect .ensures) (c .before .before .use-up .ensures) (c .before .takes .ensures) fs (c .if1 .taken) (pre .2)
+    key-this (a .op) (a .count) (a .cards) (a .key) (c .before .before .before .collect .result) (c .before .before .use-up .result) (c .before .takes .result)
+    (c .before .before .before .collect .ensures) (c .before .before .use-up .ensures) (c .before .takes .ensures) X S (c .if1 .taken) (pre .2)
 
--- src/lib.rt:71:1
 returns-2 : tie.Need-returns-2
-returns-2 c = λ fs.
+returns-2 c = λ X S.
     let a = c .before .before .before .before .args in
     let pre = c .before .before .before .before .pre in
-    let long : length (a .cards) ≡ 8 = search needs in
-    key-another (a .op) (a .count) (a .cards) (a .key) (omega arith) (c .before .before .before .collect .result) (c .before .before .use-up .result) (c .before .takes .result)
-    (c .before .before .before .collect .ensures) (c .before .before .use-up .ensures) (c .before .takes .ensures) fs (c .if1 .left)
+    key-another (a .op) (a .count) (a .cards) (a .key) (c .before .before .before .collect .result) (c .before .before .use-up .result) (c .before .takes .result)
+    (c .before .before .before .collect .ensures) (c .before .before .use-up .ensures) (c .before .takes .ensures) X S (c .if1 .left)
 
 pub at-key-spec : {M : Type 1} → statement M
 at-key-spec =

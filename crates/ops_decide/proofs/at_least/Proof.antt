@@ -11,31 +11,26 @@ use Rattle.ops_decide.proofs.at_key.Reads as at-key-reads
 use Rattle.ops_decide.proofs.no_more.Reads as no-more-reads
 use Rattle.ops_item.proofs.least_key.Reads as least-key-reads
 
--- src/lib.rt:117:9
 least-key-requires : tie.Need-least-key-requires
 least-key-requires c κs = search needs
 
--- src/lib.rt:121:9
 at-key-requires : tie.Need-at-key-requires
 at-key-requires c κs = search needs
 
--- src/lib.rt:121:9
 returns : tie.Need-returns
-returns c = λ fs.
+returns c = λ X S.
     let a = c .before .before .before .before .args in
     let l = c .before .before .before .least-key in
-    least-some (a .count) (a .cards) (l .result) (l .ensures) fs (a .op) (c .at-key .result) (c .before .if1 .taken) (c .at-key .ensures fs)
+    least-some (a .count) (a .cards) (l .result) (l .ensures) X S (a .op) (c .at-key .result) (c .before .if1 .taken) (c .at-key .ensures X S)
 
--- src/lib.rt:123:5
 no-more-requires : tie.Need-no-more-requires
 no-more-requires c κs = search needs
 
--- src/lib.rt:112:1
 returns-2 : tie.Need-returns-2
-returns-2 c = λ fs.
+returns-2 c = λ X S.
     let a = c .before .before .before .before .args in
     let l = c .before .before .before .least-key in
-    least-none (a .count) (a .cards) (l .result) (l .ensures) fs (a .op) (c .no-more .result) (c .before .if1 .left) (c .no-more .ensures fs (a .count))
+    least-none (a .count) (a .cards) (l .result) (l .ensures) X S (a .op) (c .no-more .result) (c .before .if1 .left) (c .no-more .ensures X (a .count))
 
 pub at-least-spec : {M : Type 1} → statement M
 at-least-spec =

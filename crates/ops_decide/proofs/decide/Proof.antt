@@ -2,7 +2,6 @@
 -- Assumes nothing.
 use mathlib.Core.Path.{refl}
 use mathlib.Core.Logic.{inl, inr}
-use Rattle.ops_round.specs.Cards.{cardsIs}
 use Rattle.ops_decide.specs.declared.Op.the-variants.{Union, Intersection, SymmetricDifference}
 use Rattle.ops_decide.proofs.DecideCases.{least-op, difference-op}
 use borrow.Author.Needs.{needs}
@@ -14,61 +13,49 @@ use Rattle.ops_decide.proofs.decide.Lts as lts
 use Rattle.ops_decide.proofs.at_least.Reads as at-least-reads
 use Rattle.ops_decide.proofs.difference.Reads as difference-reads
 
--- src/lib.rt:181:22
 enum-told : tie.Need-enum-told
 enum-told c = search needs
 
--- src/lib.rt:181:22
 at-least-requires : tie.Need-at-least-requires
 at-least-requires c κs = search needs
 
--- src/lib.rt:182:29
 enum-told-2 : tie.Need-enum-told-2
 enum-told-2 c = search needs
 
--- src/lib.rt:182:29
 at-least-requires-2 : tie.Need-at-least-requires-2
 at-least-requires-2 c κs = search needs
 
--- src/lib.rt:183:27
 enum-told-3 : tie.Need-enum-told-3
 enum-told-3 c = search needs
 
--- src/lib.rt:183:27
 difference-requires : tie.Need-difference-requires
 difference-requires c κs = search needs
 
--- src/lib.rt:184:36
 enum-told-4 : tie.Need-enum-told-4
 enum-told-4 c = search needs
 
--- src/lib.rt:184:36
 at-least-requires-3 : tie.Need-at-least-requires-3
 at-least-requires-3 c κs = search needs
 
--- src/lib.rt:175:1
 returns : tie.Need-returns
-returns c = λ fs.
+returns c = λ X S.
     let a = c .before .before .before .args in
-    least-op (a .op) Union fs (a .count) (cardsIs fs (a .count) (a .cards)) (c .at-least .result) (c .before .enum-told .given .1) (inl refl) (c .at-least .ensures fs)
+    least-op (a .op) Union (a .count) X (c .at-least .result) (c .before .enum-told .given .1) (inl refl) (c .at-least .ensures X S)
 
--- src/lib.rt:175:1
 returns-2 : tie.Need-returns-2
-returns-2 c = λ fs.
+returns-2 c = λ X S.
     let a = c .before .before .before .args in
-    least-op (a .op) Intersection fs (a .count) (cardsIs fs (a .count) (a .cards)) (c .at-least2 .result) (c .before .enum-told2 .given .1) (inr (inl refl)) (c .at-least2 .ensures fs)
+    least-op (a .op) Intersection (a .count) X (c .at-least2 .result) (c .before .enum-told2 .given .1) (inr (inl refl)) (c .at-least2 .ensures X S)
 
--- src/lib.rt:175:1
 returns-3 : tie.Need-returns-3
-returns-3 c = λ fs.
+returns-3 c = λ X S.
     let a = c .before .before .before .args in
-    difference-op (a .op) fs (a .count) (cardsIs fs (a .count) (a .cards)) (c .difference .result) (c .before .enum-told3 .given .1) (c .difference .ensures fs)
+    difference-op (a .op) (a .count) X (c .difference .result) (c .before .enum-told3 .given .1) (c .difference .ensures X S)
 
--- src/lib.rt:175:1
 returns-4 : tie.Need-returns-4
-returns-4 c = λ fs.
+returns-4 c = λ X S.
     let a = c .before .before .before .args in
-    least-op (a .op) SymmetricDifference fs (a .count) (cardsIs fs (a .count) (a .cards)) (c .at-least3 .result) (c .before .enum-told4 .given .1) (inr (inr refl)) (c .at-least3 .ensures fs)
+    least-op (a .op) SymmetricDifference (a .count) X (c .at-least3 .result) (c .before .enum-told4 .given .1) (inr (inr refl)) (c .at-least3 .ensures X S)
 
 pub decide-spec : {M : Type 1} → statement M
 decide-spec =

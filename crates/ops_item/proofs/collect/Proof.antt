@@ -1,8 +1,5 @@
 -- `ops_item::collect` meets its contract. The invariant: the values of the cards from i on are gathered. The measure is i.
 -- Assumes nothing.
-use mathlib.Core.Path.{_≡_}
-use Prim.Native.Nat.{_≤_}
-use lib.ListN.{length}
 use Rattle.ops_item.proofs.CardLoops.{Collecting, collecting-none, collecting-room, collecting-on, collecting-all}
 use borrow.Author.Needs.{needs}
 use native.Mathlib.Omega.{arith}
@@ -19,58 +16,43 @@ Inv-loop count key cards pairs₀ i₀ pairs i = Collecting count cards key pair
 abbrev μ-loop : tie.MeasureT-loop
 μ-loop count key cards pairs₀ i₀ pairs i = i
 
--- src/lib.rt:160:9
 none-requires : tie.Need-none-requires Inv-loop μ-loop
 none-requires c κs = search needs
 
--- src/lib.rt:162:5
 loop-holds : tie.Need-loop-holds Inv-loop μ-loop
 loop-holds c =
     let a = c .before .args in
-    let long : length (a .t2) ≡ 8 = search needs in
-    let pre = c .before .pre in
-    collecting-none (a .count) (a .t2) (a .key) (c .none .result) (omega arith) (c .none .ensures)
+    collecting-none (a .count) (a .t2) (a .key) (c .none .result) (c .none .ensures)
 
--- src/lib.rt:163:9
 sub-i : tie.Need-sub-i Inv-loop μ-loop
 sub-i c = search needs
 
--- src/lib.rt:164:20
 mul-card : tie.Need-mul-card Inv-loop μ-loop
 mul-card c = search needs
 
--- src/lib.rt:164:20
 array-copy-out-card : tie.Need-array-copy-out-card Inv-loop μ-loop
 array-copy-out-card c = search needs
 
--- src/lib.rt:165:42
 cast-gather : tie.Need-cast-gather Inv-loop μ-loop
 cast-gather c = search needs
 
--- src/lib.rt:165:9
 gather-requires : tie.Need-gather-requires Inv-loop μ-loop
 gather-requires c κs =
     let l = c .before .before .loop in
     let a = c .before .before .before .before .args in
     let pre = c .before .before .before .before .pre in
     let within = l .inv .within in
-    let long : length (a .t2) ≡ 8 = search needs in
-    (pre .2, pre .1 _ _ (omega arith), collecting-room (a .count) (a .t2) (a .key) (l .pairs) (l .i) (omega arith) (pre .0) (c .before .loop-test .taken) (l .inv))
+    (pre .2, pre .1 .few _ _ (omega arith), collecting-room (a .count) (a .t2) (a .key) (l .pairs) (l .i) (pre .1) (pre .0) (c .before .loop-test .taken) (l .inv))
 
--- src/lib.rt:162:5
 loop-less : tie.Need-loop-less Inv-loop μ-loop
 loop-less c = search needs
 
--- src/lib.rt:162:5
 loop-again : tie.Need-loop-again Inv-loop μ-loop
 loop-again c =
     let l = c .before .before .before .loop in
     let a = c .before .before .before .before .before .args in
-    let pre = c .before .before .before .before .before .pre in
-    let long : length (a .t2) ≡ 8 = search needs in
-    collecting-on (a .count) (a .t2) (a .key) (l .pairs) (l .i) _ (c .gather .result) (omega arith) (c .before .before .loop-test .taken) (l .inv) (c .gather .ensures)
+    collecting-on (a .count) (a .t2) (a .key) (l .pairs) (l .i) _ (c .gather .result) (c .before .before .loop-test .taken) (l .inv) (c .gather .ensures)
 
--- src/lib.rt:156:1
 returns : tie.Need-returns Inv-loop μ-loop
 returns c =
     let l = c .before .loop in

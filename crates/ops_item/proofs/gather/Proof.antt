@@ -11,71 +11,54 @@ use Rattle.ops_item.proofs.gather.Reads as reads
 use Rattle.ops_item.proofs.gather.Lts as lts
 use Rattle.ops_item.proofs.is_meant.Reads as is-meant-reads
 use Rattle.ops_keys.proofs.compare.Reads as compare-reads
-use Rattle.ops_keys.proofs.head_of.Reads as head-of-reads
 use Rattle.ops_pairs.proofs.insert.Reads as insert-reads
 
--- src/lib.rt:142:23
 enum-told : tie.Need-enum-told
 enum-told c = search needs
 
--- src/lib.rt:143:24
 enum-told-2 : tie.Need-enum-told-2
 enum-told-2 c = search needs
 
--- src/lib.rt:145:17
 enum-told-3 : tie.Need-enum-told-3
 enum-told-3 c = search needs
 
--- src/lib.rt:145:17
-head-of-requires : tie.Need-head-of-requires
-head-of-requires c κs = search needs
-
--- src/lib.rt:146:17
 compare-requires : tie.Need-compare-requires
 compare-requires c κs =
-    let a = c .before .before .before .before .args in
-    let pre = c .before .before .before .before .pre in
-    let h = c .head-of .ensures in
-    let few = few-held (a .card) (c .before .enum-told3 .given .1) (pre .1) in
-    (omega (arith, h .levels), pre .0)
+    let a = c .before .before .before .args in
+    let pre = c .before .before .before .pre in
+    (few-held (a .card) (c .enum-told3 .given .1) (pre .1), pre .0)
 
--- src/lib.rt:147:16
 is-meant-requires : tie.Need-is-meant-requires
 is-meant-requires c κs = search needs
 
--- src/lib.rt:148:17
 insert-requires : tie.Need-insert-requires
 insert-requires c κs = search needs
 
--- src/lib.rt:148:17
 returns : tie.Need-returns
 returns c =
-    let a = c .before .before .before .before .before .before .before .before .args in
-    let pre = c .before .before .before .before .before .before .before .before .pre in
-    gather-meant (a .pairs) (a .card) (a .key) (a .file) (c .before .before .before .before .before .enum-told3 .given .1) (pre .1) (c .before .before .before .before .head-of .result) (c .before .before .before .before .head-of .ensures)
-    (c .before .before .before .compare .result) (c .before .before .before .compare .ensures) (sym (c .before .before .is-meant .ensures) ∙ c .before .if1 .taken) (c .insert .result) (c .insert .ensures)
+    let a = c .before .before .before .before .before .before .before .args in
+    let pre = c .before .before .before .before .before .before .before .pre in
+    gather-meant (a .pairs) (a .card) (a .key) (a .file) (c .before .before .before .before .enum-told3 .given .1) (pre .1) (c .before .before .before .compare .result) (c .before .before .before .compare .ensures)
+    (sym (c .before .before .is-meant .ensures) ∙ c .before .if1 .taken) (c .insert .result) (c .insert .ensures)
 
--- src/lib.rt:135:1
 returns-2 : tie.Need-returns-2
 returns-2 c =
     let a = c .before .before .before .args in
     let pre = c .before .before .before .pre in
     gather-kept (a .pairs) (a .card) (a .key) (a .file) (inl (c .enum-told .given .1))
 
--- src/lib.rt:135:1
 returns-3 : tie.Need-returns-3
 returns-3 c =
     let a = c .before .before .before .args in
     let pre = c .before .before .before .pre in
     gather-kept (a .pairs) (a .card) (a .key) (a .file) (inr (c .enum-told2 .given .1))
 
--- src/lib.rt:135:1
 returns-4 : tie.Need-returns-4
 returns-4 c =
-    let a = c .before .before .before .before .before .before .before .args in
-    let pre = c .before .before .before .before .before .before .before .pre in
-    gather-other (a .pairs) (a .card) (a .key) (a .file) (c .before .before .before .before .enum-told3 .given .1) (pre .1) (c .before .before .before .head-of .result) (c .before .before .before .head-of .ensures)
-    (c .before .before .compare .result) (c .before .before .compare .ensures) (sym (c .before .is-meant .ensures) ∙ c .if1 .left)
+    let a = c .before .before .before .before .before .before .args in
+    let pre = c .before .before .before .before .before .before .pre in
+    gather-other (a .pairs) (a .card) (a .key) (a .file) (c .before .before .before .enum-told3 .given .1) (pre .1) (c .before .before .compare .result) (c .before .before .compare .ensures)
+    (sym (c .before .is-meant .ensures) ∙ c .if1 .left)
 
 pub gather-spec : {M : Type 1} → statement M
 gather-spec =
@@ -84,7 +67,6 @@ gather-spec =
     enum-told
     enum-told-2
     enum-told-3
-    head-of-requires
     compare-requires
     is-meant-requires
     insert-requires

@@ -1,8 +1,6 @@
 -- `ops_item::least_key` meets its contract. The invariant: the least key of the cards from i on is found. The measure is i.
 -- Assumes nothing.
-use mathlib.Core.Path.{_≡_}
-use Prim.Native.Nat.{_≤_}
-use lib.ListN.{length, replicate}
+use lib.ListN.{replicate}
 use Rattle.ops_item.proofs.CardLoops.{Leasting, leasting-none, leasting-on, leasting-all}
 use borrow.Author.Needs.{needs}
 use native.Mathlib.Omega.{arith}
@@ -18,48 +16,36 @@ Inv-loop count cards least₀ i₀ least i = Leasting count cards least i
 abbrev μ-loop : tie.MeasureT-loop
 μ-loop count cards least₀ i₀ least i = i
 
--- src/lib.rt:74:5
 loop-holds : tie.Need-loop-holds Inv-loop μ-loop
 loop-holds c =
     let a = c .args in
-    let long : length (a .t2) ≡ 8 = search needs in
-    let pre = c .pre in
-    leasting-none (a .count) (a .t2) (omega arith) (record { levels = 0; inps = replicate 256 0 }) (omega arith)
+    leasting-none (a .count) (a .t2) (record { levels = 0; inps = replicate 256 0 }) (omega arith)
 
--- src/lib.rt:75:9
 sub-i : tie.Need-sub-i Inv-loop μ-loop
 sub-i c = search needs
 
--- src/lib.rt:76:20
 mul-card : tie.Need-mul-card Inv-loop μ-loop
 mul-card c = search needs
 
--- src/lib.rt:76:20
 array-copy-out-card : tie.Need-array-copy-out-card Inv-loop μ-loop
 array-copy-out-card c = search needs
 
--- src/lib.rt:77:9
 lesser-requires : tie.Need-lesser-requires Inv-loop μ-loop
 lesser-requires c κs =
     let l = c .before .before .loop in
     let pre = c .before .before .before .pre in
     let within = l .inv .within in
-    (l .inv .few, pre .1 _ _ (omega arith))
+    (l .inv .few, pre .1 .few _ _ (omega arith))
 
--- src/lib.rt:74:5
 loop-less : tie.Need-loop-less Inv-loop μ-loop
 loop-less c = search needs
 
--- src/lib.rt:74:5
 loop-again : tie.Need-loop-again Inv-loop μ-loop
 loop-again c =
     let l = c .before .before .before .loop in
     let a = c .before .before .before .before .args in
-    let pre = c .before .before .before .before .pre in
-    let long : length (a .t2) ≡ 8 = search needs in
-    leasting-on (a .count) (a .t2) (l .least) (l .i) _ (c .lesser .result) (omega arith) (c .before .before .loop-test .taken) (l .inv) (c .lesser .ensures)
+    leasting-on (a .count) (a .t2) (l .least) (l .i) _ (c .lesser .result) (c .before .before .loop-test .taken) (l .inv) (c .lesser .ensures)
 
--- src/lib.rt:62:1
 returns : tie.Need-returns Inv-loop μ-loop
 returns c =
     let l = c .before .loop in

@@ -12,89 +12,69 @@ use Rattle.ops_item.proofs.lesser.Tie as tie
 use Rattle.ops_item.proofs.lesser.Reads as reads
 use Rattle.ops_item.proofs.lesser.Lts as lts
 use Rattle.ops_keys.proofs.compare.Reads as compare-reads
-use Rattle.ops_keys.proofs.head_of.Reads as head-of-reads
 
--- src/lib.rt:35:23
 enum-told : tie.Need-enum-told
 enum-told c = search needs
 
--- src/lib.rt:36:24
 enum-told-2 : tie.Need-enum-told-2
 enum-told-2 c = search needs
 
--- src/lib.rt:38:17
 enum-told-3 : tie.Need-enum-told-3
 enum-told-3 c = search needs
 
--- src/lib.rt:38:17
-head-of-requires : tie.Need-head-of-requires
-head-of-requires c κs = search needs
-
--- src/lib.rt:40:17
 returns : tie.Need-returns
 returns c =
-    let a = c .before .before .before .before .before .before .args in
-    let pre = c .before .before .before .before .before .before .pre in
-    lesser-first (a .least) (a .card) (pre .0) (c .before .before .enum-told3 .given .1) (pre .1) (c .before .head-of .result) (c .before .head-of .ensures) (not-true (a .least .found) (c .if1 .taken))
+    let a = c .before .before .before .before .before .args in
+    let pre = c .before .before .before .before .before .pre in
+    lesser-first (a .least) (a .card) (pre .0) (c .before .enum-told3 .given .1) (pre .1) (not-true (a .least .found) (c .if1 .taken))
 
--- src/lib.rt:45:17
 compare-requires : tie.Need-compare-requires
 compare-requires c κs =
-    let a = c .before .before .before .before .before .before .args in
-    let pre = c .before .before .before .before .before .before .pre in
-    let h = c .before .head-of .ensures in
-    let few = few-held (a .card) (c .before .before .enum-told3 .given .1) (pre .1) in
-    (pre .0, omega (arith, h .levels))
+    let a = c .before .before .before .before .before .args in
+    let pre = c .before .before .before .before .before .pre in
+    (pre .0, few-held (a .card) (c .before .enum-told3 .given .1) (pre .1))
 
--- src/lib.rt:47:32
 enum-told-4 : tie.Need-enum-told-4
 enum-told-4 c = search needs
 
--- src/lib.rt:48:33
 enum-told-5 : tie.Need-enum-told-5
 enum-told-5 c = search needs
 
--- src/lib.rt:52:35
 enum-told-6 : tie.Need-enum-told-6
 enum-told-6 c = search needs
 
--- src/lib.rt:26:1
 returns-2 : tie.Need-returns-2
 returns-2 c =
     let a = c .before .before .before .before .args in
     let pre = c .before .before .before .before .pre in
     lesser-kept (a .least) (a .card) (pre .0) (inl (c .enum-told .given .1))
 
--- src/lib.rt:26:1
 returns-3 : tie.Need-returns-3
 returns-3 c =
     let a = c .before .before .before .before .args in
     let pre = c .before .before .before .before .pre in
     lesser-kept (a .least) (a .card) (pre .0) (inr (c .enum-told2 .given .1))
 
--- src/lib.rt:26:1
 returns-4 : tie.Need-returns-4
 returns-4 c =
-    let a = c .before .before .before .before .before .before .before .before .before .args in
-    let pre = c .before .before .before .before .before .before .before .before .before .pre in
-    lesser-less (a .least) (a .card) (pre .0) (c .before .before .before .before .before .enum-told3 .given .1) (pre .1) (c .before .before .before .before .head-of .result) (c .before .before .before .before .head-of .ensures) (not-false (a .least .found) (c .before .before .before .if1 .left))
-    (c .before .before .compare .result) (c .before .before .compare .ensures) (c .enum-told4 .given .1)
+    let a = c .before .before .before .before .before .before .before .before .args in
+    let pre = c .before .before .before .before .before .before .before .before .pre in
+    lesser-less (a .least) (a .card) (pre .0) (c .before .before .before .before .enum-told3 .given .1) (pre .1) (not-false (a .least .found) (c .before .before .before .if1 .left)) (c .before .before .compare .result)
+    (c .before .before .compare .ensures) (c .enum-told4 .given .1)
 
--- src/lib.rt:26:1
 returns-5 : tie.Need-returns-5
 returns-5 c =
-    let a = c .before .before .before .before .before .before .before .before .before .args in
-    let pre = c .before .before .before .before .before .before .before .before .before .pre in
-    lesser-other (a .least) (a .card) (pre .0) (c .before .before .before .before .before .enum-told3 .given .1) (pre .1) (c .before .before .before .before .head-of .result) (c .before .before .before .before .head-of .ensures) (not-false (a .least .found) (c .before .before .before .if1 .left))
-    (c .before .before .compare .result) (c .before .before .compare .ensures) (ap less? (c .enum-told5 .given .1))
+    let a = c .before .before .before .before .before .before .before .before .args in
+    let pre = c .before .before .before .before .before .before .before .before .pre in
+    lesser-other (a .least) (a .card) (pre .0) (c .before .before .before .before .enum-told3 .given .1) (pre .1) (not-false (a .least .found) (c .before .before .before .if1 .left)) (c .before .before .compare .result)
+    (c .before .before .compare .ensures) (ap less? (c .enum-told5 .given .1))
 
--- src/lib.rt:26:1
 returns-6 : tie.Need-returns-6
 returns-6 c =
-    let a = c .before .before .before .before .before .before .before .before .before .args in
-    let pre = c .before .before .before .before .before .before .before .before .before .pre in
-    lesser-other (a .least) (a .card) (pre .0) (c .before .before .before .before .before .enum-told3 .given .1) (pre .1) (c .before .before .before .before .head-of .result) (c .before .before .before .before .head-of .ensures) (not-false (a .least .found) (c .before .before .before .if1 .left))
-    (c .before .before .compare .result) (c .before .before .compare .ensures) (ap less? (c .enum-told6 .given .1))
+    let a = c .before .before .before .before .before .before .before .before .args in
+    let pre = c .before .before .before .before .before .before .before .before .pre in
+    lesser-other (a .least) (a .card) (pre .0) (c .before .before .before .before .enum-told3 .given .1) (pre .1) (not-false (a .least .found) (c .before .before .before .if1 .left)) (c .before .before .compare .result)
+    (c .before .before .compare .ensures) (ap less? (c .enum-told6 .given .1))
 
 pub lesser-spec : {M : Type 1} → statement M
 lesser-spec =
@@ -103,7 +83,6 @@ lesser-spec =
     enum-told
     enum-told-2
     enum-told-3
-    head-of-requires
     returns
     compare-requires
     enum-told-4

@@ -18,45 +18,36 @@ Inv-loop count key less all₀ i₀ all i = Using count all₀ key less all i
 abbrev μ-loop : tie.MeasureT-loop
 μ-loop count key less all₀ i₀ all i = count - i
 
--- src/lib.rt:125:5
 loop-holds : tie.Need-loop-holds Inv-loop μ-loop
 loop-holds c =
     let a = c .args in
     let long : length (a .cards) ≡ 8 = search needs in
     using-none (a .count) (a .cards) (a .key) (a .less) long (c .pre .1)
 
--- src/lib.rt:126:20
 mul-card : tie.Need-mul-card Inv-loop μ-loop
 mul-card c = search needs
 
--- src/lib.rt:126:20
 array-copy-out-card : tie.Need-array-copy-out-card Inv-loop μ-loop
 array-copy-out-card c = search needs
 
--- src/lib.rt:127:13
 used-up-requires : tie.Need-used-up-requires Inv-loop μ-loop
 used-up-requires c κs =
     let l = c .before .before .loop in
     let pre = c .before .before .before .pre in
     (pre .2, l .inv .few _ _ (c .before .loop-test .taken))
 
--- src/lib.rt:128:9
 mul-all : tie.Need-mul-all Inv-loop μ-loop
 mul-all c = search needs
 
--- src/lib.rt:128:9
 array-set-from-all : tie.Need-array-set-from-all Inv-loop μ-loop
 array-set-from-all c = search needs
 
--- src/lib.rt:129:9
 add-i : tie.Need-add-i Inv-loop μ-loop
 add-i c = search needs
 
--- src/lib.rt:125:5
 loop-less : tie.Need-loop-less Inv-loop μ-loop
 loop-less c = search needs
 
--- src/lib.rt:125:5
 loop-again : tie.Need-loop-again Inv-loop μ-loop
 loop-again c =
     let l = c .before .before .before .loop in
@@ -64,7 +55,6 @@ loop-again c =
     let pre = c .before .before .before .before .pre in
     using-on (a .count) (a .cards) (a .key) (a .less) (l .all) (l .i) (pre .0) (l .inv) _ (c .used-up .result) (c .before .before .loop-test .taken) (c .used-up .ensures)
 
--- src/lib.rt:119:1
 returns : tie.Need-returns Inv-loop μ-loop
 returns c =
     let l = c .before .loop in

@@ -5,7 +5,7 @@ use mathlib.Core.Logic.{⊎-elim}
 use mathlib.Core.List.{map}
 use Prim.Native.Nat.{_-_, _≤_}
 use denote.Ref.{now}
-use Rattle.ops_round.proofs.RoundLaws.{Rounding, rounding-none, rounding-halted, rounding-still, rounding-moved, rounding-all-moved, rounding-all-still, at-file}
+use Rattle.ops_round.specs.RoundLaws.{Rounding, rounding-none, rounding-halted, rounding-still, rounding-moved, rounding-all-moved, rounding-all-still, at-file}
 use borrow.Author.Needs.{needs}
 use native.Mathlib.Omega.{arith}
 use Rattle.ops_round.proofs.round.Statement.{statement}

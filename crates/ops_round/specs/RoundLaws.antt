@@ -109,7 +109,7 @@ module _ (fs : List (List ℕ)) (space n : ℕ) (cs all : List Card) (moved : Bo
         (on true (subst (λ (x : Stepping). FewAfter x (s .card)) e (one .few))
         (ap (λ (x : Stepping). thenStep x (cardIs (getD fs i []) (s .card)) (stepAll space (drop (i + 1) (cardsIs fs n all)))) e))
 
-  done : n ≤ i → stepAll space (cardsIs fs n cs) ≡ O.cards (cardsIs fs n all) moved
+  pub done : n ≤ i → stepAll space (cardsIs fs n cs) ≡ O.cards (cardsIs fs n all) moved
   unfolding stepAll
   done h =
       let within = R .within in
@@ -122,7 +122,7 @@ module _ (fs : List (List ℕ)) (space n : ℕ) (cs all : List Card) (moved : Bo
       ∙ ap₂ (λ (ds es : List O.Card). thenSteps moved ds (stepAll space es)) front back
       ∙ ap₂ O.cards (append-nil (cardsIs fs n all)) (or-false moved)
 
-  few-all : n ≤ i → AllFew n all
+  pub few-all : n ≤ i → AllFew n all
   few-all h j d less = let within = R .within in R .few j d (omega arith)
 
   pub rounding-all-moved : n ≤ i → moved ≡ true → AllStepped fs space n cs (record { answer = Moved; cards = all })

@@ -1,0 +1,2 @@
+pub mod Sights
+pub mod SightsLaws
