@@ -18,7 +18,7 @@ use Rattle.paging.specs.Paging.{rowLen, roomTest}
 use Rattle.stream_start.specs.Views.{boundIs}
 use Rattle.patterned_fit.specs.Positions.{positionIs}
 use Rattle.patterned.specs.Patterns.{givenIs}
-use Rattle.range.specs.FillLaws.{ranged-as, refused-by}
+use Rattle.range_fill.specs.FillLaws.{ranged-as, refused-by}
 use Rattle.find.proofs.FindCases.{find-unopened, find-pattern, find-bound, find-space, find-walk}
 use borrow.Author.Needs.{needs}
 use Rattle.find.proofs.find.Statement.{statement}

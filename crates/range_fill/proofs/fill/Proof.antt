@@ -1,4 +1,4 @@
--- `range::fill` meets its contract. The invariant: the rows before `count` are written, and the page goes on from the levels in the arrays. The measure is
+-- `range_fill::fill` meets its contract. The invariant: the rows before `count` are written, and the page goes on from the levels in the arrays. The measure is
 -- how many keys are still asked for.
 -- Assumes nothing.
 use mathlib.Core.Path.{_≡_, subst}
@@ -10,11 +10,11 @@ use Rattle.format.specs.Paths.{fstWith}
 use Rattle.stream_start.specs.Views.{boundIs, stackIs}
 use Rattle.range_bound.specs.Besides.{Beside}
 use Rattle.range_turn.specs.Turns.{viewAt}
-use Rattle.range.proofs.FillCases.{Going, going-none, going-key, going-end, going-refused, going-more, key-low, inputs-len, inputs-hold, row-within}
+use Rattle.range_fill.proofs.FillCases.{Going, going-none, going-key, going-end, going-refused, going-more, key-low, inputs-len, inputs-hold, row-within}
 use borrow.Author.Needs.{needs}
 use native.Mathlib.Omega.{arith}
-use Rattle.range.proofs.fill.Statement.{statement}
-use Rattle.range.proofs.fill.Tie as tie
+use Rattle.range_fill.proofs.fill.Statement.{statement}
+use Rattle.range_fill.proofs.fill.Tie as tie
 
 abbrev Inv-loop : tie.InvT-loop
 Inv-loop file version root levels addrs₀ inps₀ trans₀ outs₀ bound bound-len kind first most rows₀ values₀ height₀ count₀ depth same₀ over₀ addrs inps trans outs rows values height count same over =

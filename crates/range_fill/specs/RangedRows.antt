@@ -20,9 +20,9 @@ use Rattle.paging.specs.Paging as P
 use Rattle.paging.specs.Paging.{Page, ended, more, rowsAfter, valuesAfter}
 use Rattle.stream_start.specs.Views.{Arrays}
 use Rattle.range_node.specs.Entries.{SoundTo}
-use Rattle.range.specs.declared.Stop.{Stop}
-use Rattle.range.specs.declared.Stop.the-variants.{End, More, Refused}
-use Rattle.range.specs.declared.Ranged.{Ranged}
+use Rattle.range_fill.specs.declared.Stop.{Stop}
+use Rattle.range_fill.specs.declared.Stop.the-variants.{End, More, Refused}
+use Rattle.range_fill.specs.declared.Ranged.{Ranged}
 
 abbrev pub stopAs : P.Stop → Stop
 stopAs ended = End

@@ -1,4 +1,4 @@
--- `range::fill_all` meets its contract: no key is asked for; nothing is pending; the empty key is pending, and comes first or ends the range.
+-- `range_all::fill_all` meets its contract: no key is asked for; nothing is pending; the empty key is pending, and comes first or ends the range.
 -- Assumes nothing.
 use mathlib.Core.Path.{_≡_, refl, sym, ap, subst, _∙_}
 use mathlib.Core.Option.{Option, some, none}
@@ -13,12 +13,12 @@ use Rattle.reading.specs.Reading.{View, Level}
 use Rattle.paging.specs.Paging.{Page, fold}
 use Rattle.stream_start.specs.Views.{boundIs, emptyIs, stackIs}
 use Rattle.stream_start.specs.StackLaws.{stack-length}
-use Rattle.range.specs.RangedRows.{viewFrom}
-use Rattle.range.specs.FillLaws.{Filling, filling-none, filling-key, filled-more, filled-end}
-use Rattle.range.proofs.FillCases.{pending-ends, pending-key, pending-reading, first-row-len}
+use Rattle.range_fill.specs.RangedRows.{viewFrom}
+use Rattle.range_fill.specs.FillLaws.{Filling, filling-none, filling-key, filled-more, filled-end}
+use Rattle.range_all.proofs.PendingCases.{pending-ends, pending-key, pending-reading, first-row-len}
 use borrow.Author.Needs.{needs}
-use Rattle.range.proofs.fill_all.Statement.{statement}
-use Rattle.range.proofs.fill_all.Tie as tie
+use Rattle.range_all.proofs.fill_all.Statement.{statement}
+use Rattle.range_all.proofs.fill_all.Tie as tie
 
 -- ---- what is given, and where the empty key is pending
 

@@ -18,9 +18,9 @@ use Rattle.reading.specs.Demand.{Entry, entry}
 use Rattle.paging.specs.Paging as P
 use Rattle.paging.specs.Paging.{Page, page, refusedPage, ended, more, fold, rowLen, rowOf, rowsAfter, valuesAfter}
 use Rattle.paging.specs.FoldLaws.{Folded, folded-none, folded-key, folded-more, folded-end, folded-refused, rows-none, rows-snoc, values-none, values-snoc}
-use Rattle.range.specs.declared.Stop.the-variants.{End, More, Refused}
-use Rattle.range.specs.declared.Ranged.{Ranged}
-use Rattle.range.specs.RangedRows.{stopAs, refusedRange, RangedBy}
+use Rattle.range_fill.specs.declared.Stop.the-variants.{End, More, Refused}
+use Rattle.range_fill.specs.declared.Ranged.{Ranged}
+use Rattle.range_fill.specs.RangedRows.{stopAs, refusedRange, RangedBy}
 
 pub record Filling (w : Page) (s : List ℕ) (r : View) (most : ℕ) (rows₀ values₀ rows values : List ℕ) (count : ℕ) : Type 0 where
   pub entries : List Entry

@@ -4,10 +4,9 @@
 --     Going ..                                the loop's claim; going-none, going-key, before the first turn and after a key
 --     going-end, going-refused, going-more    the ways out
 -- Assumes nothing.
-use mathlib.Core.Path.{_≡_, refl, sym, ap, ap₂, subst, _∙_}
-use mathlib.Core.Bool.{Bool, true, false, cond}
-use mathlib.Core.Option.{Option, none, some}
-use mathlib.Core.List.{List, [], _∷_}
+use mathlib.Core.Path.{_≡_, refl, ap, ap₂, subst, _∙_}
+use mathlib.Core.Bool.{Bool, false}
+use mathlib.Core.List.{List, _∷_}
 use Prim.Native.Nat.{ℕ, _+_, _-_, _*_, _≤_, _<_}
 use native.Mathlib.Omega.{arith}
 use lib.ListN.{length, take, drop, set, length-drop, length-set}
@@ -15,10 +14,10 @@ use lib.Seq.{length-take-le, take-take}
 use Rattle.buffers.specs.Put.{put}
 use Rattle.buffers.specs.PutLaws.{length-put}
 use Rattle.format.specs.Limits.{maxPath, maxLevels}
-use Rattle.format.specs.Paths.{Fst, fstWith, fstOf}
+use Rattle.format.specs.Paths.{Fst, fstWith}
 use Rattle.format.specs.Strings as S
 use Rattle.reading.specs.Reading as R
-use Rattle.reading.specs.Reading.{View, Level, Step, Answer, key, end, next, walk, moved, passesTest}
+use Rattle.reading.specs.Reading.{View, Level, Step, Answer, key, end, next}
 use Rattle.paging.specs.Paging.{Page, rowLen}
 use Rattle.stream_start.specs.Views.{Arrays, stackIs}
 use Rattle.stream_start.specs.StackLaws.{stack-length}
@@ -28,10 +27,9 @@ use Rattle.range_turn.specs.declared.Turn.{Turn}
 use Rattle.range_turn.specs.declared.Turn.the-variants.{Key, End, Refused}
 use Rattle.range_turn.specs.Turns.{viewAt, stepOf, Turned, goes-on, ends, stops}
 use Rattle.range_turn.specs.StartStateLaws.{next-walk}
-use Rattle.range.specs.declared.Stop.the-variants as Why
-use Rattle.range.specs.declared.Ranged.{Ranged}
-use Rattle.range.specs.RangedRows.{OpensAs, viewFrom}
-use Rattle.range.specs.FillLaws.{Filling, FilledFrom, filling-key, filled-more, filled-end, filled-refused}
+use Rattle.range_fill.specs.declared.Stop.the-variants as Why
+use Rattle.range_fill.specs.RangedRows.{OpensAs}
+use Rattle.range_fill.specs.FillLaws.{Filling, FilledFrom, filling-key, filled-more, filled-end, filled-refused}
 
 -- ---- a call of next, and a turn
 
@@ -159,35 +157,3 @@ module _ {s : List ℕ} {version root : ℕ} (o : OpensAs s version root) {hi : 
                       (ap (λ (q : Step). q .reading) (called u) ∙ found u .reading) len (omega (arith, key-low)) put-key;
                 };
           }
-
--- ---- a pending empty key
-
--- what next does with it, by whether it passes the upper bound
-abbrev pendingStep : View → ℕ → Bool → Step
-pendingStep r x b = cond b (record { answer = end; reading = moved r [] (r .total) }) (record { answer = key [] x; reading = moved r (r .levels) (r .total) })
-
-module _ {s : List ℕ} {version root : ℕ} (o : OpensAs s version root) (hi : S.Bound) (n : ℕ) (empty : Option ℕ) (levels : List Level) (short : n ≤ maxPath)
-    (few : length levels ≤ maxLevels) where
-  abbrev r : View
-  r = viewFrom (length s) hi n empty levels
-
-  pending-next : (x : ℕ) → empty ≡ some x → next s r maxPath ≡ walk (fstOf s (o .meta)) r (some x)
-  pending-next x e = next-walk s (o .meta) (o .opens) r (record { few = few; short = short; same = refl }) ∙ ap (walk (fstOf s (o .meta)) r) e
-
-  pub pending-ends : (x : ℕ) → empty ≡ some x → passesTest hi [] ≡ true → next s r maxPath .answer ≡ end
-  pending-ends x e p =
-      ap (λ (q : Step). q .answer) (pending-next x e)
-      ∙ ap (λ (b : Bool). pendingStep r x b .answer) p
-
-  pub pending-key : (x : ℕ) → empty ≡ some x → passesTest hi [] ≡ false → next s r maxPath .answer ≡ key [] x
-  pending-key x e p =
-      ap (λ (q : Step). q .answer) (pending-next x e)
-      ∙ ap (λ (b : Bool). pendingStep r x b .answer) p
-
-  pub pending-reading : (x : ℕ) → empty ≡ some x → passesTest hi [] ≡ false → next s r maxPath .reading ≡ viewFrom (length s) hi n none levels
-  pending-reading x e p =
-      ap (λ (q : Step). q .reading) (pending-next x e)
-      ∙ ap (λ (b : Bool). pendingStep r x b .reading) p
-
-pub first-row-len : (rows : List ℕ) {rows′ : List ℕ} → 256 ≤ length rows → rows′ ≡ put rows 0 (0 ∷ []) → length rows′ ≡ length rows
-first-row-len rows room e = ap length e ∙ length-put rows 0 (0 ∷ []) (omega arith)
