@@ -8,7 +8,7 @@ use Rattle.finding.specs.Finding.{find}
 use Rattle.stream_start.specs.declared.Bound.{Bound}
 use Rattle.stream_start.specs.Views.{boundIs}
 use Rattle.stream_arrays.specs.Arrays.{kindIs}
-use Rattle.patterned.specs.Patterns.{givenIs}
+use Rattle.patterned_held.specs.HeldPatterns.{givenIs}
 use Rattle.range_fill.specs.declared.Ranged.{Ranged}
 use Rattle.range_fill.specs.RangedRows.{RangedBy}
 

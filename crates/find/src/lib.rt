@@ -7,7 +7,7 @@ ghost use Rattle.paging.specs.Paging as P;
 ghost use Rattle.pattern.specs.Pattern.{startBy};
 ghost use Rattle.finding.specs.Finding as F;
 ghost use Rattle.stream_start.specs.Views.{boundIs};
-ghost use Rattle.patterned.specs.Patterns.{givenIs};
+ghost use Rattle.patterned_held.specs.HeldPatterns.{givenIs};
 ghost use Rattle.range_fill.specs.RangedRows.{RangedBy, refusedRange};
 use find_fill::fill;
 use format::BOUND;

@@ -4,7 +4,7 @@ ghost use lib.ListN.{length};
 ghost use Rattle.paging.specs.Paging as P;
 ghost use Rattle.finding.specs.Finding as F;
 ghost use Rattle.stream_start.specs.Views.{viewIs};
-ghost use Rattle.patterned.specs.Patterns.{heldIs};
+ghost use Rattle.patterned_held.specs.HeldPatterns.{heldIs};
 ghost use Rattle.range_fill.specs.RangedRows.{RangedBy};
 use format::MAX_KEY;
 use patterned::Patterned;

@@ -29,7 +29,7 @@ use Rattle.patterned_fit.specs.Positions.{positionsIs}
 use Rattle.patterned_walk.specs.declared.Walked.{Walked}
 use Rattle.patterned_walk.specs.declared.Walked.the-variants as Walk
 use Rattle.patterned_walk.specs.Walks.{walkedSeen, walkedAt, WalksBy}
-use Rattle.patterned.specs.Patterns.{walkOf}
+use Rattle.patterned_pending.specs.PendingWalks.{walkOf}
 
 -- ---- the reading after a call
 

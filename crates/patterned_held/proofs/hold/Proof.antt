@@ -1,4 +1,4 @@
--- `patterned::hold` meets its contract: the invariant says that the first i positions are copied. The measure is what is left of them.
+-- `patterned_held::hold` meets its contract: the invariant says that the first i positions are copied. The measure is what is left of them.
 -- Assumes nothing.
 use mathlib.Core.Path.{refl}
 use Prim.Native.Nat.{_-_}
@@ -6,10 +6,10 @@ use native.Mathlib.Omega.{arith}
 use denote.Ref.{now}
 use lib.ListN.{length, replicate}
 use Rattle.buffers.specs.CopyLaws.{Copied, copied-none, copied-step, copied-all}
-use Rattle.patterned.proofs.StartByLaws.{held-front}
+use Rattle.patterned_held.proofs.HeldLaws.{held-front}
 use borrow.Author.Needs.{needs}
-use Rattle.patterned.proofs.hold.Statement.{statement}
-use Rattle.patterned.proofs.hold.Tie as tie
+use Rattle.patterned_held.proofs.hold.Statement.{statement}
+use Rattle.patterned_held.proofs.hold.Tie as tie
 
 abbrev Inv-loop : tie.InvT-loop
 Inv-loop positions rest held₀ len i₀ held i = Copied positions len held₀ held i

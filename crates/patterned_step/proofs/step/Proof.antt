@@ -1,4 +1,4 @@
--- `patterned::step` meets its contract: one law for each refusal before the walk, and one for the walk.
+-- `patterned_step::step` meets its contract: one law for each refusal before the walk, and one for the walk.
 -- Assumes nothing.
 use mathlib.Core.Path.{_≡_, sym, _∙_, ap}
 use mathlib.Core.Bool.{true}
@@ -13,11 +13,11 @@ use Rattle.fst.specs.Open.{metaIs, openingIs}
 use Rattle.stream_start.specs.Views.{emptyIs}
 use Rattle.stream_bounds.specs.State.{stateRight}
 use Rattle.patterned_fit.specs.PositionLaws.{positions-length}
-use Rattle.patterned.specs.Patterns.{heldIs}
-use Rattle.patterned.proofs.NextByCases.{state-facts, next-refused, next-state, next-pattern, next-space, next-walk}
+use Rattle.patterned_held.specs.HeldPatterns.{heldIs}
+use Rattle.patterned_step.proofs.NextByCases.{state-facts, next-refused, next-state, next-pattern, next-space, next-walk}
 use borrow.Author.Needs.{needs}
-use Rattle.patterned.proofs.step.Statement.{statement}
-use Rattle.patterned.proofs.step.Tie as tie
+use Rattle.patterned_step.proofs.step.Statement.{statement}
+use Rattle.patterned_step.proofs.step.Tie as tie
 
 -- ---- what is known where the file opens, where the state is right, and where the pattern and the buffer are
 

@@ -1,13 +1,13 @@
--- `patterned::pending` meets its contract: the empty key passes the upper bound, fits, or is dropped.
+-- `patterned_pending::pending` meets its contract: the empty key passes the upper bound, fits, or is dropped.
 -- Assumes nothing.
 use mathlib.Core.Path.{sym, _∙_}
 use denote.Ref.{now}
 use Rattle.format.specs.Paths.{Fst, fstWith}
-use Rattle.patterned.specs.Patterns.{heldIs}
-use Rattle.patterned.proofs.StepByCases.{pending-passed, pending-key, pending-walk, fits-empty, fits-not}
+use Rattle.patterned_held.specs.HeldPatterns.{heldIs}
+use Rattle.patterned_pending.proofs.StepByCases.{pending-passed, pending-key, pending-walk, fits-empty, fits-not}
 use borrow.Author.Needs.{needs}
-use Rattle.patterned.proofs.pending.Statement.{statement}
-use Rattle.patterned.proofs.pending.Tie as tie
+use Rattle.patterned_pending.proofs.pending.Statement.{statement}
+use Rattle.patterned_pending.proofs.pending.Tie as tie
 
 abbrev Seen : Type 0
 Seen = tie.After-exceeded

@@ -1,4 +1,4 @@
--- `patterned::walk` meets its contract: one law for each answer of the walk.
+-- `patterned_pending::walk` meets its contract: one law for each answer of the walk.
 -- Assumes nothing.
 use mathlib.Core.Path.{refl}
 use denote.Ref.{now}
@@ -8,11 +8,11 @@ use Rattle.format.specs.Paths.{fstWith}
 use Rattle.stream_start.specs.Views.{Arrays, viewIs}
 use Rattle.stream_step.specs.Steps.{placedAt}
 use Rattle.pattern.specs.Pattern.{WentBy, walkBy}
-use Rattle.patterned.specs.Patterns.{heldIs}
-use Rattle.patterned.proofs.StepByCases.{walks-is, walks-low, inputs-hold, inputs-copied, after-halted, after-ended, after-found}
+use Rattle.patterned_held.specs.HeldPatterns.{heldIs}
+use Rattle.patterned_pending.proofs.StepByCases.{walks-is, walks-low, inputs-hold, inputs-copied, after-halted, after-ended, after-found}
 use borrow.Author.Needs.{needs}
-use Rattle.patterned.proofs.walk.Statement.{statement}
-use Rattle.patterned.proofs.walk.Tie as tie
+use Rattle.patterned_pending.proofs.walk.Statement.{statement}
+use Rattle.patterned_pending.proofs.walk.Tie as tie
 
 -- the reading's arrays
 arrays : (q : tie.Start) → Arrays (q .args .reading .addrs) (q .args .reading .inps) (q .args .reading .trans) (q .args .reading .outs)
