@@ -1,14 +1,14 @@
--- `listing::begin` meets its contract: the answer of counting, and the start on a file whose keys are counted. Assumes nothing.
+-- `listing_start::begin` meets its contract: the answer of counting, and the start on a file whose keys are counted. Assumes nothing.
 use mathlib.Core.Path.{refl, ap}
 use Rattle.stream.specs.declared.Started.{Started}
-use Rattle.listing.specs.Lined.{too-large, not-counted}
-use Rattle.listing.proofs.LinedLaws.{begins-counted, outcome-refused, outcome-counted}
+use Rattle.listing_start.specs.Begun.{too-large, not-counted}
+use Rattle.listing_start.proofs.BegunLaws.{begins-counted, outcome-refused, outcome-counted}
 use borrow.Author.Needs.{needs}
 use native.Mathlib.Omega.{arith}
-use Rattle.listing.proofs.begin.Statement.{statement}
-use Rattle.listing.proofs.begin.Tie as tie
-use Rattle.listing.proofs.begin.Reads as reads
-use Rattle.listing.proofs.begin.Lts as lts
+use Rattle.listing_start.proofs.begin.Statement.{statement}
+use Rattle.listing_start.proofs.begin.Tie as tie
+use Rattle.listing_start.proofs.begin.Reads as reads
+use Rattle.listing_start.proofs.begin.Lts as lts
 use Rattle.counting.proofs.count_keys.Reads as count-keys-reads
 use Rattle.stream.proofs.refused.Reads as refused-reads
 use Rattle.stream.proofs.start.Reads as start-reads
