@@ -1,15 +1,15 @@
--- `seats_arrays::turn_of` meets its contract. The invariant: the turn is the first that waits of the seats left, which come after seat i. Assumes nothing.
+-- `seats_flags::turn_of` meets its contract. The invariant: the turn is the first that waits of the seats left, which come after seat i. Assumes nothing.
 use mathlib.Core.Path.{_≡_, refl}
 use mathlib.Core.List.{List}
 use Prim.Native.Nat.{ℕ, _≤_, _-_}
 use Rattle.plain.specs.Plain as P
 use Rattle.turns.specs.Turns as T
 use Rattle.seats_arrays.specs.SeatArrays.{seatsOf}
-use Rattle.seats_arrays.proofs.FlagScans.{turn-here, turn-on, turn-none}
+use Rattle.seats_flags.proofs.FlagScans.{turn-here, turn-on, turn-none}
 use borrow.Author.Needs.{needs}
 use native.Mathlib.Omega.{arith}
-use Rattle.seats_arrays.proofs.turn_of.Statement.{statement}
-use Rattle.seats_arrays.proofs.turn_of.Tie as tie
+use Rattle.seats_flags.proofs.turn_of.Statement.{statement}
+use Rattle.seats_flags.proofs.turn_of.Tie as tie
 
 abbrev Inv-loop : tie.InvT-loop
 Inv-loop last waiting i₀ looked₀ i looked =

@@ -1,15 +1,15 @@
--- `seats_arrays::seats_right` meets its contract. The invariant: the seats passed are right, so that all are where those left are. Assumes nothing.
+-- `seats_flags::seats_right` meets its contract. The invariant: the seats passed are right, so that all are where those left are. Assumes nothing.
 use mathlib.Core.Path.{_≡_, refl}
 use mathlib.Core.Logic.{⊎-elim, inl, inr}
 use Prim.Native.Nat.{ℕ, _≤_, _-_}
 use lib.ListN.{drop}
 use Rattle.plain.specs.Plain as P
 use Rattle.turns.specs.Turns as T
-use Rattle.seats_arrays.proofs.FlagScans.{views, seat-passes, right-over, right-on, right-wrong, right-through}
+use Rattle.seats_flags.proofs.FlagScans.{views, seat-passes, right-over, right-on, right-wrong, right-through}
 use borrow.Author.Needs.{needs}
 use native.Mathlib.Omega.{arith}
-use Rattle.seats_arrays.proofs.seats_right.Statement.{statement}
-use Rattle.seats_arrays.proofs.seats_right.Tie as tie
+use Rattle.seats_flags.proofs.seats_right.Statement.{statement}
+use Rattle.seats_flags.proofs.seats_right.Tie as tie
 
 abbrev Inv-loop : tie.InvT-loop
 Inv-loop last taken waiting i₀ i =
