@@ -1,24 +1,24 @@
--- `oracle_marks::oracle_marks` reads and writes within what is lent, and ends. The invariant: both lent slices keep their lengths. The measure is the
--- operations left.
+-- `oracle_seats_run::run_events` reads and writes within what is lent, and ends. The invariant: both lent slices keep their lengths. The measure is the
+-- events left.
 -- Assumes nothing.
 use mathlib.Core.Path.{_≡_, refl, _∙_}
 use Prim.Native.Nat.{_-_}
 use lib.ListN.{length}
 use borrow.Author.Needs.{needs}
 use native.Mathlib.Omega.{arith}
-use Rattle.oracle_marks.proofs.oracle_marks.Statement.{statement}
-use Rattle.oracle_marks.proofs.oracle_marks.Tie as tie
+use Rattle.oracle_seats_run.proofs.run_events.Statement.{statement}
+use Rattle.oracle_seats_run.proofs.run_events.Tie as tie
 
 abbrev Inv-loop : tie.InvT-loop
-Inv-loop file table other other-table by positions rest bytes operations answers₀ rows₀ held₀ at₀ i₀ answers rows held at i =
+Inv-loop file table other other-table bounds events answers₀ rows₀ seats₀ at₀ i₀ answers rows seats at i =
     (length answers ≡ length answers₀) × (length rows ≡ length rows₀)
 
 abbrev μ-loop : tie.MeasureT-loop
-μ-loop file table other other-table by positions rest bytes operations answers₀ rows₀ held₀ at₀ i₀ answers rows held at i =
-    length operations - i
+μ-loop file table other other-table bounds events answers₀ rows₀ seats₀ at₀ i₀ answers rows seats at i =
+    length events - i
 
-nothing-requires : tie.Need-nothing-requires Inv-loop μ-loop
-nothing-requires c κs = search needs
+new-requires : tie.Need-new-requires Inv-loop μ-loop
+new-requires c κs = search needs
 
 loop-holds : tie.Need-loop-holds Inv-loop μ-loop
 loop-holds c = search needs
@@ -53,26 +53,20 @@ same-length-6 c = search needs
 returns-3 : tie.Need-returns-3 Inv-loop μ-loop
 returns-3 c = search needs
 
-mul-op : tie.Need-mul-op Inv-loop μ-loop
-mul-op c =
-    let start = c .before .before .before .before .before .before .before .before .before .before .before .before .before in
-    omega (arith, start .good .1 .1 .1 .1 .1 .1 .1 .1 .0 .1, c .before .before .before .loop-test .taken)
+mul-event : tie.Need-mul-event Inv-loop μ-loop
+mul-event c = search needs
 
-shared-slice-copy-out-op : tie.Need-shared-slice-copy-out-op Inv-loop μ-loop
-shared-slice-copy-out-op c = search needs
+shared-slice-copy-out-event : tie.Need-shared-slice-copy-out-event Inv-loop μ-loop
+shared-slice-copy-out-event c = search needs
 
 add-next : tie.Need-add-next Inv-loop μ-loop
-add-next c =
-    let start = c .before .before .before .before .before .before .before .before .before .before .before .before .before .before in
-    omega (arith, start .good .1 .1 .1 .1 .1 .1 .1 .1 .1 .1, c .before .before .before .before .before .loop .inv .1, c .before .if3 .left)
+add-next c = search needs
+
+put-event-requires : tie.Need-put-event-requires Inv-loop μ-loop
+put-event-requires c κs = search needs
 
 add-i : tie.Need-add-i Inv-loop μ-loop
-add-i c =
-    let start = c .before .before .before .before .before .before .before .before .before .before .before .before .before .before in
-    omega (arith, start .good .1 .1 .1 .1 .1 .1 .1 .1 .0 .1, c .before .before .before .before .loop-test .taken)
-
-put-operation-requires : tie.Need-put-operation-requires Inv-loop μ-loop
-put-operation-requires c κs = search needs
+add-i c = search needs
 
 loop-less : tie.Need-loop-less Inv-loop μ-loop
 loop-less c = search needs
@@ -89,13 +83,13 @@ same-length-8 c = search needs
 returns-4 : tie.Need-returns-4 Inv-loop μ-loop
 returns-4 c = search needs
 
-pub oracle-marks-spec : {M : Type 1} → statement M
-oracle-marks-spec =
+pub run-events-spec : {M : Type 1} → statement M
+run-events-spec =
     tie.close
     (tie.spec
     Inv-loop
     μ-loop
-    nothing-requires
+    new-requires
     loop-holds
     same-length
     same-length-2
@@ -107,11 +101,11 @@ oracle-marks-spec =
     same-length-5
     same-length-6
     returns-3
-    mul-op
-    shared-slice-copy-out-op
+    mul-event
+    shared-slice-copy-out-event
     add-next
     add-i
-    put-operation-requires
+    put-event-requires
     loop-less
     loop-again
     same-length-7

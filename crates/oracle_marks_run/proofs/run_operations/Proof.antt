@@ -1,24 +1,24 @@
--- `oracle_seats::oracle_seats` reads and writes within what is lent, and ends. The invariant: both lent slices keep their lengths. The measure is the
--- events left.
+-- `oracle_marks_run::run_operations` reads and writes within what is lent, and ends. The invariant: both lent slices keep their lengths. The measure is the
+-- operations left.
 -- Assumes nothing.
 use mathlib.Core.Path.{_≡_, refl, _∙_}
 use Prim.Native.Nat.{_-_}
 use lib.ListN.{length}
 use borrow.Author.Needs.{needs}
 use native.Mathlib.Omega.{arith}
-use Rattle.oracle_seats.proofs.oracle_seats.Statement.{statement}
-use Rattle.oracle_seats.proofs.oracle_seats.Tie as tie
+use Rattle.oracle_marks_run.proofs.run_operations.Statement.{statement}
+use Rattle.oracle_marks_run.proofs.run_operations.Tie as tie
 
 abbrev Inv-loop : tie.InvT-loop
-Inv-loop file table other other-table bounds events answers₀ rows₀ seats₀ at₀ i₀ answers rows seats at i =
+Inv-loop file table other other-table by positions rest bytes operations answers₀ rows₀ held₀ at₀ i₀ answers rows held at i =
     (length answers ≡ length answers₀) × (length rows ≡ length rows₀)
 
 abbrev μ-loop : tie.MeasureT-loop
-μ-loop file table other other-table bounds events answers₀ rows₀ seats₀ at₀ i₀ answers rows seats at i =
-    length events - i
+μ-loop file table other other-table by positions rest bytes operations answers₀ rows₀ held₀ at₀ i₀ answers rows held at i =
+    length operations - i
 
-new-requires : tie.Need-new-requires Inv-loop μ-loop
-new-requires c κs = search needs
+nothing-requires : tie.Need-nothing-requires Inv-loop μ-loop
+nothing-requires c κs = search needs
 
 loop-holds : tie.Need-loop-holds Inv-loop μ-loop
 loop-holds c = search needs
@@ -53,20 +53,26 @@ same-length-6 c = search needs
 returns-3 : tie.Need-returns-3 Inv-loop μ-loop
 returns-3 c = search needs
 
-mul-event : tie.Need-mul-event Inv-loop μ-loop
-mul-event c = search needs
+mul-op : tie.Need-mul-op Inv-loop μ-loop
+mul-op c =
+    let start = c .before .before .before .before .before .before .before .before .before .before .before .before .before in
+    omega (arith, start .good .1 .1 .1 .1 .1 .1 .1 .1 .0 .1, c .before .before .before .loop-test .taken)
 
-shared-slice-copy-out-event : tie.Need-shared-slice-copy-out-event Inv-loop μ-loop
-shared-slice-copy-out-event c = search needs
+shared-slice-copy-out-op : tie.Need-shared-slice-copy-out-op Inv-loop μ-loop
+shared-slice-copy-out-op c = search needs
 
 add-next : tie.Need-add-next Inv-loop μ-loop
-add-next c = search needs
-
-put-event-requires : tie.Need-put-event-requires Inv-loop μ-loop
-put-event-requires c κs = search needs
+add-next c =
+    let start = c .before .before .before .before .before .before .before .before .before .before .before .before .before .before in
+    omega (arith, start .good .1 .1 .1 .1 .1 .1 .1 .1 .1 .1, c .before .before .before .before .before .loop .inv .1, c .before .if3 .left)
 
 add-i : tie.Need-add-i Inv-loop μ-loop
-add-i c = search needs
+add-i c =
+    let start = c .before .before .before .before .before .before .before .before .before .before .before .before .before .before in
+    omega (arith, start .good .1 .1 .1 .1 .1 .1 .1 .1 .0 .1, c .before .before .before .before .loop-test .taken)
+
+put-operation-requires : tie.Need-put-operation-requires Inv-loop μ-loop
+put-operation-requires c κs = search needs
 
 loop-less : tie.Need-loop-less Inv-loop μ-loop
 loop-less c = search needs
@@ -83,13 +89,13 @@ same-length-8 c = search needs
 returns-4 : tie.Need-returns-4 Inv-loop μ-loop
 returns-4 c = search needs
 
-pub oracle-seats-spec : {M : Type 1} → statement M
-oracle-seats-spec =
+pub run-operations-spec : {M : Type 1} → statement M
+run-operations-spec =
     tie.close
     (tie.spec
     Inv-loop
     μ-loop
-    new-requires
+    nothing-requires
     loop-holds
     same-length
     same-length-2
@@ -101,11 +107,11 @@ oracle-seats-spec =
     same-length-5
     same-length-6
     returns-3
-    mul-event
-    shared-slice-copy-out-event
+    mul-op
+    shared-slice-copy-out-op
     add-next
     add-i
-    put-event-requires
+    put-operation-requires
     loop-less
     loop-again
     same-length-7
