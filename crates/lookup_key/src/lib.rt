@@ -12,8 +12,8 @@ use format::MAX_KEY;
 use format::NODE;
 use format::SPACE;
 use fst::Opened;
-use node_fit::Choice;
-use node_fit::Fit;
+use node_choice::Choice;
+use node_choice::Fit;
 
 // What a lookup by value answers: the length of the key that was found, that none was, or the number of a refusal.
 pub enum KeyAnswer {

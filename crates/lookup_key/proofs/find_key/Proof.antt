@@ -8,9 +8,9 @@ use Rattle.format.specs.Node as F
 use Rattle.format.specs.Node.{sound}
 use Rattle.format.specs.Paths.{Fst, nodeIn, fstWith}
 use Rattle.format.specs.laws.LookupLaws.{at-fitting}
-use Rattle.node_fit.specs.declared.Choice.{Choice}
-use Rattle.node_fit.specs.Choices.{choiceIn}
-use Rattle.node_fit.specs.ChoicesLaws.{fit-sound, fit-stuck, choice-ended, choice-stuck, Followed, choice-followed}
+use Rattle.node_choice.specs.declared.Choice.{Choice}
+use Rattle.node_choice.specs.Choices.{choiceIn}
+use Rattle.node_choice.specs.ChoicesLaws.{fit-sound, fit-stuck, choice-ended, choice-stuck, Followed, choice-followed}
 use Rattle.lookup_key.proofs.KeyWalks.{searching-unsound, searching-found, searching-stuck, searching-deep}
 use Rattle.lookup_key.proofs.Searching.{SearchTo, search-none, search-step, ends-both}
 use borrow.Author.Needs.{needs}
