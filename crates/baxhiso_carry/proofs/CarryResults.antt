@@ -21,7 +21,7 @@ use Rattle.carry.specs.Carries.{PlainCarried}
 use Rattle.stream_arrays.specs.Arrays.{Held, heldIs, heldAs, heldPlain}
 use Rattle.stream_arrays.specs.ArraysLaws.{held-back}
 use Rattle.baxhiso.specs.Exports.{OK, code}
-use Rattle.baxhiso_files.specs.CarryArrays.{CarryLeaves}
+use Rattle.baxhiso_carry.specs.CarryArrays.{CarryLeaves}
 
 no-refusal : {n : ℕ} → ¬ (_≡_ {A = Carries} (Answer.Refused n) Answer.Carried)
 no-refusal e = let z : _≡_ {A = ℕ} 0 1 = cc in omega arith

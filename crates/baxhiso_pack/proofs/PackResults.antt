@@ -7,7 +7,7 @@ use lib.IntN.{ℤ}
 use Rattle.packing.specs.Packing.{Answer, written, refused}
 use Rattle.pack.specs.PackList.{PacksBy}
 use Rattle.pack_blank.specs.declared.Packed.{Packed}
-use Rattle.baxhiso_files.specs.PackFiles.{resultOf, lenOf, packResult, packLen, PackLeaves}
+use Rattle.baxhiso_pack.specs.PackFiles.{resultOf, lenOf, packResult, packLen, PackLeaves}
 
 module _ {out : List ℕ} {cells : List (List ℕ)} {inputs leasts targets : List ℕ} {a : Packed} (n₀ n : ℕ) (z : ℤ) (result : z ≡ resultOf a) (len : n ≡ lenOf a n₀) where
   leaves : (A : Answer) → PacksBy A out cells inputs leasts targets a → z ≡ packResult A → n ≡ packLen A n₀ → PackLeaves A out cells inputs leasts targets n₀ n z

@@ -1,13 +1,13 @@
--- `baxhiso_files::pack_told` meets its contract: the result stands for the answer, and the length is written where a file was.
+-- `baxhiso_pack::pack_told` meets its contract: the result stands for the answer, and the length is written where a file was.
 -- Assumes nothing.
 use mathlib.Core.Path.{sym, ap, _∙_}
 use borrow.Author.Needs.{needs}
 use denote.Ref.{now}
 use Rattle.pack_blank.specs.declared.Packed.{Packed}
 use Rattle.baxhiso.specs.ResultLaws.{code-is}
-use Rattle.baxhiso_files.specs.PackFiles.{resultOf, lenOf}
-use Rattle.baxhiso_files.proofs.pack_told.Statement.{statement}
-use Rattle.baxhiso_files.proofs.pack_told.Tie as tie
+use Rattle.baxhiso_pack.specs.PackFiles.{resultOf, lenOf}
+use Rattle.baxhiso_pack.proofs.pack_told.Statement.{statement}
+use Rattle.baxhiso_pack.proofs.pack_told.Tie as tie
 
 enum-known-answer : tie.Need-enum-known-answer
 enum-known-answer c = search needs

@@ -17,7 +17,7 @@ use Rattle.pack_blank.specs.declared.Packed.the-variants.{Len}
 use Rattle.pack_right.specs.PackRightLaws.{PackedList, pack-promise}
 use Rattle.baxhiso.specs.Exports.{OK}
 use Rattle.baxhiso.specs.ExportsLaws.{positive-not-0}
-use Rattle.baxhiso_files.specs.PackFiles.{PackLeaves}
+use Rattle.baxhiso_pack.specs.PackFiles.{PackLeaves}
 
 -- a file is written, or a refusal that is not 0
 data AnswerNonzero : Answer → Type 0 where

@@ -1,12 +1,12 @@
--- `baxhiso_files::fst_carry_arrays` meets its contract: what carrying gave back is the definition's answer, and the arrays hold its reading.
+-- `baxhiso_carry::fst_carry_arrays` meets its contract: what carrying gave back is the definition's answer, and the arrays hold its reading.
 -- Assumes nothing.
 use denote.Ref.{now}
 use Rattle.stream_arrays.specs.Arrays.{held}
 use Rattle.baxhiso.specs.ResultLaws.{code-is}
-use Rattle.baxhiso_files.proofs.CarryResults.{carry-refused, carry-carried}
+use Rattle.baxhiso_carry.proofs.CarryResults.{carry-refused, carry-carried}
 use borrow.Author.Needs.{needs}
-use Rattle.baxhiso_files.proofs.fst_carry_arrays.Statement.{statement}
-use Rattle.baxhiso_files.proofs.fst_carry_arrays.Tie as tie
+use Rattle.baxhiso_carry.proofs.fst_carry_arrays.Statement.{statement}
+use Rattle.baxhiso_carry.proofs.fst_carry_arrays.Tie as tie
 
 reading-of-requires : tie.Need-reading-of-requires
 reading-of-requires c κs = search needs

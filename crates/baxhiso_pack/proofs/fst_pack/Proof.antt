@@ -1,4 +1,4 @@
--- `baxhiso_files::fst_pack` meets its contract, by a walk: every slice is lent on for one call, and the length for another.
+-- `baxhiso_pack::fst_pack` meets its contract, by a walk: every slice is lent on for one call, and the length for another.
 -- Assumes the kit's logic.
 use Prim.{Unit}
 use mathlib.Core.Path.{refl, ap, _∙_}
@@ -39,15 +39,15 @@ use Rattle.pack.proofs.Claims.{packed, pack-ps, pack-r, PackPre, PackPost}
 use Rattle.pack.proofs.pack.Symbol as pack
 use Rattle.pack.proofs.pack.Met as pack-thm
 use Rattle.baxhiso.specs.ResultLaws.{result-back}
-use Rattle.baxhiso_files.specs.PackFiles.{PackLeaves}
-use Rattle.baxhiso_files.proofs.PackResults.{pack-leaves}
-use Rattle.baxhiso_files.proofs.pack_told.Symbol as pack-told
-use Rattle.baxhiso_files.proofs.pack_told.Kinds as pack-told-kinds
-use Rattle.baxhiso_files.proofs.pack_told.Reads as pack-told-reads
-use Rattle.baxhiso_files.proofs.pack_told.Met as pack-told-thm
-use Rattle.baxhiso_files.proofs.fst_pack.Statement.{statement}
-use Rattle.baxhiso_files.proofs.fst_pack.Key.{name}
-use Rattle.baxhiso_files.proofs.fst_pack.Code as code
+use Rattle.baxhiso_pack.specs.PackFiles.{PackLeaves}
+use Rattle.baxhiso_pack.proofs.PackResults.{pack-leaves}
+use Rattle.baxhiso_pack.proofs.pack_told.Symbol as pack-told
+use Rattle.baxhiso_pack.proofs.pack_told.Kinds as pack-told-kinds
+use Rattle.baxhiso_pack.proofs.pack_told.Reads as pack-told-reads
+use Rattle.baxhiso_pack.proofs.pack_told.Met as pack-told-thm
+use Rattle.baxhiso_pack.proofs.fst_pack.Statement.{statement}
+use Rattle.baxhiso_pack.proofs.fst_pack.Key.{name}
+use Rattle.baxhiso_pack.proofs.fst_pack.Code as code
 
 abbrev told : Knows
 told M 𝓤 H A W 𝓣 = Callee pack-ps pack-r PackPre PackPost pack.name M 𝓤 H A W 𝓣 × Callee pack-told-kinds.ps pack-told-kinds.r pack-told-reads.Asked pack-told-reads.Learnt pack-told.name M 𝓤 H A W 𝓣
@@ -137,5 +137,5 @@ fst-pack-spec {M} 𝓤 H 𝓜 𝓖 𝓡 =
     let w : World = record { M = M; 𝓤 = 𝓤; H = H; 𝓜 = 𝓜; 𝓖 = 𝓖; 𝓡 = 𝓡 } in
     meets-free told 7 ps r xs 1 homes (code.function .body) walk Pre Post shown 𝓤 H 𝓜 𝓖 𝓡 code.env name (code.unfolded 𝓤 H 𝓜 𝓡) (
       known-free 6 pack-ps pack-r PackPost w code.env pack.name pack.routine code.calls-pack·pack (pack-thm.met 𝓤 H 𝓜 𝓖 𝓡),
-      pack-told-reads.known w code.env pack-told.name pack-told.routine code.calls-baxhiso-files·pack-told (pack-told-thm.met 𝓤 H 𝓜 𝓖 𝓡),
+      pack-told-reads.known w code.env pack-told.name pack-told.routine code.calls-baxhiso-pack·pack-told (pack-told-thm.met 𝓤 H 𝓜 𝓖 𝓡),
     ) (λ κs a. tt)
