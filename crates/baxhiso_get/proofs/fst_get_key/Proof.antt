@@ -1,11 +1,11 @@
--- `baxhiso::fst_get_key` meets its contract: the search wrote the key, and its length is written where one was found.
+-- `baxhiso_get::fst_get_key` meets its contract: the search wrote the key, and its length is written where one was found.
 -- Assumes nothing.
 use borrow.Author.Needs.{needs}
 use denote.Ref.{now}
 use Rattle.baxhiso.specs.ResultLaws.{code-is}
-use Rattle.baxhiso.proofs.Results.{key-found, key-none, key-refused}
-use Rattle.baxhiso.proofs.fst_get_key.Statement.{statement}
-use Rattle.baxhiso.proofs.fst_get_key.Tie as tie
+use Rattle.baxhiso_get.proofs.GetResults.{key-found, key-none, key-refused}
+use Rattle.baxhiso_get.proofs.fst_get_key.Statement.{statement}
+use Rattle.baxhiso_get.proofs.fst_get_key.Tie as tie
 
 get-key-requires : tie.Need-get-key-requires
 get-key-requires c κs = search needs

@@ -10,8 +10,8 @@ use lib.ListN.{length, take, drop}
 use Rattle.format.specs.Limits.{maxPath}
 use Rattle.format.specs.Lookup as L
 use Rattle.format.specs.Lookup.{found}
-use Rattle.lookup_key.specs.declared.KeyAnswer.{KeyAnswer}
-use Rattle.lookup_key.specs.declared.KeyAnswer.the-variants.{Key, None as NoKey, Refused as KeyRefused}
+use Rattle.lookup_search.specs.declared.KeyAnswer.{KeyAnswer}
+use Rattle.lookup_search.specs.declared.KeyAnswer.the-variants.{Key, None as NoKey, Refused as KeyRefused}
 
 abbrev pub keyIs : KeyAnswer → List ℕ → L.KeyAnswer
 keyIs (Key n) path = found (take n path)

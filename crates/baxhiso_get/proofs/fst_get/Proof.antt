@@ -1,11 +1,11 @@
--- `baxhiso::fst_get` meets its contract: what the lookup answered is the result, and the value is written where there is one.
+-- `baxhiso_get::fst_get` meets its contract: what the lookup answered is the result, and the value is written where there is one.
 -- Assumes nothing.
 use borrow.Author.Needs.{needs}
 use denote.Ref.{now}
 use Rattle.baxhiso.specs.ResultLaws.{code-is}
-use Rattle.baxhiso.proofs.Results.{get-value, get-none, get-refused}
-use Rattle.baxhiso.proofs.fst_get.Statement.{statement}
-use Rattle.baxhiso.proofs.fst_get.Tie as tie
+use Rattle.baxhiso_get.proofs.GetResults.{get-value, get-none, get-refused}
+use Rattle.baxhiso_get.proofs.fst_get.Statement.{statement}
+use Rattle.baxhiso_get.proofs.fst_get.Tie as tie
 
 get-requires : tie.Need-get-requires
 get-requires c κs = search needs

@@ -1,4 +1,4 @@
--- `lookup_key::find_key` meets its contract. The invariant: the first n bytes of path, then what the node at addr gives for what is left, is the
+-- `lookup_search::find_key` meets its contract. The invariant: the first n bytes of path, then what the node at addr gives for what is left, is the
 -- answer. The measure is the room for bytes.
 -- Assumes nothing.
 use mathlib.Core.Path.{_≡_, sym, _∙_}
@@ -11,13 +11,13 @@ use Rattle.format.specs.laws.LookupLaws.{at-fitting}
 use Rattle.node_choice.specs.declared.Choice.{Choice}
 use Rattle.node_choice.specs.Choices.{choiceIn}
 use Rattle.node_choice.specs.ChoicesLaws.{fit-sound, fit-stuck, choice-ended, choice-stuck, Followed, choice-followed}
-use Rattle.lookup_key.proofs.KeyWalks.{searching-unsound, searching-found, searching-stuck, searching-deep}
-use Rattle.lookup_key.proofs.Searching.{SearchTo, search-none, search-step, ends-both}
+use Rattle.lookup_search.proofs.KeyWalks.{searching-unsound, searching-found, searching-stuck, searching-deep}
+use Rattle.lookup_search.proofs.Searching.{SearchTo, search-none, search-step, ends-both}
 use borrow.Author.Needs.{needs}
 use native.Mathlib.Omega.{arith}
 use denote.Ref.{now}
-use Rattle.lookup_key.proofs.find_key.Statement.{statement}
-use Rattle.lookup_key.proofs.find_key.Tie as tie
+use Rattle.lookup_search.proofs.find_key.Statement.{statement}
+use Rattle.lookup_search.proofs.find_key.Tie as tie
 
 abbrev Inv-loop : tie.InvT-loop
 Inv-loop file version root value path₀ addr₀ left₀ n₀ path addr left n = SearchTo (fstWith file version root) value path addr left n

@@ -14,7 +14,7 @@ use Rattle.format.specs.Limits.{maxPath}
 use Rattle.format.specs.Node.{Node, sound, at, transitionAt}
 use Rattle.format.specs.Paths.{Fst, nodeIn}
 use Rattle.format.specs.Lookup.{lastFitting}
-use Rattle.lookup_key.proofs.KeyWalks.{Searching, searching-none, searching-step}
+use Rattle.lookup_search.proofs.KeyWalks.{Searching, searching-none, searching-step}
 
 pub record SearchTo (f : Fst) (v : ℕ) (path : List ℕ) (a left n : ℕ) : Type 0 where
   pub within : n ≤ maxPath
