@@ -12,7 +12,8 @@
  *
  * Each function of the library is proved to return on every input, with the result and with what each buffer holds afterwards as said
  * below (crates/baxhiso/specs/Exports.antt, crates/baxhiso_readings/specs/Readings.antt, crates/baxhiso_files/specs/Files.antt,
- * crates/baxhiso_find/specs, crates/baxhiso_seats/specs/Seats.antt, crates/baxhiso_ops/specs/Items.antt, with the definitions of docs/FORMAT.md).
+ * crates/baxhiso_pack/specs/PackFiles.antt, crates/baxhiso_carry/specs/CarryArrays.antt, crates/baxhiso_find/specs,
+ * crates/baxhiso_seats/specs/Seats.antt, crates/baxhiso_ops/specs/Items.antt, with the definitions of docs/FORMAT.md).
  * Only tested, by tests/c: that these declarations fit the library, the functions that are defined here, and NULL with length 0. The stack is not part
  * of the proof: no function calls itself, and FST_STACK_OPEN and those after it say what was measured.
  *

@@ -65,7 +65,7 @@ library() {
         announce
         for crate in "${crates[@]}"; do
             if ! made "kept-$crate"; then
-                (cd "$top" && rt staticlib "$crate" && mkdir -p target/staticlib/kept && mv "target/staticlib/lib$crate.a" "target/staticlib/kept/$crate.a") >>"$log" 2>&1 </dev/null ||
+                (cd "$top" && TMPDIR=${IN_MEMORY:-${TMPDIR:-/tmp}} rt staticlib "$crate" && mkdir -p target/staticlib/kept && mv "target/staticlib/lib$crate.a" "target/staticlib/kept/$crate.a") >>"$log" 2>&1 </dev/null ||
                     failed "the library for C is not built"
                 make_known "kept-$crate" "target/stamp/$crate" "target/staticlib/kept/$crate.a"
             fi

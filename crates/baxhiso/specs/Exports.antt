@@ -15,7 +15,7 @@ use Rattle.format.specs.Opening as O
 use Rattle.format.specs.Opening.{Meta, Opening, opened}
 use Rattle.format.specs.Lookup as L
 use Rattle.format.specs.Lookup.{value, found}
-use Rattle.lookup_key.specs.KeyAnswers.{keyBufferAfter}
+use Rattle.lookup_search.specs.KeyAnswers.{keyBufferAfter}
 use Rattle.admission.specs.Outcome.{Admits, RefusedFor}
 
 -- ---- results

@@ -31,7 +31,7 @@ use Rattle.format.specs.Lookup as L
 use Rattle.format.specs.Lookup.{value, found, entered, followed, openedAs, keyEntered, keyFollowed, keyOpenedAs, getFrom, getKeyFrom, lastFitting, withByte, Numbered}
 use Rattle.format.specs.laws.LookupHeld.{get-exact}
 use Rattle.format.specs.laws.NumberedLaws.{get-key-exact}
-use Rattle.lookup_key.specs.KeyAnswers.{keyBufferAfter}
+use Rattle.lookup_search.specs.KeyAnswers.{keyBufferAfter}
 use Rattle.admission.specs.Outcome.{RefusedFor, not-opened, no-space, no-nodes, too-deep, too-heavy}
 use Rattle.baxhiso.specs.Exports.{OK, NONE, code, checksumNumber, numbersAs, OpenLeaves, getResult, getValue, GetLeaves, keyResult, keyLen, KeyLeaves, AdmitLeaves}
 

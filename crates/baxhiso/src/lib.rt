@@ -1,22 +1,16 @@
-// The functions that the C display firmware calls for lookups. include/baxhiso.h declares them for C.
+// The functions that open and admit a file for the C display firmware. include/baxhiso.h declares them for C.
 // A slice is passed as its pointer and then its length, an array as its pointer. Results: 0 for an answer, -1 for none, else the number of a
-// refusal. No function asks anything of its arguments' values. Readings and ranges are in `baxhiso_readings`.
+// refusal. No function asks anything of its arguments' values. Lookups are in `baxhiso_get`, readings and ranges in `baxhiso_readings`.
 ghost use mathlib.Core.Path.{_≡_};
 ghost use lib.IntN.{pos};
-ghost use lib.ListN.{length};
 ghost use Rattle.format.specs.Opening.{opening};
-ghost use Rattle.format.specs.Lookup as L;
-ghost use Rattle.baxhiso.specs.Exports.{checksumNumber, OpenLeaves, GetLeaves, KeyLeaves, AdmitLeaves};
+ghost use Rattle.baxhiso.specs.Exports.{checksumNumber, OpenLeaves, AdmitLeaves};
 ghost use Rattle.fst.specs.Open.{checksumIs};
 use admission::Admission;
 use fst::Checksum;
 use fst::Opened;
-use lookup::Answer;
-use lookup_key::KeyAnswer;
 
 const OK: i32 = 0;
-
-const NONE: i32 = -1;
 
 // What stands for the checksum where the version has none: no stored checksum is as large.
 const NO_CHECKSUM: u64 = 4_294_967_296;
@@ -53,40 +47,6 @@ pub extern "C" fn fst_open(file: &[u8], meta: &mut [u64; 5]) -> i32
             *meta = [m.version, m.ty, m.len, m.root as u64, last];
             OK
         }
-    }
-}
-
-// The value of a key. The value is written on 0 only.
-#[no_mangle]
-pub extern "C" fn fst_get(file: &[u8], key: &[u8], value: &mut u64) -> i32
-    ensures { λ r. ⌜ GetLeaves (L.get (now (file .entry)) (now (key .entry))) (now (value .entry))
-        (now (value .exit)) r ⌝ }
-{
-    let answer = lookup::get(file, key);
-    match answer {
-        Answer::Value(v) => {
-            *value = v;
-            OK
-        }
-        Answer::None => NONE,
-        Answer::Refused(why) => code(why),
-    }
-}
-
-// A key with this value. On 0 the key stands from the buffer's first byte on, and its length is written; else both stay as given.
-#[no_mangle]
-pub extern "C" fn fst_get_key(file: &[u8], value: u64, key: &mut [u8], len: &mut usize) -> i32
-    ensures { λ r. ⌜ KeyLeaves (L.getKey (now (file .entry)) value (length (now (key .entry))))
-        (now (key .entry)) (now (key .exit)) (now (len .entry)) (now (len .exit)) r ⌝ }
-{
-    let answer = lookup_key::get_key(file, value, key);
-    match answer {
-        KeyAnswer::Key(n) => {
-            *len = n;
-            OK
-        }
-        KeyAnswer::None => NONE,
-        KeyAnswer::Refused(why) => code(why),
     }
 }
 

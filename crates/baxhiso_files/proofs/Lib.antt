@@ -1,4 +1,2 @@
 -- What a result is read back as, for the proofs of this crate.
 mod FileResults
-mod PackResults
-mod CarryResults

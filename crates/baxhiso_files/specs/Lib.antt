@@ -1,5 +1,2 @@
 pub mod Files
 pub mod FilesLaws
-pub mod PackFiles
-pub mod PackFilesLaws
-pub mod CarryArrays

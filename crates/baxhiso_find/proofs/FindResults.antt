@@ -8,9 +8,9 @@ use Rattle.finding.specs.Finding.{find}
 use Rattle.stream_start.specs.declared.Bound.{Bound}
 use Rattle.stream_start.specs.Views.{boundIs}
 use Rattle.stream_arrays.specs.Arrays.{kindIs}
-use Rattle.patterned.specs.Patterns.{givenIs}
-use Rattle.range.specs.declared.Ranged.{Ranged}
-use Rattle.range.specs.RangedRows.{RangedBy}
+use Rattle.patterned_held.specs.HeldPatterns.{givenIs}
+use Rattle.range_fill.specs.declared.Ranged.{Ranged}
+use Rattle.range_fill.specs.RangedRows.{RangedBy}
 
 -- the bounds are those whose kinds the numbers stand for
 pub find-bounds : (f ps : List ℕ) (b : Bool) (lo hi : List ℕ) {k l : Bound} (n m most x y : ℕ) {rows₀ rows values₀ values : List ℕ} {g : Ranged}

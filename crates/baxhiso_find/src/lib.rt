@@ -4,7 +4,7 @@ ghost use lib.ListN.{length};
 ghost use Rattle.finding.specs.Finding as F;
 ghost use Rattle.stream_start.specs.Views.{boundIs};
 ghost use Rattle.stream_arrays.specs.Arrays.{kindIs};
-ghost use Rattle.patterned.specs.Patterns.{givenIs};
+ghost use Rattle.patterned_held.specs.HeldPatterns.{givenIs};
 ghost use Rattle.baxhiso_readings.specs.Readings.{RangeLeaves};
 ghost use Rattle.baxhiso_find.specs.FindArguments.{restIs};
 use baxhiso_results::stopped;

@@ -12,8 +12,8 @@ use Rattle.paging.specs.Paging as G
 use Rattle.counting.specs.declared.Counting.{Counting}
 use Rattle.counting.specs.declared.Counting.the-variants.{Counted, Refused as No}
 use Rattle.counting.specs.CountOutcomes.{CountRefusedFor, Counts, CountOutcome}
-use Rattle.range.specs.declared.Ranged.{Ranged}
-use Rattle.range.specs.RangedRows.{RangedBy}
+use Rattle.range_fill.specs.declared.Ranged.{Ranged}
+use Rattle.range_fill.specs.RangedRows.{RangedBy}
 use Rattle.stream_start.specs.declared.Bound.{Bound}
 use Rattle.stream_start.specs.Views.{boundIs}
 use Rattle.stream_start.specs.declared.Begins.the-variants.{Began, Refused as NotStarted}

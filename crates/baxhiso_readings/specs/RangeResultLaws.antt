@@ -6,8 +6,8 @@ use Prim.Native.Nat.{ℕ}
 use lib.IntN.{ℤ}
 use Rattle.paging.specs.Paging as G
 use Rattle.paging.specs.Paging.{Page, ended, more}
-use Rattle.range.specs.declared.Ranged.{Ranged}
-use Rattle.range.specs.RangedRows.{stopAs, RangedBy}
+use Rattle.range_fill.specs.declared.Ranged.{Ranged}
+use Rattle.range_fill.specs.RangedRows.{stopAs, RangedBy}
 use Rattle.baxhiso_readings.specs.Readings.{rangeResult, stopOf, RangeLeaves}
 
 stop-is : (w : G.Stop) → stopOf (stopAs w) ≡ rangeResult w

@@ -9,8 +9,8 @@ use Prim.Native.Nat.{ℕ}
 use lib.IntN.{ℤ, negsuc}
 use Rattle.stream_step.specs.declared.Answer.{Answer}
 use Rattle.stream_step.specs.declared.Answer.the-variants.{Key, End, Refused}
-use Rattle.range.specs.declared.Stop.{Stop}
-use Rattle.range.specs.declared.Stop.the-variants.{End as Ended, More, Refused as Stopped}
+use Rattle.range_fill.specs.declared.Stop.{Stop}
+use Rattle.range_fill.specs.declared.Stop.the-variants.{End as Ended, More, Refused as Stopped}
 use Rattle.baxhiso.specs.Exports.{OK, code}
 
 -- minus 2: the end is no refusal, and not "none"

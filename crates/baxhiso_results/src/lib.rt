@@ -3,7 +3,7 @@
 ghost use mathlib.Core.Path.{_≡_};
 ghost use Rattle.baxhiso_results.specs.Results.{AnswerLeaves, stopOf};
 use baxhiso::code;
-use range::Stop;
+use range_fill::Stop;
 use stream_step::Answer as Next;
 
 const OK: i32 = 0;

@@ -21,7 +21,7 @@ use Rattle.stream_start.specs.StackLaws.{stack-length}
 use Rattle.stream_bounds.specs.State.{stateRight}
 use Rattle.stream.specs.declared.Plain.{Plain}
 use Rattle.stream.specs.Plains.{plainIs}
-use Rattle.patterned.specs.declared.Pattern.{Pattern}
+use Rattle.patterned_held.specs.declared.Pattern.{Pattern}
 use Rattle.patterned.specs.declared.Patterned.{Patterned}
 use Rattle.carrying.specs.Carry as C
 use Rattle.carrying.specs.Carry.{carryLevels, afterLevels, carriedTo, carryWith, withKeys}

@@ -8,7 +8,7 @@ ghost use Rattle.format.specs.Limits.{maxLevels};
 ghost use Rattle.format.specs.Paths.{fstWith};
 ghost use Rattle.stream_start.specs.Views.{viewIs, stackIs};
 ghost use Rattle.stream.specs.Plains.{plainIs};
-ghost use Rattle.patterned.specs.Patterns.{heldIs};
+ghost use Rattle.patterned_held.specs.HeldPatterns.{heldIs};
 ghost use Rattle.carrying.specs.Carry as C;
 ghost use Rattle.carry.specs.Carries.{ReadingCarried, PlainCarried, PatternedCarried};
 use carry_levels::CarriedLevels;

@@ -27,9 +27,10 @@ use Rattle.stream_step.specs.declared.Answer.the-variants.{Key, End, Refused}
 use Rattle.stream_step.specs.SteppedLaws.{Told, step-end, step-refused, step-text, step-fits}
 use Rattle.patterned.specs.declared.Patterned.{Patterned}
 use Rattle.patterned.specs.declared.PatternedStep.{PatternedStep}
-use Rattle.patterned.specs.Patterns.{heldIs, SteppedBy}
-use Rattle.range.specs.declared.Stop.the-variants.{End as Ended, More, Refused as Stopped}
-use Rattle.range.specs.RangedRows.{stopAs, RangedBy}
+use Rattle.patterned_held.specs.HeldPatterns.{heldIs}
+use Rattle.patterned.specs.Patterns.{SteppedBy}
+use Rattle.range_fill.specs.declared.Stop.the-variants.{End as Ended, More, Refused as Stopped}
+use Rattle.range_fill.specs.RangedRows.{stopAs, RangedBy}
 
 pub record Going (s : List ℕ) (p : P.Pattern) (w : Page) (most : ℕ) (rows₀ values₀ rows values b : List ℕ) (here : Patterned) (count : ℕ) : Type 0 where
   pub entries : List Entry

@@ -24,7 +24,8 @@ use Rattle.stream_start.specs.declared.Begins.the-variants.{Began}
 use Rattle.listing.specs.declared.Line.the-variants.{Key, Last}
 use Rattle.listing.specs.declared.Listed.{Listed}
 use Rattle.listing.specs.Listing.{Line, State, state, more, last, lineBy, lineOf}
-use Rattle.listing.specs.Lined.{Begins, too-large, not-counted, begins, Wrote, Lined}
+use Rattle.listing_start.specs.Begun.{Begins, too-large, not-counted, begins}
+use Rattle.listing.specs.Lined.{Wrote, Lined}
 use Rattle.list.specs.Stands.{Stands}
 
 -- what is left to visit, read off the file and the reading alone

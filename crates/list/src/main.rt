@@ -1,5 +1,5 @@
 // The listing program: the file on standard input, a line for each key on standard output, and the last line (README.md, "Listing a file").
-// The work is crate `listing`'s; a line is written as soon as it is there, so that memory does not grow with the number of keys.
+// The work is the crates' `listing_start` and `listing`; a line is written as soon as it is there, so that memory does not grow with the number of keys.
 ghost use Prim.Native.Nat.{_≤_};
 ghost use lib.ListN.{length};
 ghost use Rattle.stream.specs.Plains.{plainIs};
@@ -64,7 +64,7 @@ fn list(file: &[u8]) {
     let mut depths = [0u16; CELLS];
     let mut sums = [0u64; CELLS];
     let mut counts = [0u64; CELLS];
-    let begun = listing::begin(file, &mut depths, &mut sums, &mut counts);
+    let begun = listing_start::begin(file, &mut depths, &mut sums, &mut counts);
     let answer = begun.answer;
     match answer {
         Begins::Refused(why) => refuse(why),

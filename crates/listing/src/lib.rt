@@ -1,20 +1,14 @@
-// The listing program's work, as functions on slices: a file is admitted, its keys are counted and its unbounded reading begun, and each call
-// then writes the next line into a lent buffer. Crate `listing_lines` writes the lines, and the program that calls these functions is crate `list`.
+// The lines of a listing, one a call, each written into a lent buffer. Crate `listing_start` begins a listing, `listing_lines` writes a line, and the
+// program that calls these functions is crate `list`.
 ghost use Rattle.stream.specs.Plains.{plainIs};
 ghost use Rattle.listing.specs.Listing.{state, lineOf};
-ghost use Rattle.listing.specs.Lined.{Begins, Lined};
-use counting::Counting;
-use format::LARGE;
+ghost use Rattle.listing.specs.Lined.{Lined};
 use format::MAX_KEY;
 use stream::Plain;
-use stream::Started;
-use stream_start::Bound;
 use stream_step::Answer;
 
 // The room that the longest line takes: 510 digits, a space, 20 digits, a newline.
 pub const LINE: usize = 532;
-// The longest file that is listed.
-pub const LARGEST: usize = 4_096;
 
 // A line that was written, a key's or the last, by its length; or that the buffer has no room for every line.
 pub enum Line {
@@ -28,29 +22,6 @@ pub struct Listed {
     pub line: Line,
     pub keys: u64,
     pub plain: Plain,
-}
-
-// Begins the listing of a file: LARGE over 4,096 bytes, then the refusals of counting its keys; else the unbounded reading. The tables are
-// counting's.
-pub fn begin(file: &[u8], depths: &mut [u16], sums: &mut [u64], counts: &mut [u64]) -> Started
-    ensures { λ r. ⌜ Begins (now (file .entry)) (now (depths .entry)) (now (sums .entry))
-        (now (counts .entry)) (now (depths .exit)) (now (sums .exit)) (now (counts .exit)) r ⌝ }
-{
-    if LARGEST < file.len() {
-        return stream::refused(LARGE);
-    }
-    let counted = counting::count_keys(file, depths, sums, counts);
-    match counted {
-        Counting::Refused(why) => stream::refused(why),
-        Counting::Counted => stream::start(
-            file,
-            Bound::Unbounded,
-            &file[..0],
-            Bound::Unbounded,
-            &file[..0],
-            counts,
-        ),
-    }
 }
 
 // Writes the next line of a listing, after keys lines of keys: a key's, or the last. The line stands from the buffer's first byte on, the rest as

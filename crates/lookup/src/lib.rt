@@ -10,8 +10,8 @@ use format::NODE;
 use format::SUM;
 use fst::Opened;
 use node::Judged;
-use node_step::Step;
-use node_step::Way;
+use node_way::Step;
+use node_way::Way;
 
 // What a lookup by key answers: the key's value, that the key is not held, or the number of a refusal.
 pub enum Answer {

@@ -8,10 +8,10 @@ use lib.ListN.{length, take, drop}
 use lib.Seq.{length-take-le}
 use Rattle.format.specs.Lookup as L
 use Rattle.format.specs.Lookup.{found}
-use Rattle.lookup_key.specs.declared.KeyAnswer.{KeyAnswer}
-use Rattle.lookup_key.specs.declared.KeyAnswer.the-variants.{Key, None as NoKey, Refused as KeyRefused}
+use Rattle.lookup_search.specs.declared.KeyAnswer.{KeyAnswer}
+use Rattle.lookup_search.specs.declared.KeyAnswer.the-variants.{Key, None as NoKey, Refused as KeyRefused}
 use Rattle.format.specs.Limits.{maxPath}
-use Rattle.lookup_key.specs.KeyAnswers.{keyIs, keyLen, KeyFits, KeyWritten}
+use Rattle.lookup_search.specs.KeyAnswers.{keyIs, keyLen, KeyFits, KeyWritten}
 
 pub written-none : (w : L.KeyAnswer) (buf : List ℕ) → w ≡ L.KeyAnswer.none → KeyWritten w buf buf NoKey
 written-none w buf e = record { answer = rw e; buffer = rw e }

@@ -1,4 +1,2 @@
 -- Lemmas on plain lists and numbers, for the proofs of this crate.
-mod KeyWalks
-mod Searching
 mod KeyWritings

@@ -1,67 +1,12 @@
 // A key for a value (src/raw/mod.rs: `get_key_into`), on any file, admitted or not.
-// Each node is judged once, as it is entered; the last is entered too.
-ghost use mathlib.Core.Path.{_≡_};
 ghost use lib.ListN.{length};
-ghost use Rattle.format.specs.Limits.{maxPath};
 ghost use Rattle.format.specs.Lookup as L;
-ghost use Rattle.format.specs.Lookup.{getKeyFrom};
-ghost use Rattle.lookup_key.specs.KeyAnswers.{keyIs, KeyFits, KeyWritten};
-ghost use Rattle.format.specs.Paths.{fstWith};
-use format::DEEP;
+ghost use Rattle.lookup_search.specs.KeyAnswers.{KeyWritten};
 use format::MAX_KEY;
-use format::NODE;
 use format::SPACE;
 use fst::Opened;
-use node_fit::Choice;
-use node_fit::Fit;
-
-// What a lookup by value answers: the length of the key that was found, that none was, or the number of a refusal.
-pub enum KeyAnswer {
-    Key(usize),
-    None,
-    Refused(u8),
-}
-
-// Searches from the root of a file that opens; the key's bytes stand at the front of path where a key is found.
-fn find_key(
-    file: &[u8],
-    version: u64,
-    root: usize,
-    value: u64,
-    path: &mut [u8; MAX_KEY],
-) -> KeyAnswer
-    requires { ⌜ length (now path) ≡ maxPath ⌝ }
-    ensures { λ r. ⌜ keyIs r (now (path .exit)) ≡ getKeyFrom maxPath
-        (fstWith (now (file .entry)) version root) root value ⌝ }
-    ensures { λ r. ⌜ KeyFits r (now (path .exit)) ⌝ }
-{
-    let mut addr = root;
-    let mut left = value;
-    let mut n = 0;
-    loop {
-        let Fit::Sound(choice) = node_fit::fit_at(file, version, root, addr, left) else {
-            return KeyAnswer::Refused(NODE);
-        };
-        match choice {
-            Choice::Ends => {
-                return KeyAnswer::Key(n);
-            }
-            Choice::Absent => {
-                return KeyAnswer::None;
-            }
-            Choice::To(inp, out, target) => {
-                // a key has at most 255 bytes
-                if MAX_KEY <= n {
-                    return KeyAnswer::Refused(DEEP);
-                }
-                path[n] = inp;
-                left -= out;
-                addr = target;
-                n += 1;
-            }
-        }
-    }
-}
+use lookup_search::KeyAnswer;
+use lookup_search::find_key;
 
 // A key with this value. Opening's refusals, then SPACE for a buffer under 255; then NODE for each node entered, and DEEP before a
 // 256th byte. Final outputs are ignored, as in the Rust. The buffer is written only where a key is found: the key from its first

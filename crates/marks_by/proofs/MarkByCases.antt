@@ -29,10 +29,11 @@ use Rattle.stream_start.specs.Views.{viewIs}
 use Rattle.stream_step.specs.declared.Answer.the-variants as A
 use Rattle.stream.specs.Plains.{plainIs}
 use Rattle.patterned_fit.specs.PositionLaws.{positions-length}
-use Rattle.patterned.specs.declared.Pattern.{Pattern}
+use Rattle.patterned_held.specs.declared.Pattern.{Pattern}
 use Rattle.patterned.specs.declared.Patterned.{Patterned}
 use Rattle.patterned.specs.declared.PatternedStep.{PatternedStep}
-use Rattle.patterned.specs.Patterns.{heldIs, SteppedBy}
+use Rattle.patterned_held.specs.HeldPatterns.{heldIs}
+use Rattle.patterned.specs.Patterns.{SteppedBy}
 use Rattle.marks_held.specs.declared.Marks.{Marks}
 use Rattle.marks_held.specs.MarkViews.{noMark, markIs, marksIs}
 use Rattle.marks_held.specs.MarkViewsLaws.{stated-length}

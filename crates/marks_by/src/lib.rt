@@ -3,7 +3,8 @@
 ghost use lib.ListN.{length};
 ghost use Rattle.stream.specs.Plains.{plainIs};
 ghost use Rattle.stream_start.specs.Views.{viewIs};
-ghost use Rattle.patterned.specs.Patterns.{heldIs, SteppedBy};
+ghost use Rattle.patterned_held.specs.HeldPatterns.{heldIs};
+ghost use Rattle.patterned.specs.Patterns.{SteppedBy};
 ghost use Rattle.marks_held.specs.MarkViews.{marksIs};
 ghost use Rattle.marks.specs.MarkAnswers.{MarkingTold, ReturnTold};
 ghost use Rattle.marks_by.specs.MarksBy.{markBy, backBy, nextMarkedBy, ReturnByTold};
@@ -15,9 +16,9 @@ use marks::Change;
 use marks::Marking;
 use marks::Return;
 use marks_held::Marks;
-use patterned::Pattern;
 use patterned::Patterned;
 use patterned::PatternedStep;
+use patterned_held::Pattern;
 use stream::Plain;
 use stream_step::Answer;
 

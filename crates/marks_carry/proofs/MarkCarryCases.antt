@@ -14,7 +14,7 @@ use Rattle.stream_start.specs.Views.{viewIs}
 use Rattle.stream.specs.declared.Plain.{Plain}
 use Rattle.stream.specs.Plains.{plainIs}
 use Rattle.patterned.specs.declared.Patterned.{Patterned}
-use Rattle.patterned.specs.Patterns.{heldIs}
+use Rattle.patterned_held.specs.HeldPatterns.{heldIs}
 use Rattle.carrying.specs.Carry as C
 use Rattle.carrying.specs.Carry.{carryPlain, carryBy, withKeys}
 use Rattle.carry.specs.declared.Carries.the-variants as Answer

@@ -3,7 +3,7 @@
 ghost use mathlib.Core.Path.{_≡_};
 ghost use Rattle.stream_start.specs.Views.{viewIs};
 ghost use Rattle.stream.specs.Plains.{plainIs};
-ghost use Rattle.patterned.specs.Patterns.{heldIs};
+ghost use Rattle.patterned_held.specs.HeldPatterns.{heldIs};
 ghost use Rattle.marks_held.specs.MarkViews.{marksIs};
 ghost use Rattle.carry.specs.Carries.{PlainCarried, PatternedCarried};
 ghost use Rattle.marks_carry.specs.MarksCarry.{carryMarked, carryMarkedBy, judging};

@@ -21,10 +21,10 @@ use Rattle.counting.specs.CountOutcomes as C
 use Rattle.counting.specs.CountOutcomes.{CountRefusedFor, not-admitted, too-many, CountOutcome}
 use Rattle.lookup.specs.declared.Answer.{Answer}
 use Rattle.lookup.specs.declared.Answer.the-variants.{Value, None, Refused as NotGot}
-use Rattle.lookup_key.specs.declared.KeyAnswer.{KeyAnswer}
-use Rattle.lookup_key.specs.declared.KeyAnswer.the-variants.{Key, None as NoKey, Refused as KeyRefused}
+use Rattle.lookup_search.specs.declared.KeyAnswer.{KeyAnswer}
+use Rattle.lookup_search.specs.declared.KeyAnswer.the-variants.{Key, None as NoKey, Refused as KeyRefused}
 use Rattle.lookup.specs.Answers.{answerIs}
-use Rattle.lookup_key.specs.KeyAnswers.{keyAnswerAs, KeyWritten}
+use Rattle.lookup_search.specs.KeyAnswers.{keyAnswerAs, KeyWritten}
 use Rattle.oracle_fst.specs.FstTells.{front, checksumNumber, OpenTold, admissionIs, countingIs, GetTold, keyNumber, KeyTold}
 
 -- ---- opening

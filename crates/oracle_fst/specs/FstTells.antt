@@ -20,7 +20,7 @@ use Rattle.admission.specs.declared.Admission.{Admission}
 use Rattle.admission.specs.declared.Admission.the-variants.{Admitted, Refused}
 use Rattle.counting.specs.declared.Counting.{Counting}
 use Rattle.counting.specs.declared.Counting.the-variants.{Counted, Refused as NotCounted}
-use Rattle.lookup_key.specs.KeyAnswers.{keyBufferAfter}
+use Rattle.lookup_search.specs.KeyAnswers.{keyBufferAfter}
 
 unfoldable pub front : List ℕ → List ℕ → List ℕ
 front v out = cond (leb (length v) (length out)) (v ++ drop (length v) out) out

@@ -15,7 +15,7 @@ use counting::Counting;
 use fst::Checksum;
 use fst::Opened;
 use lookup::Answer;
-use lookup_key::KeyAnswer;
+use lookup_search::KeyAnswer;
 
 // ---- opening
 

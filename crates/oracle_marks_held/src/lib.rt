@@ -3,8 +3,8 @@
 use marks_held::MARKS;
 use marks_held::Mark;
 use marks_held::Marks;
-use patterned::Pattern;
 use patterned::Patterned;
+use patterned_held::Pattern;
 use stream::Plain;
 use stream_start::Reading;
 

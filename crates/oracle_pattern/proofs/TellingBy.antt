@@ -14,7 +14,7 @@ use Rattle.stream_step.specs.declared.Step.{Step}
 use Rattle.stream_step.specs.Stepped.{Stepped}
 use Rattle.pattern.specs.Pattern as P
 use Rattle.pattern.specs.Pattern.{startBy, nextBy}
-use Rattle.patterned.specs.declared.Pattern.{Pattern}
+use Rattle.patterned_held.specs.declared.Pattern.{Pattern}
 use Rattle.patterned.specs.declared.PatternedStart.{PatternedStart}
 use Rattle.patterned.specs.declared.PatternedStep.{PatternedStep}
 use Rattle.patterned.specs.Patterns.{StartedBy, SteppedBy}

@@ -7,10 +7,10 @@ use Rattle.paging.specs.Paging as P
 use Rattle.paging.specs.Paging.{Page, ended, more}
 use Rattle.stream_start.specs.declared.Bound.{Bound}
 use Rattle.stream_start.specs.Views.{boundIs}
-use Rattle.range.specs.declared.Stop.{Stop}
-use Rattle.range.specs.declared.Stop.the-variants.{End, More, Refused}
-use Rattle.range.specs.declared.Ranged.{Ranged}
-use Rattle.range.specs.RangedRows.{stopAs, RangedBy}
+use Rattle.range_fill.specs.declared.Stop.{Stop}
+use Rattle.range_fill.specs.declared.Stop.the-variants.{End, More, Refused}
+use Rattle.range_fill.specs.declared.Ranged.{Ranged}
+use Rattle.range_fill.specs.RangedRows.{stopAs, RangedBy}
 use Rattle.stream_arrays.specs.Arrays.{kindIs}
 use Rattle.oracle_range.specs.RangeTold.{stopNumber, RangeTold}
 

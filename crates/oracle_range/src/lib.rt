@@ -6,7 +6,7 @@ ghost use Rattle.paging.specs.Paging as P;
 ghost use Rattle.stream_start.specs.Views.{boundIs};
 ghost use Rattle.stream_arrays.specs.Arrays.{kindIs};
 ghost use Rattle.oracle_range.specs.RangeTold.{RangeTold};
-use range::Stop;
+use range_fill::Stop;
 use stream_arrays::kind_of;
 
 // 1000 where the range ended, 1001 where more may come, or 2000 plus the refusal; count has the number of rows that were written.

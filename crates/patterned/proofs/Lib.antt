@@ -1,4 +1,2 @@
--- Lemmas on a start, on a step and on the cases of next, for the proofs of this crate.
+-- Lemmas on a start, for the proofs of this crate.
 mod StartByLaws
-mod StepByCases
-mod NextByCases

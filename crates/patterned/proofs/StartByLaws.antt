@@ -1,17 +1,15 @@
 -- A start by pattern: the cases of its definition, and the contract at each.
 --     start-shut, start-many, start-few       the file does not open; over 255 positions; a start without pattern
 --     refused-by, started-by                  the contract where a start is refused, and where it is that of a start without pattern
---     held-front                              positions that are copied are held
 -- Assumes nothing.
 use mathlib.Core.Path.{_≡_, refl, sym, _∙_, ap}
 use mathlib.Core.Bool.{Bool, cond}
-use mathlib.Core.List.{List, _++_, map}
+use mathlib.Core.List.{List}
 use Prim.Native.Nat.{ℕ, _<_, _≤_}
 use native.Mathlib.Omega.{arith}
 use borrow.Author.Tests.{le-leb, lt-leb}
 use lib.Dec.{leb}
-use lib.ListN.{length, take, drop, length-map}
-use lib.Seq.{take-all}
+use lib.ListN.{length, length-map}
 use Rattle.format.specs.Limits.{maxPath, PATTERN}
 use Rattle.format.specs.Opening as O
 use Rattle.format.specs.Opening.{Meta, Opening, opened, opening}
@@ -21,11 +19,10 @@ use Rattle.reading.specs.Reading.{onOpened, start}
 use Rattle.stream_start.specs.Views.{beganIs}
 use Rattle.pattern.specs.Pattern as P
 use Rattle.pattern.specs.Pattern.{startBy}
-use Rattle.patterned_fit.specs.Positions.{positionIs, positionsIs}
-use Rattle.patterned_fit.specs.PositionLaws.{positions-front}
-use Rattle.patterned.specs.declared.Pattern.{Pattern}
+use Rattle.patterned_fit.specs.Positions.{positionIs}
+use Rattle.patterned_held.specs.HeldPatterns.{heldIs, givenIs}
 use Rattle.patterned.specs.declared.PatternedStart.{PatternedStart}
-use Rattle.patterned.specs.Patterns.{heldIs, givenIs, noPatterned, StartedBy}
+use Rattle.patterned.specs.Patterns.{noPatterned, StartedBy}
 
 module _ (s : List ℕ) (p : P.Pattern) (lo hi : Bound) where
   start-shut : (n : ℕ) → opening s ≡ O.refused n → startBy s p lo hi ≡ R.Started.refused n
@@ -76,12 +73,3 @@ module _ (s xs : List ℕ) (rest : Bool) (lo hi : Bound) where
     answer = e ∙ sym (start-few s (givenIs xs rest) lo hi (rw (length-map xs positionIs) h));
     pattern = λ v is. held;
   }
-
--- ---- the positions that are held
-
-pub held-front : (xs rest-of held : List ℕ) (rest : Bool) → held ≡ take (length xs) xs ++ drop (length xs) rest-of → (q : Pattern)
-    → q ≡ record { len = length xs; rest = rest; positions = held } → heldIs q ≡ givenIs xs rest
-held-front xs rest-of held rest e q eq =
-    let a : held ≡ xs ++ drop (length xs) rest-of = e ∙ ap (λ (l : List ℕ). l ++ drop (length xs) rest-of) (take-all (length xs) xs (omega arith)) in
-    let b : positionsIs (length xs) held ≡ map positionIs xs = ap (positionsIs (length xs)) a ∙ positions-front xs (drop (length xs) rest-of) in
-    rw eq (rw b)

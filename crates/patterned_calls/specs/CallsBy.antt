@@ -25,7 +25,8 @@ use Rattle.stream_calls.specs.Calls.{inHand}
 use Rattle.patterned.specs.declared.Patterned.{Patterned}
 use Rattle.patterned.specs.declared.PatternedStart.{PatternedStart}
 use Rattle.patterned.specs.declared.PatternedStep.{PatternedStep}
-use Rattle.patterned.specs.Patterns.{heldIs, SteppedBy}
+use Rattle.patterned_held.specs.HeldPatterns.{heldIs}
+use Rattle.patterned.specs.Patterns.{SteppedBy}
 
 -- ---- a call
 

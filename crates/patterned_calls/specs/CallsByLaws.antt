@@ -24,10 +24,11 @@ use Rattle.stream_start.specs.declared.Reading.{Reading}
 use Rattle.stream_start.specs.Views.{viewIs, beganIs}
 use Rattle.stream_calls.specs.Calls.{inHand}
 use Rattle.stream_calls.specs.CallsLaws.{in-hand}
-use Rattle.patterned.specs.declared.Pattern.{Pattern}
+use Rattle.patterned_held.specs.declared.Pattern.{Pattern}
 use Rattle.patterned.specs.declared.Patterned.{Patterned}
 use Rattle.patterned.specs.declared.PatternedStart.{PatternedStart}
-use Rattle.patterned.specs.Patterns.{heldIs, StartedBy}
+use Rattle.patterned_held.specs.HeldPatterns.{heldIs}
+use Rattle.patterned.specs.Patterns.{StartedBy}
 use Rattle.patterned_calls.specs.CallsBy.{CodeCallBy, CallMadeBy, answeredBy, MadeBy, codeAnswersBy, lastReadingBy, callByIs, callsByIs, AsDefinedBy}
 
 -- ---- a call

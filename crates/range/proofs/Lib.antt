@@ -1,3 +1,2 @@
 -- Laws of the definition, for the proofs of this crate.
 mod RangeCases
-mod FillCases

@@ -27,7 +27,7 @@ use Rattle.stream_start.specs.Starts.{BlankTold, pendingFrom, walkFrom, reading
 use Rattle.stream_start.specs.StartLaws.{start-opened, from-reading, reading-halted, reading-levels}
 use Rattle.range_node.specs.Entries.{SoundTo}
 use Rattle.range_turn.specs.StartStateLaws.{start-state, start-sound, stack-sound}
-use Rattle.range.specs.RangedRows.{OpensAs, Ready, viewFrom}
+use Rattle.range_fill.specs.RangedRows.{OpensAs, Ready, viewFrom}
 
 module _ (s : List ℕ) (lo hi : Bound) (most a b : ℕ) where
   pub range-unopened : (n : ℕ) → opening s ≡ O.Opening.refused n → range s lo hi most a b ≡ refusedPage n

@@ -12,7 +12,7 @@ use fst::Meta;
 use fst::Opened;
 use libc::STDIN_FILENO;
 use lookup::Answer;
-use lookup_key::KeyAnswer;
+use lookup_search::KeyAnswer;
 use replay_list::Entry;
 use replay_list::FILE;
 use replay_list::KEPT;

@@ -4,52 +4,13 @@
 // The seat served last is a number. `taken` and `waiting` have a number for each seat, 0 for no and any other for yes. The arrays of stream_arrays have
 // a row for each seat. They are passed as slices here, so that their lengths are known to a caller that has them as arrays of eight.
 ghost use mathlib.Core.Path.{_≡_};
-ghost use Prim.Native.Nat.{_≤_, _<_};
+ghost use Prim.Native.Nat.{_<_};
 ghost use lib.ListN.{length};
 ghost use Rattle.stream_arrays.specs.Arrays.{held};
-ghost use Rattle.seats_arrays.specs.SeatArrays.{RightTold, TurnTold, FlagPut, rows, Within, plainOf, RowSet, RowPut};
-use seats_turn::LAST_SEAT;
-use seats_turn::SEATS;
-use seats_turn::Turn;
+ghost use Rattle.seats_arrays.specs.SeatArrays.{FlagPut, rows, Within, plainOf, RowSet, RowPut};
 use stream::Plain;
 use stream_arrays::put;
 use stream_arrays::reading_of;
-
-// Whether the seat served last is one of the eight, and every waiting seat has a reading, whatever the readings are.
-pub fn seats_right(last: usize, taken: [u8; 8], waiting: [u8; 8]) -> bool
-    ensures { λ r. ⌜ RightTold last taken waiting r ⌝ }
-{
-    if LAST_SEAT < last {
-        return false;
-    }
-    let mut i = 0;
-    while i < SEATS {
-        if waiting[i] != 0 {
-            if taken[i] == 0 {
-                return false;
-            }
-        }
-        i += 1;
-    }
-    true
-}
-
-// The first seat that waits after the one served last, around the eight, whoever has a reading.
-pub fn turn_of(last: usize, waiting: [u8; 8]) -> Turn
-    requires { ⌜ last ≤ 7 ⌝ }
-    ensures { λ r. ⌜ TurnTold last waiting r ⌝ }
-{
-    let mut i = last;
-    let mut looked = 0;
-    while looked < SEATS {
-        i = (i + 1) % SEATS;
-        if waiting[i] != 0 {
-            return Turn::Of(i);
-        }
-        looked += 1;
-    }
-    Turn::Nobody
-}
 
 // The reading of a seat.
 pub fn plain_at(

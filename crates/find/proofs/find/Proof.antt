@@ -17,8 +17,8 @@ use Rattle.pattern.specs.Pattern as P
 use Rattle.paging.specs.Paging.{rowLen, roomTest}
 use Rattle.stream_start.specs.Views.{boundIs}
 use Rattle.patterned_fit.specs.Positions.{positionIs}
-use Rattle.patterned.specs.Patterns.{givenIs}
-use Rattle.range.specs.FillLaws.{ranged-as, refused-by}
+use Rattle.patterned_held.specs.HeldPatterns.{givenIs}
+use Rattle.range_fill.specs.FillLaws.{ranged-as, refused-by}
 use Rattle.find.proofs.FindCases.{find-unopened, find-pattern, find-bound, find-space, find-walk}
 use borrow.Author.Needs.{needs}
 use Rattle.find.proofs.find.Statement.{statement}

@@ -6,8 +6,8 @@ use Rattle.pattern.specs.Pattern as P
 use Rattle.pattern.specs.Pattern.{startBy}
 use Rattle.finding.specs.Finding.{foldBy, pageBy}
 use Rattle.stream_start.specs.Views.{beganIs, boundIs, viewIs}
-use Rattle.patterned.specs.Patterns.{heldIs, givenIs}
-use Rattle.range.specs.FillLaws.{ranged-as, refused-by}
+use Rattle.patterned_held.specs.HeldPatterns.{heldIs, givenIs}
+use Rattle.range_fill.specs.FillLaws.{ranged-as, refused-by}
 use borrow.Author.Needs.{needs}
 use Rattle.find.proofs.find_from.Statement.{statement}
 use Rattle.find.proofs.find_from.Tie as tie

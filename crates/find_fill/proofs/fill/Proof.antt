@@ -5,7 +5,7 @@ use Prim.Native.Nat.{_-_, _<_}
 use denote.Ref.{now}
 use Rattle.finding.specs.Finding.{foldBy}
 use Rattle.stream_start.specs.Views.{viewIs}
-use Rattle.patterned.specs.Patterns.{heldIs}
+use Rattle.patterned_held.specs.HeldPatterns.{heldIs}
 use Rattle.find_fill.proofs.GoingBy.{Going, going-none, going-key, going-more, going-end, going-refused, key-fits}
 use borrow.Author.Needs.{needs}
 use native.Mathlib.Omega.{arith}

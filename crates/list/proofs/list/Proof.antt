@@ -8,7 +8,7 @@ use Rattle.list.proofs.list.Reads as reads
 use Rattle.list.proofs.list.Lts as lts
 use Rattle.list.proofs.lines.Reads as lines-reads
 use Rattle.list.proofs.refuse.Reads as refuse-reads
-use Rattle.listing.proofs.begin.Reads as begin-reads
+use Rattle.listing_start.proofs.begin.Reads as begin-reads
 
 slice-aggregate-begin : tie.Need-slice-aggregate-begin
 slice-aggregate-begin c = search needs

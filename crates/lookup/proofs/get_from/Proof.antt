@@ -11,10 +11,10 @@ use Rattle.format.specs.Node.{sound, Search, findInput, transitionAt}
 use Rattle.format.specs.Paths.{Fst, fstWith, nodeIn}
 use Rattle.format.specs.Lookup.{getFrom}
 use Rattle.format.specs.laws.LookupLaws.{get-from-past}
-use Rattle.node_step.specs.declared.Way.{Way}
-use Rattle.node_step.specs.declared.Way.the-variants.{To}
-use Rattle.node_step.specs.Ways.{wayIn}
-use Rattle.node_step.specs.WaysLaws.{step-sound, step-stuck, way-found, way-none}
+use Rattle.node_way.specs.declared.Way.{Way}
+use Rattle.node_way.specs.declared.Way.the-variants.{To}
+use Rattle.node_way.specs.Ways.{wayIn}
+use Rattle.node_way.specs.WaysLaws.{step-sound, step-stuck, way-found, way-none}
 use Rattle.lookup.proofs.LookupWalks.{Looking, looking-none, looking-unsound, looking-absent, looking-step}
 use borrow.Author.Needs.{needs}
 use native.Mathlib.Omega.{arith}

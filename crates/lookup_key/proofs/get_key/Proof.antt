@@ -10,7 +10,7 @@ use Rattle.format.specs.laws.LookupLaws.{get-key-opened, get-key-blank, get-key
 use Rattle.format.specs.laws.OpeningLaws.{version-blank, version-some}
 use Rattle.fst.specs.Open.{metaIs, openingIs}
 use Rattle.format.specs.Opening as O
-use Rattle.lookup_key.specs.KeyAnswers.{keyIs}
+use Rattle.lookup_search.specs.KeyAnswers.{keyIs}
 use Rattle.lookup_key.proofs.KeyWritings.{written-none, written-refused, written-key, key-fits}
 use borrow.Author.Needs.{needs}
 use native.Mathlib.Omega.{arith}

@@ -5,7 +5,7 @@ use denote.Ref.{now}
 use lib.ListN.{length}
 use Rattle.fst.specs.Open.{openingIs}
 use Rattle.stream.specs.Plains.{plainIs}
-use Rattle.patterned.specs.Patterns.{heldIs}
+use Rattle.patterned_held.specs.HeldPatterns.{heldIs}
 use Rattle.marks_held.specs.MarkViews.{marksIs}
 use Rattle.marks_by.proofs.MarkByCases.{few-of, pattern-right, pattern-wrong, back-by-ways}
 use borrow.Author.Needs.{needs}

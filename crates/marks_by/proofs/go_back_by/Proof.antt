@@ -4,7 +4,7 @@ use denote.Ref.{now}
 use Rattle.plain.specs.Plain.{plainWith}
 use Rattle.stream_start.specs.Views.{viewIs}
 use Rattle.stream.specs.Plains.{plainIs}
-use Rattle.patterned.specs.Patterns.{heldIs}
+use Rattle.patterned_held.specs.HeldPatterns.{heldIs}
 use Rattle.marks_held.specs.MarkViews.{marksIs}
 use Rattle.marks_by.specs.MarksBy.{backBy}
 use Rattle.marks_by.proofs.MarkByCases.{told-view}

@@ -6,7 +6,7 @@ use lib.ListN.{length}
 use Rattle.fst.specs.Open.{openingIs}
 use Rattle.plain.specs.Plain.{plainWith}
 use Rattle.stream_start.specs.Views.{viewIs}
-use Rattle.patterned.specs.Patterns.{heldIs}
+use Rattle.patterned_held.specs.HeldPatterns.{heldIs}
 use Rattle.marks_held.specs.MarkViews.{marksIs}
 use Rattle.marks_by.proofs.MarkByCases.{few-of, pattern-right, pattern-wrong, mark-by-ways}
 use borrow.Author.Needs.{needs}

@@ -5,7 +5,7 @@ use denote.Ref.{now}
 use lib.ListN.{length}
 use Rattle.fst.specs.Open.{openingIs}
 use Rattle.stream_start.specs.Views.{viewIs}
-use Rattle.patterned.specs.Patterns.{heldIs}
+use Rattle.patterned_held.specs.HeldPatterns.{heldIs}
 use Rattle.marks_held.specs.MarkViews.{marksIs}
 use Rattle.marks_by.proofs.MarkByCases.{next-by-ways, next-by-refused}
 use borrow.Author.Needs.{needs}

@@ -10,14 +10,14 @@ use Rattle.node_sound.specs.declared.Shape.{Shape}
 use Rattle.node_sound.specs.Shapes.{shapeIs}
 use Rattle.node_sound.specs.JudgingLaws.{Parts, parts, shape-sound, shape-right, right-parts}
 use Rattle.node.specs.JudgedLaws.{codeNode, judged-yes}
-use Rattle.node_step.specs.WaysLaws.{readable-any}
-use Rattle.node_fit.proofs.Fits.{fit-no, fit-yes, choice-ends, choice-on}
+use Rattle.node_way.specs.WaysLaws.{readable-any}
+use Rattle.node_choice.specs.FitOfLaws.{fit-no, fit-yes, choice-ends, choice-on}
 use Rattle.node.specs.declared.Node.{Node}
 use Rattle.node.specs.declared.Judged.the-variants.{Sound}
-use Rattle.node_fit.specs.declared.Fit.the-variants.{Unsound as Unfit}
-use Rattle.node_fit.specs.declared.Choice.the-variants.{Ends}
+use Rattle.node_choice.specs.declared.Fit.the-variants.{Unsound as Unfit}
+use Rattle.node_choice.specs.declared.Choice.the-variants.{Ends}
 use Rattle.node.specs.Read.{Judges, meaning}
-use Rattle.node_fit.specs.Choices.{fitOf}
+use Rattle.node_choice.specs.Choices.{fitOf}
 use Rattle.format.specs.Node.{nodeAt}
 use Rattle.format.specs.Bytes.{le}
 use lib.ListN.{take, drop}

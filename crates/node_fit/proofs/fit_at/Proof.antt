@@ -4,7 +4,7 @@ use native.Mathlib.Nat.{not-le-of-lt}
 use denote.Ref.{now}
 use Rattle.node_sound.specs.Shapes.{AtForm}
 use Rattle.node_sound.specs.JudgingLaws.{sound-low}
-use Rattle.node_fit.proofs.Fits.{fit-no}
+use Rattle.node_choice.specs.FitOfLaws.{fit-no}
 use borrow.Author.Needs.{needs}
 use Rattle.node_fit.proofs.fit_at.Statement.{statement}
 use Rattle.node_fit.proofs.fit_at.Tie as tie

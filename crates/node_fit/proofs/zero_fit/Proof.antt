@@ -1,7 +1,7 @@
 -- `node_fit::zero_fit` meets its contract: a file without bytes, nothing left, or something left.
 -- Assumes nothing.
 use denote.Ref.{now}
-use Rattle.node_fit.proofs.Fits.{fit-blank, fit-empty-ends, fit-empty-none}
+use Rattle.node_choice.specs.FitOfLaws.{fit-blank, fit-empty-ends, fit-empty-none}
 use Rattle.node_fit.proofs.zero_fit.Statement.{statement}
 use Rattle.node_fit.proofs.zero_fit.Tie as tie
 

@@ -10,12 +10,12 @@ use Rattle.node_sound.specs.declared.Shape.{Shape}
 use Rattle.node_sound.specs.Shapes.{shapeIs}
 use Rattle.node_sound.specs.JudgingLaws.{Parts, parts, shape-sound, shape-right, right-parts}
 use Rattle.node.specs.JudgedLaws.{codeNode, judged-yes}
-use Rattle.node_step.specs.WaysLaws.{readable-any}
-use Rattle.node_step.proofs.Steps.{step-no, step-yes}
+use Rattle.node_way.specs.WaysLaws.{readable-any}
+use Rattle.node_way.specs.StepOfLaws.{step-no, step-yes}
 use Rattle.node.specs.declared.Judged.the-variants.{Sound}
-use Rattle.node_step.specs.declared.Step.the-variants.{Unsound as Stuck}
+use Rattle.node_way.specs.declared.Step.the-variants.{Unsound as Stuck}
 use Rattle.node.specs.Read.{Judges}
-use Rattle.node_step.specs.Ways.{stepOf}
+use Rattle.node_way.specs.Ways.{stepOf}
 use Rattle.format.specs.Node.{nodeAt}
 use Rattle.format.specs.Bytes.{le}
 use lib.ListN.{take, drop}

@@ -4,7 +4,7 @@ use native.Mathlib.Nat.{not-le-of-lt}
 use denote.Ref.{now}
 use Rattle.node_sound.specs.Shapes.{AtForm}
 use Rattle.node_sound.specs.JudgingLaws.{sound-low}
-use Rattle.node_step.proofs.Steps.{step-empty, step-blank, step-no}
+use Rattle.node_way.specs.StepOfLaws.{step-empty, step-blank, step-no}
 use borrow.Author.Needs.{needs}
 use native.Mathlib.Omega.{arith}
 use Rattle.node_step.proofs.step_at.Statement.{statement}

@@ -1,7 +1,7 @@
 -- `oracle_fst::oracle_get_key` meets its contract: the number stands for what the search answered.
 -- Assumes nothing.
 use borrow.Author.Needs.{needs}
-use Rattle.lookup_key.specs.declared.KeyAnswer.the-variants.{Key, None, Refused}
+use Rattle.lookup_search.specs.declared.KeyAnswer.the-variants.{Key, None, Refused}
 use Rattle.oracle_fst.proofs.FstTold.{key-told}
 use Rattle.oracle_fst.proofs.oracle_get_key.Statement.{statement}
 use Rattle.oracle_fst.proofs.oracle_get_key.Tie as tie

@@ -2,7 +2,7 @@
 -- Assumes nothing.
 use denote.Ref.{now}
 use lib.Dec.{ltb}
-use Rattle.patterned.specs.Patterns.{givenIs}
+use Rattle.patterned_held.specs.HeldPatterns.{givenIs}
 use Rattle.oracle_pattern.proofs.TellingBy.{startOf, start-by, start-by-refused, start-by-told}
 use borrow.Author.Needs.{needs}
 use Rattle.oracle_pattern.proofs.oracle_start_by.Statement.{statement}

@@ -2,7 +2,7 @@
 use mathlib.Core.Path.{refl}
 use denote.Ref.{now}
 use lib.ListN.{length}
-use Rattle.range.specs.declared.Stop.the-variants.{End, More, Refused}
+use Rattle.range_fill.specs.declared.Stop.the-variants.{End, More, Refused}
 use Rattle.oracle_range.proofs.TellingRange.{range-told, told-kinds}
 use borrow.Author.Needs.{needs}
 use Rattle.oracle_range.proofs.oracle_range.Statement.{statement}

@@ -13,7 +13,7 @@ use Rattle.fst.specs.Open.{metaIs, openingIs}
 use Rattle.reading.specs.Reading.{boundsTest}
 use Rattle.paging.specs.Paging.{rowLen, roomTest}
 use Rattle.stream_start.specs.Views.{boundIs}
-use Rattle.range.specs.FillLaws.{ranged-as, refused-by}
+use Rattle.range_fill.specs.FillLaws.{ranged-as, refused-by}
 use Rattle.range.proofs.RangeCases.{range-unopened, range-bound, range-space, range-walk}
 use borrow.Author.Needs.{needs}
 use Rattle.range.proofs.range.Statement.{statement}

@@ -11,7 +11,7 @@ use Rattle.reading.specs.Reading.{boundBytes}
 use Rattle.paging.specs.Paging.{pageFrom}
 use Rattle.stream_start.specs.Views.{boundIs, emptyIs}
 use Rattle.stream_start.specs.StartLaws.{bound-is}
-use Rattle.range.specs.FillLaws.{ranged-as, refused-by}
+use Rattle.range_fill.specs.FillLaws.{ranged-as, refused-by}
 use Rattle.range.proofs.RangeCases.{short-both, blank-told, start-halted, start-began, start-ready}
 use borrow.Author.Needs.{needs}
 use Rattle.range.proofs.range_from.Statement.{statement}

@@ -1,0 +1,2 @@
+pub mod PackFiles
+pub mod PackFilesLaws

@@ -1,0 +1,3 @@
+pub mod Choices
+pub mod ChoicesLaws
+pub mod FitOfLaws

@@ -1,0 +1,2 @@
+-- Lemmas on held positions, for the proofs of this crate.
+mod HeldLaws

@@ -1,0 +1,2 @@
+-- Lemmas on a step, for the proofs of this crate.
+mod StepByCases

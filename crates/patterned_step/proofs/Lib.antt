@@ -1,0 +1,2 @@
+-- Lemmas on the cases of next, for the proofs of this crate.
+mod NextByCases
