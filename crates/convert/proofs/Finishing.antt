@@ -73,6 +73,7 @@ module _ {f : Fst} {d t : List ℕ} {next : ℕ} (ok : Finishable f d t next) (c
           room-depths = ok .room-depths;
           room-sums = ok .room-sums;
           sounds = ok .sounds;
+          hops = ok .hops;
           entered = ok .laid-out .entered;
           fits = omega (arith, ok .laid-out .next-is, ok .laid-out .fits);
           room-out = omega (arith, ok .laid-out .next-is);

@@ -14,7 +14,7 @@ use Rattle.format.specs.laws.PackedLaws.{length-up-from, getD-up-from}
 use Rattle.format.specs.Paths.{Fst, fstWith, fstOf, nodeIn}
 use Rattle.format.specs.Admitted.{RootChain, Admitted}
 use Rattle.format.specs.laws.OpeningLaws.{root-inside}
-use Rattle.format.specs.laws.ChainLaws.{root-chain-sound}
+use Rattle.format.specs.laws.ChainLaws.{root-chain-sound, root-chain-low}
 use Rattle.admission_node.specs.Entries.{Kept}
 use Rattle.admission_node.specs.KeptLaws.{kept-then}
 use Rattle.converting.specs.Converting.{vanishes, newAddr, Laid, layOut, chainOf, laid, movedTo, converted, tableOf, refused, placing, conversion}
@@ -65,16 +65,19 @@ module _ {s : List ℕ} {root count : ℕ} {d₀ t₀ : List ℕ} (old : OldFile
     pub old-laid : laidTo f d (length s) ≡ laid A
     old-laid = ap (layOut f) (marks .each (A .nodes) root-chain) ∙ ap (λ (g : Fst). layOut g (chainOf g (A .nodes))) file-is
 
+    -- a marked address is on the chain
+    marked-on : (j : ℕ) → j < length s → ¬ (getD d j 0 ≡ 0) → List·Memᴰ j (A .nodes)
+    marked-on j l ne = on-chain (vanishes (nodeIn f root)) (A .nodes) j (subst (List·Memᴰ j) (marks .each (A .nodes) root-chain) (marked-member d (length s) j l ne))
+
     pub old-sounds : MarkedSound f d
     old-sounds =
         record {
-          each = λ j l ne.
-              root-chain-sound root-chain j
-              (on-chain (vanishes (nodeIn f root)) (A .nodes) j (subst (List·Memᴰ j) (marks .each (A .nodes) root-chain) (marked-member d (length s) j l ne)));
+          each = λ j l ne. root-chain-sound root-chain j (marked-on j l ne);
+          low = λ j l ne. root-chain-low root-chain j (marked-on j l ne);
         }
 
     pub old-layable : {limit : ℕ} → limit ≤ maxLen → Layable f d t₀ limit
-    old-layable le = record { room-depths = omega (arith, old .room-depths, marks .kept .long); room-sums = old .room-sums; sounds = old-sounds; limit-le = le }
+    old-layable le = record { room-depths = omega (arith, old .room-depths, marks .kept .long); room-sums = old .room-sums; sounds = old-sounds; hops = marks .hops; limit-le = le }
 
     len-is : length (converted A) ≡ 32 + length (laidTo f d (length s) .nodes)
     len-is = length-converted A has-bytes ∙ ap (λ (r : Laid). 32 + length (r .nodes)) (sym old-laid)
@@ -100,6 +103,7 @@ module _ {s : List ℕ} {root count : ℕ} {d₀ t₀ : List ℕ} (old : OldFile
               room-depths = omega (arith, old .room-depths, marks .kept .long);
               room-sums = omega (arith, old .room-sums, sums-kept .long);
               sounds = old-sounds;
+              hops = marks .hops;
               laid-out = record { next-is = laid-out .next-is; fits = omega (arith, laid-out .fits); entered = laid-out .entered };
             }
 

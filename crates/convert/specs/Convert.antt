@@ -18,6 +18,7 @@ use Rattle.format.specs.Admitted.{Admitted}
 use Rattle.admission_node.specs.Entries.{Kept}
 use Rattle.admission.specs.Outcome.{Admits, RefusedFor}
 use Rattle.converting.specs.Converting.{Conversion, written, refused, placing, conversion}
+use Rattle.convert_marks.specs.Marks.{Hops}
 use Rattle.convert_layout.specs.Layout.{laidTo, MarkedSound, LaidOut}
 use Rattle.convert_write.specs.Written.{fileOf}
 use Rattle.convert.specs.declared.Converted.{Converted}
@@ -105,6 +106,7 @@ pub record Finishable (f : Fst) (d t : List ℕ) (next : ℕ) : Type 0 where
   pub room-depths : length (f .bytes) ≤ length d
   pub room-sums : length (f .bytes) ≤ length t
   pub sounds : MarkedSound f d
+  pub hops : Hops (length (f .bytes)) d
   pub laid-out : LaidOut f d t maxLen next
 
 -- the new file and the table, by the layout

@@ -1,7 +1,7 @@
 -- The layout of the marked nodes, one address more each time: what a turn of either pass knows.
 --     laid-grows, moved-stays     more addresses make a layout no shorter, and move no lower node
 --     Below f d s a               the table s has the new address of each address below a
---     Piece                       the bytes that the address a adds to the layout, and its new address
+--     nodes-more, addr-more       the bytes that the marked address a adds to the layout, and its new address
 --     Laying, laying-..           the first pass
 --     Writes, writes-..           the second pass
 -- Assumes nothing.
@@ -12,16 +12,18 @@ use mathlib.Core.List.{List, [], _∷_, _++_, append-nil, append-assoc, List·Me
 use Prim.Native.Nat.{ℕ, zero, suc, _+_, _-_, _≤_, _<_}
 use native.Mathlib.Decide.{ℕ-discrete}
 use native.Mathlib.Omega.{arith}
-use borrow.Author.Tests.{eq-eqb, ne-eqb}
-use lib.Dec.{eqb}
-use lib.ListN.{length, getD, set, take, drop, length-append, length-set, length-drop, length-take}
+use borrow.Author.Tests.{eq-eqb, ne-eqb, ltb-true, ltb-false}
+use lib.Dec.{eqb, ltb}
+use lib.ListN.{length, getD, set, take, drop, replicate, length-append, length-set, length-drop, length-take, length-replicate, List·getD-append, getD-replicate}
+use lib.Seq.{drop-at}
 use Rattle.format.specs.declared.Transition.{Transition}
 use Rattle.format.specs.Limits.{maxLen}
-use Rattle.format.specs.Node.{Node, sound}
+use Rattle.format.specs.Node.{Node, sound, SoundAt}
 use Rattle.format.specs.Packed.{BuilderNode, TargetOk, RecordOk, packsToNothing, packed, nodeAddr}
 use Rattle.format.specs.laws.PackedLaws.{packed-nothing}
 use Rattle.format.specs.Paths.{Fst, nodeIn}
 use Rattle.format.specs.laws.NodeFacts.{node-target-lt}
+use Rattle.format.specs.laws.NodeLaws.{node-at-cases}
 use Rattle.buffers.specs.Put.{put, PutAt}
 use Rattle.buffers.specs.PutLaws.{put-nil, put-next, length-put}
 use Rattle.admission_node.specs.Entries.{Kept}
@@ -29,11 +31,13 @@ use Rattle.admission_node.specs.KeptLaws.{at-set, kept-none, kept-set}
 use Rattle.converting.specs.Converting.{newAddr, recordBy, recordOf, Laid, layOut}
 use Rattle.converting.specs.laws.LayLaws.{laidNext, lay-out-is, lay-out-grows, lay-out-stays, new-addr-here, packed-pos, packed-le, new-ok, record-ok-of, record-same}
 use Rattle.converting.specs.laws.ConvertedLaws.{new-addr-off}
-use Rattle.convert_node.specs.Packs.{entryIn, PackedFront, PackableAt, PackableMarked, PackedAt, PackedMarked}
-use Rattle.convert_marks.specs.Marks.{marked}
-use Rattle.convert_marks.specs.MarkLaws.{marked-zero, marked-on, marked-off, member-marked}
+use Rattle.node_compile.specs.Parts.{fitsOf}
+use Rattle.convert_size.specs.Sizes.{entryIn, SizableAt, SizedAt}
+use Rattle.convert_node.specs.Packs.{PackableAt, PackedAt}
+use Rattle.convert_marks.specs.Marks.{marked, Hops}
+use Rattle.convert_marks.specs.MarkLaws.{marked-zero, marked-on, marked-off, marked-gap, member-marked}
 use Rattle.convert_layout.specs.PartLaws.{placed, part-is, none-after}
-use Rattle.convert_layout.specs.Layout.{laidTo, addrOf, MarkedSound, Layable, Entered, LaidOut, Writable}
+use Rattle.convert_layout.specs.Layout.{laidTo, addrOf, MarkedSound, Zeros, Layable, Entered, LaidOut, Writable}
 
 -- ---- one address more
 
@@ -42,6 +46,10 @@ laid-off f d a z = ap (layOut f) (marked-off d a z)
 
 laid-on : (f : Fst) (d : List ℕ) (a : ℕ) → ¬ (getD d a 0 ≡ 0) → laidTo f d (a + 1) ≡ layOut f (a ∷ marked d a)
 laid-on f d a ne = ap (layOut f) (marked-on d a ne)
+
+-- addresses that are not marked add nothing
+laid-gap : (f : Fst) (d : List ℕ) (a k : ℕ) → ((i : ℕ) → a ≤ i → i < a + k → getD d i 0 ≡ 0) → laidTo f d (a + k) ≡ laidTo f d a
+laid-gap f d a k zeros = ap (layOut f) (marked-gap d a k zeros)
 
 grows-one : (f : Fst) (d : List ℕ) (a : ℕ) → length (laidTo f d a .nodes) ≤ length (laidTo f d (a + 1) .nodes)
 grows-one f d a =
@@ -78,12 +86,6 @@ moved-stays f d a b j l m =
 pub record Below (f : Fst) (d s : List ℕ) (a : ℕ) : Type 0 where
   pub entry : (j : ℕ) → j < a → getD s j 0 ≡ newAddr (laidTo f d a .moved) j
 
-pub record Piece (f : Fst) (d : List ℕ) (a next : ℕ) (out₀ out : List ℕ) (r : ℕ) : Type 0 where
-  pub bytes : List ℕ
-  pub front : PackedFront bytes out₀ out r
-  pub nodes-is : laidTo f d (a + 1) .nodes ≡ laidTo f d a .nodes ++ bytes
-  pub addr-is : newAddr (laidTo f d (a + 1) .moved) a ≡ addrOf next r
-
 -- the address of a packed node, by its length
 addr-by-len : (first : ℕ) (b : BuilderNode) → nodeAddr first b ≡ addrOf first (length (packed first b))
 addr-by-len first b = go (packsToNothing b) refl
@@ -119,40 +121,33 @@ module _ {f : Fst} {d s : List ℕ} {a next : ℕ} (below : Below f d s a) (next
       let len = ap (λ (x : List ℕ). length x) (nodes-more m e ne) in
       omega (arith, grown, len, length-append (laidTo f d a .nodes) (packed next (recordBy (entryIn s) m)))
 
-  pub piece-of : {out₀ out : List ℕ} {r : ℕ} → MarkedSound f d → a < length (f .bytes) → PackedMarked f a (getD d a 0) next s out₀ out r → Piece f d a next out₀ out r
-  piece-of {out₀} {out} {r} sounds inside p =
-      elim (ℕ-discrete (getD d a 0) 0) [
-        | yes z ↦ unmarked z
-        | no ne ↦ let n = sounds .each a inside ne in packs (n .0) (n .1) ne
-      ]
-    where
-      unmarked : getD d a 0 ≡ 0 → Piece f d a next out₀ out r
-      unmarked z =
-          let front = p .off z in
-          record {
-            bytes = [];
-            front = front;
-            nodes-is = ap (λ (x : Laid). x .nodes) (laid-off f d a z) ∙ sym (append-nil (laidTo f d a .nodes));
-            addr-is =
-                ap (λ (x : Laid). newAddr (x .moved) a) (laid-off f d a z)
-                ∙ new-addr-off f (marked d a) a (λ mem. let h = member-marked d a a mem in omega (arith, h .0))
-                ∙ sym (ap (λ (n : ℕ). addrOf next n) (front .count));
-          }
+  -- where the node goes
+  addr-more : (m : Node) → nodeIn f a ≡ sound m → ¬ (getD d a 0 ≡ 0) → {r : ℕ} → r ≡ length (packed next (recordBy (entryIn s) m))
+      → newAddr (laidTo f d (a + 1) .moved) a ≡ addrOf next r
+  addr-more m e ne count =
+      let b : BuilderNode = recordOf (laidTo f d a .moved) m in
+      ap (λ (x : Laid). newAddr (x .moved) a) (laid-on f d a ne ∙ lay-out-is f a (marked d a) m e)
+      ∙ new-addr-here (record { from = a; to = nodeAddr (16 + length (laidTo f d a .nodes)) b }) (laidTo f d a .moved) a refl
+      ∙ addr-by-len (16 + length (laidTo f d a .nodes)) b
+      ∙ ap₂ addrOf (sym next-is) (ap (λ (x : List ℕ). length x) (sym (packed-is m e)) ∙ sym count)
 
-      packs : (m : Node) → nodeIn f a ≡ sound m → ¬ (getD d a 0 ≡ 0) → Piece f d a next out₀ out r
-      packs m e ne =
-          let front = p .on ne .each m e in
-          let b : BuilderNode = recordOf (laidTo f d a .moved) m in
-          record {
-            bytes = packed next (recordBy (entryIn s) m);
-            front = front;
-            nodes-is = nodes-more m e ne;
-            addr-is =
-                ap (λ (x : Laid). newAddr (x .moved) a) (laid-on f d a ne ∙ lay-out-is f a (marked d a) m e)
-                ∙ new-addr-here (record { from = a; to = nodeAddr (16 + length (laidTo f d a .nodes)) b }) (laidTo f d a .moved) a refl
-                ∙ addr-by-len (16 + length (laidTo f d a .nodes)) b
-                ∙ ap₂ addrOf (sym next-is) (ap (λ (x : List ℕ). length x) (sym (packed-is m e)) ∙ sym (front .count));
-          }
+-- an address that is not marked went nowhere
+addr-none : (f : Fst) (d : List ℕ) (n j : ℕ) → getD d j 0 ≡ 0 → newAddr (laidTo f d n .moved) j ≡ 0
+addr-none f d n j z = new-addr-off f (marked d n) j (λ mem. member-marked d n j mem .1 z)
+
+-- a marked node is sound
+sound-here : {f : Fst} {d : List ℕ} {a : ℕ} → MarkedSound f d → a < length (f .bytes) → ¬ (getD d a 0 ≡ 0) → SoundAt (f .bytes) (f .version) (f .root) a
+sound-here {f} {d} {a} sounds inside ne =
+    let n = sounds .each a inside ne in
+    let low = sounds .low a inside ne in
+    ⊎-elim (λ z. absurd (omega (arith, z .0))) (λ h. h .1) (node-at-cases (f .bytes) (f .version) (f .root) a (n .0) (n .1))
+
+-- a mark reaches no further than the next marked address
+laid-hop : (f : Fst) (d : List ℕ) (a : ℕ) → Hops (length (f .bytes)) d → a < length (f .bytes) → ¬ (getD d a 0 ≡ 0) → laidTo f d (a + getD d a 0) ≡ laidTo f d (a + 1)
+laid-hop f d a hops inside ne =
+    let some : 1 ≤ getD d a 0 = omega (arith, ne) in
+    let e : a + getD d a 0 ≡ a + 1 + (getD d a 0 - 1) = omega arith in
+    ap (laidTo f d) e ∙ laid-gap f d (a + 1) (getD d a 0 - 1) (λ i l m. hops .gap a inside ne i (omega arith) (omega arith))
 
 -- ---- the first pass
 
@@ -160,17 +155,37 @@ pub record Laying (f : Fst) (d s₀ s : List ℕ) (next a : ℕ) : Type 0 where
   pub within : a ≤ length (f .bytes)
   pub next-is : next ≡ 16 + length (laidTo f d a .nodes)
   pub below : Below f d s a
+  -- the entries from a on are not stored yet
+  pub above : (j : ℕ) → a ≤ j → j < length (f .bytes) → getD s j 0 ≡ 0
   pub kept : Kept (length (f .bytes)) s₀ s
 
-pub laying-none : (f : Fst) (d s : List ℕ) → Laying f d s s 16 0
+pub laying-none : (f : Fst) (d s : List ℕ) → Zeros (length (f .bytes)) s → Laying f d s s 16 0
 unfolding layOut
-laying-none f d s =
+laying-none f d s zeros =
     record {
       within = omega arith;
       next-is = rw (marked-zero d) refl;
       below = record { entry = λ j l. absurd (omega arith) };
+      above = λ j _ l. zeros .each j l;
       kept = kept-none _ s;
     }
+
+-- a table that is cleared
+module _ (n : ℕ) (s₀ : List ℕ) {s : List ℕ} (room : n ≤ length s₀) (is : s ≡ replicate n 0 ++ drop n s₀) where
+  pub cleared-zeros : Zeros n s
+  cleared-zeros =
+      record {
+        each = λ j l.
+            ap (λ (x : List ℕ). getD x j 0) is
+            ∙ List·getD-append (replicate n 0) (drop n s₀) 0 j (rw (length-replicate {A = ℕ} n 0) l) ∙ getD-replicate n j 0 0 l;
+      }
+
+  pub cleared-kept : Kept n s₀ s
+  cleared-kept =
+      record {
+        long = ap (λ (x : List ℕ). length x) is ∙ omega (arith, length-append (replicate n 0) (drop n s₀), length-replicate {A = ℕ} n 0, length-drop n s₀, room);
+        beyond = ap (drop n) is ∙ drop-at (replicate n 0) (drop n s₀) n (length-replicate {A = ℕ} n 0);
+      }
 
 module _ {f : Fst} {d s₀ s : List ℕ} {next a limit : ℕ} (h : Laying f d s₀ s next a) (ok : Layable f d s₀ limit) where
   pub laying-over : limit < next + 16 → limit < 32 + length (laidTo f d (length (f .bytes)) .nodes)
@@ -189,54 +204,81 @@ module _ {f : Fst} {d s₀ s : List ℕ} {next a limit : ℕ} (h : Laying f d s�
     pub laying-room : a < length s
     laying-room = omega (arith, h .kept .long, ok .room-sums)
 
-    module _ (fits : next + 16 ≤ limit) where
-      pub laying-packable : ((i : ℕ) → getD (f .bytes) i 0 < 256) → {i o t room : ℕ} → 256 ≤ i → 256 ≤ o → 256 ≤ t → 4619 ≤ room
-          → PackableMarked f a (getD d a 0) next s i o t room
-      laying-packable bytes hi ho ht hr =
+    -- no node there
+    pub laying-skip : getD d a 0 ≡ 0 → Laying f d s₀ s next (a + 1)
+    laying-skip z =
+        record {
+          within = omega arith;
+          next-is = h .next-is ∙ ap (λ (r : Laid). 16 + length (r .nodes)) (sym (laid-off f d a z));
+          below = record {
+            entry = λ j l.
+                elim (ℕ-discrete j a) [
+                  | yes e ↦ h .above j (omega (arith, e)) (omega (arith, e)) ∙ sym (addr-none f d (a + 1) j (ap (λ (i : ℕ). getD d i 0) e ∙ z))
+                  | no ne ↦ h .below .entry j (omega (arith, ne)) ∙ sym (moved-stays f d a (a + 1) j (omega arith) (omega (arith, ne)))
+                ];
+          };
+          above = λ j l m. h .above j (omega arith) m;
+          kept = h .kept;
+        }
+
+    module _ (ne : ¬ (getD d a 0 ≡ 0)) (fits : next + 16 ≤ limit) where
+      pub laying-sound : SoundAt (f .bytes) (f .version) (f .root) a
+      laying-sound = sound-here (ok .sounds) inside ne
+
+      pub laying-sizable : ((i : ℕ) → getD (f .bytes) i 0 < 256) → SizableAt f a next s
+      laying-sizable bytes =
           record {
-            each = λ ne.
-                let n = ok .sounds .each a inside ne in
-                let m : Node = n .0 in
-                let right = piece-ok (h .below) (h .next-is) m (n .1) bytes (omega (arith, ok .limit-le)) in
+            each = λ m e.
                 record {
-                  node = m;
-                  judged = n .1;
-                  packable = record {
-                    in-moved = λ t mem. omega (arith, node-target-lt f a m (n .1) t mem, laying-room);
-                    in-inputs = hi;
-                    in-outputs = ho;
-                    in-targets = ht;
-                    ok = right;
-                    fits = omega (arith, packed-le next (recordBy (entryIn s) m) (right .few) (right .outputs-len) (right .targets-len), hr);
-                  };
+                  in-moved = λ t mem. omega (arith, node-target-lt f a m e t mem, laying-room);
+                  fits = fitsOf (piece-ok (h .below) (h .next-is) m e bytes (omega (arith, ok .limit-le)));
                 };
           }
 
-      -- one address more
-      pub laying-step : {out₀ out : List ℕ} {r x : ℕ} → PackedMarked f a (getD d a 0) next s out₀ out r → x ≡ addrOf next r → Laying f d s₀ (set s a x) (next + r) (a + 1)
+      -- a node more, and on to the next one
+      pub laying-step : {r x : ℕ} → SizedAt f a next s r → x ≡ addrOf next r → Laying f d s₀ (set s a x) (next + r) (a + getD d a 0)
       laying-step {r = r} {x = x} p is =
-          let q = piece-of (h .below) (h .next-is) (ok .sounds) inside p in
+          let n = ok .sounds .each a inside ne in
+          let m : Node = n .0 in
+          let count = p .each m (n .1) in
+          let more = nodes-more (h .below) (h .next-is) m (n .1) ne in
+          let here = addr-more (h .below) (h .next-is) m (n .1) ne count in
+          let k : ℕ = getD d a 0 in
+          let end = ok .hops .end a inside ne in
+          let same = laid-hop f d a (ok .hops) inside ne in
           record {
-            within = omega arith;
+            within = end;
             next-is =
-                omega (arith, h .next-is, ap (λ (l : List ℕ). length l) (q .nodes-is), length-append (laidTo f d a .nodes) (q .bytes), q .front .count);
+                omega (arith, h .next-is, ap (λ (l : Laid). length (l .nodes)) same, ap (λ (l : List ℕ). length l) more, length-append (laidTo f d a .nodes) (packed next (recordBy (entryIn s) m)), count);
             below = record {
-              entry = at-set (λ j y. j < a + 1 → y ≡ newAddr (laidTo f d (a + 1) .moved) j) s a x laying-room (λ _. is ∙ sym (q .addr-is))
-                  (λ j ne l. h .below .entry j (omega arith) ∙ sym (moved-stays f d a (a + 1) j (omega arith) (omega arith)));
+              entry = at-set (λ j y. j < a + getD d a 0 → y ≡ newAddr (laidTo f d (a + getD d a 0) .moved) j) s a x laying-room
+                  (λ _. is ∙ sym here ∙ ap (λ (l : Laid). newAddr (l .moved) a) (sym same))
+                  (λ j other l. entry-hop j other l);
             };
+            above = at-set (λ j y. a + getD d a 0 ≤ j → j < length (f .bytes) → y ≡ 0) s a x laying-room (λ l _. absurd (ne (omega arith)))
+                (λ j other l m. h .above j (omega arith) m);
             kept = kept-set a x inside (h .kept);
           }
+        where
+          -- an entry below a stands, and between a and the next node there is none
+          entry-hop : (j : ℕ) → ¬ (j ≡ a) → j < a + getD d a 0 → getD s j 0 ≡ newAddr (laidTo f d (a + getD d a 0) .moved) j
+          entry-hop j other l = go (ltb j a) refl
+            where
+              go : (t : Bool) → ltb j a ≡ t → getD s j 0 ≡ newAddr (laidTo f d (a + getD d a 0) .moved) j
+              go true e =
+                  let low = ltb-true j a e in
+                  h .below .entry j low ∙ sym (moved-stays f d a (a + getD d a 0) j (omega arith) low)
+              go false e =
+                  let high = ltb-false j a e in
+                  let up : a < j = omega (arith, other, high) in
+                  h .above j (omega arith) (omega (arith, ok .hops .end a inside ne)) ∙ sym (addr-none f d (a + getD d a 0) j (ok .hops .gap a inside ne j up l))
 
-      -- what is packed is no longer than the largest node
-      pub laying-len : ((i : ℕ) → getD (f .bytes) i 0 < 256) → {out₀ out : List ℕ} {r : ℕ} → PackedMarked f a (getD d a 0) next s out₀ out r → r ≤ 4619
-      laying-len bytes {out₀} {out} {r} p =
-          elim (ℕ-discrete (getD d a 0) 0) [
-            | yes z ↦ omega (arith, p .off z .count)
-            | no ne ↦
-                let n = ok .sounds .each a inside ne in
-                let right = piece-ok (h .below) (h .next-is) (n .0) (n .1) bytes (omega (arith, ok .limit-le)) in
-                omega (arith, p .on ne .each (n .0) (n .1) .count, packed-le next (recordBy (entryIn s) (n .0)) (right .few) (right .outputs-len) (right .targets-len))
-          ]
+      -- it is no longer than the largest node
+      pub laying-len : ((i : ℕ) → getD (f .bytes) i 0 < 256) → {r : ℕ} → SizedAt f a next s r → r ≤ 4619
+      laying-len bytes {r} p =
+          let n = ok .sounds .each a inside ne in
+          let right = piece-ok (h .below) (h .next-is) (n .0) (n .1) bytes (omega (arith, ok .limit-le)) in
+          omega (arith, p .each (n .0) (n .1), packed-le next (recordBy (entryIn s) (n .0)) (right .few) (right .outputs-len) (right .targets-len))
 
 -- ---- the second pass
 
@@ -270,51 +312,61 @@ module _ {f : Fst} {d s out₀ out : List ℕ} {next a : ℕ} (h : Writes f d ou
   writes-all all = let e : a ≡ length (f .bytes) = omega (arith, h .within) in subst (λ (n : ℕ). PutAt out₀ 16 (laidTo f d n .nodes) out next) e (h .is)
 
   module _ (inside : a < length (f .bytes)) where
-    pub writes-packable : ((i : ℕ) → getD (f .bytes) i 0 < 256) → {i o t room : ℕ} → 256 ≤ i → 256 ≤ o → 256 ≤ t → length out ≤ next + room
-        → PackableMarked f a (getD d a 0) next s i o t room
-    writes-packable bytes hi ho ht hr =
-        record {
-          each = λ ne.
-              let n = ok .sounds .each a inside ne in
-              let m : Node = n .0 in
-              let grown = laid-grows f d a (length (f .bytes)) (h .within) in
-              let len = piece-len writes-below (h .is .next) m (n .1) ne (length (f .bytes)) inside in
-              record {
-                node = m;
-                judged = n .1;
-                packable = record {
-                  in-moved = λ t mem. omega (arith, node-target-lt f a m (n .1) t mem, ok .room-sums);
-                  in-inputs = hi;
-                  in-outputs = ho;
-                  in-targets = ht;
-                  ok = piece-ok writes-below (h .is .next) m (n .1) bytes (omega (arith, h .is .next, ok .fits, grown));
+    -- no node there
+    pub writes-skip : getD d a 0 ≡ 0 → Writes f d out₀ out next (a + 1)
+    writes-skip z =
+        record { within = omega arith; long = h .long; is = subst (λ (r : Laid). PutAt out₀ 16 (r .nodes) out next) (sym (laid-off f d a z)) (h .is) }
+
+    module _ (ne : ¬ (getD d a 0 ≡ 0)) where
+      pub writes-sound : SoundAt (f .bytes) (f .version) (f .root) a
+      writes-sound = sound-here (ok .sounds) inside ne
+
+      pub writes-packable : ((i : ℕ) → getD (f .bytes) i 0 < 256) → {room : ℕ} → length out ≤ next + room → PackableAt f a next s room
+      writes-packable bytes hr =
+          record {
+            each = λ m e.
+                let grown = laid-grows f d a (length (f .bytes)) (h .within) in
+                let len = piece-len writes-below (h .is .next) m e ne (length (f .bytes)) inside in
+                record {
+                  sizable = record {
+                    in-moved = λ t mem. omega (arith, node-target-lt f a m e t mem, ok .room-sums);
+                    fits = fitsOf (piece-ok writes-below (h .is .next) m e bytes (omega (arith, h .is .next, ok .fits, grown)));
+                  };
                   fits = omega (arith, len, ok .room-out, h .long, hr);
                 };
-              };
-        }
+          }
 
-    -- one address more: the part of the buffer from next on comes back with the node at its front
-    pub writes-step : {part part′ out′ : List ℕ} {r : ℕ} → part ≡ take (length out - next) (drop next out)
-        → out′ ≡ take next out ++ (part′ ++ drop (length out - next) (drop next out)) → PackedMarked f a (getD d a 0) next s part part′ r
-        → Writes f d out₀ out′ (next + r) (a + 1)
-    writes-step {part} {part′} {out′} {r} was back p =
-        let q = piece-of writes-below (h .is .next) (ok .sounds) inside p in
-        let count = q .front .count in
-        let grown = laid-grows f d (a + 1) (length (f .bytes)) (omega arith) in
-        let len = ap (λ (l : List ℕ). length l) (q .nodes-is) ∙ length-append (laidTo f d a .nodes) (q .bytes) in
-        let put-is : out′ ≡ put out next (q .bytes) =
-        back ∙ ap (λ (l : List ℕ). take next out ++ l) (none-after next out part′) ∙ placed next out (q .bytes) part part′ (was ∙ part-is next out) (q .front .buffer) in
-        let whole : out′ ≡ put out₀ 16 (laidTo f d a .nodes ++ q .bytes) =
-        put-is ∙ put-next out₀ 16 (laidTo f d a .nodes) (q .bytes) (h .is .is) (h .is .next) (omega (arith, ok .room-out, grown, len)) in
-        record {
-          within = omega arith;
-          long = ap (λ (l : List ℕ). length l) put-is ∙ length-put out next (q .bytes) (omega (arith, h .is .next, h .long, ok .room-out, grown, len)) ∙ h .long;
-          is = record { is = whole ∙ ap (put out₀ 16) (sym (q .nodes-is)); next = omega (arith, h .is .next, len, count) };
-        }
+      -- a node more, and on to the next one: the part of the buffer from next on comes back with the node at its front
+      pub writes-step : {part part′ out′ : List ℕ} {r : ℕ} → part ≡ take (length out - next) (drop next out)
+          → out′ ≡ take next out ++ (part′ ++ drop (length out - next) (drop next out)) → PackedAt f a next s part part′ r
+          → Writes f d out₀ out′ (next + r) (a + getD d a 0)
+      writes-step {part} {part′} {out′} {r} was back p =
+          let n = ok .sounds .each a inside ne in
+          let m : Node = n .0 in
+          let front = p .each m (n .1) in
+          let more = nodes-more writes-below (h .is .next) m (n .1) ne in
+          let count = front .count in
+          let grown = laid-grows f d (a + 1) (length (f .bytes)) (omega arith) in
+          let len = ap (λ (l : List ℕ). length l) more ∙ length-append (laidTo f d a .nodes) (packed next (recordBy (entryIn s) m)) in
+          let put-is : out′ ≡ put out next (packed next (recordBy (entryIn s) m)) =
+          back ∙ ap (λ (l : List ℕ). take next out ++ l) (none-after next out part′)
+          ∙ placed next out (packed next (recordBy (entryIn s) m)) part part′ (was ∙ part-is next out) (front .buffer) in
+          let whole : out′ ≡ put out₀ 16 (laidTo f d a .nodes ++ packed next (recordBy (entryIn s) m)) =
+          put-is
+          ∙ put-next out₀ 16 (laidTo f d a .nodes) (packed next (recordBy (entryIn s) m)) (h .is .is) (h .is .next) (omega (arith, ok .room-out, grown, len)) in
+          let same = laid-hop f d a (ok .hops) inside ne in
+          record {
+            within = ok .hops .end a inside ne;
+            long = ap (λ (l : List ℕ). length l) put-is
+                ∙ length-put out next (packed next (recordBy (entryIn s) m)) (omega (arith, h .is .next, h .long, ok .room-out, grown, len)) ∙ h .long;
+            is = subst (λ (r′ : Laid). PutAt out₀ 16 (r′ .nodes) out′ (next + r)) (sym same)
+                (record { is = whole ∙ ap (put out₀ 16) (sym more); next = omega (arith, h .is .next, len, count) });
+          }
 
-    -- no place passes the limit
-    pub writes-small : {part part′ : List ℕ} {r : ℕ} → PackedMarked f a (getD d a 0) next s part part′ r → next + r ≤ maxLen
-    writes-small p =
-        let q = piece-of writes-below (h .is .next) (ok .sounds) inside p in
-        let len = ap (λ (l : List ℕ). length l) (q .nodes-is) ∙ length-append (laidTo f d a .nodes) (q .bytes) in
-        omega (arith, h .is .next, q .front .count, len, ok .fits, laid-grows f d (a + 1) (length (f .bytes)) (omega arith))
+      -- no place passes the limit
+      pub writes-small : {part part′ : List ℕ} {r : ℕ} → PackedAt f a next s part part′ r → next + r ≤ maxLen
+      writes-small p =
+          let n = ok .sounds .each a inside ne in
+          let more = nodes-more writes-below (h .is .next) (n .0) (n .1) ne in
+          let len = ap (λ (l : List ℕ). length l) more ∙ length-append (laidTo f d a .nodes) (packed next (recordBy (entryIn s) (n .0))) in
+          omega (arith, h .is .next, p .each (n .0) (n .1) .count, len, ok .fits, laid-grows f d (a + 1) (length (f .bytes)) (omega arith))

@@ -8,8 +8,10 @@ ghost use Rattle.format.specs.Limits.{maxLen};
 ghost use Rattle.format.specs.Paths.{fstWith};
 ghost use Rattle.buffers.specs.Put.{PutAt};
 ghost use Rattle.admission_node.specs.Entries.{Kept};
-ghost use Rattle.convert_layout.specs.Layout.{laidTo, addrOf, Layable, Lays, Writable, Narrow};
-use convert_node::pack_marked;
+ghost use Rattle.convert_layout.specs.Layout.{laidTo, addrOf, Zeros, Layable, Lays, Writable, Narrow};
+use admission::clear64;
+use convert_node::pack_at;
+use convert_size::len_at;
 use format::FIRST_NODE;
 
 // Where the nodes of the new file end: the place past them, or that the new file passes the limit.
@@ -32,44 +34,45 @@ fn addr_of(next: usize, len: usize) -> u64
     (next + len - 1) as u64
 }
 
-// The new address of each marked node, in the sums' table; 0 at every other entry of the file. A node is packed for its length alone.
+// The new address of each marked node, in the sums' table, which is cleared. A mark says how far above its node the next one lies.
+fn lay_marked(file: &[u8], root: usize, limit: usize, depths: &[u16], sums: &mut [u64]) -> Layout
+    requires { ⌜ Layable (fstWith (now file) 1 root) (now depths) (now sums) limit
+        × Zeros (length (now file)) (now sums) ⌝ }
+    ensures kept { λ r. ⌜ Kept (length (now (file .entry))) (now (sums .entry)) (now (sums .exit)) ⌝ }
+    ensures lays { λ r. ⌜ Lays (fstWith (now (file .entry)) 1 root) (now (depths .entry))
+        (now (sums .exit)) limit r ⌝ }
+{
+    let mut next = FIRST_NODE;
+    let mut a = 0;
+    while a < file.len() {
+        let hop = depths[a];
+        if hop == 0 {
+            a += 1;
+            continue;
+        }
+        if limit < next + TRAILER {
+            return Layout::Over;
+        }
+        let len = len_at(file, root, a, next, sums);
+        sums[a] = addr_of(next, len);
+        next += len;
+        a += hop as usize;
+    }
+    if limit < next + TRAILER {
+        return Layout::Over;
+    }
+    Layout::Ends(next)
+}
+
+// The new address of each marked node, in the sums' table; 0 at every other entry of the file.
 pub fn lay_out(file: &[u8], root: usize, limit: usize, depths: &[u16], sums: &mut [u64]) -> Layout
     requires { ⌜ Layable (fstWith (now file) 1 root) (now depths) (now sums) limit ⌝ }
     ensures kept { λ r. ⌜ Kept (length (now (file .entry))) (now (sums .entry)) (now (sums .exit)) ⌝ }
     ensures lays { λ r. ⌜ Lays (fstWith (now (file .entry)) 1 root) (now (depths .entry))
         (now (sums .exit)) limit r ⌝ }
 {
-    let mut inputs: [u8; 256] = [0; 256];
-    let mut outputs: [u64; 256] = [0; 256];
-    let mut targets: [usize; 256] = [0; 256];
-    let mut bytes: [u8; 4619] = [0; 4619];
-    let mut next = FIRST_NODE;
-    let mut a = 0;
-    while a < file.len() {
-        if limit < next + TRAILER {
-            return Layout::Over;
-        }
-        let mark = depths[a];
-        let len = pack_marked(
-            file,
-            root,
-            a,
-            mark,
-            next,
-            sums,
-            &mut inputs,
-            &mut outputs,
-            &mut targets,
-            &mut bytes,
-        );
-        sums[a] = addr_of(next, len);
-        next += len;
-        a += 1;
-    }
-    if limit < next + TRAILER {
-        return Layout::Over;
-    }
-    Layout::Ends(next)
+    clear64(sums, file.len());
+    lay_marked(file, root, limit, depths, sums)
 }
 
 // Writes the marked nodes one after the other from place 16 on; returns the place past them.
@@ -85,12 +88,15 @@ pub fn write_out(file: &[u8], root: usize, depths: &[u16], sums: &[u64], out: &m
     let mut next = FIRST_NODE;
     let mut a = 0;
     while a < file.len() {
-        let mark = depths[a];
-        next += pack_marked(
+        let hop = depths[a];
+        if hop == 0 {
+            a += 1;
+            continue;
+        }
+        next += pack_at(
             file,
             root,
             a,
-            mark,
             next,
             sums,
             &mut inputs,
@@ -98,7 +104,7 @@ pub fn write_out(file: &[u8], root: usize, depths: &[u16], sums: &[u64], out: &m
             &mut targets,
             &mut out[next..],
         );
-        a += 1;
+        a += hop as usize;
     }
     next
 }

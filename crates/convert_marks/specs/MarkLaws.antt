@@ -1,5 +1,6 @@
 -- Laws of `marked`: it is the one descending list of the addresses that have an entry.
 --     marked-on, marked-off     one address more
+--     marked-gap                several more, none of them with an entry
 --     member-marked, marked-member    what is on the list
 --     Falls, falls-same         a strictly descending list, and two of them with the same members
 --     marked-list, marked-none  the list of marks where the marks are those of a descending list; where there is none
@@ -32,6 +33,13 @@ marked-on d n ne = rw add-one (rw (ne-eqb (getD d n 0) 0 ne) refl)
 pub marked-off : (d : List ℕ) (n : ℕ) → getD d n 0 ≡ 0 → marked d (n + 1) ≡ marked d n
 unfolding marked
 marked-off d n z = rw add-one (rw (eq-eqb (getD d n 0) 0 z) refl)
+
+-- addresses without an entry add nothing
+pub marked-gap : (d : List ℕ) (a k : ℕ) → ((i : ℕ) → a ≤ i → i < a + k → getD d i 0 ≡ 0) → marked d (a + k) ≡ marked d a
+marked-gap d a zero zeros = let e : a + 0 ≡ a = omega arith in ap (marked d) e
+marked-gap d a (suc k) zeros =
+    let e : a + suc k ≡ a + k + 1 = omega arith in
+    ap (marked d) e ∙ marked-off d (a + k) (zeros (a + k) (omega arith) (omega arith)) ∙ marked-gap d a k (λ i l m. zeros i l (omega arith))
 
 -- ---- members
 

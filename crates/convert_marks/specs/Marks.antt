@@ -2,12 +2,13 @@
 --     marked d n             the addresses below n with an entry other than 0, from the highest down
 --     FirstIs f a first      the node at a starts at first
 --     Markable f d           what marking asks: an entry other than 0 stands only at an address of the chain
+--     HopAt, Hops            a mark reaches no further than the next marked address
 --     MarksList, MarksNodes  the marks of the chain's addresses; of the nodes that are laid out
 -- Assumes nothing.
 use mathlib.Core.Path.{_≡_}
 use mathlib.Core.Bool.{cond}
 use mathlib.Core.List.{List, [], _∷_, List·Memᴰ}
-use Prim.Native.Nat.{ℕ, zero, suc, _≤_, _<_}
+use Prim.Native.Nat.{ℕ, zero, suc, _+_, _≤_, _<_}
 use lib.Dec.{eqb}
 use lib.ListN.{length, getD}
 use Rattle.format.specs.Node.{Node, sound}
@@ -37,9 +38,20 @@ pub record ChainMarkable (f : Fst) (d : List ℕ) : Type 0 where
   pub chain : Chain f (f .root) nodes
   pub room : length (f .bytes) ≤ length d
 
+-- the mark x of the address j leads past no address of l, nor past n
+pub record HopAt (n : ℕ) (l : List ℕ) (j x : ℕ) : Type 0 where
+  pub some : ¬ (x ≡ 0)
+  pub end : j + x ≤ n
+  pub gap : (i : ℕ) → j < i → i < j + x → ¬ List·Memᴰ i l
+
+-- a mark leads past no other mark, nor past n
+pub record Hops (n : ℕ) (d : List ℕ) : Type 0 where
+  pub end : (j : ℕ) → j < n → ¬ (getD d j 0 ≡ 0) → j + getD d j 0 ≤ n
+  pub gap : (j : ℕ) → j < n → ¬ (getD d j 0 ≡ 0) → (i : ℕ) → j < i → i < j + getD d j 0 → getD d i 0 ≡ 0
+
 -- each address of l has an entry, and no other entry is changed
 pub record MarksList (n : ℕ) (l d₀ d : List ℕ) : Type 0 where
-  pub on : (j : ℕ) → List·Memᴰ j l → ¬ (getD d j 0 ≡ 0)
+  pub on : (j : ℕ) → List·Memᴰ j l → HopAt n l j (getD d j 0)
   pub off : (j : ℕ) → ¬ List·Memᴰ j l → getD d j 0 ≡ getD d₀ j 0
   pub kept : Kept n d₀ d
 
@@ -50,3 +62,4 @@ pub record MarksChain (f : Fst) (d₀ d : List ℕ) : Type 0 where
 pub record MarksNodes (f : Fst) (d₀ d : List ℕ) : Type 0 where
   pub kept : Kept (length (f .bytes)) d₀ d
   pub each : (l : List ℕ) → RootChain f l → marked d (length (f .bytes)) ≡ chainOf f l
+  pub hops : Hops (length (f .bytes)) d

@@ -12,7 +12,8 @@ use Rattle.format.specs.declared.Transition.{Transition}
 use Rattle.format.specs.Node.{transitionAt}
 use Rattle.buffers.specs.CopyLaws.{Copied, copied-none, copied-step, copied-all}
 use Rattle.converting.specs.laws.LayLaws.{getD-map-lt}
-use Rattle.convert_node.specs.Packs.{entryIn, Gatherable, Gathered}
+use Rattle.convert_size.specs.Sizes.{entryIn}
+use Rattle.convert_node.specs.Packs.{Gatherable, Gathered}
 
 pub record Gathering (ts : List Transition) (moved inputs₀ outputs₀ targets₀ inputs outputs targets : List ℕ) (i : ℕ) : Type 0 where
   pub ins : Copied (map (λ (t : Transition). t .inp) ts) (length ts) inputs₀ inputs i

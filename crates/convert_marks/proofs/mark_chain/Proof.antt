@@ -1,26 +1,26 @@
--- `convert_marks::mark_chain` meets its contract. The loop's invariant: the addresses above `a` are marked, and the chain goes on from there.
--- The measure is the address. Assumes nothing.
+-- `convert_marks::mark_chain` meets its contract. The loop's invariant: the addresses above `a` are marked, the last of them `up` above it, and the
+-- chain goes on from there. The measure is the address. Assumes nothing.
 use mathlib.Core.Path.{_≡_, sym, ap, _∙_, subst}
 use mathlib.Core.List.{List}
-use mathlib.Core.Logic.{⊎-elim}
+use mathlib.Core.Logic.{_⊎_, ⊎-elim}
 use denote.Ref.{now}
-use Prim.Native.Nat.{ℕ, _≤_, _<_}
+use Prim.Native.Nat.{ℕ, _-_, _≤_, _<_}
 use lib.ListN.{length, set}
 use Rattle.format.specs.Paths.{fstWith}
 use Rattle.format.specs.Admitted.{Chain}
 use Rattle.format.specs.laws.ChainLaws.{chain-unique}
 use Rattle.convert_marks.specs.Marks.{MarksList}
-use Rattle.convert_marks.proofs.Marking.{Marking, marking-none, marking-inside, marking-room, marking-last, marking-low, marking-le, marking-next}
+use Rattle.convert_marks.proofs.Marking.{Marking, marking-none, marking-sound, marking-room, marking-last, marking-low, marking-le, marking-next}
 use borrow.Author.Needs.{needs}
 use native.Mathlib.Omega.{arith}
 use Rattle.convert_marks.proofs.mark_chain.Statement.{statement}
 use Rattle.convert_marks.proofs.mark_chain.Tie as tie
 
 abbrev Inv-loop : tie.InvT-loop
-Inv-loop file root depths₀ a₀ depths a = (l : List ℕ) × Marking (fstWith file 1 root) l depths₀ depths a × Chain (fstWith file 1 root) root l
+Inv-loop file root depths₀ a₀ up₀ depths a up = (l : List ℕ) × Marking (fstWith file 1 root) l depths₀ depths a up × Chain (fstWith file 1 root) root l
 
 abbrev μ-loop : tie.MeasureT-loop
-μ-loop file root depths₀ a₀ depths a = a
+μ-loop file root depths₀ a₀ up₀ depths a up = a
 
 abbrev start : tie.At-loop Inv-loop μ-loop → tie.Start Inv-loop μ-loop
 start q = q .before .before .before
@@ -28,54 +28,67 @@ start q = q .before .before .before
 marks-as : {n : ℕ} {l k d₀ d : List ℕ} → l ≡ k → MarksList n l d₀ d → MarksList n k d₀ d
 marks-as e h = rw (← e) h
 
+abbrev at : tie.After-first-of Inv-loop μ-loop → tie.At-loop Inv-loop μ-loop
+at q = q .before .before .before
+
+-- the first byte lies above 16, and not past the node
+between : (c : tie.Else1 Inv-loop μ-loop) → (17 ≤ c .before .first-of .result) × (c .before .first-of .result ≤ at (c .before) .loop .a)
+between c =
+    let q = at (c .before) in (
+      ⊎-elim (λ h. h) (λ h. absurd (c .if1 .left h)) (marking-low (q .loop .inv .1) (start q .pre .room) (c .before .first-of .ensures)),
+      marking-le (q .loop .inv .1) (start q .pre .room) (c .before .first-of .ensures),
+    )
+
+last : (c : tie.Then1 Inv-loop μ-loop)
+    → MarksList (length (now (start (at (c .before)) .args .file))) (at (c .before) .loop .inv .0) (now (start (at (c .before)) .args .depths))
+    (set (at (c .before) .loop .depths) (at (c .before) .loop .a) (c .before .before .mark-of .result))
+last c =
+    let q = at (c .before) in
+    let mark = c .before .before .mark-of .ensures in
+    marking-last (q .loop .inv .1) (start q .pre .room) (mark .0) (mark .1) (c .before .first-of .ensures) (c .if1 .taken)
+
 loop-holds : tie.Need-loop-holds Inv-loop μ-loop
 loop-holds c = let s = c .before .before in (s .pre .nodes, marking-none _ (s .pre .chain), s .pre .chain)
 
-mul-with-mark : tie.Need-mul-with-mark Inv-loop μ-loop
-mul-with-mark c = omega (arith, marking-room (c .loop .inv .1) (start c .pre .room))
+mul-mark-of : tie.Need-mul-mark-of Inv-loop μ-loop
+mul-mark-of c = omega (arith, marking-room (c .loop .inv .1) (start c .pre .room))
 
-slice-read-with-mark : tie.Need-slice-read-with-mark Inv-loop μ-loop
-slice-read-with-mark c = let at = c .before in marking-room (at .loop .inv .1) (start at .pre .room)
+slice-read-mark-of : tie.Need-slice-read-mark-of Inv-loop μ-loop
+slice-read-mark-of c = let q = c .before in marking-room (q .loop .inv .1) (start q .pre .room)
 
-with-mark-requires : tie.Need-with-mark-requires Inv-loop μ-loop
-with-mark-requires c κs = search needs
+mark-of-requires : tie.Need-mark-of-requires Inv-loop μ-loop
+mark-of-requires c κs = c .before .loop .inv .1 .here-pos
 
 mul-depths : tie.Need-mul-depths Inv-loop μ-loop
-mul-depths c = let at = c .before .before in omega (arith, marking-room (at .loop .inv .1) (start at .pre .room))
+mul-depths c = let q = c .before .before in omega (arith, marking-room (q .loop .inv .1) (start q .pre .room))
 
 slice-write-depths : tie.Need-slice-write-depths Inv-loop μ-loop
-slice-write-depths c = let at = c .before .before in marking-room (at .loop .inv .1) (start at .pre .room)
+slice-write-depths c = let q = c .before .before in marking-room (q .loop .inv .1) (start q .pre .room)
 
+-- a node of the chain is sound
 first-of-requires : tie.Need-first-of-requires Inv-loop μ-loop
-first-of-requires c κs = search needs
+first-of-requires c κs = let q = c .before .before in marking-sound (q .loop .inv .1) (start q .pre .room)
 
 same-length : tie.Need-same-length Inv-loop μ-loop
-same-length c = let marks = c .before .before in let at = marks .before .before in marking-last (at .loop .inv .1) (start at .pre .room) (marks .with-mark .ensures) (c .before .first-of .ensures) (c .if1 .taken) .kept .long
+same-length c = last c .kept .long
 
 returns : tie.Need-returns Inv-loop μ-loop
-returns c =
-    let marks = c .before .before in
-    let at = marks .before .before in
-    let h = marking-last (at .loop .inv .1) (start at .pre .room) (marks .with-mark .ensures) (c .before .first-of .ensures) (c .if1 .taken) in
-    record { each = λ l d. marks-as (chain-unique (at .loop .inv .2) d) h }
+returns c = record { each = λ l d. marks-as (chain-unique (at (c .before) .loop .inv .2) d) (last c) }
 
-sub-a : tie.Need-sub-a Inv-loop μ-loop
-sub-a c =
-    let at = c .before .before .before .before in
-    let low = marking-low (at .loop .inv .1) (start at .pre .room) (c .before .first-of .ensures) in
-    ⊎-elim (λ h. omega (arith, h)) (λ h. absurd (c .if1 .left h)) low
+sub-low : tie.Need-sub-low Inv-loop μ-loop
+sub-low c = let b = between c in omega arith
+
+sub-up : tie.Need-sub-up Inv-loop μ-loop
+sub-up c = let b = between c in omega arith
 
 loop-less : tie.Need-loop-less Inv-loop μ-loop
-loop-less c =
-    let at = c .before .before .before .before in
-    let low = marking-low (at .loop .inv .1) (start at .pre .room) (c .before .first-of .ensures) in
-    ⊎-elim (λ h. omega (arith, h, marking-le (at .loop .inv .1) (start at .pre .room) (c .before .first-of .ensures))) (λ h. absurd (c .if1 .left h)) low
+loop-less c = let b = between c in omega arith
 
 loop-again : tie.Need-loop-again Inv-loop μ-loop
 loop-again c =
-    let marks = c .before .before in
-    let at = marks .before .before in
-    (at .loop .inv .0, marking-next (at .loop .inv .1) (start at .pre .room) (marks .with-mark .ensures) (c .before .first-of .ensures) (c .if1 .left), at .loop .inv .2)
+    let q = at (c .before) in
+    let mark = c .before .before .mark-of .ensures in
+    (q .loop .inv .0, marking-next (q .loop .inv .1) (start q .pre .room) (mark .0) (mark .1) (c .before .first-of .ensures) (c .if1 .left), q .loop .inv .2)
 
 pub mark-chain-spec : {M : Type 1} → statement M
 mark-chain-spec =
@@ -84,14 +97,15 @@ mark-chain-spec =
     Inv-loop
     μ-loop
     loop-holds
-    mul-with-mark
-    slice-read-with-mark
-    with-mark-requires
+    mul-mark-of
+    slice-read-mark-of
+    mark-of-requires
     mul-depths
     slice-write-depths
     first-of-requires
     same-length
     returns
-    sub-a
+    sub-low
+    sub-up
     loop-less
     loop-again)

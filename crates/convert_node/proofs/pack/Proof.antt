@@ -6,9 +6,9 @@ use Prim.Native.Nat.{ℕ, _≤_}
 use denote.Ref.{now}
 use lib.ListN.{length, length-map}
 use Rattle.format.specs.declared.Transition.{Transition}
-use Rattle.node.specs.Read.{transitionsIn}
+use Rattle.node.specs.Read.{meaning, transitionsIn}
 use Rattle.node.specs.ReadLaws.{length-node-transitions}
-use Rattle.convert_node.proofs.Packing.{prefix-count, pack-done, pack-never}
+use Rattle.convert_node.proofs.Packing.{prefix-count, pack-fits, pack-done, pack-never}
 use borrow.Author.Needs.{needs}
 use native.Mathlib.Omega.{arith}
 use Rattle.convert_node.proofs.pack.Statement.{statement}
@@ -26,7 +26,7 @@ count : (s : tie.Start) → length (transitions s) ≡ s .args .node .ntrans
 count s = length-node-transitions (now (s .args .file)) (s .args .node) (s .pre .0)
 
 few : (s : tie.Start) → s .args .node .ntrans ≤ 256
-few s = omega (arith, count s, s .pre .1 .ok .few, length-map (transitions s) (λ (t : Transition). t .inp))
+few s = omega (arith, count s, s .pre .1 .sizable .fits .few, length-map (transitions s) (λ (t : Transition). t .inp))
 
 abbrev gathered-inputs : tie.After-gather → List ℕ
 gathered-inputs q = q .gather .last .1 .1 .1 .0
@@ -42,42 +42,45 @@ gather-requires c κs =
     let s = c .before .before .before .before .before .before .before .before .before in (
       s .pre .0,
       record {
-        in-moved = s .pre .1 .in-moved;
-        in-inputs = omega (arith, count s, few s, s .pre .1 .in-inputs);
-        in-outputs = omega (arith, count s, few s, s .pre .1 .in-outputs);
-        in-targets = omega (arith, count s, few s, s .pre .1 .in-targets);
+        in-moved = s .pre .1 .sizable .in-moved;
+        in-inputs = omega (arith, count s, few s, s .pre .2 .in-inputs);
+        in-outputs = omega (arith, count s, few s, s .pre .2 .in-outputs);
+        in-targets = omega (arith, count s, few s, s .pre .2 .in-targets);
       },
     )
 
-slice-reshare-prefix-compile : tie.Need-slice-reshare-prefix-compile
-slice-reshare-prefix-compile c = let s = start (c .before .before .before .before .before .before) in omega (arith, few s, s .pre .1 .in-inputs)
+slice-reshare-prefix-compile-record : tie.Need-slice-reshare-prefix-compile-record
+slice-reshare-prefix-compile-record c = let s = start (c .before .before .before .before .before .before) in omega (arith, few s, s .pre .2 .in-inputs)
 
-slice-aggregate-compile : tie.Need-slice-aggregate-compile
-slice-aggregate-compile c =
+slice-aggregate-compile-record : tie.Need-slice-aggregate-compile-record
+slice-aggregate-compile-record c =
     let q = c .before .before .before .before .before .before .before in
     let s = start q in
-    prefix-count (s .args .node .ntrans) (gathered-inputs q) (omega (arith, few s, s .pre .1 .in-inputs))
+    prefix-count (s .args .node .ntrans) (gathered-inputs q) (omega (arith, few s, s .pre .2 .in-inputs))
 
-slice-reshare-prefix-compile-2 : tie.Need-slice-reshare-prefix-compile-2
-slice-reshare-prefix-compile-2 c = let s = start (c .before .before .before .before .before .before .before) in omega (arith, few s, s .pre .1 .in-outputs)
+slice-reshare-prefix-compile-record-2 : tie.Need-slice-reshare-prefix-compile-record-2
+slice-reshare-prefix-compile-record-2 c = let s = start (c .before .before .before .before .before .before .before) in omega (arith, few s, s .pre .2 .in-outputs)
 
-slice-aggregate-compile-2 : tie.Need-slice-aggregate-compile-2
-slice-aggregate-compile-2 c =
+slice-aggregate-compile-record-2 : tie.Need-slice-aggregate-compile-record-2
+slice-aggregate-compile-record-2 c =
     let q = c .before .before .before .before .before .before .before .before in
     let s = start q in
-    prefix-count (s .args .node .ntrans) (gathered-outputs q) (omega (arith, few s, s .pre .1 .in-outputs))
+    prefix-count (s .args .node .ntrans) (gathered-outputs q) (omega (arith, few s, s .pre .2 .in-outputs))
 
-slice-reshare-prefix-compile-3 : tie.Need-slice-reshare-prefix-compile-3
-slice-reshare-prefix-compile-3 c = let s = start (c .before .before .before .before .before .before .before .before) in omega (arith, few s, s .pre .1 .in-targets)
+slice-reshare-prefix-compile-record-3 : tie.Need-slice-reshare-prefix-compile-record-3
+slice-reshare-prefix-compile-record-3 c = let s = start (c .before .before .before .before .before .before .before .before) in omega (arith, few s, s .pre .2 .in-targets)
 
-slice-aggregate-compile-3 : tie.Need-slice-aggregate-compile-3
-slice-aggregate-compile-3 c =
+slice-aggregate-compile-record-3 : tie.Need-slice-aggregate-compile-record-3
+slice-aggregate-compile-record-3 c =
     let q = c .before .before .before .before .before .before .before .before .before in
     let s = start q in
-    prefix-count (s .args .node .ntrans) (gathered-targets q) (omega (arith, few s, s .pre .1 .in-targets))
+    prefix-count (s .args .node .ntrans) (gathered-targets q) (omega (arith, few s, s .pre .2 .in-targets))
 
-compile-requires : tie.Need-compile-requires
-compile-requires c κs = search needs
+compile-record-requires : tie.Need-compile-record-requires
+compile-record-requires c κs =
+    let q = c .before .before .before .before .before .before .before .before .before .before in
+    let s = start q in
+    pack-fits (meaning (now (s .args .file)) (s .args .node)) (s .args .node .ntrans) (sym (count s)) (q .gather .ensures) (s .pre .1)
 
 enum-known-done : tie.Need-enum-known-done
 enum-known-done c = search needs
@@ -102,7 +105,7 @@ returns c =
     let packed = c .before .before .before .before .before in
     let q = packed .before .before .before .before .before .before .before .before .before .before .before in
     let s = start q in
-    pack-done (s .args .node .ntrans) (sym (count s)) (q .gather .ensures) (s .pre .1) (packed .compile .ensures) _ (c .before .done .given .1)
+    pack-done (meaning (now (s .args .file)) (s .args .node)) (s .args .node .ntrans) (sym (count s)) (q .gather .ensures) (s .pre .1) (packed .compile-record .ensures) _ (c .before .done .given .1)
 
 same-length-5 : tie.Need-same-length-5
 same-length-5 c = search needs
@@ -121,20 +124,20 @@ returns-2 c =
     let packed = c .before .before .before .before in
     let q = packed .before .before .before .before .before .before .before .before .before .before .before in
     let s = start q in
-    absurd (pack-never (s .args .node .ntrans) (sym (count s)) (q .gather .ensures) (s .pre .1) (packed .compile .ensures) _ (c .enum-told .given .1))
+    absurd (pack-never (meaning (now (s .args .file)) (s .args .node)) (s .args .node .ntrans) (sym (count s)) (q .gather .ensures) (s .pre .1) (packed .compile-record .ensures) _ (c .enum-told .given .1))
 
 pub pack-spec : {M : Type 1} → statement M
 pack-spec =
     tie.close
     (tie.spec
     gather-requires
-    slice-reshare-prefix-compile
-    slice-aggregate-compile
-    slice-reshare-prefix-compile-2
-    slice-aggregate-compile-2
-    slice-reshare-prefix-compile-3
-    slice-aggregate-compile-3
-    compile-requires
+    slice-reshare-prefix-compile-record
+    slice-aggregate-compile-record
+    slice-reshare-prefix-compile-record-2
+    slice-aggregate-compile-record-2
+    slice-reshare-prefix-compile-record-3
+    slice-aggregate-compile-record-3
+    compile-record-requires
     enum-known-done
     enum-told
     same-length
