@@ -191,13 +191,15 @@ pub fn next(file: &[u8], plain: Plain, key: &mut [u8]) -> Step
     let answer = step.answer;
     let after = step.reading;
     match answer {
-        Answer::Key(n, value) => Step {
-            answer: Answer::Key(n, value),
-            plain: Plain {
-                reading: after,
-                keys: keys - 1,
-            },
-        },
+        Answer::Key(n, value) => {
+            return Step {
+                answer: Answer::Key(n, value),
+                plain: Plain {
+                    reading: after,
+                    keys: keys - 1,
+                },
+            };
+        }
         Answer::End => Step {
             answer: Answer::End,
             plain: Plain {

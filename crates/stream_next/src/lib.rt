@@ -187,10 +187,11 @@ pub fn next(file: &[u8], reading: Reading, key: &mut [u8]) -> Step
                                 trans,
                                 outs,
                             };
-                            Step {
+                            // by `return`, since the value of a `match` is copied once more
+                            return Step {
                                 answer: Answer::Key(k, value),
                                 reading: after,
-                            }
+                            };
                         }
                     }
                 }

@@ -85,10 +85,10 @@ next-spec =
     next-requires
     enum-known-answer
     sub-t19
-    enum-told
-    enum-known-answer-2
     same-length
     returns-2
+    enum-told
+    enum-known-answer-2
     same-length-2
     returns-3
     same-length-3

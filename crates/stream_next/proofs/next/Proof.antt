@@ -138,14 +138,14 @@ add-t41 c = let call = c .before .before .before .before .before in
     omega (arith, gone-low r (call .walk .ensures (r .len) (r .«bound_len») (emptyIs (r .«empty_output»))) (c .before .k .given .0 .0) (c .before .k .given .0 .1 .0) (c .before .k .given .0 .1 .1 .0) (c .before .k .given .1))
 
 -- the file does not open
-returns-3 : tie.Need-returns-3
-returns-3 c = let call = c .before .before .before in
+returns-4 : tie.Need-returns-4
+returns-4 c = let call = c .before .before .before in
     let a = call .before .before .before .args in
     next-refused (now (a .file)) (a .reading) (now (a .key)) (c .before .opened .given .0 .0) (sym (call .«open» .ensures) ∙ ap openingIs (c .before .opened .given .1))
 
 -- the empty key is pending
-returns-4 : tie.Need-returns-4
-returns-4 c = let told = c .before .before in
+returns-5 : tie.Need-returns-5
+returns-5 c = let told = c .before .before in
     let v = told .before .before .before in
     let q = q-of (v .before) in
     let a = start q .args in
@@ -157,8 +157,8 @@ same-length : tie.Need-same-length
 same-length c = search needs
 
 -- the walk is refused
-returns-5 : tie.Need-returns-5
-returns-5 c = let call = c .before .before .before .before .before in
+returns-6 : tie.Need-returns-6
+returns-6 c = let call = c .before .before .before .before .before in
     let a = start-of call .args in
     let r = a .reading in
     by-walk call _ (record { answer = Refused (c .before .why .given .0 .0); reading = r })
@@ -168,8 +168,8 @@ same-length-2 : tie.Need-same-length-2
 same-length-2 c = search needs
 
 -- no key is left
-returns-6 : tie.Need-returns-6
-returns-6 c = let call = c .before .before .before .before .before .before in
+returns-7 : tie.Need-returns-7
+returns-7 c = let call = c .before .before .before .before .before .before in
     let a = start-of call .args in
     let r = a .reading in
     by-walk call _ (c .ended .result)
@@ -179,8 +179,8 @@ same-length-3 : tie.Need-same-length-3
 same-length-3 c = search needs
 
 -- a key is found
-returns-7 : tie.Need-returns-7
-returns-7 c = let call = c .before .before .before .before .before in
+returns-3 : tie.Need-returns-3
+returns-3 c = let call = c .before .before .before .before .before in
     let a = start-of call .args in
     let r = a .reading in
     by-walk call _ _
@@ -205,9 +205,9 @@ next-spec =
     ended-requires
     enum-known-k
     add-t41
+    same-length
     returns-3
     returns-4
-    same-length
     returns-5
     same-length-2
     returns-6
