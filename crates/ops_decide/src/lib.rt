@@ -2,20 +2,19 @@
 // another round.
 ghost use mathlib.Core.Path.{_≡_};
 ghost use mathlib.Core.List.{List};
-ghost use Prim.Native.Nat.{ℕ, _≤_, _<_};
-ghost use Rattle.format.specs.Limits.{maxLevels};
+ghost use Prim.Native.Nat.{_≤_, _<_};
 ghost use Rattle.ops_spec.specs.Ops as O;
 ghost use Rattle.ops_spec.specs.Ops.{Indexed};
-ghost use Rattle.ops_keys.specs.Heads.{headKey};
+ghost use Rattle.ops_keys.specs.Heads.{placeKey, Within};
 ghost use Rattle.ops_pairs.specs.Pairs.{PairsAre};
 ghost use Rattle.ops_seen.specs.Sights.{Sees, Ready};
 ghost use Rattle.ops_decide.specs.Verdicts.{opIs, DecidedBy};
-use format::LEVELS;
 use ops_item::collect;
 use ops_item::least_key;
 use ops_item::use_up;
-use ops_keys::Head;
+use ops_keys::KEYS;
 use ops_keys::Order;
+use ops_keys::Place;
 use ops_keys::compare;
 use ops_pairs::Pairs;
 use ops_round::Slot;
@@ -36,11 +35,11 @@ pub enum Verdict {
     Another,
 }
 
-// What a round comes to, with the item's key and values, and what is seen of the cards afterwards. The key and the values carry no meaning without an
+// What a round comes to, with where the item's key stands and values, and what is seen of the cards afterwards. The key and the values carry no meaning without an
 // item, the cards none at the end.
 pub struct Decided {
     pub verdict: Verdict,
-    pub key: Head,
+    pub key: Place,
     pub pairs: Pairs,
     pub cards: [Seen; 8],
 }
@@ -66,13 +65,13 @@ fn takes(op: Op, count: usize, pairs: Pairs) -> bool
 }
 
 // At a key: its cards become used up, and it is the item or not.
-fn at_key(op: Op, count: usize, cards: [Seen; 8], key: Head) -> Decided
-    requires { ⌜ (count ≤ 8) × Ready count cards × (key .levels ≤ maxLevels) ⌝ }
-    ensures { λ r. ⌜ ((X : List O.Card) → Sees count cards X → DecidedBy X count (O.atKey (opIs op)
-        (headKey key) X) r) ⌝ }
+fn at_key(op: Op, keys: &[u8; KEYS], count: usize, cards: [Seen; 8], key: Place) -> Decided
+    requires { ⌜ (count ≤ 8) × Ready (now keys) count cards × Within key ⌝ }
+    ensures { λ r. ⌜ ((X : List O.Card) → Sees (now (keys .entry)) count cards X → DecidedBy (now (keys .entry)) cards X count (O.atKey (opIs op)
+        (placeKey (now (keys .entry)) key) X) r) ⌝ }
 {
-    let pairs = collect(count, cards, key);
-    let after = use_up(count, cards, key, false);
+    let pairs = collect(keys, count, cards, key);
+    let after = use_up(keys, count, cards, key, false);
     if takes(op, count, pairs) {
         return Decided {
             verdict: Verdict::This,
@@ -91,13 +90,10 @@ fn at_key(op: Op, count: usize, cards: [Seen; 8], key: Head) -> Decided
 
 // The end.
 fn no_more(cards: [Seen; 8]) -> Decided
-    ensures { λ r. ⌜ ((X : List O.Card) (n : ℕ) → DecidedBy X n O.no-more r) ⌝ }
+    ensures { λ r. ⌜ r .verdict ≡ Verdict.NoMore ⌝ }
 {
     let pairs = ops_pairs::none();
-    let key = Head {
-        levels: 0,
-        inps: [0; LEVELS],
-    };
+    let key = Place { at: 0, levels: 0 };
     Decided {
         verdict: Verdict::NoMore,
         key,
@@ -107,37 +103,37 @@ fn no_more(cards: [Seen; 8]) -> Decided
 }
 
 // By the least key held: the end where there is none.
-fn at_least(op: Op, count: usize, cards: [Seen; 8]) -> Decided
-    requires { ⌜ (count ≤ 8) × Ready count cards ⌝ }
-    ensures { λ r. ⌜ ((X : List O.Card) → Sees count cards X → DecidedBy X count (O.atLeast (opIs op)
+fn at_least(op: Op, keys: &[u8; KEYS], count: usize, cards: [Seen; 8]) -> Decided
+    requires { ⌜ (count ≤ 8) × Ready (now keys) count cards ⌝ }
+    ensures { λ r. ⌜ ((X : List O.Card) → Sees (now (keys .entry)) count cards X → DecidedBy (now (keys .entry)) cards X count (O.atLeast (opIs op)
         (O.leastKey X) X) r) ⌝ }
 {
-    let least = least_key(count, cards);
+    let least = least_key(keys, count, cards);
     let found = least.found;
     let key = least.key;
     if found {
-        return at_key(op, count, cards, key);
+        return at_key(op, keys, count, cards, key);
     }
     no_more(cards)
 }
 
 // By the first card's key: another round where a card holds a lesser one, which is used up.
-fn at_first(count: usize, cards: [Seen; 8], key: Head) -> Decided
-    requires { ⌜ (count ≤ 8) × Ready count cards × (key .levels ≤ maxLevels) ⌝ }
-    ensures { λ r. ⌜ ((X : List O.Card) → Sees count cards X → DecidedBy X count (O.atFirst (headKey key)
+fn at_first(keys: &[u8; KEYS], count: usize, cards: [Seen; 8], key: Place) -> Decided
+    requires { ⌜ (count ≤ 8) × Ready (now keys) count cards × Within key ⌝ }
+    ensures { λ r. ⌜ ((X : List O.Card) → Sees (now (keys .entry)) count cards X → DecidedBy (now (keys .entry)) cards X count (O.atFirst (placeKey (now (keys .entry)) key)
         (O.leastKey X) X) r) ⌝ }
 {
-    let least = least_key(count, cards);
+    let least = least_key(keys, count, cards);
     let found = least.found;
     let lesser = least.key;
     if !found {
         return no_more(cards);
     }
-    let order = compare(lesser, key);
+    let order = compare(keys, lesser, key);
     match order {
         Order::Less => {
             let pairs = ops_pairs::none();
-            let after = use_up(count, cards, key, true);
+            let after = use_up(keys, count, cards, key, true);
             Decided {
                 verdict: Verdict::Another,
                 key,
@@ -145,37 +141,37 @@ fn at_first(count: usize, cards: [Seen; 8], key: Head) -> Decided
                 cards: after,
             }
         }
-        Order::Equal => at_key(Op::Difference, count, cards, key),
-        Order::Greater => at_key(Op::Difference, count, cards, key),
+        Order::Equal => at_key(Op::Difference, keys, count, cards, key),
+        Order::Greater => at_key(Op::Difference, keys, count, cards, key),
     }
 }
 
 // A difference: the end where the first reading has ended.
-fn difference(count: usize, cards: [Seen; 8]) -> Decided
-    requires { ⌜ (0 < count) × (count ≤ 8) × Ready count cards ⌝ }
-    ensures { λ r. ⌜ ((X : List O.Card) → Sees count cards X → DecidedBy X count (O.decide O.difference
+fn difference(keys: &[u8; KEYS], count: usize, cards: [Seen; 8]) -> Decided
+    requires { ⌜ (0 < count) × (count ≤ 8) × Ready (now keys) count cards ⌝ }
+    ensures { λ r. ⌜ ((X : List O.Card) → Sees (now (keys .entry)) count cards X → DecidedBy (now (keys .entry)) cards X count (O.decide O.difference
         X) r) ⌝ }
 {
     let first = cards[0];
     let slot = first.slot;
-    let key = first.head;
+    let key = first.key;
     match slot {
         Slot::Used => no_more(cards),
         Slot::Ended => no_more(cards),
-        Slot::Holds => at_first(count, cards, key),
+        Slot::Holds => at_first(keys, count, cards, key),
     }
 }
 
 // What a round comes to: an item, the end, or another round.
-pub fn decide(op: Op, count: usize, cards: [Seen; 8]) -> Decided
-    requires { ⌜ (0 < count) × (count ≤ 8) × Ready count cards ⌝ }
-    ensures { λ r. ⌜ ((X : List O.Card) → Sees count cards X → DecidedBy X count (O.decide (opIs op) X)
+pub fn decide(op: Op, keys: &[u8; KEYS], count: usize, cards: [Seen; 8]) -> Decided
+    requires { ⌜ (0 < count) × (count ≤ 8) × Ready (now keys) count cards ⌝ }
+    ensures { λ r. ⌜ ((X : List O.Card) → Sees (now (keys .entry)) count cards X → DecidedBy (now (keys .entry)) cards X count (O.decide (opIs op) X)
         r) ⌝ }
 {
     match op {
-        Op::Union => at_least(op, count, cards),
-        Op::Intersection => at_least(op, count, cards),
-        Op::Difference => difference(count, cards),
-        Op::SymmetricDifference => at_least(op, count, cards),
+        Op::Union => at_least(op, keys, count, cards),
+        Op::Intersection => at_least(op, keys, count, cards),
+        Op::Difference => difference(keys, count, cards),
+        Op::SymmetricDifference => at_least(op, keys, count, cards),
     }
 }

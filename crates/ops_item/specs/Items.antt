@@ -9,20 +9,19 @@ use mathlib.Core.Path.{_≡_}
 use mathlib.Core.Bool.{Bool, true, false, cond, not}
 use mathlib.Core.Option.{Option, none, some}
 use mathlib.Core.List.{List}
-use Prim.Native.Nat.{ℕ, _≤_}
+use Prim.Native.Nat.{ℕ}
 use lib.ListN.{length}
-use Rattle.format.specs.Limits.{maxLevels}
 use Rattle.format.specs.Strings.{beforeTest}
 use Rattle.ops_spec.specs.Ops as O
 use Rattle.ops_spec.specs.Ops.{Indexed, indexed, cardKey, ifHolds, leastKey, sameTest, insert, pairsFrom, useUp}
-use Rattle.ops_keys.specs.declared.Head.{Head}
+use Rattle.ops_keys.specs.declared.Place.{Place}
 use Rattle.ops_keys.specs.declared.Order.{Order}
 use Rattle.ops_keys.specs.declared.Order.the-variants.{Less, Equal, Greater}
-use Rattle.ops_keys.specs.Heads.{headKey}
+use Rattle.ops_keys.specs.Heads.{placeKey, Within}
 use Rattle.ops_pairs.specs.declared.Pairs.{Pairs}
 use Rattle.ops_pairs.specs.Pairs.{PairsAre}
 use Rattle.ops_seen.specs.declared.Seen.{Seen}
-use Rattle.ops_seen.specs.Sights.{Shows, Sees, Few}
+use Rattle.ops_seen.specs.Sights.{Shows, Sees, Few, SameKeys}
 use Rattle.ops_seen.specs.SightsLaws.{used1}
 use Rattle.ops_item.specs.declared.Least.{Least}
 
@@ -32,16 +31,16 @@ abbrev pub ifFound : Bool → List ℕ → Option (List ℕ)
 ifFound true k = some k
 ifFound false k = none
 
-abbrev pub leastIs : Least → Option (List ℕ)
-leastIs l = ifFound (l .found) (headKey (l .key))
+abbrev pub leastIs : List ℕ → Least → Option (List ℕ)
+leastIs ks l = ifFound (l .found) (placeKey ks (l .key))
 
-pub record LesserBy (l : Least) (c : Seen) (r : Least) : Type 0 where
-  pub is : (x : O.Card) → Shows c x → ifHolds (x .slot) (λ v. O.lesser (cardKey x) (leastIs l)) (leastIs l) ≡ leastIs r
-  pub few : r .key .levels ≤ maxLevels
+pub record LesserBy (ks : List ℕ) (l : Least) (c : Seen) (r : Least) : Type 0 where
+  pub is : (x : O.Card) → Shows ks c x → ifHolds (x .slot) (λ v. O.lesser (cardKey x) (leastIs ks l)) (leastIs ks l) ≡ leastIs ks r
+  pub few : Within (r .key)
 
-pub record LeastBy (n : ℕ) (cs : List Seen) (r : Least) : Type 0 where
-  pub is : (X : List O.Card) → Sees n cs X → leastKey X ≡ leastIs r
-  pub few : r .key .levels ≤ maxLevels
+pub record LeastBy (ks : List ℕ) (n : ℕ) (cs : List Seen) (r : Least) : Type 0 where
+  pub is : (X : List O.Card) → Sees ks n cs X → leastKey X ≡ leastIs ks r
+  pub few : Within (r .key)
 
 -- ---- keys used up
 
@@ -53,19 +52,21 @@ orderTest less Greater = false
 abbrev pub keyTest : Bool → List ℕ → List ℕ → Bool
 keyTest less k x = cond less (beforeTest x k) (sameTest x k)
 
-pub record UsedBy (c : Seen) (k : Head) (less : Bool) (r : Seen) : Type 0 where
-  pub is : (x : O.Card) → Shows c x → Shows r (used1 (keyTest less (headKey k)) x)
+pub record UsedBy (ks : List ℕ) (c : Seen) (k : Place) (less : Bool) (r : Seen) : Type 0 where
+  pub is : (x : O.Card) → Shows ks c x → Shows ks r (used1 (keyTest less (placeKey ks k)) x)
   pub few : Few r
+  pub key : r .key ≡ c .key
 
-pub record AllUsed (n : ℕ) (cs : List Seen) (k : Head) (less : Bool) (r : List Seen) : Type 0 where
-  pub is : (X : List O.Card) → Sees n cs X → Sees n r (useUp (keyTest less (headKey k)) X)
+pub record AllUsed (ks : List ℕ) (n : ℕ) (cs : List Seen) (k : Place) (less : Bool) (r : List Seen) : Type 0 where
+  pub is : (X : List O.Card) → Sees ks n cs X → Sees ks n r (useUp (keyTest less (placeKey ks k)) X)
   pub eight : length r ≡ 8
+  pub keys : SameKeys n cs r
 
 -- ---- the values of a key
 
-pub record GatheredBy (p : Pairs) (c : Seen) (k : Head) (file : ℕ) (r : Pairs) : Type 0 where
-  pub is : (x : O.Card) → Shows c x → (ps : List Indexed) → PairsAre ps p
-      → PairsAre (ifHolds (x .slot) (λ v. cond (sameTest (cardKey x) (headKey k)) (insert (indexed v file) ps) ps) ps) r
+pub record GatheredBy (ks : List ℕ) (p : Pairs) (c : Seen) (k : Place) (file : ℕ) (r : Pairs) : Type 0 where
+  pub is : (x : O.Card) → Shows ks c x → (ps : List Indexed) → PairsAre ps p
+      → PairsAre (ifHolds (x .slot) (λ v. cond (sameTest (cardKey x) (placeKey ks k)) (insert (indexed v file) ps) ps) ps) r
 
-pub record CollectedBy (n : ℕ) (cs : List Seen) (k : Head) (r : Pairs) : Type 0 where
-  pub is : (X : List O.Card) → Sees n cs X → PairsAre (pairsFrom 0 (headKey k) X) r
+pub record CollectedBy (ks : List ℕ) (n : ℕ) (cs : List Seen) (k : Place) (r : Pairs) : Type 0 where
+  pub is : (X : List O.Card) → Sees ks n cs X → PairsAre (pairsFrom 0 (placeKey ks k) X) r

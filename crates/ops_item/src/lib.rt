@@ -4,13 +4,12 @@ ghost use mathlib.Core.Path.{_≡_};
 ghost use mathlib.Core.List.{List};
 ghost use Prim.Native.Nat.{ℕ, _≤_, _<_};
 ghost use lib.ListN.{length};
-ghost use Rattle.format.specs.Limits.{maxLevels};
-ghost use Rattle.ops_keys.specs.Heads.{headKey};
+ghost use Rattle.ops_keys.specs.Heads.{Within};
 ghost use Rattle.ops_seen.specs.Sights.{Few, Ready};
 ghost use Rattle.ops_item.specs.Items.{orderTest, LesserBy, LeastBy, UsedBy, AllUsed, GatheredBy, CollectedBy};
-use format::LEVELS;
-use ops_keys::Head;
+use ops_keys::KEYS;
 use ops_keys::Order;
+use ops_keys::Place;
 use ops_keys::compare;
 use ops_pairs::Pairs;
 use ops_round::Slot;
@@ -19,18 +18,18 @@ use ops_seen::Seen;
 // A key, if one was found, passed by value.
 pub struct Least {
     pub found: bool,
-    pub key: Head,
+    pub key: Place,
 }
 
 // The lesser of a key and the one that a card holds.
-fn lesser(least: Least, card: Seen) -> Least
-    requires { ⌜ (least .key .levels ≤ maxLevels) × Few card ⌝ }
-    ensures { λ r. ⌜ LesserBy least card r ⌝ }
+fn lesser(keys: &[u8; KEYS], least: Least, card: Seen) -> Least
+    requires { ⌜ (length (now keys) ≡ 2048) × Within (least .key) × Few card ⌝ }
+    ensures { λ r. ⌜ LesserBy (now (keys .entry)) least card r ⌝ }
 {
     let slot = card.slot;
     let found = least.found;
     let key = least.key;
-    let head = card.head;
+    let held = card.key;
     match slot {
         Slot::Used => least,
         Slot::Ended => least,
@@ -38,19 +37,19 @@ fn lesser(least: Least, card: Seen) -> Least
             if !found {
                 return Least {
                     found: true,
-                    key: head,
+                    key: held,
                 };
             }
-            let order = compare(key, head);
+            let order = compare(keys, key, held);
             match order {
                 Order::Less => least,
                 Order::Equal => Least {
                     found: true,
-                    key: head,
+                    key: held,
                 },
                 Order::Greater => Least {
                     found: true,
-                    key: head,
+                    key: held,
                 },
             }
         }
@@ -58,22 +57,19 @@ fn lesser(least: Least, card: Seen) -> Least
 }
 
 // The least key that the first count cards hold.
-pub fn least_key(count: usize, cards: [Seen; 8]) -> Least
-    requires { ⌜ (count ≤ 8) × Ready count cards ⌝ }
-    ensures { λ r. ⌜ LeastBy count cards r ⌝ }
+pub fn least_key(keys: &[u8; KEYS], count: usize, cards: [Seen; 8]) -> Least
+    requires { ⌜ (count ≤ 8) × Ready (now keys) count cards ⌝ }
+    ensures { λ r. ⌜ LeastBy (now (keys .entry)) count cards r ⌝ }
 {
     let mut least = Least {
         found: false,
-        key: Head {
-            levels: 0,
-            inps: [0; LEVELS],
-        },
+        key: Place { at: 0, levels: 0 },
     };
     let mut i = count;
     while 0 < i {
         i -= 1;
         let card = cards[i];
-        least = lesser(least, card);
+        least = lesser(keys, least, card);
     }
     least
 }
@@ -90,20 +86,20 @@ fn is_meant(order: Order, less: bool) -> bool
 }
 
 // A card that holds a key less than this one, or the same, is used up.
-fn used_up(card: Seen, key: Head, less: bool) -> Seen
-    requires { ⌜ (key .levels ≤ maxLevels) × Few card ⌝ }
-    ensures { λ r. ⌜ UsedBy card key less r ⌝ }
+fn used_up(keys: &[u8; KEYS], card: Seen, key: Place, less: bool) -> Seen
+    requires { ⌜ (length (now keys) ≡ 2048) × Within key × Few card ⌝ }
+    ensures { λ r. ⌜ UsedBy (now (keys .entry)) card key less r ⌝ }
 {
     let slot = card.slot;
-    let head = card.head;
+    let held = card.key;
     match slot {
         Slot::Used => card,
         Slot::Ended => card,
         Slot::Holds => {
-            let order = compare(head, key);
+            let order = compare(keys, held, key);
             if is_meant(order, less) {
                 return Seen {
-                    head,
+                    key: held,
                     slot: Slot::Used,
                     value: 0,
                 };
@@ -114,15 +110,21 @@ fn used_up(card: Seen, key: Head, less: bool) -> Seen
 }
 
 // The cards, where those of the first count that hold a key less than this one, or the same, are used up.
-pub fn use_up(count: usize, cards: [Seen; 8], key: Head, less: bool) -> [Seen; 8]
-    requires { ⌜ (count ≤ 8) × Ready count cards × (key .levels ≤ maxLevels) ⌝ }
-    ensures { λ r. ⌜ AllUsed count cards key less r ⌝ }
+pub fn use_up(
+    keys: &[u8; KEYS],
+    count: usize,
+    cards: [Seen; 8],
+    key: Place,
+    less: bool,
+) -> [Seen; 8]
+    requires { ⌜ (count ≤ 8) × Ready (now keys) count cards × Within key ⌝ }
+    ensures { λ r. ⌜ AllUsed (now (keys .entry)) count cards key less r ⌝ }
 {
     let mut all = cards;
     let mut i = 0;
     while i < count {
         let card = all[i];
-        let after = used_up(card, key, less);
+        let after = used_up(keys, card, key, less);
         all[i] = after;
         i += 1;
     }
@@ -130,17 +132,17 @@ pub fn use_up(count: usize, cards: [Seen; 8], key: Head, less: bool) -> [Seen; 8
 }
 
 // The values gathered of a key, with that of a card that holds it.
-fn gather(pairs: Pairs, card: Seen, key: Head, file: u8) -> Pairs
-    requires { ⌜ (key .levels ≤ maxLevels) × Few card × (pairs .count < 8) ⌝ }
-    ensures { λ r. ⌜ GatheredBy pairs card key file r ⌝ }
+fn gather(keys: &[u8; KEYS], pairs: Pairs, card: Seen, key: Place, file: u8) -> Pairs
+    requires { ⌜ (length (now keys) ≡ 2048) × Within key × Few card × (pairs .count < 8) ⌝ }
+    ensures { λ r. ⌜ GatheredBy (now (keys .entry)) pairs card key file r ⌝ }
 {
     let slot = card.slot;
-    let head = card.head;
+    let held = card.key;
     match slot {
         Slot::Used => pairs,
         Slot::Ended => pairs,
         Slot::Holds => {
-            let order = compare(head, key);
+            let order = compare(keys, held, key);
             if is_meant(order, false) {
                 return ops_pairs::insert(pairs, card.value, file);
             }
@@ -150,16 +152,16 @@ fn gather(pairs: Pairs, card: Seen, key: Head, file: u8) -> Pairs
 }
 
 // The values that the first count cards have of a key, with the numbers of their files.
-pub fn collect(count: usize, cards: [Seen; 8], key: Head) -> Pairs
-    requires { ⌜ (count ≤ 8) × Ready count cards × (key .levels ≤ maxLevels) ⌝ }
-    ensures { λ r. ⌜ CollectedBy count cards key r ⌝ }
+pub fn collect(keys: &[u8; KEYS], count: usize, cards: [Seen; 8], key: Place) -> Pairs
+    requires { ⌜ (count ≤ 8) × Ready (now keys) count cards × Within key ⌝ }
+    ensures { λ r. ⌜ CollectedBy (now (keys .entry)) count cards key r ⌝ }
 {
     let mut pairs = ops_pairs::none();
     let mut i = count;
     while 0 < i {
         i -= 1;
         let card = cards[i];
-        pairs = gather(pairs, card, key, i as u8);
+        pairs = gather(keys, pairs, card, key, i as u8);
     }
     pairs
 }

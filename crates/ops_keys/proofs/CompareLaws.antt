@@ -57,6 +57,9 @@ module _ (x y : ℕ) (xs ys : List ℕ) where
 
 -- ---- the bytes after the first
 
+pub room : (ks : List ℕ) (x j : ℕ) → length ks ≡ 2048 → x + j < 2048 → j < length (drop x ks)
+room ks x j len h = let d = length-drop x ks in omega arith
+
 abbrev pub keyBytes : List ℕ → ℕ → List ℕ
 keyBytes xs j = take j (drop 1 xs)
 
@@ -68,7 +71,7 @@ pub record Comparing (xs ys : List ℕ) (j k i : ℕ) : Type 0 where
 pub comparing-none : (xs ys : List ℕ) (j k : ℕ) → Comparing xs ys j k 0
 comparing-none xs ys j k = record { within = omega arith; below = omega arith; rest = λ r h. h }
 
-module _ (xs : List ℕ) (j : ℕ) (lx : length xs ≡ 256) (hj : j < 256) where
+module _ (xs : List ℕ) (j : ℕ) (hj : j < length xs) where
   length-key : length (keyBytes xs j) ≡ j
   length-key = length-take-le j (drop 1 xs) (simp length-drop (omega arith))
 
@@ -81,39 +84,38 @@ module _ (xs : List ℕ) (j : ℕ) (lx : length xs ≡ 256) (hj : j < 256) where
   key-end : (i : ℕ) → j ≤ i → drop i (keyBytes xs j) ≡ []
   key-end i h = drop-of-length-le (keyBytes xs j) {i = i} (rw length-key h)
 
-module _ (xs ys : List ℕ) (j k : ℕ) (lx : length xs ≡ 256) (ly : length ys ≡ 256) (hj : j < 256) (hk : k < 256) (i : ℕ) (c : Comparing xs ys j k i) where
+module _ (xs ys : List ℕ) (j k : ℕ) (hj : j < length xs) (hk : k < length ys) (i : ℕ) (c : Comparing xs ys j k i) where
   pub comparing-long : i < j → k ≤ i → Compared (keyBytes xs j) (keyBytes ys k) Greater
   comparing-long h g =
-      c .rest Greater (rw (key-cons xs j lx hj i h, key-end ys k ly hk i g) (ordered-long (getD xs (i + 1) 0) (drop (i + 1) (keyBytes xs j))))
+      c .rest Greater (rw (key-cons xs j hj i h, key-end ys k hk i g) (ordered-long (getD xs (i + 1) 0) (drop (i + 1) (keyBytes xs j))))
 
   pub comparing-short : j ≤ i → i < k → Compared (keyBytes xs j) (keyBytes ys k) Less
   comparing-short h g =
-      c .rest Less (rw (key-end xs j lx hj i h, key-cons ys k ly hk i g) (ordered-short (getD ys (i + 1) 0) (drop (i + 1) (keyBytes ys k))))
+      c .rest Less (rw (key-end xs j hj i h, key-cons ys k hk i g) (ordered-short (getD ys (i + 1) 0) (drop (i + 1) (keyBytes ys k))))
 
   pub comparing-same : j ≤ i → k ≤ i → Compared (keyBytes xs j) (keyBytes ys k) Equal
-  comparing-same h g = c .rest Equal (rw (key-end xs j lx hj i h, key-end ys k ly hk i g) ordered-same)
+  comparing-same h g = c .rest Equal (rw (key-end xs j hj i h, key-end ys k hk i g) ordered-same)
 
-  module _ (h : i < j) (g : i < k) where
-    pub comparing-low : getD xs (i + 1) 0 < getD ys (i + 1) 0 → Compared (keyBytes xs j) (keyBytes ys k) Less
-    comparing-low l =
-        c .rest Less
-        (rw (key-cons xs j lx hj i h, key-cons ys k ly hk i g)
-        (ordered-low (getD xs (i + 1) 0) (getD ys (i + 1) 0) (drop (i + 1) (keyBytes xs j)) (drop (i + 1) (keyBytes ys k)) l))
+  -- the next byte of each, as it was read
+  module _ (h : i < j) (g : i < k) (x y : ℕ) (ex : x ≡ getD xs (i + 1) 0) (ey : y ≡ getD ys (i + 1) 0) where
+    cons-x : drop i (keyBytes xs j) ≡ x ∷ drop (i + 1) (keyBytes xs j)
+    cons-x = key-cons xs j hj i h ∙ ap (λ (z : ℕ). z ∷ drop (i + 1) (keyBytes xs j)) (sym ex)
 
-    pub comparing-high : getD ys (i + 1) 0 < getD xs (i + 1) 0 → Compared (keyBytes xs j) (keyBytes ys k) Greater
-    comparing-high l =
-        c .rest Greater
-        (rw (key-cons xs j lx hj i h, key-cons ys k ly hk i g)
-        (ordered-high (getD xs (i + 1) 0) (getD ys (i + 1) 0) (drop (i + 1) (keyBytes xs j)) (drop (i + 1) (keyBytes ys k)) l))
+    cons-y : drop i (keyBytes ys k) ≡ y ∷ drop (i + 1) (keyBytes ys k)
+    cons-y = key-cons ys k hk i g ∙ ap (λ (z : ℕ). z ∷ drop (i + 1) (keyBytes ys k)) (sym ey)
 
-    pub comparing-on : getD ys (i + 1) 0 ≤ getD xs (i + 1) 0 → getD xs (i + 1) 0 ≤ getD ys (i + 1) 0 → Comparing xs ys j k (i + 1)
+    pub comparing-low : x < y → Compared (keyBytes xs j) (keyBytes ys k) Less
+    comparing-low l = c .rest Less (rw (cons-x, cons-y) (ordered-low x y (drop (i + 1) (keyBytes xs j)) (drop (i + 1) (keyBytes ys k)) l))
+
+    pub comparing-high : y < x → Compared (keyBytes xs j) (keyBytes ys k) Greater
+    comparing-high l = c .rest Greater (rw (cons-x, cons-y) (ordered-high x y (drop (i + 1) (keyBytes xs j)) (drop (i + 1) (keyBytes ys k)) l))
+
+    pub comparing-on : y ≤ x → x ≤ y → Comparing xs ys j k (i + 1)
     comparing-on p q = record {
       within = omega arith;
       below = omega arith;
       rest = λ r o.
-          c .rest r
-          (rw (key-cons xs j lx hj i h, key-cons ys k ly hk i g)
-          (ordered-on (getD xs (i + 1) 0) (getD ys (i + 1) 0) (drop (i + 1) (keyBytes xs j)) (drop (i + 1) (keyBytes ys k)) r p q o));
+          c .rest r (rw (cons-x, cons-y) (ordered-on x y (drop (i + 1) (keyBytes xs j)) (drop (i + 1) (keyBytes ys k)) r p q o));
     }
 
 -- ---- the key of the levels

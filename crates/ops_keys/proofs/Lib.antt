@@ -1,1 +1,2 @@
 mod CompareLaws
+mod PlaceLaws

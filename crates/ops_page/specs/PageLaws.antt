@@ -1,25 +1,25 @@
 -- Items written one after the other: what a turn of the loop over calls knows, and what each way out of it gives back.
---     Filling w fs op n all ss i most .. done `done` items are written, the page w goes on by a call that is on its way
---     filling-none, filling-step              before the first item, after a card's step
+--     Filling w fs op n all ks ss i most .. done `done` items are written, the page w goes on by a call that is on its way
+--     filling-none, filling-step, filling-skip   before the first item, after a card that was stepped, after one that was not
 --     filling-item, filling-again             after an item, after a round without one
 --     item-less, round-less                   the measure falls
---     filled-more, filled-end, filled-refused the ways out
+--     filled-more, filled-end, filled-refused, filled-long the ways out
 --     paged-as, refused-by                    by an equation between pages; a refusal before any item
 --     room-of, page-began, page-refused       what has_room shows; a page by what its starts came to
 -- Assumes nothing.
 use mathlib.Core.Path.{_≡_, refl, sym, ap, ap₂, subst, _∙_}
-use mathlib.Core.Bool.{Bool, true, false, cond, _&&_}
-use mathlib.Core.List.{List, [], _∷_, _++_, map}
+use mathlib.Core.Bool.{Bool, true, false, cond, _&&_, _||_}
+use mathlib.Core.Logic.{_⊎_}
+use mathlib.Core.List.{List, [], _∷_, _++_}
 use Prim.Native.Nat.{ℕ, _+_, _-_, _*_, min, _≤_, _<_}
 use native.Mathlib.Omega.{arith}
 use lib.Dec.{ltb, leb}
-use denote.Ref.{RefT, now}
-use lib.ListN.{List·getD-map, length, drop, getD, set, replicate, length-take, length-append, length-set, length-map, length-replicate}
+use lib.ListN.{length, drop, getD, set, replicate, length-take, length-append, length-set, length-map, length-replicate}
 use borrow.Author.Tests.{lt-ltb, le-leb}
 use Rattle.buffers.specs.DecideLaws.{decides-and, decides-le}
 use Rattle.buffers.specs.Put.{put}
 use Rattle.buffers.specs.PutLaws.{length-put}
-use Rattle.format.specs.Limits.{maxPath, CARDS}
+use Rattle.format.specs.Limits.{maxPath, CARDS, STATE}
 use Rattle.reading.specs.Demand.{Entry, entry}
 use Rattle.paging.specs.Paging as G
 use Rattle.paging.specs.Paging.{ended, more, rowLen, rowOf, rowsAfter, valuesAfter}
@@ -31,22 +31,24 @@ use Rattle.ops_spec.specs.OpsFuelLaws.{roundsBy, rounds-by, next-item-by}
 use Rattle.ops_paging.specs.ItemPaging.{ItemPage, itemPage, refusedItems, Starts, fold, roomTest, pageFrom, linesOf, eightOf, eightsAfter, indexOf, valueOf}
 use Rattle.ops_paging.specs.ItemFoldLaws.{Folded, folded-none, folded-item, folded-more, folded-end, folded-refused, lines-snoc, eights-none, eights-snoc}
 use Rattle.ops_keys.specs.declared.Head.{Head}
-use Rattle.ops_keys.specs.Heads.{headKey}
+use Rattle.ops_keys.specs.Heads.{headKey, placeKey, Within}
 use Rattle.ops_pairs.specs.declared.Pairs.{Pairs}
 use Rattle.ops_pairs.specs.Pairs.{padded, pairsIn, PairsAre}
 use Rattle.ops_pairs.specs.PairsLaws.{in-length, the-values, the-files}
+use Rattle.ops_round.specs.declared.Slot.the-variants.{Used, Holds, Ended}
 use Rattle.ops_round.specs.declared.Card.{Card}
 use Rattle.ops_round.specs.Cards.{cardsIs}
 use Rattle.ops_round.specs.CardsLaws.{cards-length}
 use Rattle.ops_seen.specs.declared.Seen.{Seen}
-use Rattle.ops_seen.specs.Sights.{AllSeen, Sees, Ready, Kept}
+use Rattle.ops_seen.specs.Sights.{AllSeen, Sees, Ready}
 use Rattle.ops_turn.specs.declared.SeenStep.{SeenStep}
 use Rattle.ops_turn.specs.Parts.{dealtAll, SeenStepped, load, Turning}
 use Rattle.ops_turn.specs.LoadLaws.{Lighter, decide-lighter}
-use Rattle.ops_turn.specs.PartsLaws.{toDo, turning-none, turning-on, turn-halted, turn-sees, turn-ready, turn-judged, turning-item, turning-again, step-less, again-less}
+use Rattle.ops_turn.specs.PartsLaws.{toDo, turning-none, turning-on, turning-skip, turn-halted, turn-long, turn-sees, turn-ready, turn-judged, turning-item, turning-again, step-less, again-less}
 use Rattle.ops_decide.specs.declared.Verdict.the-variants.{This, NoMore, Another}
 use Rattle.ops_decide.specs.declared.Decided.{Decided}
 use Rattle.ops_decide.specs.Verdicts.{DecidedBy}
+use Rattle.ops_decide.specs.VerdictsLaws.{ThisOf, AnotherOf, this-by, over-by, another-by}
 use Rattle.stream_start.specs.declared.Begins.{Begins}
 use Rattle.stream_start.specs.declared.Begins.the-variants as B
 use Rattle.stream_start.specs.declared.Begins.the-variants.{Began}
@@ -76,7 +78,7 @@ key-short h few = let t : length (headKey h) ≡ min (h .levels - 1) (length (dr
 
 -- ---- a turn
 
-pub record Filling (w : ItemPage) (fs : List (List ℕ)) (op : O.Op) (n : ℕ) (all : List Card) (ss : List Seen) (i most : ℕ)
+pub record Filling (w : ItemPage) (fs : List (List ℕ)) (op : O.Op) (n : ℕ) (all : List Card) (ks : List ℕ) (ss : List Seen) (i most : ℕ)
     (rows₀ rows counts₀ counts numbers₀ numbers values₀ values : List ℕ) (done : ℕ) : Type 0 where
   pub items : List Item
   pub done-is : done ≡ length items
@@ -85,7 +87,8 @@ pub record Filling (w : ItemPage) (fs : List (List ℕ)) (op : O.Op) (n : ℕ) (
   pub cards : List O.Card
   pub count : length cards ≡ n
   pub folded : Folded w items (most - done) op cards
-  pub turning : Turning fs op n cards all ss i
+  pub stepped : Bool
+  pub turning : Turning maxPath fs op n cards all ks ss i stepped
   pub rows-are : rows ≡ rowsAfter (linesOf items) rows₀
   pub counts-are : counts ≡ valuesAfter (linesOf items) counts₀
   pub numbers-are : numbers ≡ eightsAfter indexOf items numbers₀
@@ -95,9 +98,9 @@ pub record Filling (w : ItemPage) (fs : List (List ℕ)) (op : O.Op) (n : ℕ) (
   pub numbers-len : length numbers ≡ length numbers₀
   pub values-len : length values ≡ length values₀
 
-pub filling-none : (fs : List (List ℕ)) (op : O.Op) (n : ℕ) (all : List Card) (ss : List Seen) (most : ℕ) (rows counts numbers values : List ℕ) → n ≤ 8 → AllSeen n all ss
-    → Filling (fold op (cardsIs fs n all) most) fs op n all ss 0 most rows rows counts counts numbers numbers values values 0
-filling-none fs op n all ss most rows counts numbers values small seen =
+pub filling-none : (fs : List (List ℕ)) (op : O.Op) (n : ℕ) (all : List Card) (ks : List ℕ) (ss : List Seen) (most : ℕ) (rows counts numbers values : List ℕ) → n ≤ 8
+    → AllSeen n all ks ss → Filling (fold op (cardsIs fs n all) most) fs op n all ks ss 0 most rows rows counts counts numbers numbers values values 0
+filling-none fs op n all ks ss most rows counts numbers values small seen =
     let given = seen .given in
     record {
       items = [];
@@ -106,7 +109,8 @@ filling-none fs op n all ss most rows counts numbers values small seen =
       cards = cardsIs fs n all;
       count = cards-length fs n all (omega arith);
       folded = subst (λ (m : ℕ). Folded (fold op (cardsIs fs n all) most) [] m op (cardsIs fs n all)) (omega arith) (folded-none op (cardsIs fs n all) most);
-      turning = turning-none fs op n all ss small seen;
+      stepped = false;
+      turning = turning-none maxPath fs op n all ks ss small seen;
       rows-are = sym (rows-none rows);
       counts-are = sym (values-none counts);
       numbers-are = sym (eights-none indexOf numbers);
@@ -119,52 +123,9 @@ filling-none fs op n all ss most rows counts numbers values small seen =
 
 -- ---- what a round comes to
 
-pub record ThisOf (Y : List O.Card) (n : ℕ) (q : O.Verdict) (v : Decided) : Type 0 where
-  pub pairs : List Indexed
-  pub cards : List O.Card
-  pub are : PairsAre pairs (v .pairs)
-  pub few : v .key .levels ≤ 256
-  pub is : q ≡ O.this (headKey (v .key)) pairs cards
-  pub sees : Sees n (v .cards) cards
-  pub kept : Kept Y cards
-  pub eight : length (v .cards) ≡ 8
-
-pub record AnotherOf (Y : List O.Card) (n : ℕ) (q : O.Verdict) (v : Decided) : Type 0 where
-  pub cards : List O.Card
-  pub is : q ≡ O.another cards
-  pub sees : Sees n (v .cards) cards
-  pub kept : Kept Y cards
-  pub eight : length (v .cards) ≡ 8
-
-module _ (Y : List O.Card) (n : ℕ) (v : Decided) where
-  this-by : (q : O.Verdict) → DecidedBy Y n q v → v .verdict ≡ This → ThisOf Y n q v
-  this-by (O.this k ps ds) h e =
-      record {
-        pairs = ps;
-        cards = ds;
-        are = h .pairs;
-        few = h .few;
-        is = ap (λ (a : List ℕ). O.this a ps ds) (sym (h .key));
-        sees = h .sees;
-        kept = h .kept;
-        eight = h .eight;
-      }
-  this-by O.no-more h e = let z : _≡_ {A = ℕ} 0 1 = cc in absurd (omega arith)
-  this-by (O.another ds) h e = let q = h .verdict in let z : _≡_ {A = ℕ} 0 1 = cc in absurd (omega arith)
-
-  over-by : (q : O.Verdict) → DecidedBy Y n q v → v .verdict ≡ NoMore → q ≡ O.no-more
-  over-by (O.this k ps ds) h e = let q = h .verdict in let z : _≡_ {A = ℕ} 0 1 = cc in absurd (omega arith)
-  over-by O.no-more h e = refl
-  over-by (O.another ds) h e = let q = h .verdict in let z : _≡_ {A = ℕ} 0 1 = cc in absurd (omega arith)
-
-  another-by : (q : O.Verdict) → DecidedBy Y n q v → v .verdict ≡ Another → AnotherOf Y n q v
-  another-by (O.this k ps ds) h e = let q = h .verdict in let z : _≡_ {A = ℕ} 0 1 = cc in absurd (omega arith)
-  another-by O.no-more h e = let z : _≡_ {A = ℕ} 0 1 = cc in absurd (omega arith)
-  another-by (O.another ds) h e = record { cards = ds; is = refl; sees = h .sees; kept = h .kept; eight = h .eight }
-
-module _ {w : ItemPage} {fs : List (List ℕ)} {op : O.Op} {n : ℕ} {all : List Card} {ss : List Seen} {i most : ℕ}
+module _ {w : ItemPage} {fs : List (List ℕ)} {op : O.Op} {n : ℕ} {all : List Card} {ks : List ℕ} {ss : List Seen} {i most : ℕ}
     {rows₀ rows counts₀ counts numbers₀ numbers values₀ values : List ℕ} {done : ℕ}
-    (f : Filling w fs op n all ss i most rows₀ rows counts₀ counts numbers₀ numbers values₀ values done) where
+    (f : Filling w fs op n all ks ss i most rows₀ rows counts₀ counts numbers₀ numbers values₀ values done) where
   -- the page stops with the items that are written
   stops : (why : G.Stop) → w ≡ itemPage (f .items) why
       → PagedBy w rows₀ rows counts₀ counts numbers₀ numbers values₀ values (record { count = done; stop = stopAs why })
@@ -193,9 +154,9 @@ module _ {w : ItemPage} {fs : List (List ℕ)} {op : O.Op} {n : ℕ} {all : List
       }
 
   -- the page goes on by another state of its call
-  goes-on : {all′ : List Card} {ss′ : List Seen} {i′ : ℕ} → Turning fs op n (f .cards) all′ ss′ i′
-      → Filling w fs op n all′ ss′ i′ most rows₀ rows counts₀ counts numbers₀ numbers values₀ values done
-  goes-on t =
+  goes-on : {all′ : List Card} {ks′ : List ℕ} {ss′ : List Seen} {i′ : ℕ} (t : Bool) → Turning maxPath fs op n (f .cards) all′ ks′ ss′ i′ t
+      → Filling w fs op n all′ ks′ ss′ i′ most rows₀ rows counts₀ counts numbers₀ numbers values₀ values done
+  goes-on t T =
       record {
         items = f .items;
         done-is = f .done-is;
@@ -203,7 +164,8 @@ module _ {w : ItemPage} {fs : List (List ℕ)} {op : O.Op} {n : ℕ} {all : List
         cards = f .cards;
         count = f .count;
         folded = f .folded;
-        turning = t;
+        stepped = t;
+        turning = T;
         rows-are = f .rows-are;
         counts-are = f .counts-are;
         numbers-are = f .numbers-are;
@@ -224,19 +186,29 @@ module _ {w : ItemPage} {fs : List (List ℕ)} {op : O.Op} {n : ℕ} {all : List
         ∙ ap (λ (b : Bool). cond b (afterSteps op maxPath false (roundsBy op maxPath true) (stepAll maxPath X)) (O.Merged.refused CARDS)) t
         ∙ sym (rounds-by op maxPath false X)
 
-    -- ---- a card's step
+    -- ---- a card's part
 
-    module _ (h : i < n) (d : Card) (e : Seen) (r : SeenStep) (by : SeenStepped (getD fs i []) maxPath (getD all i d) (getD ss i e) r) where
-      pub filled-refused : done < most → r .halted ≡ true → PagedBy w rows₀ rows counts₀ counts numbers₀ numbers values₀ values (record { count = done; stop = Refused (r .why) })
-      filled-refused left t =
-          stops (G.Stop.refused (r .why)) (folded-refused (f .folded) (omega arith) (r .why) (called-is ∙ turn-halted (f .turning) few h d e r by t))
+    module _ (h : i < n) (d : Card) (e : Seen) where
+      module _ (used : getD ss i e .slot ≡ Used) (ks′ : List ℕ) (r : SeenStep) (by : SeenStepped (getD fs i []) maxPath (getD all i d .reading) i ks ks′ r) where
+        pub filled-refused : done < most → r .halted ≡ true → PagedBy w rows₀ rows counts₀ counts numbers₀ numbers values₀ values (record { count = done; stop = Refused (r .why) })
+        filled-refused left t =
+            stops (G.Stop.refused (r .why)) (folded-refused (f .folded) (omega arith) (r .why) (called-is ∙ turn-halted (f .turning) few h d e used ks′ r by t))
 
-      pub filling-step : r .halted ≡ false
-          → Filling w fs op n (set all i (r .card)) (set ss i (r .seen)) (i + 1) most rows₀ rows counts₀ counts numbers₀ numbers values₀ values done
-      filling-step t = goes-on (turning-on (f .turning) few h d e r by t)
+        pub filling-step : r .halted ≡ false
+            → Filling w fs op n (set all i (r .card)) ks′ (set ss i (r .seen)) (i + 1) most rows₀ rows counts₀ counts numbers₀ numbers values₀ values done
+        filling-step t = goes-on true (turning-on (f .turning) few h d e used ks′ r by t)
 
-      pub card-less : r .halted ≡ false → toDo fs n (set all i (r .card)) (set ss i (r .seen)) (i + 1) < toDo fs n all ss i
-      card-less t = step-less (f .turning) few h d e r by t
+        pub card-less : r .halted ≡ false → toDo fs n (set all i (r .card)) (set ss i (r .seen)) (i + 1) < toDo fs n all ss i
+        card-less t = step-less (f .turning) few h d e used ks′ r by t
+
+    module _ (h : i < n) (e : Seen) where
+      pub filled-long : done < most → (getD ss i e .slot ≡ Holds) × (256 < getD ss i e .key .levels)
+          → PagedBy w rows₀ rows counts₀ counts numbers₀ numbers values₀ values (record { count = done; stop = Refused STATE })
+      filled-long left long = stops (G.Stop.refused STATE) (folded-refused (f .folded) (omega arith) STATE (called-is ∙ turn-long (f .turning) few h e long))
+
+      pub filling-skip : (getD ss i e .slot ≡ Holds) ⊎ (getD ss i e .slot ≡ Ended) → (getD ss i e .slot ≡ Holds → getD ss i e .key .levels ≤ 256)
+          → Filling w fs op n all ks ss (i + 1) most rows₀ rows counts₀ counts numbers₀ numbers values₀ values done
+      filling-skip slot short = goes-on (f .stepped) (turning-skip (f .turning) few h e slot short)
 
     -- ---- what the round comes to
 
@@ -244,36 +216,43 @@ module _ {w : ItemPage} {fs : List (List ℕ)} {op : O.Op} {n : ℕ} {all : List
       abbrev Y : List O.Card
       Y = cardsIs fs n (dealtAll all ss)
 
-      pub page-ready : Ready n ss
+      or-room : (x : Bool) → (x || leb maxPath maxPath) ≡ true
+      or-room true = refl
+      or-room false = le-leb maxPath maxPath (omega arith)
+
+      room-told : (f .stepped || leb maxPath maxPath) ≡ true
+      room-told = or-room (f .stepped)
+
+      pub page-ready : Ready ks n ss
       page-ready = turn-ready (f .turning) few some full
 
-      module _ (v : Decided) (by : (X : List O.Card) → Sees n ss X → DecidedBy X n (decide op X) v) where
-        here : DecidedBy Y n (decide op Y) v
+      module _ (v : Decided) (by : (X : List O.Card) → Sees ks n ss X → DecidedBy ks ss X n (decide op X) v) where
+        here : DecidedBy ks ss Y n (decide op Y) v
         here = by Y (turn-sees (f .turning) few some full)
 
         judged : (q : O.Verdict) → decide op Y ≡ q → nextItem op (f .cards) maxPath ≡ byVerdict Y (roundsBy op maxPath true) q
-        judged q e = called-is ∙ turn-judged (f .turning) few some full ∙ ap (byVerdict Y (roundsBy op maxPath true)) e
+        judged q e = called-is ∙ turn-judged (f .turning) few some full room-told ∙ ap (byVerdict Y (roundsBy op maxPath true)) e
 
         pub filled-end : done < most → v .verdict ≡ NoMore → PagedBy w rows₀ rows counts₀ counts numbers₀ numbers values₀ values (record { count = done; stop = End })
-        filled-end left e = stops ended (folded-end (f .folded) (omega arith) Y (judged O.no-more (over-by Y n v (decide op Y) here e)))
+        filled-end left e = stops ended (folded-end (f .folded) (omega arith) Y (judged O.no-more (over-by ks ss Y n v (decide op Y) here e)))
 
-        another-of : v .verdict ≡ Another → AnotherOf Y n (decide op Y) v
-        another-of e = another-by Y n v (decide op Y) here e
+        another-of : v .verdict ≡ Another → AnotherOf ks ss Y n (decide op Y) v
+        another-of e = another-by ks ss Y n v (decide op Y) here e
 
-        pub filling-again : v .verdict ≡ Another → Filling w fs op n all (v .cards) 0 most rows₀ rows counts₀ counts numbers₀ numbers values₀ values done
+        pub filling-again : v .verdict ≡ Another → Filling w fs op n all ks (v .cards) 0 most rows₀ rows counts₀ counts numbers₀ numbers values₀ values done
         filling-again e =
             let a = another-of e in
-            goes-on (turning-again (f .turning) few some full (v .cards) (a .eight) (a .cards) (a .sees) (a .kept) (a .is))
+            goes-on true (turning-again (f .turning) few some full (v .cards) (a .eight) (a .cards) (a .sees) (a .kept) (a .keys) room-told (a .is))
 
         pub round-less : v .verdict ≡ Another → toDo fs n all (v .cards) 0 < toDo fs n all ss i
         round-less e =
             let a = another-of e in
             again-less (f .turning) few some full (v .cards) (a .eight) (a .cards) (a .sees) (a .kept) (subst (Lighter Y) (a .is) (decide-lighter op Y))
 
-        item-of : v .verdict ≡ This → ThisOf Y n (decide op Y) v
-        item-of e = this-by Y n v (decide op Y) here e
+        item-of : v .verdict ≡ This → ThisOf ks ss Y n (decide op Y) v
+        item-of e = this-by ks ss Y n v (decide op Y) here e
 
-        pub item-fits : v .verdict ≡ This → v .key .levels ≤ 256
+        pub item-fits : v .verdict ≡ This → Within (v .key)
         item-fits e = item-of e .few
 
         pub pairs-fit : v .verdict ≡ This → v .pairs .count ≤ 8
@@ -284,12 +263,15 @@ module _ {w : ItemPage} {fs : List (List ℕ)} {op : O.Op} {n : ℕ} {all : List
             let a = item-of e in
             again-less (f .turning) few some full (v .cards) (a .eight) (a .cards) (a .sees) (a .kept) (subst (Lighter Y) (a .is) (decide-lighter op Y))
 
-        pub filling-item : done < most → HasRoom most rows₀ counts₀ numbers₀ values₀ → v .verdict ≡ This → {rows′ counts′ numbers′ values′ : List ℕ}
-            → ItemPut (v .key) (v .pairs) done rows rows′ counts counts′ numbers numbers′ values values′
-            → Filling w fs op n all (v .cards) 0 most rows₀ rows′ counts₀ counts′ numbers₀ numbers′ values₀ values′ (done + 1)
-        filling-item left room e {rows′} {counts′} {numbers′} {values′} put-is =
+        pub filling-item : done < most → HasRoom most rows₀ counts₀ numbers₀ values₀ → v .verdict ≡ This → (hd : Head) → hd .levels ≡ v .key .levels
+            → headKey hd ≡ placeKey ks (v .key) → {rows′ counts′ numbers′ values′ : List ℕ}
+            → ItemPut hd (v .pairs) done rows rows′ counts counts′ numbers numbers′ values values′
+            → Filling w fs op n all ks (v .cards) 0 most rows₀ rows′ counts₀ counts′ numbers₀ numbers′ values₀ values′ (done + 1)
+        filling-item left room e hd same-levels same-key {rows′} {counts′} {numbers′} {values′} put-is =
             let a = item-of e in
-            let k : List ℕ = headKey (v .key) in
+            let k : List ℕ = headKey hd in
+            let fits = item-fits e .few in
+            let is : decide op Y ≡ O.this k (a .pairs) (a .cards) = a .is ∙ ap (λ (x : List ℕ). O.this x (a .pairs) (a .cards)) (sym same-key) in
             let x : Item = itemIs k (a .pairs) in
             let line : Entry = entry k (length (a .pairs)) in
             let done-is = f .done-is in
@@ -299,7 +281,7 @@ module _ {w : ItemPage} {fs : List (List ℕ)} {op : O.Op} {n : ℕ} {all : List
             let eight-at : done * 8 ≡ 8 * length (f .items) = omega arith in
             let more-len : length (f .items ++ (x ∷ [])) ≡ length (f .items) + 1 = length-append (f .items) (x ∷ []) in
             let in-counts : length (linesOf (f .items)) < length counts₀ = omega (arith, room .count) in
-            let short : length k ≤ 255 = key-short (v .key) (item-fits e) in
+            let short : length k ≤ 255 = key-short hd (omega arith) in
             let eight : length (v .pairs .files) ≡ 8 = a .are .files-len in
             let held : length (v .pairs .values) ≡ 8 = a .are .values-len in
             record {
@@ -308,8 +290,9 @@ module _ {w : ItemPage} {fs : List (List ℕ)} {op : O.Op} {n : ℕ} {all : List
               within = omega arith;
               cards = a .cards;
               count = a .sees .count;
-              folded = folded-item (f .folded) k (a .pairs) (a .cards) (most - (done + 1)) (omega arith) (judged (O.this k (a .pairs) (a .cards)) (a .is));
-              turning = turning-item (f .turning) few some full (v .cards) (a .eight) (a .cards) (a .sees) (a .kept);
+              folded = folded-item (f .folded) k (a .pairs) (a .cards) (most - (done + 1)) (omega arith) (judged (O.this k (a .pairs) (a .cards)) is);
+              stepped = false;
+              turning = turning-item (f .turning) few some full (v .cards) (a .eight) (a .cards) (a .sees) (a .kept) (a .keys);
               rows-are = put-is .row
                   ∙ ap₂ (λ (l : List ℕ) (j : ℕ). put l j (rowOf line)) (f .rows-are) row-at
                   ∙ sym (ap (λ (l : List Entry). rowsAfter l rows₀) (lines-snoc (f .items) x) ∙ rows-snoc (linesOf (f .items)) line rows₀);
@@ -330,14 +313,6 @@ module _ {w : ItemPage} {fs : List (List ℕ)} {op : O.Op} {n : ℕ} {all : List
               numbers-len = ap length (put-is .number) ∙ length-put numbers (done * 8) (v .pairs .files) (omega (arith, f .numbers-len, room .number)) ∙ f .numbers-len;
               values-len = ap length (put-is .value) ∙ length-put values (done * 8) (v .pairs .values) (omega (arith, f .values-len, room .value)) ∙ f .values-len;
             }
-
--- the file that a card is lent
-pub at-file : (l : List (RefT (List ℕ))) (i : ℕ) (c : Card) (s : Seen) (r : SeenStep) (d : RefT (List ℕ)) → SeenStepped (now (getD l i d)) maxPath c s r → now d ≡ []
-    → SeenStepped (getD (map (λ (f : RefT (List ℕ)). now f) l) i []) maxPath c s r
-at-file l i c s r d h e =
-    let same : getD (map (λ (f : RefT (List ℕ)). now f) l) i [] ≡ now (getD l i d) =
-    ap (getD (map (λ (f : RefT (List ℕ)). now f) l) i) (sym e) ∙ List·getD-map (λ (f : RefT (List ℕ)). now f) l i d in
-    subst (λ (f : List ℕ). SeenStepped f maxPath c s r) (sym same) h
 
 -- by an equation between pages
 pub paged-as : {v w : ItemPage} {rows₀ rows counts₀ counts numbers₀ numbers values₀ values : List ℕ} {r : Paged} → v ≡ w

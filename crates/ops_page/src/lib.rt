@@ -12,12 +12,17 @@ ghost use Rattle.ops_page.specs.PagedItems.{HasRoom, PagedBy, refusedPag
 use format::CARDS;
 use format::MAX_KEY;
 use format::SPACE;
+use format::STATE;
 use ops_decide::Op;
 use ops_decide::Verdict;
 use ops_decide::decide;
+use ops_keys::KEYS;
+use ops_keys::head_at;
 use ops_put::has_room;
 use ops_put::put_item;
 use ops_round::Card;
+use ops_seen::is_long;
+use ops_seen::is_used;
 use ops_seen::see;
 use ops_starts::starts;
 use ops_turn::step_seen;
@@ -67,31 +72,43 @@ fn fill(
         (now (numbers .entry)) (now (numbers .exit)) (now (values .entry)) (now (values .exit)) r ⌝ }
 {
     let mut all = cards;
-    let mut seen = see(count, cards);
+    let mut keys = [0u8; KEYS];
+    let mut seen = see(count, cards, &mut keys);
     let mut done = 0;
     let mut i = 0;
     while done < most {
         if i < count {
-            let file = files[i];
-            let card = all[i];
             let one = seen[i];
-            let step = step_seen(file, card, one, MAX_KEY);
-            if step.halted {
+            if is_used(one) {
+                let file = files[i];
+                let card = all[i];
+                let reading = card.reading;
+                let step = step_seen(file, reading, i, &mut keys, MAX_KEY);
+                if step.halted {
+                    return Paged {
+                        count: done,
+                        stop: Stop::Refused(step.why),
+                    };
+                }
+                let after = step.card;
+                let shown = step.seen;
+                all[i] = after;
+                seen[i] = shown;
+                i += 1;
+                continue;
+            }
+            if is_long(one) {
                 return Paged {
                     count: done,
-                    stop: Stop::Refused(step.why),
+                    stop: Stop::Refused(STATE),
                 };
             }
-            let after = step.card;
-            let shown = step.seen;
-            all[i] = after;
-            seen[i] = shown;
             i += 1;
             continue;
         }
-        let decided = decide(op, count, seen);
+        let decided = decide(op, &keys, count, seen);
         let verdict = decided.verdict;
-        let key = decided.key;
+        let place = decided.key;
         let pairs = decided.pairs;
         let marked = decided.cards;
         match verdict {
@@ -103,6 +120,7 @@ fn fill(
             }
             Verdict::This => {
                 let more = done + 1;
+                let key = head_at(&keys, place);
                 put_item(key, pairs, done, rows, counts, numbers, values);
                 seen = marked;
                 done = more;

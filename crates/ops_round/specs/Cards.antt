@@ -1,27 +1,25 @@
 -- What cards and the steps of a round stand for, against `stepAll` (crate ops_spec).
 --     cardIs f c                 what a card says, with the file that it is lent
 --     cardsIs fs n cs            the first n cards, with their files
---     thenStep, steppedIs        the steps after a card's, the steps of all cards
+--     thenStep                   the steps after a card's
 --     Few c, AllFew n cs         a card that holds a key has at most 256 levels; so do the first n
---     OneStepped, AllStepped     a card after its step, the cards after a round's steps
+--     usedCard p                 the card of a reading whose key is used up
+--     OneStepped                 a card after its part in a round
 -- Assumes nothing.
 use Prim.{Unit}
 use mathlib.Core.Path.{_≡_}
 use mathlib.Core.Bool.{true, false}
 use mathlib.Core.List.{List, [], _∷_}
 use Prim.Native.Nat.{ℕ, _≤_, _<_}
-use lib.ListN.{length, take, getD}
+use lib.ListN.{take, getD}
 use Rattle.format.specs.Limits.{maxLevels}
 use Rattle.ops_spec.specs.Ops as O
-use Rattle.ops_spec.specs.Ops.{withCard, stepOne, stepAll}
+use Rattle.ops_spec.specs.Ops.{withCard, stepOne}
+use Rattle.stream.specs.declared.Plain.{Plain}
 use Rattle.stream.specs.Plains.{plainIs}
 use Rattle.ops_round.specs.declared.Slot.{Slot}
 use Rattle.ops_round.specs.declared.Slot.the-variants.{Used, Holds, Ended}
 use Rattle.ops_round.specs.declared.Card.{Card}
-use Rattle.ops_round.specs.declared.Stepping.{Stepping}
-use Rattle.ops_round.specs.declared.Stepping.the-variants.{Still, Moved, Halted}
-use Rattle.ops_round.specs.declared.CardStep.{CardStep}
-use Rattle.ops_round.specs.declared.RoundStep.{RoundStep}
 
 abbrev pub slotIs : Slot → ℕ → O.Slot
 slotIs Used v = O.used
@@ -54,6 +52,20 @@ AllFew n cs = (i : ℕ) (d : Card) → i < n → Few (getD cs i d)
 
 -- ---- steps
 
+-- what a card's part in a round comes to: it was not stepped, it was, or the number of a refusal
+pub data Stepping : Type 0 where
+  Still : Stepping
+  Moved : Stepping
+  Halted : ℕ → Stepping
+
+-- a card after its part; after a refusal it carries no meaning
+pub record CardStep : Type 0 where
+  pub answer : Stepping
+  pub card : Card
+
+abbrev pub usedCard : Plain → Card
+usedCard p = record { reading = p; slot = Used; value = 0 }
+
 abbrev pub thenStep : Stepping → O.Card → O.Stepped → O.Stepped
 thenStep Still c others = withCard c false others
 thenStep Moved c others = withCard c true others
@@ -67,18 +79,3 @@ FewAfter (Halted n) c = Unit {0}
 pub record OneStepped (f : List ℕ) (space : ℕ) (c : Card) (r : CardStep) : Type 0 where
   pub steps : (others : O.Stepped) → stepOne space (cardIs f c) (slotIs (c .slot) (c .value)) others ≡ thenStep (r .answer) (cardIs f (r .card)) others
   pub few : FewAfter (r .answer) (r .card)
-
-abbrev pub steppedIs : Stepping → List O.Card → O.Stepped
-steppedIs Still cs = O.cards cs false
-steppedIs Moved cs = O.cards cs true
-steppedIs (Halted n) cs = O.halted n
-
-abbrev pub AllFewAfter : Stepping → ℕ → List Card → Type 0
-AllFewAfter Still n cs = AllFew n cs
-AllFewAfter Moved n cs = AllFew n cs
-AllFewAfter (Halted m) n cs = Unit {0}
-
-pub record AllStepped (fs : List (List ℕ)) (space n : ℕ) (cs : List Card) (r : RoundStep) : Type 0 where
-  pub steps : stepAll space (cardsIs fs n cs) ≡ steppedIs (r .answer) (cardsIs fs n (r .cards))
-  pub few : AllFewAfter (r .answer) n (r .cards)
-  pub eight : length (r .cards) ≡ 8

@@ -1,3 +1,4 @@
 pub mod Cards
 pub mod CardsLaws
 pub mod RoundLaws
+pub mod StepLaws

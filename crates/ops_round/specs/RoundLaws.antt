@@ -3,22 +3,17 @@
 --     Rounding ..               what is done of a round: the first i cards are stepped, and the rest decides
 --     rounding-..               at its start, after a card, and each way out
 -- Assumes nothing.
-use Prim.{tt}
 use mathlib.Core.Path.{_≡_, refl, sym, ap, ap₂, _∙_, subst}
 use mathlib.Core.Bool.{Bool, true, false, _||_}
-use mathlib.Core.List.{List, [], _∷_, _++_, map, append-assoc, append-nil}
+use mathlib.Core.List.{List, [], _∷_, _++_, append-assoc, append-nil}
 use Prim.Native.Nat.{ℕ, suc, _+_, _<_, _≤_}
 use native.Mathlib.Omega.{arith}
-use denote.Ref.{RefT, now}
-use lib.ListN.{List·getD-map, length, take, drop, getD, set, length-set, drop-of-length-le}
+use lib.ListN.{length, take, drop, getD, set, length-set, drop-of-length-le}
 use lib.Seq.{take-length}
 use Rattle.ops_spec.specs.Ops as O
 use Rattle.ops_spec.specs.Ops.{withCard, stepOne, stepAll}
 use Rattle.ops_round.specs.declared.Card.{Card}
-use Rattle.ops_round.specs.declared.Stepping.{Stepping}
-use Rattle.ops_round.specs.declared.Stepping.the-variants.{Still, Moved, Halted}
-use Rattle.ops_round.specs.declared.CardStep.{CardStep}
-use Rattle.ops_round.specs.Cards.{slotIs, cardIs, cardsIs, Few, AllFew, thenStep, FewAfter, OneStepped, AllStepped}
+use Rattle.ops_round.specs.Cards.{slotIs, cardIs, cardsIs, Few, AllFew, Stepping, Still, Moved, Halted, CardStep, thenStep, FewAfter, OneStepped}
 use Rattle.ops_round.specs.CardsLaws.{cards-length, cards-cons, put-front, put-back, few-put}
 
 abbrev pub thenSteps : Bool → List O.Card → O.Stepped → O.Stepped
@@ -69,14 +64,10 @@ module _ (fs : List (List ℕ)) (space n : ℕ) (cs all : List Card) (moved : Bo
         (thenStep (s .answer) (cardIs (getD fs i []) (s .card)) (stepAll space (drop (i + 1) (cardsIs fs n all))))
     head-stepped = R .rest ∙ ap (thenSteps moved (take i (cardsIs fs n all))) (steps-head d h ∙ one .steps (stepAll space (drop (i + 1) (cardsIs fs n all))))
 
-    pub rounding-halted : (k : ℕ) → s .answer ≡ Halted k → AllStepped fs space n cs (record { answer = Halted k; cards = all })
+    pub rounding-halted : (k : ℕ) → s .answer ≡ Halted k → stepAll space (cardsIs fs n cs) ≡ O.halted k
     rounding-halted k e =
-        record {
-          steps = head-stepped
-              ∙ ap (λ (x : Stepping). thenSteps moved (take i (cardsIs fs n all)) (thenStep x (cardIs (getD fs i []) (s .card)) (stepAll space (drop (i + 1) (cardsIs fs n all))))) e;
-          few = tt;
-          eight = R .eight;
-        }
+        head-stepped
+        ∙ ap (λ (x : Stepping). thenSteps moved (take i (cardsIs fs n all)) (thenStep x (cardIs (getD fs i []) (s .card)) (stepAll space (drop (i + 1) (cardsIs fs n all))))) e
 
     few-more : Few (s .card) → AllFew (i + 1) (set all i (s .card))
     few-more one-few j e le = let eight = R .eight in few-put all i j (s .card) e (omega arith) one-few (λ z. R .few j e (omega arith))
@@ -124,17 +115,3 @@ module _ (fs : List (List ℕ)) (space n : ℕ) (cs all : List Card) (moved : Bo
 
   pub few-all : n ≤ i → AllFew n all
   few-all h j d less = let within = R .within in R .few j d (omega arith)
-
-  pub rounding-all-moved : n ≤ i → moved ≡ true → AllStepped fs space n cs (record { answer = Moved; cards = all })
-  rounding-all-moved h e = record { steps = done h ∙ ap (O.cards (cardsIs fs n all)) e; few = few-all h; eight = R .eight }
-
-  pub rounding-all-still : n ≤ i → moved ≡ false → AllStepped fs space n cs (record { answer = Still; cards = all })
-  rounding-all-still h e = record { steps = done h ∙ ap (O.cards (cardsIs fs n all)) e; few = few-all h; eight = R .eight }
-
--- the file that a card is lent
-pub at-file : (l : List (RefT (List ℕ))) (i space : ℕ) (c : Card) (s : CardStep) (d : RefT (List ℕ)) → OneStepped (now (getD l i d)) space c s → now d ≡ []
-    → OneStepped (getD (map (λ (f : RefT (List ℕ)). now f) l) i []) space c s
-at-file l i space c s d h e =
-    let same : getD (map (λ (f : RefT (List ℕ)). now f) l) i [] ≡ now (getD l i d) =
-    ap (getD (map (λ (f : RefT (List ℕ)). now f) l) i) (sym e) ∙ List·getD-map (λ (f : RefT (List ℕ)). now f) l i d in
-    subst (λ (f : List ℕ). OneStepped f space c s) (sym same) h

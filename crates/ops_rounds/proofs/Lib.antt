@@ -1,2 +1,1 @@
-mod TurnCases
 mod RoundsLaws

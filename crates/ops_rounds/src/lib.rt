@@ -1,41 +1,31 @@
-// The rounds of a call of an operation: steps, and what they come to, until there is an item, the end or a refusal.
+// The rounds of a call of an operation: steps, and what they come to, until there is an item, the end or a refusal. The cards stay in one place.
 ghost use mathlib.Core.Path.{_≡_};
-ghost use mathlib.Core.Bool.{false};
+ghost use mathlib.Core.Bool.{false, _||_};
 ghost use mathlib.Core.List.{map};
 ghost use Prim.Native.Nat.{_≤_, _<_};
+ghost use lib.Dec.{leb};
+ghost use Rattle.format.specs.Limits.{maxPath};
 ghost use Rattle.ops_spec.specs.OpsFuelLaws.{roundsBy};
-ghost use Rattle.ops_round.specs.Cards.{cardsIs, AllFew};
+ghost use Rattle.ops_round.specs.Cards.{cardsIs};
 ghost use Rattle.ops_decide.specs.Verdicts.{opIs};
-ghost use Rattle.ops_rounds.specs.Turns.{JudgedBy, TurnedBy, CalledBy};
+ghost use Rattle.ops_rounds.specs.Turns.{CalledBy};
 use format::LEVELS;
 use format::MAX_KEY;
 use format::SPACE;
+use format::STATE;
 use ops_decide::Op;
 use ops_decide::Verdict;
 use ops_decide::decide;
 use ops_keys::Head;
+use ops_keys::KEYS;
+use ops_keys::head_at;
 use ops_pairs::Pairs;
 use ops_round::Card;
-use ops_round::Stepping;
-use ops_round::round;
 use ops_seen::deal;
+use ops_seen::is_long;
+use ops_seen::is_used;
 use ops_seen::see;
-
-// What one round comes to.
-enum Turn {
-    Item,
-    End,
-    Again,
-    Refused(u8),
-}
-
-// One round, with the item's key and values, and the cards afterwards. Without an item the key and the values carry no meaning, after a refusal nothing.
-struct Turned {
-    turn: Turn,
-    key: Head,
-    pairs: Pairs,
-    cards: [Card; 8],
-}
+use ops_turn::step_seen;
 
 // What the rounds of a call come to.
 pub enum Came {
@@ -44,7 +34,8 @@ pub enum Came {
     Refused(u8),
 }
 
-// The rounds of a call, in the form of one round.
+// The rounds of a call, with the item's key and values, and the cards afterwards. Without an item the key and the values carry no meaning, after a
+// refusal nothing.
 pub struct Called {
     pub came: Came,
     pub key: Head,
@@ -52,104 +43,86 @@ pub struct Called {
     pub cards: [Card; 8],
 }
 
-// A round that is refused.
-fn halted(why: u8, cards: [Card; 8]) -> Turned
-    ensures { λ r. ⌜ r .turn ≡ Turn.Refused why ⌝ }
+// A call without an item.
+fn without(came: Came, cards: [Card; 8]) -> Called
+    ensures { λ r. ⌜ (r .came ≡ came) × (r .cards ≡ cards) ⌝ }
 {
     let pairs = ops_pairs::none();
     let key = Head {
         levels: 0,
         inps: [0; LEVELS],
     };
-    Turned {
-        turn: Turn::Refused(why),
+    Called {
+        came,
         key,
         pairs,
         cards,
     }
 }
 
-// What the cards come to, once they are stepped: by what is seen of them.
-fn judge(op: Op, count: usize, cards: [Card; 8]) -> Turned
-    requires { ⌜ (0 < count) × (count ≤ 8) × AllFew count cards ⌝ }
-    ensures { λ r. ⌜ JudgedBy (opIs op) count cards r ⌝ }
+// Whether a round may be decided: a reading was stepped in this call, or the buffer has room for every key.
+fn has_room(moved: bool, space: usize) -> bool
+    ensures { λ r. ⌜ r ≡ (moved || leb maxPath space) ⌝ }
 {
-    let seen = see(count, cards);
-    let decided = decide(op, count, seen);
-    let verdict = decided.verdict;
-    let key = decided.key;
-    let pairs = decided.pairs;
-    let marked = decided.cards;
-    let after = deal(count, cards, marked);
-    match verdict {
-        Verdict::This => Turned {
-            turn: Turn::Item,
-            key,
-            pairs,
-            cards: after,
-        },
-        Verdict::NoMore => Turned {
-            turn: Turn::End,
-            key,
-            pairs,
-            cards,
-        },
-        Verdict::Another => Turned {
-            turn: Turn::Again,
-            key,
-            pairs,
-            cards: after,
-        },
+    if moved {
+        return true;
     }
+    MAX_KEY <= space
 }
 
-// One round, for a caller whose buffer has so many bytes; before says whether a reading was stepped in this call. SPACE where none was and the buffer is
+// The rounds of a call: each turn looks at one card, or decides once all were looked at. SPACE where no reading was stepped in this call and the buffer is
 // too short for some key.
-fn one_round(
-    files: [&[u8]; 8],
-    op: Op,
-    count: usize,
-    cards: [Card; 8],
-    before: bool,
-    space: usize,
-) -> Turned
-    requires { ⌜ (0 < count) × (count ≤ 8) ⌝ }
-    ensures { λ r. ⌜ TurnedBy (map (λ f. now f) (files .entry)) (opIs op) count space before cards
-        r ⌝ }
-{
-    let stepped = round(files, count, cards, space);
-    let answer = stepped.answer;
-    let after = stepped.cards;
-    match answer {
-        Stepping::Halted(why) => halted(why, cards),
-        Stepping::Moved => judge(op, count, after),
-        Stepping::Still => {
-            if !before {
-                if space < MAX_KEY {
-                    return halted(SPACE, cards);
-                }
-            }
-            judge(op, count, after)
-        }
-    }
-}
-
-// The rounds of a call.
 pub fn rounds(files: [&[u8]; 8], op: Op, count: usize, cards: [Card; 8], space: usize) -> Called
     requires { ⌜ (0 < count) × (count ≤ 8) ⌝ }
     ensures { λ r. ⌜ CalledBy (map (λ f. now f) (files .entry)) count cards (roundsBy (opIs op) space false
         (cardsIs (map (λ f. now f) (files .entry)) count cards)) r ⌝ }
 {
     let mut all = cards;
-    let mut before = false;
+    let mut keys = [0u8; KEYS];
+    let mut seen = see(count, cards, &mut keys);
+    let mut moved = false;
+    let mut i = 0;
     loop {
-        let turned = one_round(files, op, count, all, before, space);
-        let turn = turned.turn;
-        let key = turned.key;
-        let pairs = turned.pairs;
-        let after = turned.cards;
-        match turn {
-            Turn::Item => {
+        if i < count {
+            let one = seen[i];
+            if is_used(one) {
+                let file = files[i];
+                let card = all[i];
+                let reading = card.reading;
+                let step = step_seen(file, reading, i, &mut keys, space);
+                if step.halted {
+                    return without(Came::Refused(step.why), all);
+                }
+                let after = step.card;
+                let shown = step.seen;
+                all[i] = after;
+                seen[i] = shown;
+                moved = true;
+                i += 1;
+                continue;
+            }
+            if is_long(one) {
+                return without(Came::Refused(STATE), all);
+            }
+            i += 1;
+            continue;
+        }
+        if has_room(moved, space) {} else {
+            return without(Came::Refused(SPACE), all);
+        }
+        let decided = decide(op, &keys, count, seen);
+        let verdict = decided.verdict;
+        let place = decided.key;
+        let pairs = decided.pairs;
+        let marked = decided.cards;
+        match verdict {
+            Verdict::NoMore => {
+                let last = deal(count, all, seen);
+                return without(Came::End, last);
+            }
+            Verdict::This => {
+                let key = head_at(&keys, place);
+                let after = deal(count, all, marked);
                 return Called {
                     came: Came::Item,
                     key,
@@ -157,25 +130,11 @@ pub fn rounds(files: [&[u8]; 8], op: Op, count: usize, cards: [Card; 8], space: 
                     cards: after,
                 };
             }
-            Turn::End => {
-                return Called {
-                    came: Came::End,
-                    key,
-                    pairs,
-                    cards: after,
-                };
-            }
-            Turn::Refused(why) => {
-                return Called {
-                    came: Came::Refused(why),
-                    key,
-                    pairs,
-                    cards: after,
-                };
-            }
-            Turn::Again => {
-                all = after;
-                before = true;
+            Verdict::Another => {
+                seen = marked;
+                moved = true;
+                i = 0;
+                continue;
             }
         }
     }

@@ -1,1 +1,2 @@
 mod SeeLoops
+mod SlotTests

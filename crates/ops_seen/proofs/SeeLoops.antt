@@ -12,7 +12,8 @@ use lib.Seq.{getD-set-same, getD-set-other}
 use Rattle.reading.specs.RunLaws.{lt-or}
 use Rattle.ops_round.specs.declared.Card.{Card}
 use Rattle.ops_seen.specs.declared.Seen.{Seen}
-use Rattle.ops_seen.specs.Sights.{SeenOf, AllSeen, dealtCard, AllDealt}
+use Rattle.ops_seen.specs.Sights.{SeenOf, SeenAt, AllSeen, dealtCard, AllDealt}
+use Rattle.ops_seen.specs.SightsLaws.{key-kept}
 
 -- a place within a list has the same element whatever else is named
 default-any : {A : Type 0} (l : List A) (i : ℕ) (a b : A) → i < length l → getD l i a ≡ getD l i b
@@ -22,35 +23,50 @@ default-any (x ∷ l) (suc i) a b h = default-any l i a b (omega arith)
 
 -- ---- what is seen
 
-pub record Seeing (n : ℕ) (cs : List Card) (r : List Seen) (i : ℕ) : Type 0 where
+pub record Seeing (n : ℕ) (cs : List Card) (ks : List ℕ) (r : List Seen) (i : ℕ) : Type 0 where
   pub within : i ≤ n
   pub eight : length r ≡ 8
-  pub at : (j : ℕ) (d : Card) (e : Seen) → j < i → SeenOf (getD cs j d) (getD r j e)
+  pub long : length ks ≡ 2048
+  pub at : (j : ℕ) (d : Card) (e : Seen) → j < i → SeenAt ks (getD cs j d) j (getD r j e)
 
-pub seeing-none : (n : ℕ) (cs : List Card) (r : List Seen) → length r ≡ 8 → Seeing n cs r 0
-seeing-none n cs r len = record { within = omega arith; eight = len; at = λ j d e h. absurd (omega arith) }
+pub seeing-none : (n : ℕ) (cs : List Card) (ks : List ℕ) (r : List Seen) → length ks ≡ 2048 → length r ≡ 8 → Seeing n cs ks r 0
+seeing-none n cs ks r long len = record { within = omega arith; eight = len; long = long; at = λ j d e h. absurd (omega arith) }
 
-pub seeing-on : (n : ℕ) (cs : List Card) (r : List Seen) (i : ℕ) (b : Card) (s : Seen) → n ≤ 8 → length cs ≡ 8 → Seeing n cs r i → i < n → SeenOf (getD cs i b) s
-    → Seeing n cs (set r i s) (i + 1)
-seeing-on n cs r i b s small given S h one =
+pub seeing-on : (n : ℕ) (cs : List Card) (ks₀ ks : List ℕ) (r : List Seen) (i : ℕ) (b : Card) (s : Seen) → n ≤ 8 → length cs ≡ 8 → Seeing n cs ks₀ r i → i < n
+    → SeenOf (getD cs i b) i ks₀ ks s → Seeing n cs ks (set r i s) (i + 1)
+seeing-on n cs ks₀ ks r i b s small given S h one =
     let eight = S .eight in
     record {
       within = omega arith;
       eight = length-set r i s ∙ eight;
+      long = one .put .long;
       at = λ j d e l. ⊎-elim (λ (k : j < i). earlier j d e k) (λ (k : i ≤ j). here j d e (omega arith)) (lt-or j i);
     }
   where
-    earlier : (j : ℕ) (d : Card) (e : Seen) → j < i → SeenOf (getD cs j d) (getD (set r i s) j e)
-    earlier j d e k = subst (SeenOf (getD cs j d)) (sym (getD-set-other r i j s e (λ z. omega arith))) (S .at j d e k)
+    kept : (j : ℕ) (d : Card) (e : Seen) → j < i → SeenAt ks (getD cs j d) j (getD r j e)
+    kept j d e k =
+        let o = S .at j d e k in
+        record {
+          slot = o .slot;
+          value = o .value;
+          key = key-kept (getD cs i b .reading) (getD cs j d .reading) i j ks₀ ks (s .key) (getD r j e .key) (one .put) (omega arith) (λ z. omega arith) (o .key);
+        }
 
-    here : (j : ℕ) (d : Card) (e : Seen) → j ≡ i → SeenOf (getD cs j d) (getD (set r i s) j e)
+    earlier : (j : ℕ) (d : Card) (e : Seen) → j < i → SeenAt ks (getD cs j d) j (getD (set r i s) j e)
+    earlier j d e k = subst (SeenAt ks (getD cs j d) j) (sym (getD-set-other r i j s e (λ z. omega arith))) (kept j d e k)
+
+    one-at : (d : Card) → SeenAt ks (getD cs i d) i s
+    one-at d =
+        subst (λ (c : Card). SeenAt ks c i s) (default-any cs i b d (omega arith)) (record { slot = one .slot; value = one .value; key = one .put .here })
+
+    here : (j : ℕ) (d : Card) (e : Seen) → j ≡ i → SeenAt ks (getD cs j d) j (getD (set r i s) j e)
     here j d e z =
         let eight = S .eight in
-        subst (λ (k : ℕ). SeenOf (getD cs k d) (getD (set r i s) k e)) (sym z)
-        (subst (SeenOf (getD cs i d)) (sym (getD-set-same r i s e (omega arith))) (subst (λ (c : Card). SeenOf c s) (default-any cs i b d (omega arith)) one))
+        subst (λ (k : ℕ). SeenAt ks (getD cs k d) k (getD (set r i s) k e)) (sym z)
+        (subst (SeenAt ks (getD cs i d) i) (sym (getD-set-same r i s e (omega arith))) (one-at d))
 
-pub seeing-all : (n : ℕ) (cs : List Card) (r : List Seen) (i : ℕ) → length cs ≡ 8 → n ≤ i → Seeing n cs r i → AllSeen n cs r
-seeing-all n cs r i given h S = record { at = λ j d e k. S .at j d e (omega arith); eight = S .eight; given = given }
+pub seeing-all : (n : ℕ) (cs : List Card) (ks : List ℕ) (r : List Seen) (i : ℕ) → length cs ≡ 8 → n ≤ i → Seeing n cs ks r i → AllSeen n cs ks r
+seeing-all n cs ks r i given h S = record { at = λ j d e k. S .at j d e (omega arith); eight = S .eight; given = given; long = S .long }
 
 -- ---- cards dealt
 

@@ -1,6 +1,7 @@
 -- Laws of what is seen of cards.
 --     front-is                 the card at a place, and those behind it
 --     used1, used-at, used-kept    a card whose key is used up where it is meant; `useUp` place by place
+--     key-kept                 a key that is put leaves the others
 --     see-sees, see-few        what is seen of cards is seen of the cards that they stand for
 --     deal-is                  cards dealt by what is seen of Y stand for Y
 -- Assumes nothing.
@@ -16,15 +17,17 @@ use Rattle.format.specs.Limits.{maxLevels}
 use Rattle.plain.specs.Plain as P
 use Rattle.ops_spec.specs.Ops as O
 use Rattle.ops_spec.specs.Ops.{cardKey, ifHolds, useUp}
-use Rattle.ops_keys.specs.Heads.{headKey, HeadOf}
+use Rattle.stream.specs.declared.Plain.{Plain}
+use Rattle.ops_keys.specs.declared.Place.{Place}
+use Rattle.ops_keys.specs.Heads.{Within, KeyAt, BytesPut}
 use Rattle.ops_round.specs.declared.Slot.{Slot}
-use Rattle.ops_round.specs.declared.Slot.the-variants.{Used, Holds, Ended}
+use Rattle.ops_round.specs.declared.Slot.the-variants.{Holds}
 use Rattle.ops_round.specs.declared.Card.{Card}
 use Rattle.ops_round.specs.Cards.{slotIs, cardIs, withFiles, cardsIs, FewBy}
 use Rattle.ops_round.specs.Cards as C
 use Rattle.ops_round.specs.CardsLaws.{cards-length, files-at}
 use Rattle.ops_seen.specs.declared.Seen.{Seen}
-use Rattle.ops_seen.specs.Sights.{SeenOf, AllSeen, dealtCard, AllDealt, Shows, Sees, Few, Kept}
+use Rattle.ops_seen.specs.Sights.{SeenAt, AllSeen, dealtCard, AllDealt, Shows, Sees, Few, Kept}
 
 -- ---- the card at a place
 
@@ -91,31 +94,46 @@ used-kept P X = record { count = used-count P X; file = files-kept P X; reading 
 
 -- ---- what is seen of cards
 
-few-as : (a b : Slot) (m n : ℕ) → a ≡ b → m ≡ n → FewBy b n → FewBy a m
-few-as a b m n e f h = subst (λ (x : Slot). FewBy x m) (sym e) (subst (λ (k : ℕ). FewBy b k) (sym f) h)
+-- a key that was put leaves the others as they are
+pub key-kept : (p q : Plain) (i j : ℕ) (ks₀ ks : List ℕ) (h g : Place) → BytesPut p i ks₀ ks h → j < 8 → ¬ (j ≡ i) → KeyAt ks₀ q j g → KeyAt ks q j g
+key-kept p q i j ks₀ ks h g put eight ne at =
+    let a = at .at in
+    let l = at .levels in
+    record {
+      at = at .at;
+      levels = at .levels;
+      key = λ few. put .others g (record { eight = omega arith; few = omega arith }) (λ z. ne (sym a ∙ z)) ∙ at .key few;
+    }
 
-module _ (n : ℕ) (cs : List Card) (r : List Seen) (all : AllSeen n cs r) (small : n ≤ 8) where
+module _ (n : ℕ) (cs : List Card) (ks : List ℕ) (r : List Seen) (all : AllSeen n cs ks r) (small : n ≤ 8) where
+  few-levels : (c : Card) → C.Few c → c .slot ≡ Holds → c .reading .reading .levels ≤ maxLevels
+  few-levels c few e = subst (λ (x : Slot). FewBy x (c .reading .reading .levels)) e few
+
   pub see-few : C.AllFew n cs → (i : ℕ) (d : Seen) → i < n → (b : Card) → Few (getD r i d)
   see-few few i d h b =
       let s = all .at i b d h in
-      few-as (getD r i d .slot) (getD cs i b .slot) (getD r i d .head .levels) (getD cs i b .reading .reading .levels) (s .slot) (s .head .levels) (few i b h)
+      let a = s .key .at in
+      let l = s .key .levels in
+      record {
+        held = λ e. let f = few-levels (getD cs i b) (few i b h) (sym (s .slot) ∙ e) in record { eight = omega arith; few = omega arith };
+      }
 
-  shown : (f : List ℕ) (c : Card) (s : Seen) → SeenOf c s → C.Few c → Shows s (cardIs f c)
-  shown f c s o few =
+  shown : (f : List ℕ) (c : Card) (i : ℕ) (s : Seen) → SeenAt ks c i s → C.Few c → Shows ks s (cardIs f c)
+  shown f c i s o few =
       record {
         slot = sym (ap₂ slotIs (o .slot) (o .value));
-        key = λ e. sym (o .head .key (subst (λ (x : Slot). FewBy x (c .reading .reading .levels)) (sym (o .slot) ∙ e) few));
+        key = λ e. sym (o .key .key (few-levels c few (sym (o .slot) ∙ e)));
       }
 
   card-at : (fs : List (List ℕ)) (i : ℕ) (b : Card) (e : O.Card) → i < n → getD (cardsIs fs n cs) i e ≡ cardIs (getD fs i []) (getD cs i b)
   card-at fs i b e h = let g = all .given in getD-take n (withFiles fs cs) i e h ∙ files-at fs cs i e b (omega arith)
 
-  pub see-sees : (fs : List (List ℕ)) (b : Card) → C.AllFew n cs → Sees n r (cardsIs fs n cs)
+  pub see-sees : (fs : List (List ℕ)) (b : Card) → C.AllFew n cs → Sees ks n r (cardsIs fs n cs)
   see-sees fs b few =
       let g = all .given in
       record {
         count = cards-length fs n cs (omega arith);
-        at = λ i d e h. subst (Shows (getD r i d)) (sym (card-at fs i b e h)) (shown (getD fs i []) (getD cs i b) (getD r i d) (all .at i b d h) (few i b h));
+        at = λ i d e h. subst (Shows ks (getD r i d)) (sym (card-at fs i b e h)) (shown (getD fs i []) (getD cs i b) i (getD r i d) (all .at i b d h) (few i b h));
       }
 
 -- ---- cards dealt
@@ -125,8 +143,8 @@ card-ext x y f r s =
     ap (λ (a : List ℕ). O.cardIs a (x .reading) (x .slot)) f ∙ ap₂ (λ (a : P.Plain) (b : O.Slot). O.cardIs (y .file) a b) r s
 
 pub deal-is : (n : ℕ) (cs : List Card) (ss : List Seen) (r : List Card) → length cs ≡ 8 → n ≤ 8 → AllDealt n cs ss r → (fs : List (List ℕ)) (Y : List O.Card) (b : Card) (d : Seen)
-    (o : O.Card) → Sees n ss Y → Kept (cardsIs fs n cs) Y → cardsIs fs n r ≡ Y
-deal-is n cs ss r given small all fs Y b d o sees kept =
+    (o : O.Card) (ks : List ℕ) → Sees ks n ss Y → Kept (cardsIs fs n cs) Y → cardsIs fs n r ≡ Y
+deal-is n cs ss r given small all fs Y b d o ks sees kept =
     let eight = all .eight in
     let len : length (cardsIs fs n r) ≡ n = cards-length fs n r (omega arith) in
     let count = sees .count in

@@ -18,9 +18,7 @@ use Rattle.ops_spec.specs.Ops as O
 use Rattle.ops_spec.specs.Ops.{Op, Slot, used, holds, ended, Card, cardIs, cardKey, Stepped, cards, halted, withCard, stepOne, stepAll, ifHolds, lesser, leastKey, sameTest, pairsFrom, useUp, takesTest, Verdict, this, no-more, another, atKey, atLeast, atFirst, decide, slotLeft, allLeft}
 use Rattle.ops_spec.specs.OpsFuelLaws.{cond-way, HasUsed, used-here, StepsFall, step-falls, HoldsKey, key-here, key-on}
 use Rattle.ops_spec.specs.OpsListsLaws.{same-true}
-use Rattle.ops_round.specs.declared.Stepping.{Stepping}
-use Rattle.ops_round.specs.declared.Stepping.the-variants.{Still, Moved, Halted}
-use Rattle.ops_round.specs.Cards.{thenStep}
+use Rattle.ops_round.specs.Cards.{Stepping, Still, Moved, Halted, thenStep}
 use Rattle.ops_turn.specs.Parts.{holding, weight, load}
 
 pub load-append : (X Y : List Card) → load (X ++ Y) ≡ load X + load Y

@@ -1,26 +1,30 @@
 -- The cards of a page or a call, with what is seen of them beside them.
 --     dealtAll cs ss             the cards with the slots and values seen
---     SeenStepped f space c s r  one card's part in a round
+--     afterIs a                  what an answer makes of a card
+--     SeenStepped f space p i ks₀ ks r   the step of a reading whose key is used up
 --     weight x, load X           what a card, what all have still to do: a key that is held counts one more
---     Turning fs o n X all ss i  the call from the cards X goes on, and the first i cards of this round are stepped
+--     Turning space fs o n X all ks ss i stepped     the call from the cards X goes on, the first i cards of this round have had their part, and
+--                                `stepped` says whether a reading was stepped in this call
 -- Assumes nothing.
 use mathlib.Core.Path.{_≡_}
-use mathlib.Core.Bool.{Bool, true, false}
-use mathlib.Core.Logic.{_⊎_}
+use mathlib.Core.Bool.{Bool, true, false, _||_}
 use mathlib.Core.List.{List, [], _∷_}
 use Prim.Native.Nat.{ℕ, _+_, _*_, _<_}
 use lib.ListN.{length, getD}
-use Rattle.format.specs.Limits.{maxPath}
 use Rattle.ops_spec.specs.Ops as O
 use Rattle.ops_spec.specs.Ops.{slotLeft}
 use Rattle.ops_spec.specs.OpsFuelLaws.{roundsBy}
+use Rattle.stream_step.specs.declared.Answer.{Answer}
+use Rattle.stream_step.specs.declared.Answer.the-variants.{Key, End, Refused}
+use Rattle.stream.specs.declared.Plain.{Plain}
+use Rattle.ops_keys.specs.Heads.{KeyAt}
+use Rattle.ops_round.specs.declared.Slot.the-variants.{Used, Holds, Ended}
 use Rattle.ops_round.specs.declared.Card.{Card}
-use Rattle.ops_round.specs.declared.Stepping.{Stepping}
-use Rattle.ops_round.specs.declared.Stepping.the-variants.{Still, Moved, Halted}
-use Rattle.ops_round.specs.Cards.{cardsIs, OneStepped}
+use Rattle.ops_round.specs.Cards.{cardsIs, Moved, Halted, usedCard, OneStepped}
 use Rattle.ops_round.specs.RoundLaws.{Rounding}
 use Rattle.ops_seen.specs.declared.Seen.{Seen}
 use Rattle.ops_seen.specs.Sights.{dealtCard, SeenOf}
+use Rattle.ops_turn.specs.declared.After.{After}
 use Rattle.ops_turn.specs.declared.SeenStep.{SeenStep}
 
 unfoldable pub dealtAll : List Card → List Seen → List Card
@@ -30,15 +34,15 @@ dealtAll (c ∷ cs) (s ∷ ss) = dealtCard c s ∷ dealtAll cs ss
 
 -- ---- one card
 
-pub record Goes (f : List ℕ) (space : ℕ) (c after : Card) : Type 0 where
-  pub answer : Stepping
-  pub is : (answer ≡ Still) ⊎ (answer ≡ Moved)
-  pub one : OneStepped f space c (record { answer = answer; card = after })
+abbrev pub afterIs : Answer → After
+afterIs (Key n v) = record { halted = false; why = 0; slot = Holds; value = v }
+afterIs End = record { halted = false; why = 0; slot = Ended; value = 0 }
+afterIs (Refused n) = record { halted = true; why = n; slot = Used; value = 0 }
 
-pub record SeenStepped (f : List ℕ) (space : ℕ) (c : Card) (s : Seen) (r : SeenStep) : Type 0 where
-  pub halts : r .halted ≡ true → OneStepped f space (dealtCard c s) (record { answer = Halted (r .why); card = r .card })
-  pub goes : r .halted ≡ false → Goes f space (dealtCard c s) (r .card)
-  pub seen : SeenOf (r .card) (r .seen)
+pub record SeenStepped (f : List ℕ) (space : ℕ) (p : Plain) (i : ℕ) (ks₀ ks : List ℕ) (r : SeenStep) : Type 0 where
+  pub halts : r .halted ≡ true → OneStepped f space (usedCard p) (record { answer = Halted (r .why); card = r .card })
+  pub goes : r .halted ≡ false → OneStepped f space (usedCard p) (record { answer = Moved; card = r .card })
+  pub seen : SeenOf (r .card) i ks₀ ks (r .seen)
 
 -- ---- what is still to do
 
@@ -56,12 +60,14 @@ load (x ∷ X) = weight x + load X
 
 -- ---- a round on its way
 
-pub record Turning (fs : List (List ℕ)) (o : O.Op) (n : ℕ) (X : List O.Card) (all : List Card) (ss : List Seen) (i : ℕ) : Type 0 where
+pub record Turning (space : ℕ) (fs : List (List ℕ)) (o : O.Op) (n : ℕ) (X : List O.Card) (all : List Card) (ks : List ℕ) (ss : List Seen) (i : ℕ) (stepped : Bool) : Type 0 where
   pub base : List Card
   pub moved : Bool
   pub before : Bool
-  pub round : Rounding fs maxPath n base (dealtAll all ss) moved i
-  pub call : roundsBy o maxPath false X ≡ roundsBy o maxPath before (cardsIs fs n base)
-  pub seen : (j : ℕ) (d : Card) (e : Seen) → j < i → SeenOf (getD (dealtAll all ss) j d) (getD ss j e)
+  pub told : stepped ≡ (before || moved)
+  pub round : Rounding fs space n base (dealtAll all ss) moved i
+  pub call : roundsBy o space false X ≡ roundsBy o space before (cardsIs fs n base)
+  pub heads : (j : ℕ) (d : Card) (e : Seen) → j < n → KeyAt ks (getD all j d .reading) j (getD ss j e .key)
   pub cards-len : length all ≡ 8
   pub seen-len : length ss ≡ 8
+  pub keys-len : length ks ≡ 2048

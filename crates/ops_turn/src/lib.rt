@@ -1,12 +1,24 @@
 // One card's part in a round, where what is seen of the cards stands beside them: the reading is the card's, the slot and the value are those seen.
 ghost use mathlib.Core.Path.{_≡_};
-ghost use Rattle.ops_turn.specs.Parts.{SeenStepped};
+ghost use Prim.Native.Nat.{_<_};
+ghost use lib.ListN.{length};
+ghost use Rattle.ops_turn.specs.Parts.{afterIs, SeenStepped};
+use ops_keys::KEYS;
+use ops_keys::put_bytes;
 use ops_round::Card;
-use ops_round::Stepping;
-use ops_round::step_card;
+use ops_round::Slot;
+use ops_round::step_used;
 use ops_seen::Seen;
-use ops_seen::dealt;
-use ops_seen::seen_of;
+use stream::Plain;
+use stream_step::Answer;
+
+// What a call of next makes of its card: a refusal's number, or the slot and the value afterwards. The rest carries no meaning.
+struct After {
+    halted: bool,
+    why: u8,
+    slot: Slot,
+    value: u64,
+}
 
 // A card after its step with what is seen of it, or the number of a refusal, where the rest carries no meaning.
 pub struct SeenStep {
@@ -16,33 +28,62 @@ pub struct SeenStep {
     pub seen: Seen,
 }
 
-// One card's part in a round, for a caller whose buffer has so many bytes.
-pub fn step_seen(file: &[u8], card: Card, seen: Seen, space: usize) -> SeenStep
-    ensures { λ r. ⌜ SeenStepped (now (file .entry)) space card seen r ⌝ }
+// What an answer makes of a card.
+fn after_of(answer: Answer) -> After
+    ensures { λ r. ⌜ r ≡ afterIs answer ⌝ }
 {
-    let held = dealt(card, seen);
-    let step = step_card(file, held, space);
-    let answer = step.answer;
-    let after = step.card;
-    let one = seen_of(after);
     match answer {
-        Stepping::Halted(why) => SeenStep {
+        Answer::Key(_, value) => After {
+            halted: false,
+            why: 0,
+            slot: Slot::Holds,
+            value,
+        },
+        Answer::End => After {
+            halted: false,
+            why: 0,
+            slot: Slot::Ended,
+            value: 0,
+        },
+        Answer::Refused(why) => After {
             halted: true,
             why,
-            card: after,
-            seen: one,
+            slot: Slot::Used,
+            value: 0,
         },
-        Stepping::Moved => SeenStep {
-            halted: false,
-            why: 0,
-            card: after,
-            seen: one,
+    }
+}
+
+// The step of card number i, whose key is used up, for a caller whose buffer has so many bytes. The bytes of its key are put among the eight.
+pub fn step_seen(
+    file: &[u8],
+    reading: Plain,
+    i: usize,
+    keys: &mut [u8; KEYS],
+    space: usize,
+) -> SeenStep
+    requires { ⌜ (length (now keys) ≡ 2048) × (i < 8) ⌝ }
+    ensures { λ r. ⌜ SeenStepped (now (file .entry)) space reading i (now (keys .entry))
+        (now (keys .exit)) r ⌝ }
+{
+    let step = step_used(file, reading, space);
+    let answer = step.answer;
+    let plain = step.plain;
+    let key = put_bytes(plain, i, keys);
+    let after = after_of(answer);
+    let slot = after.slot;
+    SeenStep {
+        halted: after.halted,
+        why: after.why,
+        card: Card {
+            reading: plain,
+            slot,
+            value: after.value,
         },
-        Stepping::Still => SeenStep {
-            halted: false,
-            why: 0,
-            card: after,
-            seen: one,
+        seen: Seen {
+            key,
+            slot,
+            value: after.value,
         },
     }
 }

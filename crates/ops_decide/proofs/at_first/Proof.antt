@@ -1,5 +1,6 @@
 -- `ops_decide::at_first` meets its contract: by whether a card holds a lesser key.
 -- Assumes nothing.
+use denote.Ref.{now}
 use mathlib.Core.Path.{refl, ap}
 use borrow.Author.Tests.{not-true, not-false}
 use Rattle.ops_keys.specs.Heads.{less?}
@@ -27,7 +28,7 @@ returns : tie.Need-returns
 returns c = λ X S.
     let a = c .before .before .before .before .args in
     let l = c .before .before .before .least-key in
-    first-none (a .count) (a .cards) (l .result) (l .ensures) X S (a .key) (c .no-more .result) (not-true (l .result .found) (c .before .if1 .taken)) (c .no-more .ensures X (a .count))
+    first-none (now (a .keys)) (a .count) (a .cards) (l .result) (l .ensures) X S (a .key) (c .no-more .result) (not-true (l .result .found) (c .before .if1 .taken)) (c .no-more .ensures)
 
 compare-requires : tie.Need-compare-requires
 compare-requires c κs = search needs
@@ -57,21 +58,21 @@ returns-2 : tie.Need-returns-2
 returns-2 c = λ X S.
     let a = c .before .before .before .before .before .before .before .before .args in
     let l = c .before .before .before .before .before .before .before .least-key in
-    first-less (a .count) (a .cards) (l .result) (l .ensures) X S (a .key) _ (not-false (l .result .found) (c .before .before .before .before .before .if1 .left))
+    first-less (now (a .keys)) (a .count) (a .cards) (l .result) (l .ensures) X S (a .key) _ (not-false (l .result .found) (c .before .before .before .before .before .if1 .left))
     (c .before .before .before .before .compare .result) (c .before .before .before .before .compare .ensures) (ap less? (c .before .before .enum-told .given .1)) refl (c .use-up .ensures)
 
 returns-3 : tie.Need-returns-3
 returns-3 c = λ X S.
     let a = c .before .before .before .before .before .before .before .args in
     let l = c .before .before .before .before .before .before .least-key in
-    first-key (a .count) (a .cards) (l .result) (l .ensures) X S (a .key) (c .at-key .result) (not-false (l .result .found) (c .before .before .before .before .if1 .left))
+    first-key (now (a .keys)) (a .count) (a .cards) (l .result) (l .ensures) X S (a .key) (c .at-key .result) (not-false (l .result .found) (c .before .before .before .before .if1 .left))
     (c .before .before .before .compare .result) (c .before .before .before .compare .ensures) (ap less? (c .before .enum-told2 .given .1)) (c .at-key .ensures X S)
 
 returns-4 : tie.Need-returns-4
 returns-4 c = λ X S.
     let a = c .before .before .before .before .before .before .before .args in
     let l = c .before .before .before .before .before .before .least-key in
-    first-key (a .count) (a .cards) (l .result) (l .ensures) X S (a .key) (c .at-key2 .result) (not-false (l .result .found) (c .before .before .before .before .if1 .left))
+    first-key (now (a .keys)) (a .count) (a .cards) (l .result) (l .ensures) X S (a .key) (c .at-key2 .result) (not-false (l .result .found) (c .before .before .before .before .if1 .left))
     (c .before .before .before .compare .result) (c .before .before .before .compare .ensures) (ap less? (c .before .enum-told3 .given .1)) (c .at-key2 .ensures X S)
 
 pub at-first-spec : {M : Type 1} → statement M

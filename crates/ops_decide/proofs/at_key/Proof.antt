@@ -1,5 +1,6 @@
 -- `ops_decide::at_key` meets its contract: a key that belongs is the item, another asks for a round.
 -- Assumes nothing.
+use denote.Ref.{now}
 use Rattle.ops_decide.proofs.DecideCases.{key-this, key-another}
 use borrow.Author.Needs.{needs}
 use native.Mathlib.Omega.{arith}
@@ -24,14 +25,14 @@ returns : tie.Need-returns
 returns c = λ X S.
     let a = c .before .before .before .before .args in
     let pre = c .before .before .before .before .pre in
-    key-this (a .op) (a .count) (a .cards) (a .key) (c .before .before .before .collect .result) (c .before .before .use-up .result) (c .before .takes .result)
+    key-this (now (a .keys)) (a .op) (a .count) (a .cards) (a .key) (c .before .before .before .collect .result) (c .before .before .use-up .result) (c .before .takes .result)
     (c .before .before .before .collect .ensures) (c .before .before .use-up .ensures) (c .before .takes .ensures) X S (c .if1 .taken) (pre .2)
 
 returns-2 : tie.Need-returns-2
 returns-2 c = λ X S.
     let a = c .before .before .before .before .args in
     let pre = c .before .before .before .before .pre in
-    key-another (a .op) (a .count) (a .cards) (a .key) (c .before .before .before .collect .result) (c .before .before .use-up .result) (c .before .takes .result)
+    key-another (now (a .keys)) (a .op) (a .count) (a .cards) (a .key) (c .before .before .before .collect .result) (c .before .before .use-up .result) (c .before .takes .result)
     (c .before .before .before .collect .ensures) (c .before .before .use-up .ensures) (c .before .takes .ensures) X S (c .if1 .left)
 
 pub at-key-spec : {M : Type 1} → statement M

@@ -1,5 +1,6 @@
 -- `ops_decide::at_least` meets its contract: by whether a key was found.
 -- Assumes nothing.
+use denote.Ref.{now}
 use Rattle.ops_decide.proofs.DecideCases.{least-some, least-none}
 use borrow.Author.Needs.{needs}
 use native.Mathlib.Omega.{arith}
@@ -21,7 +22,7 @@ returns : tie.Need-returns
 returns c = λ X S.
     let a = c .before .before .before .before .args in
     let l = c .before .before .before .least-key in
-    least-some (a .count) (a .cards) (l .result) (l .ensures) X S (a .op) (c .at-key .result) (c .before .if1 .taken) (c .at-key .ensures X S)
+    least-some (now (a .keys)) (a .count) (a .cards) (l .result) (l .ensures) X S (a .op) (c .at-key .result) (c .before .if1 .taken) (c .at-key .ensures X S)
 
 no-more-requires : tie.Need-no-more-requires
 no-more-requires c κs = search needs
@@ -30,7 +31,7 @@ returns-2 : tie.Need-returns-2
 returns-2 c = λ X S.
     let a = c .before .before .before .before .args in
     let l = c .before .before .before .least-key in
-    least-none (a .count) (a .cards) (l .result) (l .ensures) X S (a .op) (c .no-more .result) (c .before .if1 .left) (c .no-more .ensures X (a .count))
+    least-none (now (a .keys)) (a .count) (a .cards) (l .result) (l .ensures) X S (a .op) (c .no-more .result) (c .before .if1 .left) (c .no-more .ensures)
 
 pub at-least-spec : {M : Type 1} → statement M
 at-least-spec =

@@ -1,5 +1,6 @@
 -- `ops_decide::decide` meets its contract: a function for a difference, and one for the others.
 -- Assumes nothing.
+use denote.Ref.{now}
 use mathlib.Core.Path.{refl}
 use mathlib.Core.Logic.{inl, inr}
 use Rattle.ops_decide.specs.declared.Op.the-variants.{Union, Intersection, SymmetricDifference}
@@ -40,22 +41,22 @@ at-least-requires-3 c κs = search needs
 returns : tie.Need-returns
 returns c = λ X S.
     let a = c .before .before .before .args in
-    least-op (a .op) Union (a .count) X (c .at-least .result) (c .before .enum-told .given .1) (inl refl) (c .at-least .ensures X S)
+    least-op (now (a .keys)) (a .cards) (a .op) Union (a .count) X (c .at-least .result) (c .before .enum-told .given .1) (inl refl) (c .at-least .ensures X S)
 
 returns-2 : tie.Need-returns-2
 returns-2 c = λ X S.
     let a = c .before .before .before .args in
-    least-op (a .op) Intersection (a .count) X (c .at-least2 .result) (c .before .enum-told2 .given .1) (inr (inl refl)) (c .at-least2 .ensures X S)
+    least-op (now (a .keys)) (a .cards) (a .op) Intersection (a .count) X (c .at-least2 .result) (c .before .enum-told2 .given .1) (inr (inl refl)) (c .at-least2 .ensures X S)
 
 returns-3 : tie.Need-returns-3
 returns-3 c = λ X S.
     let a = c .before .before .before .args in
-    difference-op (a .op) (a .count) X (c .difference .result) (c .before .enum-told3 .given .1) (c .difference .ensures X S)
+    difference-op (now (a .keys)) (a .cards) (a .op) (a .count) X (c .difference .result) (c .before .enum-told3 .given .1) (c .difference .ensures X S)
 
 returns-4 : tie.Need-returns-4
 returns-4 c = λ X S.
     let a = c .before .before .before .args in
-    least-op (a .op) SymmetricDifference (a .count) X (c .at-least3 .result) (c .before .enum-told4 .given .1) (inr (inr refl)) (c .at-least3 .ensures X S)
+    least-op (now (a .keys)) (a .cards) (a .op) SymmetricDifference (a .count) X (c .at-least3 .result) (c .before .enum-told4 .given .1) (inr (inr refl)) (c .at-least3 .ensures X S)
 
 pub decide-spec : {M : Type 1} → statement M
 decide-spec =

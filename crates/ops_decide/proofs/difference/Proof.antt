@@ -1,7 +1,8 @@
 -- `ops_decide::difference` meets its contract: by the first card.
 -- Assumes nothing.
+use denote.Ref.{now}
 use mathlib.Core.Logic.{inl, inr}
-use Rattle.ops_decide.proofs.DecideCases.{difference-over, difference-held, few-first}
+use Rattle.ops_decide.proofs.DecideCases.{difference-over, difference-held}
 use borrow.Author.Needs.{needs}
 use native.Mathlib.Omega.{arith}
 use Rattle.ops_decide.proofs.difference.Statement.{statement}
@@ -32,25 +33,25 @@ enum-told-3 c = search needs
 at-first-requires : tie.Need-at-first-requires
 at-first-requires c κs =
     let pre = c .before .before .before .before .pre in
-    (pre .1, pre .2, few-first (c .before .before .before .before .args .t2) _ (c .enum-told3 .given .1) (pre .2 .few 0 _ (pre .0)))
+    (pre .1, pre .2, pre .2 .few 0 _ (pre .0) .held (c .enum-told3 .given .1))
 
 returns : tie.Need-returns
 returns c = λ X S.
     let a = c .before .before .before .before .before .args in
     let pre = c .before .before .before .before .before .pre in
-    difference-over (a .count) (a .t2) _ (pre .0) X S (c .no-more .result) (inl (c .before .enum-told .given .1)) (c .no-more .ensures X (a .count))
+    difference-over (now (a .keys)) (a .count) (a .t3) _ (pre .0) X S (c .no-more .result) (inl (c .before .enum-told .given .1)) (c .no-more .ensures)
 
 returns-2 : tie.Need-returns-2
 returns-2 c = λ X S.
     let a = c .before .before .before .before .before .args in
     let pre = c .before .before .before .before .before .pre in
-    difference-over (a .count) (a .t2) _ (pre .0) X S (c .no-more2 .result) (inr (c .before .enum-told2 .given .1)) (c .no-more2 .ensures X (a .count))
+    difference-over (now (a .keys)) (a .count) (a .t3) _ (pre .0) X S (c .no-more2 .result) (inr (c .before .enum-told2 .given .1)) (c .no-more2 .ensures)
 
 returns-3 : tie.Need-returns-3
 returns-3 c = λ X S.
     let a = c .before .before .before .before .before .args in
     let pre = c .before .before .before .before .before .pre in
-    difference-held (a .count) (a .t2) _ (pre .0) X S (c .at-first .result) (c .before .enum-told3 .given .1) (c .at-first .ensures X S)
+    difference-held (now (a .keys)) (a .count) (a .t3) _ (pre .0) X S (c .at-first .result) (c .before .enum-told3 .given .1) (c .at-first .ensures X S)
 
 pub difference-spec : {M : Type 1} → statement M
 difference-spec =

@@ -1,5 +1,6 @@
 -- `ops_item::collect` meets its contract. The invariant: the values of the cards from i on are gathered. The measure is i.
 -- Assumes nothing.
+use denote.Ref.{now}
 use Rattle.ops_item.proofs.CardLoops.{Collecting, collecting-none, collecting-room, collecting-on, collecting-all}
 use borrow.Author.Needs.{needs}
 use native.Mathlib.Omega.{arith}
@@ -11,10 +12,10 @@ use Rattle.ops_item.proofs.gather.Reads as gather-reads
 use Rattle.ops_pairs.proofs.none.Reads as none-reads
 
 abbrev Inv-loop : tie.InvT-loop
-Inv-loop count key cards pairs₀ i₀ pairs i = Collecting count cards key pairs i
+Inv-loop keys count key cards pairs₀ i₀ pairs i = Collecting keys count cards key pairs i
 
 abbrev μ-loop : tie.MeasureT-loop
-μ-loop count key cards pairs₀ i₀ pairs i = i
+μ-loop keys count key cards pairs₀ i₀ pairs i = i
 
 none-requires : tie.Need-none-requires Inv-loop μ-loop
 none-requires c κs = search needs
@@ -22,7 +23,7 @@ none-requires c κs = search needs
 loop-holds : tie.Need-loop-holds Inv-loop μ-loop
 loop-holds c =
     let a = c .before .args in
-    collecting-none (a .count) (a .t2) (a .key) (c .none .result) (c .none .ensures)
+    collecting-none (now (a .keys)) (a .count) (a .t3) (a .key) (c .none .result) (c .none .ensures)
 
 sub-i : tie.Need-sub-i Inv-loop μ-loop
 sub-i c = search needs
@@ -42,7 +43,7 @@ gather-requires c κs =
     let a = c .before .before .before .before .args in
     let pre = c .before .before .before .before .pre in
     let within = l .inv .within in
-    (pre .2, pre .1 .few _ _ (omega arith), collecting-room (a .count) (a .t2) (a .key) (l .pairs) (l .i) (pre .1) (pre .0) (c .before .loop-test .taken) (l .inv))
+    (pre .1 .long, pre .2, pre .1 .few _ _ (omega arith), collecting-room (now (a .keys)) (a .count) (a .t3) (a .key) (l .pairs) (l .i) (pre .1) (pre .0) (c .before .loop-test .taken) (l .inv))
 
 loop-less : tie.Need-loop-less Inv-loop μ-loop
 loop-less c = search needs
@@ -51,13 +52,13 @@ loop-again : tie.Need-loop-again Inv-loop μ-loop
 loop-again c =
     let l = c .before .before .before .loop in
     let a = c .before .before .before .before .before .args in
-    collecting-on (a .count) (a .t2) (a .key) (l .pairs) (l .i) _ (c .gather .result) (c .before .before .loop-test .taken) (l .inv) (c .gather .ensures)
+    collecting-on (now (a .keys)) (a .count) (a .t3) (a .key) (l .pairs) (l .i) _ (c .gather .result) (c .before .before .loop-test .taken) (l .inv) (c .gather .ensures)
 
 returns : tie.Need-returns Inv-loop μ-loop
 returns c =
     let l = c .before .loop in
     let a = c .before .before .before .args in
-    collecting-all (a .count) (a .t2) (a .key) (l .pairs) (l .i) (omega (arith, c .loop-test .left)) (l .inv)
+    collecting-all (now (a .keys)) (a .count) (a .t3) (a .key) (l .pairs) (l .i) (omega (arith, c .loop-test .left)) (l .inv)
 
 pub collect-spec : {M : Type 1} → statement M
 collect-spec =

@@ -1,6 +1,6 @@
 -- `ops_item::least_key` meets its contract. The invariant: the least key of the cards from i on is found. The measure is i.
 -- Assumes nothing.
-use lib.ListN.{replicate}
+use denote.Ref.{now}
 use Rattle.ops_item.proofs.CardLoops.{Leasting, leasting-none, leasting-on, leasting-all}
 use borrow.Author.Needs.{needs}
 use native.Mathlib.Omega.{arith}
@@ -11,15 +11,15 @@ use Rattle.ops_item.proofs.least_key.Lts as lts
 use Rattle.ops_item.proofs.lesser.Reads as lesser-reads
 
 abbrev Inv-loop : tie.InvT-loop
-Inv-loop count cards least₀ i₀ least i = Leasting count cards least i
+Inv-loop keys count cards least₀ i₀ least i = Leasting keys count cards least i
 
 abbrev μ-loop : tie.MeasureT-loop
-μ-loop count cards least₀ i₀ least i = i
+μ-loop keys count cards least₀ i₀ least i = i
 
 loop-holds : tie.Need-loop-holds Inv-loop μ-loop
 loop-holds c =
     let a = c .args in
-    leasting-none (a .count) (a .t2) (record { levels = 0; inps = replicate 256 0 }) (omega arith)
+    leasting-none (now (a .keys)) (a .count) (a .t3) (record { at = 0; levels = 0 }) (record { eight = omega arith; few = omega arith })
 
 sub-i : tie.Need-sub-i Inv-loop μ-loop
 sub-i c = search needs
@@ -35,7 +35,7 @@ lesser-requires c κs =
     let l = c .before .before .loop in
     let pre = c .before .before .before .pre in
     let within = l .inv .within in
-    (l .inv .few, pre .1 .few _ _ (omega arith))
+    (pre .1 .long, l .inv .few, pre .1 .few _ _ (omega arith))
 
 loop-less : tie.Need-loop-less Inv-loop μ-loop
 loop-less c = search needs
@@ -44,13 +44,13 @@ loop-again : tie.Need-loop-again Inv-loop μ-loop
 loop-again c =
     let l = c .before .before .before .loop in
     let a = c .before .before .before .before .args in
-    leasting-on (a .count) (a .t2) (l .least) (l .i) _ (c .lesser .result) (c .before .before .loop-test .taken) (l .inv) (c .lesser .ensures)
+    leasting-on (now (a .keys)) (a .count) (a .t3) (l .least) (l .i) _ (c .lesser .result) (c .before .before .loop-test .taken) (l .inv) (c .lesser .ensures)
 
 returns : tie.Need-returns Inv-loop μ-loop
 returns c =
     let l = c .before .loop in
     let a = c .before .before .args in
-    leasting-all (a .count) (a .t2) (l .least) (l .i) (omega (arith, c .loop-test .left)) (l .inv)
+    leasting-all (now (a .keys)) (a .count) (a .t3) (l .least) (l .i) (omega (arith, c .loop-test .left)) (l .inv)
 
 pub least-key-spec : {M : Type 1} → statement M
 least-key-spec =

@@ -1,5 +1,6 @@
 -- `ops_item::use_up` meets its contract. The invariant: the first i cards are looked at, and the rest decides. The measure is count less i.
 -- Assumes nothing.
+use denote.Ref.{now}
 use mathlib.Core.Path.{_≡_}
 use Prim.Native.Nat.{_-_, _≤_}
 use lib.ListN.{length}
@@ -13,16 +14,16 @@ use Rattle.ops_item.proofs.use_up.Lts as lts
 use Rattle.ops_item.proofs.used_up.Reads as used-up-reads
 
 abbrev Inv-loop : tie.InvT-loop
-Inv-loop count key less all₀ i₀ all i = Using count all₀ key less all i
+Inv-loop keys count key less all₀ i₀ all i = Using keys count all₀ key less all i
 
 abbrev μ-loop : tie.MeasureT-loop
-μ-loop count key less all₀ i₀ all i = count - i
+μ-loop keys count key less all₀ i₀ all i = count - i
 
 loop-holds : tie.Need-loop-holds Inv-loop μ-loop
 loop-holds c =
     let a = c .args in
     let long : length (a .cards) ≡ 8 = search needs in
-    using-none (a .count) (a .cards) (a .key) (a .less) long (c .pre .1)
+    using-none (now (a .keys)) (a .count) (a .cards) (a .key) (a .less) long (c .pre .1)
 
 mul-card : tie.Need-mul-card Inv-loop μ-loop
 mul-card c = search needs
@@ -34,7 +35,7 @@ used-up-requires : tie.Need-used-up-requires Inv-loop μ-loop
 used-up-requires c κs =
     let l = c .before .before .loop in
     let pre = c .before .before .before .pre in
-    (pre .2, l .inv .few _ _ (c .before .loop-test .taken))
+    (pre .1 .long, pre .2, l .inv .few _ _ (c .before .loop-test .taken))
 
 mul-all : tie.Need-mul-all Inv-loop μ-loop
 mul-all c = search needs
@@ -53,14 +54,14 @@ loop-again c =
     let l = c .before .before .before .loop in
     let a = c .before .before .before .before .args in
     let pre = c .before .before .before .before .pre in
-    using-on (a .count) (a .cards) (a .key) (a .less) (l .all) (l .i) (pre .0) (l .inv) _ (c .used-up .result) (c .before .before .loop-test .taken) (c .used-up .ensures)
+    using-on (now (a .keys)) (a .count) (a .cards) (a .key) (a .less) (l .all) (l .i) (pre .0) (l .inv) _ (c .used-up .result) (c .before .before .loop-test .taken) (c .used-up .ensures)
 
 returns : tie.Need-returns Inv-loop μ-loop
 returns c =
     let l = c .before .loop in
     let a = c .before .before .args in
     let pre = c .before .before .pre in
-    using-all (a .count) (a .cards) (a .key) (a .less) (l .all) (l .i) (pre .0) (l .inv) (c .loop-test .left)
+    using-all (now (a .keys)) (a .count) (a .cards) (a .key) (a .less) (l .all) (l .i) (pre .0) (l .inv) (c .loop-test .left)
 
 pub use-up-spec : {M : Type 1} → statement M
 use-up-spec =

@@ -1,8 +1,9 @@
 -- `ops_item::used_up` meets its contract: a law of CardCases for each case.
 -- Assumes nothing.
+use denote.Ref.{now}
 use mathlib.Core.Path.{sym, _∙_}
 use mathlib.Core.Logic.{inl, inr}
-use Rattle.ops_item.proofs.CardCases.{few-held, used-kept, used-meant, used-other}
+use Rattle.ops_item.proofs.CardCases.{used-kept, used-meant, used-other}
 use borrow.Author.Needs.{needs}
 use native.Mathlib.Omega.{arith}
 use Rattle.ops_item.proofs.used_up.Statement.{statement}
@@ -25,7 +26,7 @@ compare-requires : tie.Need-compare-requires
 compare-requires c κs =
     let a = c .before .before .before .args in
     let pre = c .before .before .before .pre in
-    (few-held (a .card) (c .enum-told3 .given .1) (pre .1), pre .0)
+    (pre .0, pre .2 .held (c .enum-told3 .given .1), pre .1)
 
 is-meant-requires : tie.Need-is-meant-requires
 is-meant-requires c κs = search needs
@@ -34,25 +35,25 @@ returns : tie.Need-returns
 returns c =
     let a = c .before .before .before .before .before .before .args in
     let pre = c .before .before .before .before .before .before .pre in
-    used-meant (a .card) (a .key) (a .less) (c .before .before .before .enum-told3 .given .1) (pre .1) (c .before .before .compare .result) (c .before .before .compare .ensures) (sym (c .before .is-meant .ensures) ∙ c .if1 .taken)
+    used-meant (now (a .keys)) (a .card) (a .key) (a .less) (c .before .before .before .enum-told3 .given .1) (pre .2) (c .before .before .compare .result) (c .before .before .compare .ensures) (sym (c .before .is-meant .ensures) ∙ c .if1 .taken)
 
 returns-2 : tie.Need-returns-2
 returns-2 c =
     let a = c .before .before .before .args in
     let pre = c .before .before .before .pre in
-    used-kept (a .card) (a .key) (a .less) (inl (c .enum-told .given .1))
+    used-kept (now (a .keys)) (a .card) (a .key) (a .less) (inl (c .enum-told .given .1))
 
 returns-3 : tie.Need-returns-3
 returns-3 c =
     let a = c .before .before .before .args in
     let pre = c .before .before .before .pre in
-    used-kept (a .card) (a .key) (a .less) (inr (c .enum-told2 .given .1))
+    used-kept (now (a .keys)) (a .card) (a .key) (a .less) (inr (c .enum-told2 .given .1))
 
 returns-4 : tie.Need-returns-4
 returns-4 c =
     let a = c .before .before .before .before .before .before .args in
     let pre = c .before .before .before .before .before .before .pre in
-    used-other (a .card) (a .key) (a .less) (c .before .before .before .enum-told3 .given .1) (pre .1) (c .before .before .compare .result) (c .before .before .compare .ensures) (sym (c .before .is-meant .ensures) ∙ c .if1 .left)
+    used-other (now (a .keys)) (a .card) (a .key) (a .less) (c .before .before .before .enum-told3 .given .1) (pre .2) (c .before .before .compare .result) (c .before .before .compare .ensures) (sym (c .before .is-meant .ensures) ∙ c .if1 .left)
 
 pub used-up-spec : {M : Type 1} → statement M
 used-up-spec =

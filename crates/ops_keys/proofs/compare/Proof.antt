@@ -17,17 +17,25 @@ key-len-requires c κs = search needs
 key-len-requires-2 : tie.Need-key-len-requires-2
 key-len-requires-2 c κs = search needs
 
--- src/lib.rt:64:5
-compare-bytes-requires : tie.Need-compare-bytes-requires
-compare-bytes-requires c κs = search needs
+mul-x : tie.Need-mul-x
+mul-x c = search needs
 
--- src/lib.rt:56:1
+mul-y : tie.Need-mul-y
+mul-y c = search needs
+
+compare-bytes-requires : tie.Need-compare-bytes-requires
+compare-bytes-requires c κs =
+    let pre = (c .before .before .before .before) .pre in
+    let j = (c .before .before .before .key-len) .ensures in
+    let k = (c .before .before .key-len2) .ensures in
+    (pre .0, omega (arith, j, pre .1 .eight, pre .1 .few), omega (arith, k, pre .2 .eight, pre .2 .few))
+
 returns : tie.Need-returns
-returns c = let start = c .before .before .before .before .before .before .before in
-    let j = c .before .before .before .before .before .before .key-len .ensures in
-    let k = c .before .before .before .before .before .key-len2 .ensures in
-    rw (j, k) at (c .compare-bytes .ensures)
+returns c =
+    let j = (c .before .before .before .before .key-len) .ensures in
+    let k = (c .before .before .before .key-len2) .ensures in
+    rw (j, k) at ((c .compare-bytes) .ensures)
 
 pub compare-spec : {M : Type 1} → statement M
 compare-spec =
-    tie.close (tie.spec key-len-requires key-len-requires-2 compare-bytes-requires returns)
+    tie.close (tie.spec key-len-requires key-len-requires-2 mul-x mul-y compare-bytes-requires returns)

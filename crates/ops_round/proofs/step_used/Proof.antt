@@ -6,7 +6,7 @@ use borrow.Author.Tests.{le-leb, lt-leb}
 use denote.Ref.{now}
 use Rattle.format.specs.Limits.{maxPath}
 use Rattle.stream.specs.Plains.{plainIs}
-use Rattle.ops_round.proofs.StepCases.{gave-room}
+use Rattle.ops_round.specs.StepLaws.{gave-room}
 use borrow.Author.Needs.{needs}
 use native.Mathlib.Omega.{arith}
 use Rattle.ops_round.proofs.step_used.Statement.{statement}
