@@ -1,6 +1,6 @@
 # Where the checks of rt keep what they copy. Each copies the libraries that it stands on, thousands of files, to a folder of its own below
 # TMPDIR and removes it at its end; on a disk that takes more of the processor than many a crate's proof, in memory little.
-# Sourced. `in_memory` prints a new folder in memory, or nothing: where /dev/shm is none, has no room for six checks at once, or runs no program,
+# Sourced. `in_memory` prints a new folder in memory, or nothing: where /dev/shm is none, has no room for eight checks at once, 210 MB each, or runs no program,
 # since rt runs the proved programs there too, as nobody.
 in_memory() {
     local folder free room

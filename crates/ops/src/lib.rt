@@ -161,7 +161,8 @@ pub fn next_item(files: [&[u8]; 8], cards: Cards, key: &mut [u8]) -> Step
             let numbers = pairs.files;
             let values = pairs.values;
             let n = put_key(head, key);
-            Step {
+            // by `return`, since the value of a `match` is copied once more
+            return Step {
                 answer: Merged::Item(n),
                 count: pairs.count,
                 files: numbers,
@@ -171,7 +172,7 @@ pub fn next_item(files: [&[u8]; 8], cards: Cards, key: &mut [u8]) -> Step
                     count,
                     cards: after,
                 },
-            }
+            };
         }
     }
 }

@@ -65,15 +65,15 @@ put-key-requires c κs =
     (fits, omega arith)
 
 -- src/lib.rt:128:1
-returns-3 : tie.Need-returns-3
-returns-3 c =
+returns-4 : tie.Need-returns-4
+returns-4 c =
     let a = c .before .before .before .before .before .before .before .before .before .before .before .before .args in
     let d = c .before .before .before .before .before .before .before .rounds in
     merged-refused (map (λ f. now f) (a .files)) (a .cards) (length (now (a .key))) (now (a .key)) (omega (arith, c .before .before .before .before .before .before .before .before .before .if1 .left)) (c .before .before .before .before .before .before .before .before .if2 .left) (d .result) (d .ensures) _ (c .before .before .came .given .1) (c .refused3 .result) (c .refused3 .ensures)
 
 -- src/lib.rt:128:1
-returns-4 : tie.Need-returns-4
-returns-4 c =
+returns-5 : tie.Need-returns-5
+returns-5 c =
     let a = c .before .before .before .before .before .before .before .before .before .before .args in
     let d = c .before .before .before .before .before .rounds in
     merged-end (map (λ f. now f) (a .files)) (a .cards) (length (now (a .key))) (now (a .key)) (omega (arith, c .before .before .before .before .before .before .before .if1 .left)) (c .before .before .before .before .before .before .if2 .left) (d .result) (d .ensures) (c .enum-told .given .1)
@@ -83,8 +83,8 @@ same-length : tie.Need-same-length
 same-length c = search needs
 
 -- src/lib.rt:128:1
-returns-5 : tie.Need-returns-5
-returns-5 c =
+returns-3 : tie.Need-returns-3
+returns-3 c =
     let a = c .before .before .before .before .before .before .before .before .before .before .before .before .before .before .before .before .args in
     let d = c .before .before .before .before .before .before .before .before .before .before .before .rounds in
     let k = c .before .before .put-key in
@@ -104,7 +104,7 @@ next-item-spec =
     enum-told
     enum-told-2
     put-key-requires
+    same-length
     returns-3
     returns-4
-    same-length
     returns-5)
