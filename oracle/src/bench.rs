@@ -214,9 +214,12 @@ fn read_by_the_rust(rust: &Opened, part: &Part) -> usize {
 }
 
 // The time of a key, over ranges that are read whole.
-fn reading(ours: &dyn ReadingAnswers, rust: &Opened, file: &[u8], counts: &[u64], parts: &[Part]) -> (f64, f64) {
+fn reading(ours: &dyn ReadingAnswers, rust: &Opened, file: &[u8], counts: Option<&[u64]>, parts: &[Part]) -> (f64, f64) {
     let mut key = [0; MAX_PATH];
-    let mut read = |part: &Part| ours.keys(file, &part.lower, &part.upper, counts, u64::max_value(), &mut key) as usize;
+    let mut read = |part: &Part| match counts {
+        Some(counts) => ours.keys(file, &part.lower, &part.upper, counts, u64::max_value(), &mut key) as usize,
+        None => ours.bare_keys(file, &part.lower, &part.upper, u64::max_value(), &mut key) as usize,
+    };
     let mut keys = 0;
     for part in parts {
         assert_eq!(read(part), part.keys);
@@ -376,9 +379,11 @@ pub fn bench(
         let whole = [part(&set.keys, 0, READ)];
         let mut counts = vec![0; file.len()];
         let fill = filling(ours, &file, &mut counts);
-        say("key of a long reading", reading(readings, &rust, &file, &counts, &whole));
+        say("key of a long reading", reading(readings, &rust, &file, Some(&counts), &whole));
+        say("  without the number", reading(readings, &rust, &file, None, &whole));
         let short: Vec<Part> = (0..READ / SHORT).map(|_| part(&set.keys, prng.below(n - SHORT), SHORT)).collect();
-        say("key of a range of 20", reading(readings, &rust, &file, &counts, &short));
+        say("key of a range of 20", reading(readings, &rust, &file, Some(&counts), &short));
+        say("  without the number", reading(readings, &rust, &file, None, &short));
         if set.name == "part numbers" {
             bench_pattern::bench(readings, &rust, &file, &set.keys);
         }
