@@ -51,7 +51,7 @@ module _ {f : Fst} {d t : List ℕ} (z : f.root ≡ 0) (c : Cleared f.bytes d t 
   root_zero_good =
       record {
         nodes = [];
-        chained = record { chain = empty z; closed = λ a m u mem. absurd (mathlib.Core.List.Memᴰ.not_nil mem) };
+        chained = record { chain = empty z; closed = λ a m u mem. absurd (mathlib.Core.List.Memᴰ.not-nil mem) };
         shallow = λ a k sum b r p. omega (arith, longest_bound p, ap (longest f) (reached_zero z a r), longest_zero f);
         light = λ a k sum b m r p e. omega (arith, largest_bound p e, ap (largest_sum f) (reached_zero z a r), largest_zero f);
         depths = holds_none z c.depths;

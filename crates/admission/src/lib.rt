@@ -2,6 +2,8 @@
 // A pass from the root down judges each node of the chain, once, and marks what it leads to (`admission_walk`). Then a pass in ascending
 // order of addresses works out the longest path and the largest sum of each reached node from those of its targets (`admission_fill`).
 // There is no recursion, and no memory but the two lent tables.
+#![tactic(auto)]
+
 ghost use Rattle.std.specs.Prelude.{◌≡◌, ◌++◌, ◌≤◌, length, drop, replicate};
 ghost use Rattle.format.specs.Paths.{fst_with};
 ghost use Rattle.admission.specs.Outcome.{Cleared, Judges, Opens, Outcome};
@@ -12,7 +14,7 @@ use format::{DEEP, NODE, SPACE, SUM};
 use fst::Opened;
 
 // What admission answers: the file is admitted, or the number of a refusal.
-#[derive(Drop)]
+#[derive(Clone, Copy)]
 pub enum Admission {
     Admitted,
     Refused(u8),

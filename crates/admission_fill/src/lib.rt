@@ -1,12 +1,14 @@
 // The pass of admission in ascending order of addresses: it works out the longest path and the largest sum of each reached node from those of
 // its targets, which lie below it.
+#![tactic(auto)]
+
 ghost use Rattle.format.specs.Paths.{fst_with};
 ghost use Rattle.admission_fill.specs.Fills.{Fillable, Filled};
 
 use admission_node::{UNUSED, clamped, entry_of, or_deep, or_over, survey_at};
 
 // What judging the nodes found: nothing wrong, or the first of document 01's refusals that holds over the whole file.
-#[derive(Drop)]
+#[derive(Clone, Copy)]
 pub enum Verdict {
     Good,
     // an unsound node, a broken chain, or a target that is no chain address

@@ -26,7 +26,7 @@ pub record MarkedTo (n mark : ℕ) (ts : List Transition) (d₀ d : List ℕ) (i
 
 pub marked_none : (n mark : ℕ) (ts : List Transition) (d : List ℕ) → MarkedTo n mark ts d d 0
 marked_none n mark ts d =
-    record { within = omega arith; kept = kept_none n d; led = λ j. inl refl; aim = λ t m. absurd (Memᴰ.not_nil m) }
+    record { within = omega arith; kept = kept_none n d; led = λ j. inl refl; aim = λ t m. absurd (Memᴰ.not-nil m) }
 
 module _ {n mark : ℕ} {ts : List Transition} {d₀ d : List ℕ} (ok : Markable n d₀ ts) (i : ℕ) (l : i < length ts) (a : ℕ) (a_is : a ≡ (transition_at ts i).addr)
     (h : MarkedTo n mark ts d₀ d i) where

@@ -1,5 +1,7 @@
 // What admission does at one node: on the way down the node marks what it leads to, on the way up it is surveyed, that is, its longest path and
 // its largest sum come from the entries of its targets.
+#![tactic(auto)]
+
 ghost use Rattle.std.specs.Prelude.{◌≡◌, true, cond, max, min, ◌+◌, ◌≤◌, ◌<◌, ltb, length, get_or};
 ghost use Rattle.format.specs.Limits.{max_levels};
 ghost use Rattle.format.specs.Node.{SoundAt};
@@ -23,14 +25,14 @@ pub const HIT: u16 = 2;
 pub const UNUSED: u16 = 3;
 
 // A sum, or that it passes 2^64 - 1.
-#[derive(Drop)]
+#[derive(Clone, Copy)]
 pub enum Total {
     Is(u64),
     Over,
 }
 
 // What the entries of a node's targets say: 1 plus the longest path, and the largest sum.
-#[derive(Drop)]
+#[derive(Clone, Copy)]
 pub struct Survey {
     pub depth: u16,
     pub total: Total,

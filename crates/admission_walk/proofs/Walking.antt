@@ -58,7 +58,7 @@ pub record Walking (f : Fst) (d : List ℕ) (a : ℕ) (l : List ℕ) : Type 0 wh
 entered_none : {f : Fst} {d : List ℕ} → Walkable f d → Entered f (set d f.root 2) []
 entered_none {f} {d} ok =
     record {
-      on = λ j m. absurd (Memᴰ.not_nil m);
+      on = λ j m. absurd (Memᴰ.not-nil m);
       off = at_set (λ j x. j < length f.bytes → ¬ Memᴰ j [] → x ≤ 2) d f.root 2 room (λ _ _. omega arith)
           (λ j ne h _. omega (arith, ok.zeros j h));
       high = at_set (λ j x. j < length f.bytes → x ≤ 4) d f.root 2 room (λ _. omega arith) (λ j ne h. omega (arith, ok.zeros j h));
@@ -66,8 +66,8 @@ entered_none {f} {d} ok =
           (λ j ne h hit. absurd (omega (arith, hit.low, ok.zeros j h)));
       source = at_set (λ j x. j < length f.bytes → ¬ Memᴰ j [] → 1 ≤ x → (j ≡ f.root) ⊎ Source f [] j) d f.root 2 room (λ _ _ _. inl refl)
           (λ j ne h _ one. absurd (omega (arith, one, ok.zeros j h)));
-      targets = λ j m t mem. absurd (Memᴰ.not_nil mem);
-      hits = λ j m t mem. absurd (Memᴰ.not_nil mem);
+      targets = λ j m t mem. absurd (Memᴰ.not-nil mem);
+      hits = λ j m t mem. absurd (Memᴰ.not-nil mem);
       top = at_set (λ j x. j ≡ f.root → Hit x) d f.root 2 room (λ _. record { low = omega arith; used = λ e. omega arith }) (λ j ne e. absurd (ne e))
           f.root refl;
     }
@@ -81,7 +81,7 @@ walking_none {f} {d} ok =
       not_zero = ok.not_zero;
       whole = λ m c. c;
       rest = λ k c. (k, c);
-      above = λ j m. absurd (Memᴰ.not_nil m);
+      above = λ j m. absurd (Memᴰ.not-nil m);
       marks = entered_none ok;
     }
 

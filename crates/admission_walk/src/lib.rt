@@ -1,5 +1,7 @@
 // The pass of admission from the root down: it judges each node of the chain, once, and marks what it leads to: by 2 where a path from the root
 // reaches the node, else by 1. All that leads to a node lies above it, so its own mark is there before the pass is.
+#![tactic(auto)]
+
 ghost use Rattle.std.specs.Prelude.{length};
 ghost use Rattle.format.specs.Paths.{fst_with};
 ghost use Rattle.admission_node.specs.Entries.{Kept};

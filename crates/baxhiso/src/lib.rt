@@ -1,6 +1,8 @@
 // The functions that open and admit a file for the C display firmware. include/baxhiso.h declares them for C.
 // A slice is passed as its pointer and then its length, an array as its pointer. Results: 0 for an answer, -1 for none, else the number of a
 // refusal. No function asks anything of its arguments' values. Lookups are in `baxhiso_get`, readings and ranges in `baxhiso_readings`.
+#![tactic(auto)]
+
 ghost use Rattle.std.specs.Prelude.{◌≡◌, pos};
 ghost use Rattle.format.specs.Opening.{opening};
 ghost use Rattle.baxhiso.specs.Exports.{checksum_number, OpenLeaves, AdmitLeaves};

@@ -1,5 +1,7 @@
 // The function that carries a reading to another file for the C caller. include/baxhiso.h declares it; results and conventions are those of crate `baxhiso`.
 // A slice is passed as its pointer and then its length, an array as its pointer. The function asks nothing of its arguments' values.
+#![tactic(auto)]
+
 ghost use Rattle.std.specs.Prelude.{replicate};
 ghost use Rattle.carrying.specs.Carry.{carry_plain};
 ghost use Rattle.stream_arrays.specs.Arrays.{held, held_plain};

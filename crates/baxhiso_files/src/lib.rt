@@ -1,5 +1,7 @@
 // The function that converts a file for the C caller. include/baxhiso.h declares it; results and conventions are those of crate `baxhiso`.
 // A slice is passed as its pointer and then its length. The function asks nothing of its arguments' values.
+#![tactic(auto)]
+
 ghost use Rattle.baxhiso_files.specs.Files.{ConvertLeaves};
 
 use baxhiso::code;

@@ -1,5 +1,7 @@
 // The page by pattern for the C caller. include/baxhiso.h declares it; results and conventions are those of crate `baxhiso`.
 // A slice is passed as its pointer and then its length. No function asks anything of its arguments' values.
+#![tactic(auto)]
+
 ghost use Rattle.std.specs.Prelude.{length};
 ghost use Rattle.finding.specs.Finding as F;
 ghost use Rattle.stream_start.specs.Views.{bound_is};

@@ -1,5 +1,7 @@
 // The function over several files for the C caller. include/baxhiso.h declares it; results and conventions are those of crate `baxhiso`.
 // A slice is passed as its pointer and then its length. Nothing is asked of the arguments' values.
+#![tactic(auto)]
+
 ghost use Rattle.std.specs.Prelude.{◌≡◌, [], ◌∷◌, length};
 ghost use Rattle.ops_paging.specs.ItemPaging as P;
 ghost use Rattle.ops_decide.specs.Verdicts.{op_is};

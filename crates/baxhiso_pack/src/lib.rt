@@ -1,5 +1,7 @@
 // The function that packs a list for the C caller. include/baxhiso.h declares it; results and conventions are those of crate `baxhiso`.
 // A slice is passed as its pointer and then its length. The function asks nothing of its arguments' values.
+#![tactic(auto)]
+
 ghost use Rattle.std.specs.Prelude.{◌≡◌, length};
 ghost use Rattle.format.specs.Limits.{max_len};
 ghost use Rattle.packing.specs.Packing.{pack_answer};

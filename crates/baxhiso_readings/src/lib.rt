@@ -3,6 +3,8 @@
 // asks anything of its arguments' values.
 //
 // A reading stands in the arrays of `stream_arrays`, which C has as one struct: the header's fst_start and fst_next lend each of its fields.
+#![tactic(auto)]
+
 ghost use Rattle.std.specs.Prelude.{length};
 ghost use Rattle.plain.specs.Plain as P;
 ghost use Rattle.paging.specs.Paging as G;

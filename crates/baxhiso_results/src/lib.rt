@@ -1,5 +1,7 @@
 // The results of readings and ranges for the C caller: 0 for a key, -2 for the end of a reading, -3 for a page that is full, else the number of a
 // refusal.
+#![tactic(auto)]
+
 ghost use Rattle.std.specs.Prelude.{◌≡◌};
 ghost use Rattle.baxhiso_results.specs.Results.{AnswerLeaves, stop_of};
 

@@ -1,6 +1,8 @@
 // Eight seats on one index for the C caller. include/baxhiso.h declares the functions; results and conventions are those of crate `baxhiso`.
 // The seats stand in the arrays of `seats_arrays`, which C has as one struct: the header's fst_seat, fst_raise and fst_dispatch lend its fields. No
 // function asks anything of its arguments' values.
+#![tactic(auto)]
+
 ghost use Rattle.std.specs.Prelude.{◌<◌, length, replicate};
 ghost use Rattle.plain.specs.Plain as P;
 ghost use Rattle.turns.specs.Turns as T;

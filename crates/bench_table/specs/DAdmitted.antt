@@ -43,10 +43,10 @@ abbrev pub addrs : List ℕ
 addrs = 29 ∷ 21 ∷ []
 
 pub in_two : {A : Type 0} {x a b : A} → Memᴰ x (a ∷ b ∷ []) → (x ≡ a) ⊎ (x ≡ b)
-in_two h = ⊎_elim (λ e. inl e) (λ g. ⊎_elim (λ e. inr e) (λ n. absurd (Memᴰ.not_nil n)) (Memᴰ.cases_cons g)) (Memᴰ.cases_cons h)
+in_two h = ⊎_elim (λ e. inl e) (λ g. ⊎_elim (λ e. inr e) (λ n. absurd (Memᴰ.not-nil n)) (Memᴰ.cases_cons g)) (Memᴰ.cases_cons h)
 
 in_one : {A : Type 0} {x a : A} → Memᴰ x (a ∷ []) → x ≡ a
-in_one h = ⊎_elim (λ e. e) (λ n. absurd (Memᴰ.not_nil n)) (Memᴰ.cases_cons h)
+in_one h = ⊎_elim (λ e. e) (λ n. absurd (Memᴰ.not-nil n)) (Memᴰ.cases_cons h)
 
 module _ (f : Fst) (root_is : f.root ≡ 29) (at_root : node_in f 29 ≡ sound root_node) (at_t : node_in f 21 ≡ sound t_node) where
   chain_29 : Chain f 29 addrs

@@ -79,7 +79,7 @@ not_2 k h = by (keys_D k 2 h)
         (λ q₁.
         ⊎_elim (λ (e : entry k 2 ≡ entry (97 ∷ 116 ∷ []) 3). omega (arith, ap value_in e))
         (λ q₂.
-        ⊎_elim (λ (e : entry k 2 ≡ entry (101 ∷ []) 4). omega (arith, ap value_in e)) (λ q₃. Memᴰ.not_nil q₃) (Memᴰ.cases_cons q₂))
+        ⊎_elim (λ (e : entry k 2 ≡ entry (101 ∷ []) 4). omega (arith, ap value_in e)) (λ q₃. Memᴰ.not-nil q₃) (Memᴰ.cases_cons q₂))
         (Memᴰ.cases_cons q₁))
         (Memᴰ.cases_cons q)
 

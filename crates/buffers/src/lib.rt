@@ -1,5 +1,7 @@
 // Lent buffers: bytes copied to the front of one, and in specs/ the laws of writing into one part after part, and of tests that
 // decide a fact. Nothing here is about the format.
+#![tactic(auto)]
+
 ghost use Rattle.std.specs.Prelude.{◌≡◌, ◌++◌, ◌≤◌, length, take, drop};
 
 // Copies the first n bytes of bytes to the front of out; the rest of out stays as given.

@@ -1,5 +1,7 @@
 // A reading carried to another file (document 02, N8), so that it goes on there where it stood. Any two files, any reading, also one that no start gave.
 // What the request promises of the keys to come it promises for a file's conversion alone: on any other file the walk may pass and the keys differ.
+#![tactic(auto)]
+
 ghost use Rattle.std.specs.Prelude.{◌≡◌, true, ◌≤◌, ◌<◌, length};
 ghost use Rattle.format.specs.Limits.{max_levels};
 ghost use Rattle.format.specs.Paths.{fst_with};
@@ -18,28 +20,28 @@ use stream_bounds::state_right;
 use stream_start::Reading;
 
 // Whether the reading was carried, or the number of a refusal.
-#[derive(Drop)]
+#[derive(Clone, Copy)]
 pub enum Carries {
     Carried,
     Refused(u8),
 }
 
 // What carrying a plain reading gives back: after a refusal the reading that was given.
-#[derive(Drop)]
+#[derive(Clone, Copy)]
 pub struct Carried {
     pub answer: Carries,
     pub plain: Plain,
 }
 
 // What carrying a reading by pattern gives back: after a refusal the reading that was given.
-#[derive(Drop)]
+#[derive(Clone, Copy)]
 pub struct CarriedBy {
     pub answer: Carries,
     pub patterned: Patterned,
 }
 
 // What carrying a reading gives back.
-#[derive(Drop)]
+#[derive(Clone, Copy)]
 struct CarriedReading {
     answer: Carries,
     reading: Reading,

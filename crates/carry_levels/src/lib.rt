@@ -1,5 +1,7 @@
 // The levels of a reading in another file (document 02, N8): each level's node is judged in both files and compared, and its new address is found.
 // No bound is walked again: the levels' own bytes say the path.
+#![tactic(auto)]
+
 ghost use Rattle.std.specs.Prelude.{◌≡◌, List, [], ℕ, ◌≤◌, ◌<◌, ◌+◌, eqb, length};
 ghost use Rattle.format.specs.Limits.{max_levels};
 ghost use Rattle.format.specs.Paths.{fst_with};
@@ -10,14 +12,14 @@ use format::{CARRY, LEVELS, NODE};
 use node::{Found, Judged, Node};
 
 // A level in the new file: its address and its node there, or the number of a refusal.
-#[derive(Drop)]
+#[derive(Clone, Copy)]
 enum Settled {
     Stands(u32, Node),
     Halted(u8),
 }
 
 // Whether all levels stand in the new file, or the number of a refusal.
-#[derive(Drop)]
+#[derive(Clone, Copy)]
 pub enum CarriedLevels {
     All,
     Halted(u8),

@@ -1,5 +1,7 @@
 // Inputs by frequency: a frequent input is kept in the low six bits of a node's state byte, as 1 plus its place.
 // Ports src/raw/common_inputs.rs, and `common_idx` and `common_input` of src/raw/node.rs.
+#![tactic(auto)]
+
 ghost use Rattle.std.specs.Prelude.{◌≡◌, ◌≤◌, ◌<◌, get_or};
 ghost use Rattle.format.specs.CommonInputs.{common_inputs, common_inputs_inv, common_input};
 ghost use Rattle.common_inputs.specs.Idx.{Idx};

@@ -40,7 +40,7 @@ table_at {s} A j l = get_d_up_from (moved_to A) 0 (length s) j l ∙ ap (moved_t
 
 -- an address that is laid out is on the chain
 on_chain : (t : Bool) (l : List ℕ) (j : ℕ) → Memᴰ j (cond t [] l) → Memᴰ j l
-on_chain true l j mem = absurd (Memᴰ.not_nil mem)
+on_chain true l j mem = absurd (Memᴰ.not-nil mem)
 on_chain false l j mem = mem
 
 module _ {s : List ℕ} {root count : ℕ} {d₀ t₀ : List ℕ} (old : OldFile s root count d₀ t₀) where

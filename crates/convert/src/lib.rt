@@ -1,6 +1,8 @@
 // Old cards brought to version 2 (document 02, N7). The file is admitted first. Nothing may be written before the length of the new file is
 // known, which depends on every new address; these are worked out in the sums' table, over the nodes that are marked in the depths' table,
 // and a second admission restores both: admission leaves the same tables every time.
+#![tactic(auto)]
+
 ghost use Rattle.std.specs.Prelude.{◌≡◌, ◌≤◌};
 ghost use Rattle.format.specs.Limits.{max_len};
 ghost use Rattle.format.specs.Paths.{fst_with};
@@ -15,7 +17,7 @@ use format::{EDITION, LARGE, MAX_LEN, SPACE};
 use fst::Opened;
 
 // What converting answers.
-#[derive(Drop)]
+#[derive(Clone, Copy)]
 pub enum Converted {
     // the number of bytes of the new file, which stands from the output's first byte on
     Len(usize),

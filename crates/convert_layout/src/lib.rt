@@ -1,5 +1,7 @@
 // The two passes of a conversion over the marked nodes, in ascending order of addresses. The sizes of a node's deltas depend on where its
 // targets went, which lie below it: so the first pass works out each new address, and nothing is written before all are known.
+#![tactic(auto)]
+
 ghost use Rattle.std.specs.Prelude.{◌≡◌, ◌++◌, ◌+◌, ◌≤◌, length, take, drop};
 ghost use Rattle.format.specs.Limits.{max_len};
 ghost use Rattle.format.specs.Paths.{fst_with};
@@ -13,7 +15,7 @@ use convert_size::len_at;
 use format::FIRST_NODE;
 
 // Where the nodes of the new file end: the place past them, or that the new file passes the limit.
-#[derive(Drop)]
+#[derive(Clone, Copy)]
 pub enum Layout {
     Ends(usize),
     Over,

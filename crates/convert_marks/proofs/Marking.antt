@@ -115,7 +115,7 @@ module _ {f : Fst} {l d₀ d : List ℕ} {a up : ℕ} (h : Marking f l d₀ d a 
       marking_last done = record { on = go (chain_cases h.rest); off = marks_off; kept = kept_set a x marking_inside h.kept }
         where
           go : ChainLast f a h.left ⊎ ChainNext f a h.left → (j : ℕ) → Memᴰ j l → HopAt (length f.bytes) l j (get_or (set d a x) j 0)
-          go (inl z) j mem = ⊎_elim (λ m. marks_on j mem m) (λ k. absurd (Memᴰ.not_nil k)) (apart [] z.list_is j mem)
+          go (inl z) j mem = ⊎_elim (λ m. marks_on j mem m) (λ k. absurd (Memᴰ.not-nil k)) (apart [] z.list_is j mem)
           go (inr n) j mem = absurd (n.more (sym (at.each n.node n.judged) ∙ done))
 
       pub marking_next : ¬ (first ≡ 16) → Marking f l d₀ (set d a x) (first - 1) (a - (first - 1))

@@ -50,7 +50,7 @@ marked_member d (suc n) j l ne = go (marked_member d n j) (ℕ_discrete j n) (�
     go below (no e) (no z) = rw (← add-one, marked_on d n z) (Memᴰ.tail (below (omega arith) ne))
 
 pub member_marked : (d : List ℕ) (n j : ℕ) → Memᴰ j (marked d n) → (j < n) × ¬ (get_or d j 0 ≡ 0)
-member_marked d zero j mem = absurd (Memᴰ.not_nil (rw (marked_zero d) at mem))
+member_marked d zero j mem = absurd (Memᴰ.not-nil (rw (marked_zero d) at mem))
 member_marked d (suc n) j mem = go (member_marked d n j) (ℕ_discrete (get_or d n 0) 0)
   where
     up : (j < n) × ¬ (get_or d j 0 ≡ 0) → (j < suc n) × ¬ (get_or d j 0 ≡ 0)
@@ -74,8 +74,8 @@ tail_in e low there j mem = ⊎_elim (λ q. absurd (omega (arith, low j mem, q, 
 
 pub falls_same : {l k : List ℕ} → Falls l → Falls k → ((j : ℕ) → Memᴰ j l → Memᴰ j k) → ((j : ℕ) → Memᴰ j k → Memᴰ j l) → l ≡ k
 falls_same falls_none falls_none there back = refl
-falls_same falls_none (falls_more {a = b} low g) there back = absurd (Memᴰ.not_nil (back b (Memᴰ.head refl)))
-falls_same (falls_more {a = a} low f) falls_none there back = absurd (Memᴰ.not_nil (there a (Memᴰ.head refl)))
+falls_same falls_none (falls_more {a = b} low g) there back = absurd (Memᴰ.not-nil (back b (Memᴰ.head refl)))
+falls_same (falls_more {a = a} low f) falls_none there back = absurd (Memᴰ.not-nil (there a (Memᴰ.head refl)))
 falls_same (falls_more {a = a} {l = l} low f) (falls_more {a = b} {l = k} low' g) there back =
     let e : a ≡ b =
     ⊎_elim (λ q. q) (λ m. ⊎_elim (λ q. sym q) (λ m'. absurd (omega (arith, low b m', low' a m))) (Memᴰ.cases_cons (back b (Memᴰ.head refl))))
@@ -91,7 +91,7 @@ marked_falls d (suc n) = go (marked_falls d n) (ℕ_discrete (get_or d n 0) 0)
     go below (no z) = rw (← add-one, marked_on d n z) (falls_more (λ j mem. (member_marked d n j mem).0) below)
 
 pub chain_falls : {f : Fst} {a : ℕ} {l : List ℕ} → Chain f a l → Falls l
-chain_falls {a = a} (last m e done) = falls_more {a = a} (λ j mem. absurd (Memᴰ.not_nil mem)) falls_none
+chain_falls {a = a} (last m e done) = falls_more {a = a} (λ j mem. absurd (Memᴰ.not-nil mem)) falls_none
 chain_falls {f} {a} (next m e more c) =
     let ne = chain_not_zero (next m e more c) in
     falls_more {a = a} (λ j mem. omega (arith, chain_le c j mem, node_first_le f a m e ne, node_first_low f a m e ne)) (chain_falls c)
@@ -106,4 +106,4 @@ marked_list d n l falls on off =
     (λ j mem. let h = on j mem in marked_member d n j h.0 h.1)
 
 pub marked_none : (d : List ℕ) (n : ℕ) → ((j : ℕ) → j < n → get_or d j 0 ≡ 0) → marked d n ≡ []
-marked_none d n zeros = marked_list d n [] falls_none (λ j mem. absurd (Memᴰ.not_nil mem)) (λ j l _. zeros j l)
+marked_none d n zeros = marked_list d n [] falls_none (λ j mem. absurd (Memᴰ.not-nil mem)) (λ j l _. zeros j l)

@@ -1,5 +1,7 @@
 // The marks of a conversion: the nodes that are laid out have an entry other than 0 in the depths' table, so that they can be visited in
 // ascending order. Each says how far above it the next one lies, so that no address between is asked.
+#![tactic(auto)]
+
 ghost use Rattle.std.specs.Prelude.{◌≡◌, ◌&&◌, ◌≤◌, length, eqb};
 ghost use Rattle.format.specs.Node.{SoundAt, node_at};
 ghost use Rattle.format.specs.Paths.{fst_with};

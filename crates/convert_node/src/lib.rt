@@ -1,5 +1,7 @@
 // What the second pass of a conversion does at one node of a version 1 file: it is packed as document 01 says, each target replaced by the
 // table's entry. The node is sound, so it is read by its form and not judged.
+#![tactic(auto)]
+
 ghost use Rattle.std.specs.Prelude.{◌≡◌, ◌≤◌, ◌<◌, length, get_or};
 ghost use Rattle.format.specs.Packed.{packed};
 ghost use Rattle.format.specs.Paths.{fst_with};

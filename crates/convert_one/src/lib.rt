@@ -1,5 +1,7 @@
 // A node with one transition that conversion packs: its length, and its bytes. What the state byte keeps of the input is taken from the old state
 // byte where that keeps it, so that neither table of inputs is read for it.
+#![tactic(auto)]
+
 ghost use Rattle.std.specs.Prelude.{◌≡◌, ◌&&◌, ◌+◌, ◌-◌, ◌≤◌, ◌<◌, eqb, length, get_or};
 ghost use Rattle.buffers.specs.Put.{PutAt};
 ghost use Rattle.format.specs.Limits.{first_node};

@@ -26,18 +26,18 @@ abbrev fst_e : Fst
 fst_e = fst_of E1 (meta_is 0)
 
 nodes_E : Nodes fst_e []
-nodes_E = record { chain = chain_E; closed = λ a m t on e mem ne. absurd (Memᴰ.not_nil on) }
+nodes_E = record { chain = chain_E; closed = λ a m t on e mem ne. absurd (Memᴰ.not-nil on) }
 
 shallow_E : Shallow fst_e
 unfolding Shallow
 shallow_E a k sum b r p =
-    ⊎_elim (λ (z : a ≡ 0). omega (arith, longest_bound p, ap (longest fst_e) z, longest_zero fst_e)) (λ on. absurd (Memᴰ.not_nil on))
+    ⊎_elim (λ (z : a ≡ 0). omega (arith, longest_bound p, ap (longest fst_e) z, longest_zero fst_e)) (λ on. absurd (Memᴰ.not-nil on))
     (reached_stays nodes_E r)
 
 light_E : Light fst_e
 unfolding Light
 light_E a k sum b m r p e =
-    ⊎_elim (λ (z : a ≡ 0). omega (arith, largest_bound p e, ap (largest_sum fst_e) z, largest_zero fst_e)) (λ on. absurd (Memᴰ.not_nil on))
+    ⊎_elim (λ (z : a ≡ 0). omega (arith, largest_bound p e, ap (largest_sum fst_e) z, largest_zero fst_e)) (λ on. absurd (Memᴰ.not-nil on))
     (reached_stays nodes_E r)
 
 pub admitted_E : Admitted E1
@@ -49,7 +49,7 @@ abbrev addrs : List ℕ
 addrs = 27 ∷ 18 ∷ []
 
 in_one : {A : Type 0} {x a : A} → Memᴰ x (a ∷ []) → x ≡ a
-in_one h = ⊎_elim (λ e. e) (λ n. absurd (Memᴰ.not_nil n)) (Memᴰ.cases_cons h)
+in_one h = ⊎_elim (λ e. e) (λ n. absurd (Memᴰ.not-nil n)) (Memᴰ.cases_cons h)
 
 in_two : {A : Type 0} {x a b : A} → Memᴰ x (a ∷ b ∷ []) → (x ≡ a) ⊎ (x ≡ b)
 in_two h = ⊎_elim (λ e. inl e) (λ g. inr (in_one g)) (Memᴰ.cases_cons h)
@@ -69,7 +69,7 @@ module _ (f : Fst) (chain : RootChain f addrs) (at_27 : node_in f 27 ≡ sound n
   closed_at a m t (inr q) e mem ne =
       let g : node_in f 18 ≡ sound m = rw q at e in
       let is : m ≡ plain 16 true 0 = cc in
-      absurd (Memᴰ.not_nil (rw is at mem))
+      absurd (Memᴰ.not-nil (rw is at mem))
 
   nodes_W : Nodes f addrs
   nodes_W = record { chain = chain; closed = λ a m t on e mem ne. closed_at a m t (in_two on) e mem ne }

@@ -1,5 +1,7 @@
 // How long a node of a version 1 file is when it is packed with its targets replaced by the table's entries: from its largest output and
 // its largest new delta, in one pass over its transitions. The node is sound, so it is read by its form and not judged.
+#![tactic(auto)]
+
 ghost use Rattle.std.specs.Prelude.{◌≡◌, cond, not, ◌&&◌, ◌≤◌, ◌<◌, eqb, ltb, length, get_or};
 ghost use Rattle.format.specs.Limits.{max_trans};
 ghost use Rattle.format.specs.Node.{SoundAt, end_len, index_len};
@@ -18,7 +20,7 @@ use node::Node;
 use node_compile::packs_to_nothing;
 
 // The largest output of a node, its final output included, and its largest delta.
-#[derive(Drop)]
+#[derive(Clone, Copy)]
 pub struct Most {
     pub output: u64,
     pub delta: u64,

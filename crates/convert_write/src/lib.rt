@@ -1,4 +1,6 @@
 // A new file, written: header, nodes, key count and root.
+#![tactic(auto)]
+
 ghost use Rattle.std.specs.Prelude.{◌≡◌, ◌≤◌, length, get_or};
 ghost use Rattle.format.specs.Paths.{fst_with};
 ghost use Rattle.buffers.specs.Put.{put};

@@ -1,6 +1,8 @@
 // The table of keys (document 02, N11): the number of keys from each reached node, at its address. The file is admitted first. Then
 // one pass in ascending order of addresses works out each node's number from those of its targets, which lie below it. A node is reached
 // where admission left an entry in the depths.
+#![tactic(auto)]
+
 ghost use Rattle.std.specs.Prelude.{◌≤◌, length};
 ghost use Rattle.format.specs.Paths.{fst_with};
 ghost use Rattle.admission.specs.Outcome.{Opens};
@@ -14,7 +16,7 @@ use format::{COUNT, SPACE};
 use fst::Opened;
 
 // What filling the table answers: it is filled, or the number of a refusal.
-#[derive(Drop)]
+#[derive(Clone, Copy)]
 pub enum Counting {
     Counted,
     Refused(u8),

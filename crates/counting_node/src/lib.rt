@@ -1,4 +1,6 @@
 // The number of keys from one node, by the entries of its targets in the table of keys (document 02, N11).
+#![tactic(auto)]
+
 ghost use Rattle.std.specs.Prelude.{◌≡◌, ◌≤◌, ◌<◌, length};
 ghost use Rattle.format.specs.Node.{SoundAt};
 ghost use Rattle.format.specs.Paths.{fst_with};

@@ -1,5 +1,7 @@
 // A page by pattern in one call (src/raw/mod.rs: `search` with an automaton for the pattern, and the loop of `next_with` over it): up to so many keys
 // between two bounds that fit, each in a row of 256 bytes with its value beside it, on any file, admitted or not.
+#![tactic(auto)]
+
 ghost use Rattle.std.specs.Prelude.{◌≡◌, ◌*◌, ◌≤◌, length};
 ghost use Rattle.paging.specs.Paging as P;
 ghost use Rattle.pattern.specs.Pattern.{start_by};

@@ -1,4 +1,6 @@
 // The keys of a reading by pattern, each in a row of 256 bytes with its value beside it: the loop of `find`.
+#![tactic(auto)]
+
 ghost use Rattle.std.specs.Prelude.{◌*◌, ◌≤◌, length};
 ghost use Rattle.paging.specs.Paging as P;
 ghost use Rattle.finding.specs.Finding as F;

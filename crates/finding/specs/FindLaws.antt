@@ -63,7 +63,7 @@ call_allowed : (s : List ℕ) → Allowed (file_call s)
 call_allowed s = record { same = refl; room = le_refl max_path }
 
 calls_allowed : (s : List ℕ) (n : ℕ) (c : Call s) → Memᴰ c (calls_of s n) → Allowed c
-calls_allowed s zero c on = absurd (Memᴰ.not_nil on)
+calls_allowed s zero c on = absurd (Memᴰ.not-nil on)
 calls_allowed s (suc n) c on =
     ⊎_elim
     (λ (q : c ≡ file_call s). subst Allowed (sym q) (call_allowed s))

@@ -50,7 +50,7 @@ record CutAt (e : Entry) (l : List Entry) : Type 0 where
   is : (front ++ (e ∷ [])) ++ back ≡ l
 
 cut_at : (e : Entry) (l : List Entry) → Memᴰ e l → CutAt e l
-cut_at e [] on = absurd (mathlib.Core.List.Memᴰ.not_nil on)
+cut_at e [] on = absurd (mathlib.Core.List.Memᴰ.not-nil on)
 cut_at e (x ∷ l) on =
     ⊎_elim
     (λ (q : e ≡ x). record { front = []; back = l; is = ap (λ (y : Entry). y ∷ l) q })

@@ -1,6 +1,8 @@
 // What every layer shares: the limits of document 01, the refusals of documents 01 and 02 by number, and a transition.
 // The meaning of the format stands in specs/; docs/FORMAT.md walks through it. `limits` and `refusals` hold each number here to the
 // definition of its name.
+#![tactic(auto)]
+
 ghost use Rattle.std.specs.Prelude.{◌≡◌, [], ◌∷◌};
 ghost use Rattle.format.specs.Limits as L;
 
@@ -61,7 +63,7 @@ pub const MAX_TRANS: usize = 256;
 pub const TRANS_INDEX_THRESHOLD: usize = 32;
 
 // One transition of a node, with the field names of mod.rs.
-#[derive(Drop)]
+#[derive(Clone, Copy)]
 pub struct Transition {
     // the byte that it takes
     pub inp: u8,
@@ -72,7 +74,7 @@ pub struct Transition {
 }
 
 // How a node is stored, by the top two bits of its state byte (node.rs, `State`).
-#[derive(Drop)]
+#[derive(Clone, Copy)]
 pub enum State {
     // 11: one transition with output 0, to the node whose last byte stands just below this one
     OneTransNext,
@@ -83,7 +85,7 @@ pub enum State {
 }
 
 // The limits of this file together.
-#[derive(Drop)]
+#[derive(Clone, Copy)]
 pub struct Named {
     pub first: usize,
     pub shortest: usize,

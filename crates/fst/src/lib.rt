@@ -1,5 +1,7 @@
 // Opening a file (src/raw/mod.rs: `Fst::new`), by its header and its trailer alone; and the refusal of a sum that leads to a node, which
 // lookups and readings share.
+#![tactic(auto)]
+
 ghost use Rattle.std.specs.Prelude.{◌≡◌, ◌+◌, ◌-◌, ◌≤◌, ◌<◌, length, cond, [], eqb};
 ghost use Rattle.std.proofs.Math.Option.{some, none};
 ghost use Rattle.format.specs.Opening.{trailer_len, least_len, number_at, meta_of, root_test, opened, refused, opening};
@@ -12,14 +14,14 @@ use le_bytes::{read_u32_le, read_u64_le};
 use node::Judged;
 
 // The checksum of version 3, read and not verified; versions 1 and 2 have none.
-#[derive(Drop)]
+#[derive(Clone, Copy)]
 pub enum Checksum {
     Stored(u32),
     Missing,
 }
 
 // What the header and the trailer say.
-#[derive(Drop)]
+#[derive(Clone, Copy)]
 pub struct Meta {
     pub version: u64,
     pub ty: u64,
@@ -30,7 +32,7 @@ pub struct Meta {
 }
 
 // What opening answers: what the file says, or the number of a refusal.
-#[derive(Drop)]
+#[derive(Clone, Copy)]
 pub enum Opened {
     Meta(Meta),
     Refused(u8),

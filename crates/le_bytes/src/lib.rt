@@ -1,6 +1,8 @@
 // Little-endian numbers of up to 8 bytes: read, sized and written, and read out of a row that is stored last first.
 // A caller gives the place and the count of bytes, and keeps both inside the slice.
 // Ports src/bytes.rs.
+#![tactic(auto)]
+
 ghost use Rattle.std.specs.Prelude.{◌≡◌, ◌+◌, ◌*◌, ◌≤◌, ◌<◌, length, take, get_or};
 ghost use Rattle.format.specs.Bytes.{le, bytes_of};
 ghost use Rattle.buffers.specs.Put.{put};

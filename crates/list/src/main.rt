@@ -1,5 +1,7 @@
 // The listing program: the file on standard input, a line for each key on standard output, and the last line (README.md, "Listing a file").
 // The work is the crates' `listing_start` and `listing`; a line is written as soon as it is there, so that memory does not grow with the number of keys.
+#![tactic(auto)]
+
 ghost use Rattle.std.specs.Prelude.{◌≤◌, length};
 ghost use Rattle.stream.specs.Plains.{plain_is};
 ghost use Rattle.list.specs.Stands.{Stands};

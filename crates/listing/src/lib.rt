@@ -1,5 +1,7 @@
 // The lines of a listing, one a call, each written into a lent buffer. Crate `listing_start` begins a listing, `listing_lines` writes a line, and the
 // program that calls these functions is crate `list`.
+#![tactic(auto)]
+
 ghost use Rattle.stream.specs.Plains.{plain_is};
 ghost use Rattle.listing.specs.Listing.{state, line_of};
 ghost use Rattle.listing.specs.Lined.{Lined};
@@ -12,7 +14,7 @@ use stream_step::Answer;
 pub const LINE: usize = 532;
 
 // A line that was written, a key's or the last, by its length; or that the buffer has no room for every line.
-#[derive(Drop)]
+#[derive(Clone, Copy)]
 pub enum Line {
     Key(usize),
     Last(usize),
@@ -20,7 +22,7 @@ pub enum Line {
 }
 
 // What the next line gives back: the line, how many keys were listed, up to 2^64 - 1, and the reading after it.
-#[derive(Drop)]
+#[derive(Clone, Copy)]
 pub struct Listed {
     pub line: Line,
     pub keys: u64,

@@ -1,4 +1,6 @@
 // The lines of a listing, written byte by byte into a lent buffer: a key's, the last, and the only one of a file that is refused.
+#![tactic(auto)]
+
 ghost use Rattle.std.specs.Prelude.{◌≡◌, ◌+◌, ◌*◌, ◌≤◌, ◌<◌, length, take};
 ghost use Rattle.listing_lines.specs.Lines.{hex_digit, hex_of, key_text, decimal, key_line, end_line, refused_line};
 ghost use Rattle.listing_lines.specs.Lines.{longest_line, Written};

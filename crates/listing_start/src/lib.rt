@@ -1,4 +1,6 @@
 // The beginning of a listing: a file is admitted, its keys are counted and its unbounded reading begun.
+#![tactic(auto)]
+
 ghost use Rattle.listing_start.specs.Begun.{Begins};
 
 use counting::Counting;

@@ -1,5 +1,7 @@
 // A value for a key (src/raw/mod.rs: `get`), on any file, admitted or not. A key for a value is in `lookup_key`.
 // Each node is judged once, as it is entered; the last is entered too.
+#![tactic(auto)]
+
 ghost use Rattle.std.specs.Prelude.{◌≡◌, []};
 ghost use Rattle.format.specs.Lookup as L;
 ghost use Rattle.format.specs.Lookup.{get_from};
@@ -12,7 +14,7 @@ use node::Judged;
 use node_way::{Step, Way};
 
 // What a lookup by key answers: the key's value, that the key is not held, or the number of a refusal.
-#[derive(Drop)]
+#[derive(Clone, Copy)]
 pub enum Answer {
     Value(u64),
     None,

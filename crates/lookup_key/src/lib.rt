@@ -1,4 +1,6 @@
 // A key for a value (src/raw/mod.rs: `get_key_into`), on any file, admitted or not.
+#![tactic(auto)]
+
 ghost use Rattle.std.specs.Prelude.{length};
 ghost use Rattle.format.specs.Lookup as L;
 ghost use Rattle.lookup_search.specs.KeyAnswers.{KeyWritten};

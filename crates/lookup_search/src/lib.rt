@@ -1,5 +1,7 @@
 // The search for a key with a value (src/raw/mod.rs: `get_key_into`), from the root of a file that opens.
 // Each node is judged once, as it is entered; the last is entered too.
+#![tactic(auto)]
+
 ghost use Rattle.std.specs.Prelude.{◌≡◌, length};
 ghost use Rattle.format.specs.Limits.{max_path};
 ghost use Rattle.format.specs.Lookup.{get_key_from};
@@ -10,7 +12,7 @@ use format::{DEEP, MAX_KEY, NODE};
 use node_choice::{Choice, Fit};
 
 // What a lookup by value answers: the length of the key that was found, that none was, or the number of a refusal.
-#[derive(Drop)]
+#[derive(Clone, Copy)]
 pub enum KeyAnswer {
     Key(usize),
     None,

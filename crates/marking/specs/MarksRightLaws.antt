@@ -21,7 +21,7 @@ not-true false e = refl
 
 absent : (n : List ℕ) (ms : List Mark) → is_there (marked n ms) ≡ false → (k : Mark) → Memᴰ k ms → ¬ (k.name ≡ n)
 unfolding marked
-absent n [] e k on = absurd (Memᴰ.not_nil on)
+absent n [] e k on = absurd (Memᴰ.not-nil on)
 absent n (m ∷ ms) e k on = by (same_name m.name n) refl e (absent n ms) on
   where
     by : (t : Bool) → same_name m.name n ≡ t → is_there (cond t (some m.held) (marked n ms)) ≡ false
@@ -40,7 +40,7 @@ not_there n (m ∷ ms) h =
 module _ (len : ℕ) where
   each_test : (ms : List Mark) → each_right len ms ≡ true → ((m : Mark) → Memᴰ m ms → MarkRight len m) × OnceEach ms
   unfolding each_right
-  each_test [] e = (λ m on. absurd (Memᴰ.not_nil on), none_twice)
+  each_test [] e = (λ m on. absurd (Memᴰ.not-nil on), none_twice)
   each_test (m ∷ ms) e =
       let name = both_left (name_test m.name) _ e in
       let more = both_right (name_test m.name) _ e in

@@ -1,5 +1,7 @@
 // Marks, places of a plain reading to come back to (document 02, N10): up to 16 names beside a reading, each with a whole reading. Going back gives the
 // answers that followed the mark, with the total and the number of keys to come as they were there.
+#![tactic(auto)]
+
 ghost use Rattle.std.specs.Prelude.{◌≡◌, [], ◌≤◌, length};
 ghost use Rattle.marking.specs.MarkCalls as M;
 ghost use Rattle.stream.specs.Plains.{plain_is, PlainStepped};
@@ -13,21 +15,21 @@ use stream::{Plain, Step};
 use stream_step::Answer;
 
 // Whether a mark was set, or a reading taken back, or the number of a refusal.
-#[derive(Drop)]
+#[derive(Clone, Copy)]
 pub enum Change {
     Done,
     Refused(u8),
 }
 
 // What marking gives back. After a refusal the marks are those given.
-#[derive(Drop)]
+#[derive(Clone, Copy)]
 pub struct Marking {
     pub answer: Change,
     pub marks: Marks,
 }
 
 // What going back gives back. After a refusal the reading is the one given.
-#[derive(Drop)]
+#[derive(Clone, Copy)]
 pub struct Return {
     pub answer: Change,
     pub reading: Plain,

@@ -1,5 +1,7 @@
 // Marks of a reading by pattern (document 02, N10): as those of a plain reading (crate marks), with PATTERN judged after STATE. A mark holds the reading
 // inside; the pattern is the reading's own and never changes. The number of keys to come in a mark carries no meaning here, and is 0.
+#![tactic(auto)]
+
 ghost use Rattle.std.specs.Prelude.{length};
 ghost use Rattle.stream.specs.Plains.{plain_is};
 ghost use Rattle.stream_start.specs.Views.{view_is};
@@ -19,7 +21,7 @@ use stream::Plain;
 use stream_step::Answer;
 
 // What going back gives back. After a refusal the reading is the one given.
-#[derive(Drop)]
+#[derive(Clone, Copy)]
 pub struct ReturnBy {
     pub answer: Change,
     pub patterned: Patterned,

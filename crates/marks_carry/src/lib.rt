@@ -1,5 +1,7 @@
 // A reading with marks carried to another file (document 02, N10 with N8): the marks are judged with the reading, and none are carried.
 // As for a carry, what is promised of the keys to come is promised for a file's conversion alone.
+#![tactic(auto)]
+
 ghost use Rattle.std.specs.Prelude.{◌≡◌};
 ghost use Rattle.stream_start.specs.Views.{view_is};
 ghost use Rattle.stream.specs.Plains.{plain_is};
@@ -16,7 +18,7 @@ use patterned::Patterned;
 use stream::Plain;
 
 // Whether two files and the marks let a reading be carried, or the number of a refusal.
-#[derive(Drop)]
+#[derive(Clone, Copy)]
 enum Judged {
     Right,
     Refused(u8),

@@ -1,5 +1,7 @@
 // Marks of a plain reading (document 02, N10): up to 16 names, each with a reading. What is held for them, whether it is right, the place of a
 // name, and one mark put in its place.
+#![tactic(auto)]
+
 ghost use Rattle.std.specs.Prelude.{◌≡◌, ◌≤◌, ◌<◌, length};
 ghost use Rattle.marking.specs.MarkCalls as M;
 ghost use Rattle.marks_held.specs.MarkViews.{stated, marks_is, NamesAre, NameTold, no_marks, SeekTold, put_at};
@@ -12,7 +14,7 @@ pub const MARKS: usize = 16;
 pub const MAX_NAME: usize = 8;
 
 // A mark: its name, of which bytes past the length carry no meaning, and a whole reading.
-#[derive(Drop)]
+#[derive(Clone, Copy)]
 pub struct Mark {
     pub name_len: usize,
     pub name: [u8; MAX_NAME],
@@ -20,21 +22,21 @@ pub struct Mark {
 }
 
 // The marks of a reading, passed by value beside it. Marks from count on carry no meaning.
-#[derive(Drop)]
+#[derive(Clone, Copy)]
 pub struct Marks {
     pub count: usize,
     pub marks: [Mark; MARKS],
 }
 
 // A mark's name by itself, as Mark holds it.
-#[derive(Drop)]
+#[derive(Clone, Copy)]
 struct Name {
     len: usize,
     bytes: [u8; MAX_NAME],
 }
 
 // The place of a name among the marks.
-#[derive(Drop)]
+#[derive(Clone, Copy)]
 pub enum Place {
     At(usize),
     Nowhere,

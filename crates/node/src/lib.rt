@@ -1,6 +1,8 @@
 // A node, judged and read (src/raw/node.rs: `Node::new`, `transition`, `find_input`).
 // `node_at` judges the node at an address in one pass and answers its numbers, or `Unsound`. The other functions read
 // a node that it answered, out of the same file. Nothing outside the lent file is read, whatever the numbers are.
+#![tactic(auto)]
+
 ghost use Rattle.std.specs.Prelude.{◌≡◌, ◌+◌, ◌≤◌, ◌<◌, length, get_or, take, drop, [], ◌∷◌};
 ghost use Rattle.format.specs.Node.{bytes_down, Ascending, SoundAt, transition_at, find_input};
 ghost use Rattle.node.specs.Read.{Searchable, empty_node, Judges, transitions_in, node_inputs, node_deltas, Readable, Finds, search_is};
@@ -13,7 +15,7 @@ use le_bytes::{number_of, small, unpack_uint};
 use node_sound::{head_len, input_of, is_sound, shape_of};
 
 // The numbers of a sound node, for the functions below.
-#[derive(Drop)]
+#[derive(Clone, Copy)]
 pub struct Node {
     // how it is stored
     pub state: State,
@@ -36,14 +38,14 @@ pub struct Node {
 }
 
 // What judging a node says: its numbers, or refusal 5 to those who asked.
-#[derive(Drop)]
+#[derive(Clone, Copy)]
 pub enum Judged {
     Sound(Node),
     Unsound,
 }
 
 // The place of an input among a node's transitions, or the place of the first greater one.
-#[derive(Drop)]
+#[derive(Clone, Copy)]
 pub enum Found {
     At(usize),
     Absent(usize),

@@ -1,4 +1,6 @@
 // Which transition of a sound node fits a value that is left: the part of a step of a lookup by value that comes after the judging.
+#![tactic(auto)]
+
 ghost use Rattle.std.specs.Prelude.{◌≡◌, ◌&&◌, ◌+◌, ◌*◌, ◌≤◌, ◌<◌, eqb, length, get_or};
 ghost use Rattle.format.specs.Node.{numbers_down, SoundAt, node_at};
 ghost use Rattle.node.specs.Read.{transitions_in, Readable};
@@ -11,7 +13,7 @@ use node_sound::{head_len, input_of};
 use node_way::target_of;
 
 // What a sound node says of a value that is left.
-#[derive(Drop)]
+#[derive(Clone, Copy)]
 pub enum Choice {
     // nothing is left, and the node is final
     Ends,
@@ -22,7 +24,7 @@ pub enum Choice {
 }
 
 // One step of a lookup by value: what a node that is judged as it is entered says of a value that is left.
-#[derive(Drop)]
+#[derive(Clone, Copy)]
 pub enum Fit {
     Sound(Choice),
     Unsound,

@@ -2,6 +2,8 @@
 // A caller gives the node's first byte F and the record as its parts, and gets the number of bytes,
 // or a refusal.
 // Ports `Node::compile` of src/raw/node.rs, and the `compile` of its three states.
+#![tactic(auto)]
+
 ghost use Rattle.std.specs.Prelude.{◌≡◌, cond, not, ◌&&◌, map, ◌+◌, ◌≤◌, ◌<◌, eqb, ltb, length};
 ghost use Rattle.buffers.specs.Decide.{Decides};
 ghost use Rattle.format.specs.Limits.{first_node, max_trans};
@@ -20,7 +22,7 @@ use node_parts::{put_bytes, put_head, put_index};
 use node_record::{inputs_ascend, targets_ok};
 
 // What packing answers.
-#[derive(Drop)]
+#[derive(Clone, Copy)]
 pub enum Compiled {
     // the number of bytes written, from the buffer's first byte on
     Len(usize),

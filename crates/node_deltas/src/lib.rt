@@ -1,4 +1,6 @@
 // The deltas of a node, judged: whether each leads to a right target, all at once by a bound of them or one after the other (docs/FORMAT.md, "A node").
+#![tactic(auto)]
+
 ghost use Rattle.std.specs.Prelude.{◌≡◌, true, ◌+◌, ◌*◌, ◌≤◌, length, take, drop};
 ghost use Rattle.format.specs.Bytes.{le};
 ghost use Rattle.buffers.specs.Decide.{Decides};

@@ -1,5 +1,7 @@
 // One step of a lookup by value: a node is judged as it is entered, and the transition that fits what is left is followed from it, with no node
 // made between the two.
+#![tactic(auto)]
+
 ghost use Rattle.std.specs.Prelude.{◌≡◌, ◌≤◌, ◌<◌, get_or};
 ghost use Rattle.format.specs.Node.{node_at};
 ghost use Rattle.node_sound.specs.Shapes.{AtForm};

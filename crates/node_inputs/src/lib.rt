@@ -1,4 +1,6 @@
 // The inputs of a node and their index, judged: whether the inputs ascend, and whether each entry of the index is right (docs/FORMAT.md, "A node").
+#![tactic(auto)]
+
 ghost use Rattle.std.specs.Prelude.{◌≡◌, ◌&&◌, ◌+◌, ◌≤◌, ◌<◌, length, take, drop};
 ghost use Rattle.buffers.specs.Decide.{Decides};
 ghost use Rattle.format.specs.Node.{bytes_down, Ascending, Indexed};

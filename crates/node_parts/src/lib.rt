@@ -1,5 +1,7 @@
 // The parts of a node with any number of transitions that have no numbers: inputs, index, count and state, written into a lent buffer for
 // the packer.
+#![tactic(auto)]
+
 ghost use Rattle.std.specs.Prelude.{◌≡◌, cond, ◌+◌, ◌≤◌, eqb, length};
 ghost use Rattle.format.specs.Limits.{max_trans};
 ghost use Rattle.format.specs.Node.{Ascending};

@@ -1,4 +1,6 @@
 // What RECORD asks of a record's inputs and targets, for the packer: the inputs ascend, and each target is 0 or from 16 to F - 1.
+#![tactic(auto)]
+
 ghost use Rattle.buffers.specs.Decide.{Decides};
 ghost use Rattle.format.specs.Node.{Ascending};
 ghost use Rattle.format.specs.Packed.{TargetOk, TargetsOk};

@@ -1,5 +1,7 @@
 // Whether the node at an address is sound, by its shape: what its last bytes say of its parts (src/raw/node.rs, `Node::new`).
 // Nothing outside the lent file is read, whatever the numbers are.
+#![tactic(auto)]
+
 ghost use Rattle.std.specs.Prelude.{◌≡◌, ◌+◌, ◌*◌, ◌≤◌, ◌<◌, length, get_or};
 ghost use Rattle.buffers.specs.Decide.{Decides};
 ghost use Rattle.format.specs.Limits.{first_node, max_trans};
@@ -13,7 +15,7 @@ use node_deltas::{target_right, targets_right};
 use node_inputs::{ascends, entries_right};
 
 // What the last bytes of a node with any number of transitions say of its parts.
-#[derive(Drop)]
+#[derive(Clone, Copy)]
 pub struct Shape {
     pub is_final: bool,
     pub ntrans: usize,

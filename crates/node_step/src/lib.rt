@@ -1,4 +1,6 @@
 // One step of a lookup by key: a node is judged as it is entered, and one transition is followed from it, with no node made between the two.
+#![tactic(auto)]
+
 ghost use Rattle.std.specs.Prelude.{◌≡◌, ◌≤◌, ◌<◌, get_or};
 ghost use Rattle.format.specs.Node.{node_at};
 ghost use Rattle.node_sound.specs.Shapes.{AtForm};

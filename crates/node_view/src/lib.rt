@@ -2,6 +2,8 @@
 // The view judges nothing when it is made. Each function takes it apart and calls a plain one on the slice and the
 // numbers, which judges the node. `transition_at` has plain parameters, so that its callers need no view.
 // (In contracts the field is «data»: the word alone is a keyword there.)
+#![tactic(auto)]
+
 ghost use Rattle.std.specs.Prelude.{◌≡◌};
 ghost use Rattle.format.specs.Node.{node_at};
 ghost use Rattle.node.specs.Read.{Judges};
@@ -11,7 +13,7 @@ use format::Transition;
 use node::{Found, Judged};
 
 // The node at addr, in a file of this version and root.
-#[derive(Drop)]
+#[derive(Clone, Copy)]
 pub struct Node<'f> {
     pub data: &'f [u8],
     pub version: u64,
@@ -20,7 +22,7 @@ pub struct Node<'f> {
 }
 
 // What asking a node for transition i says.
-#[derive(Drop)]
+#[derive(Clone, Copy)]
 pub enum TransitionAnswer {
     Is(Transition),
     // the node is not sound, or it has no transition i
@@ -28,7 +30,7 @@ pub enum TransitionAnswer {
 }
 
 // What asking a node for the input b says: its place, or the place of the first greater input.
-#[derive(Drop)]
+#[derive(Clone, Copy)]
 pub enum SearchAnswer {
     At(usize),
     Absent(usize),

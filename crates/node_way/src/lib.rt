@@ -1,4 +1,6 @@
 // Where an input leads from a sound node: the part of a step of a lookup by key that comes after the judging.
+#![tactic(auto)]
+
 ghost use Rattle.std.specs.Prelude.{◌≡◌, ◌≤◌, ◌<◌, get_or};
 ghost use Rattle.format.specs.Node.{SoundAt, node_at, target_of};
 ghost use Rattle.node.specs.Read.{transitions_in, Readable};
@@ -11,14 +13,14 @@ use node_sound::{head_len, input_of};
 
 // Where an input leads from a sound node: the output and the target of its transition, or nowhere, and
 // then the place of the first greater input.
-#[derive(Drop)]
+#[derive(Clone, Copy)]
 pub enum Way {
     To(u64, usize),
     Absent(usize),
 }
 
 // One step of a lookup by key: what a node that is judged as it is entered says of an input.
-#[derive(Drop)]
+#[derive(Clone, Copy)]
 pub enum Step {
     Sound(Way),
     Unsound,

@@ -1,5 +1,7 @@
 // Several files as one (src/raw/ops.rs: `OpBuilder`): union, intersection, difference and symmetric difference over one to eight plain readings, on any
 // files, admitted or not, and from any cards, also such as no begin gave.
+#![tactic(auto)]
+
 ghost use Rattle.std.specs.Prelude.{◌≡◌, map, ◌++◌, ◌-◌, ◌≤◌, ◌<◌, length, take, drop};
 ghost use Rattle.format.specs.Limits.{max_levels};
 ghost use Rattle.ops_keys.specs.Heads.{head_key};
@@ -14,7 +16,7 @@ use stream::Plain;
 use stream_start::Begins;
 
 // An operation over the readings of the first count cards, passed by value. Cards from count on carry no meaning.
-#[derive(Drop)]
+#[derive(Clone, Copy)]
 pub struct Cards {
     pub op: Op,
     pub count: usize,
@@ -22,14 +24,14 @@ pub struct Cards {
 }
 
 // What begin gives back. After a refusal the cards carry no meaning.
-#[derive(Drop)]
+#[derive(Clone, Copy)]
 pub struct Begun {
     pub answer: Begins,
     pub cards: Cards,
 }
 
 // What a call hands out: an item whose key has so many bytes, the end, or the number of a refusal.
-#[derive(Drop)]
+#[derive(Clone, Copy)]
 pub enum Merged {
     Item(usize),
     End,
@@ -38,7 +40,7 @@ pub enum Merged {
 
 // What a call gives back: its answer, the item's values with the numbers of their files, in order of value and then of file, and the cards after it. The
 // values and the numbers are 0 from count on, and where there is no item.
-#[derive(Drop)]
+#[derive(Clone, Copy)]
 pub struct Step {
     pub answer: Merged,
     pub count: usize,

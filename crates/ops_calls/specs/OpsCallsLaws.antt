@@ -118,7 +118,7 @@ module _ (op : Op) (S : List Source) where
       let no_more : map told_item (take w.handed w.items) ≡ [] = ap (λ (is : List Item). map told_item (take w.handed is)) none ∙ ap (map told_item) (take-nil w.handed) in
       record {
         items = [];
-        exact = record { ascending = tt; such = λ x m. absurd (Memᴰ.not_nil m); all = λ k ps b. absurd (r.0 k ps b) };
+        exact = record { ascending = tt; such = λ x m. absurd (Memᴰ.not-nil m); all = λ k ps b. absurd (r.0 k ps b) };
         handed = 0;
         ends = suc w.ends;
         within = omega arith;

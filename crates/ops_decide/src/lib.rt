@@ -1,5 +1,7 @@
 // What a round comes to, once its steps are made (src/raw/ops.rs: `Union`, `Intersection`, `Difference`, `SymmetricDifference`): an item, the end, or
 // another round.
+#![tactic(auto)]
+
 ghost use Rattle.std.specs.Prelude.{◌≡◌, List, ◌≤◌, ◌<◌};
 ghost use Rattle.ops_spec.specs.Ops as O;
 ghost use Rattle.ops_spec.specs.Ops.{Indexed};
@@ -15,7 +17,7 @@ use ops_round::Slot;
 use ops_seen::Seen;
 
 // Which keys an operation hands out.
-#[derive(Drop)]
+#[derive(Clone, Copy)]
 pub enum Op {
     Union,
     Intersection,
@@ -24,7 +26,7 @@ pub enum Op {
 }
 
 // What a round comes to.
-#[derive(Drop)]
+#[derive(Clone, Copy)]
 pub enum Verdict {
     This,
     NoMore,
@@ -33,7 +35,7 @@ pub enum Verdict {
 
 // What a round comes to, with where the item's key stands and values, and what is seen of the cards afterwards. The key and the values carry no meaning without an
 // item, the cards none at the end.
-#[derive(Drop)]
+#[derive(Clone, Copy)]
 pub struct Decided {
     pub verdict: Verdict,
     pub key: Place,

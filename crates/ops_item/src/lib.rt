@@ -1,5 +1,7 @@
 // What a round looks up in what is seen of the cards: the least key held, the values of a key, and the cards with some keys used up. Each goes over the
 // cards one by one.
+#![tactic(auto)]
+
 ghost use Rattle.std.specs.Prelude.{◌≡◌, List, ℕ, ◌≤◌, ◌<◌, length};
 ghost use Rattle.ops_keys.specs.Heads.{Within};
 ghost use Rattle.ops_seen.specs.Sights.{Few, Ready};
@@ -11,7 +13,7 @@ use ops_round::Slot;
 use ops_seen::Seen;
 
 // A key, if one was found, passed by value.
-#[derive(Drop)]
+#[derive(Clone, Copy)]
 pub struct Least {
     pub found: bool,
     pub key: Place,

@@ -1,4 +1,6 @@
 // The keys of readings, compared byte by byte: what an operation over several files orders its readings by.
+#![tactic(auto)]
+
 ghost use Rattle.std.specs.Prelude.{◌≡◌, ◌+◌, ◌-◌, ◌<◌, length, take, drop};
 ghost use Rattle.ops_keys.specs.Heads.{head_key, place_key, Within, Compared, BytesPut};
 
@@ -9,7 +11,7 @@ use stream::Plain;
 pub const KEYS: usize = 2_048;
 
 // How one key stands to another.
-#[derive(Drop)]
+#[derive(Clone, Copy)]
 pub enum Order {
     Less,
     Equal,
@@ -17,14 +19,14 @@ pub enum Order {
 }
 
 // What a reading's key lies in, passed by value: the bytes of its levels after the first. Entries past the last level carry no meaning.
-#[derive(Drop)]
+#[derive(Clone, Copy)]
 pub struct Head {
     pub levels: usize,
     pub inps: [u8; LEVELS],
 }
 
 // Where a key stands among the keys of eight readings, each in 256 bytes: which it is, and how many levels its reading has.
-#[derive(Drop)]
+#[derive(Clone, Copy)]
 pub struct Place {
     pub at: usize,
     pub levels: usize,

@@ -1,5 +1,7 @@
 // A page of items in one call (src/raw/ops.rs: `OpBuilder`, and the loop over its stream): up to so many items of an operation over one to eight files,
 // the least key first, between two bounds that all files share, on any files, admitted or not. No table of keys is lent.
+#![tactic(auto)]
+
 ghost use Rattle.std.specs.Prelude.{◌≡◌, map, ◌≤◌, ◌<◌, length, take};
 ghost use Rattle.ops_paging.specs.ItemPaging as P;
 ghost use Rattle.stream_start.specs.Views.{bound_is};
@@ -18,7 +20,7 @@ use ops_turn::step_seen;
 use stream_start::{Begins, Bound};
 
 // Why a page stopped: no item is left; as many were handed out as asked for; or the number of a refusal.
-#[derive(Drop)]
+#[derive(Clone, Copy)]
 pub enum Stop {
     End,
     More,
@@ -26,7 +28,7 @@ pub enum Stop {
 }
 
 // What a page gives back: how many items were written, and why it stopped.
-#[derive(Drop)]
+#[derive(Clone, Copy)]
 pub struct Paged {
     pub count: usize,
     pub stop: Stop,

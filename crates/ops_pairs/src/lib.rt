@@ -1,11 +1,13 @@
 // The values of a key with the numbers of their files, in order of value and then of file number (src/raw/ops.rs: `IndexedValue`): at most eight.
+#![tactic(auto)]
+
 ghost use Rattle.std.specs.Prelude.{◌≡◌, ◌||◌, List, [], ◌<◌};
 ghost use Rattle.ops_spec.specs.Ops as O;
 ghost use Rattle.ops_spec.specs.Ops.{Indexed, indexed};
 ghost use Rattle.ops_pairs.specs.Pairs.{PairsAre};
 
 // So many values with the numbers of their files, passed by value. The rest is 0.
-#[derive(Drop)]
+#[derive(Clone, Copy)]
 pub struct Pairs {
     pub count: usize,
     pub values: [u64; 8],

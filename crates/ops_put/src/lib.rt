@@ -1,5 +1,7 @@
 // What a page of items tests before its calls, the room for its items, and how an item is written: its key in a row of 256 bytes, how many files hold it,
 // and eight places for the numbers of these files and eight for its values.
+#![tactic(auto)]
+
 ghost use Rattle.std.specs.Prelude.{◌≡◌, ◌+◌, ◌*◌, ◌≤◌, ◌<◌, length};
 ghost use Rattle.buffers.specs.Put.{put};
 ghost use Rattle.format.specs.Limits.{max_levels};

@@ -1,5 +1,7 @@
 // The cards of an operation over several files (src/raw/ops.rs: `StreamHeap`), and the step of a reading whose key is used up. In specs/ the steps of a
 // round: every such reading is stepped once, in file order.
+#![tactic(auto)]
+
 ghost use Rattle.plain.specs.Plain as P;
 ghost use Rattle.stream.specs.Plains.{plain_is, CallGave};
 
@@ -7,7 +9,7 @@ use format::MAX_KEY;
 use stream::{Plain, Step};
 
 // Whether a card's key is used up, whether it holds the key of its reading's levels, or whether its reading has ended.
-#[derive(Drop)]
+#[derive(Clone, Copy)]
 pub enum Slot {
     Used,
     Holds,
@@ -16,7 +18,7 @@ pub enum Slot {
 
 // A reading in an operation, passed by value. The key that it holds is the key of its reading's levels, which is not stored twice; the value is that
 // key's and carries no meaning in another slot.
-#[derive(Drop)]
+#[derive(Clone, Copy)]
 pub struct Card {
     pub reading: Plain,
     pub slot: Slot,

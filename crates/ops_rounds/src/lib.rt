@@ -1,4 +1,6 @@
 // The rounds of a call of an operation: steps, and what they come to, until there is an item, the end or a refusal. The cards stay in one place.
+#![tactic(auto)]
+
 ghost use Rattle.std.specs.Prelude.{◌≡◌, false, ◌||◌, map, ◌≤◌, ◌<◌, leb};
 ghost use Rattle.format.specs.Limits.{max_path};
 ghost use Rattle.ops_spec.specs.OpsFuelLaws.{rounds_by};
@@ -15,7 +17,7 @@ use ops_seen::{deal, is_long, is_used, see};
 use ops_turn::step_seen;
 
 // What the rounds of a call come to.
-#[derive(Drop)]
+#[derive(Clone, Copy)]
 pub enum Came {
     Item,
     End,
@@ -24,7 +26,7 @@ pub enum Came {
 
 // The rounds of a call, with the item's key and values, and the cards afterwards. Without an item the key and the values carry no meaning, after a
 // refusal nothing.
-#[derive(Drop)]
+#[derive(Clone, Copy)]
 pub struct Called {
     pub came: Came,
     pub key: Head,

@@ -1,5 +1,7 @@
 // What a round sees of the cards: where their keys stand, their slots and values. The readings, which are large, do not go through the functions that
 // decide, and the bytes of the keys are lent to them.
+#![tactic(auto)]
+
 ghost use Rattle.std.specs.Prelude.{◌≡◌, ◌≤◌, ◌<◌, length};
 ghost use Rattle.ops_seen.specs.Sights.{dealt_card, SeenOf, AllSeen, AllDealt, UsedTest, LongTest};
 
@@ -8,7 +10,7 @@ use ops_keys::{KEYS, Place, put_bytes};
 use ops_round::{Card, Slot};
 
 // What is seen of a card, passed by value. The key is that of its reading; like the value it carries meaning only where a key is held.
-#[derive(Drop)]
+#[derive(Clone, Copy)]
 pub struct Seen {
     pub key: Place,
     pub slot: Slot,

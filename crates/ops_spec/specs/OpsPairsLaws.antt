@@ -92,7 +92,7 @@ insert_here x (y ∷ ys) = by (insert_here x ys) (sooner x y)
 
 insert_still : (x z : Indexed) (ps : List Indexed) → Memᴰ z ps → Memᴰ z (insert x ps)
 unfolding insert
-insert_still x z [] m = absurd (Memᴰ.not_nil m)
+insert_still x z [] m = absurd (Memᴰ.not-nil m)
 insert_still x z (y ∷ ys) m = by (λ n. insert_still x z ys n) (sooner x y)
   where
     by : (Memᴰ z ys → Memᴰ z (insert x ys)) → (b : Bool) → Memᴰ z (cond b (x ∷ y ∷ ys) (y ∷ insert x ys))
@@ -110,12 +110,12 @@ value_mem k v (e ∷ es) h = by (λ q. value_mem k v es q) (same_test e.key k) (
     by more false d q = Memᴰ.tail (more q)
 
 after_mem : (k l : List ℕ) (v : ℕ) (es : List Entry) → AllAfter k (lane_keys es) → Memᴰ (entry l v) es → Before k l
-after_mem k l v [] a m = absurd (Memᴰ.not_nil m)
+after_mem k l v [] a m = absurd (Memᴰ.not-nil m)
 after_mem k l v (e ∷ es) a m =
     ⊎_elim (λ (q : entry l v ≡ e). subst (λ (x : List ℕ). Before k x) (sym (ap (λ (x : Entry). x.key) q)) a.0) (λ n. after_mem k l v es a.1 n) (Memᴰ.cases_cons m)
 
 mem_value : (k : List ℕ) (v : ℕ) (es : List Entry) → Rising (lane_keys es) → Memᴰ (entry k v) es → value_in k es ≡ some v
-mem_value k v [] h m = absurd (Memᴰ.not_nil m)
+mem_value k v [] h m = absurd (Memᴰ.not-nil m)
 mem_value k v (e ∷ es) h m = by (λ n. mem_value k v es h.1 n) (same_test e.key k) (decides_same_key e.key k) (Memᴰ.cases_cons m)
   where
     by : (Memᴰ (entry k v) es → value_in k es ≡ some v) → (b : Bool) → Decides b (e.key ≡ k) → (entry k v ≡ e) ⊎ Memᴰ (entry k v) es
@@ -136,7 +136,7 @@ pairs_in_order i k (es ∷ L) = by (pairs_in_order (i + 1) k L) (value_in k es)
     by more (some v) = insert_in_order (indexed v i) (pairs_in (i + 1) k L) (pairs_index (i + 1) k L) more
 
 pub pairs_such : (i : ℕ) (k : List ℕ) (L : Lanes) (x : Indexed) → Memᴰ x (pairs_in i k L) → (j : ℕ) × (x.index ≡ i + j) × HasIn L j k x.value
-pairs_such i k [] x m = absurd (Memᴰ.not_nil m)
+pairs_such i k [] x m = absurd (Memᴰ.not-nil m)
 pairs_such i k (es ∷ L) x m = by (λ n. pairs_such (i + 1) k L x n) (value_in k es) refl m
   where
     later : (j : ℕ) × (x.index ≡ i + 1 + j) × HasIn L j k x.value → (j : ℕ) × (x.index ≡ i + j) × HasIn (es ∷ L) j k x.value

@@ -94,4 +94,4 @@ run_exact (suc n) op L h rising some_lane =
         let up : AllRising M = subst AllRising (sym r.1) (past_all_rising k L rising) in
         let here : 0 < length M = subst (λ (N : Lanes). 0 < length N) (sym r.1) (omega arith) in
         exact_item op L rising some_lane k ps r.0 (items_to n op M) (subst (λ (N : Lanes). Exact op N (items_to n op M)) r.1 (more M r.2 up here))
-    by (ending M) r more = record { ascending = tt; such = λ x m. absurd (Memᴰ.not_nil m); all = λ k ps b. absurd (r.0 k ps b) }
+    by (ending M) r more = record { ascending = tt; such = λ x m. absurd (Memᴰ.not-nil m); all = λ k ps b. absurd (r.0 k ps b) }

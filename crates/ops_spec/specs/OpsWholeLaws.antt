@@ -114,7 +114,7 @@ module _ (op : Op) (space : ℕ) (room : max_path ≤ space) where
             exact = exact_item op L rising some_lane k ps r.0 w.items (subst (λ (N : Lanes). Exact op N w.items) r.1 w.exact);
           }
       by _ e _ (both_ending {ds} more) r again =
-          record { items = []; last = ds; runs = runs_end e; exact = record { ascending = tt; such = λ x m. absurd (Memᴰ.not_nil m); all = λ k ps b. absurd (r.0 k ps b) } }
+          record { items = []; last = ds; runs = runs_end e; exact = record { ascending = tt; such = λ x m. absurd (Memᴰ.not-nil m); all = λ k ps b. absurd (r.0 k ps b) } }
 
   pub whole_items : (cs : List Card) (L : Lanes) → AllStand cs L → AllRising L → 0 < length L → length L ≤ 8 → WholeItems op space cs L
   whole_items cs L st rising some_lane few = run_cards (suc (total L)) cs L (omega arith) st rising some_lane few
@@ -144,7 +144,7 @@ sooner_irrefl x (inl a) = omega arith
 sooner_irrefl x (inr a) = omega (arith, a.1)
 
 sooner_mem : (x z : Indexed) (ps : List Indexed) → SoonerThanAll x ps → Memᴰ z ps → Sooner x z
-sooner_mem x z [] a m = absurd (Memᴰ.not_nil m)
+sooner_mem x z [] a m = absurd (Memᴰ.not-nil m)
 sooner_mem x z (y ∷ ps) a m = ⊎_elim (λ (e : z ≡ y). subst (Sooner x) (sym e) a.0) (λ n. sooner_mem x z ps a.1 n) (Memᴰ.cases_cons m)
 
 -- a later one of x ∷ ps that stands in x ∷ qs stands in qs
@@ -154,8 +154,8 @@ mem_later x z ps qs a m n = ⊎_elim (λ (e : z ≡ x). absurd (sooner_irrefl x 
 pub in_order_unique : (ps qs : List Indexed) → InOrder ps → InOrder qs → ((z : Indexed) → Memᴰ z ps → Memᴰ z qs)
     → ((z : Indexed) → Memᴰ z qs → Memᴰ z ps) → ps ≡ qs
 in_order_unique [] [] a b to from = refl
-in_order_unique [] (y ∷ qs) a b to from = absurd (Memᴰ.not_nil (from y (Memᴰ.head refl)))
-in_order_unique (x ∷ ps) [] a b to from = absurd (Memᴰ.not_nil (to x (Memᴰ.head refl)))
+in_order_unique [] (y ∷ qs) a b to from = absurd (Memᴰ.not-nil (from y (Memᴰ.head refl)))
+in_order_unique (x ∷ ps) [] a b to from = absurd (Memᴰ.not-nil (to x (Memᴰ.head refl)))
 in_order_unique (x ∷ ps) (y ∷ qs) a b to from =
     let same : x ≡ y =
     ⊎_elim (λ (e : x ≡ y). e)

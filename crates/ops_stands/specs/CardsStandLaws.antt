@@ -87,7 +87,7 @@ rising_next (x ∷ xs) a b ys h = rising_next xs a b ys h.1
 
 each_snoc : (P : List ℕ → Type 0) (es : List Entry) (e : Entry) → Each P es → P e.key → Each P (es ++ (e ∷ []))
 each_snoc P es e h p x m =
-    ⊎_elim (λ n. h x n) (λ n. ⊎_elim (λ (q : x ≡ e). rw q p) (λ z. absurd (Memᴰ.not_nil z)) (Memᴰ.cases_cons n)) (Memᴰ.append_cases es m)
+    ⊎_elim (λ n. h x n) (λ n. ⊎_elim (λ (q : x ≡ e). rw q p) (λ z. absurd (Memᴰ.not-nil z)) (Memᴰ.cases_cons n)) (Memᴰ.append_cases es m)
 
 abbrev pub StepsHalt : (P Q : List ℕ → Type 0) → List Source → Stepped → Type 0
 StepsHalt P Q cs (cards ds now) = AllCards (Halts P Q) cs ds
@@ -125,7 +125,7 @@ module _ (P U Q : List ℕ → Type 0) (F : Type 0) (up : (k : List ℕ) → U k
   step_one_lem c cs d o w (fresh s f same) more =
       subst (λ (x : Slot). StepsHalt P Q (c ∷ cs) (step_one space d x o)) (sym s)
       (step_from c cs d [] (ahead_of c).entries o w (subst (λ (p : Plain). Goes c.file c.reading [] p) (sym same) goes_none)
-      (subst (λ (p : Plain). Ahead c.file p (ahead_of c).entries) (sym same) (ahead_of c).ahead) refl (λ e m. absurd (Memᴰ.not_nil m)) (λ e es q. first f e.key) more)
+      (subst (λ (p : Plain). Ahead c.file p (ahead_of c).entries) (sym same) (ahead_of c).ahead) refl (λ e m. absurd (Memᴰ.not-nil m)) (λ e es q. first f e.key) more)
   step_one_lem c cs d o w (behind done here s h p u) more =
       subst (λ (x : Slot). StepsHalt P Q (c ∷ cs) (step_one space d x o)) (sym s)
       (step_from c cs d (done ++ (here ∷ [])) h.rest o w (goes_key here h.goes h.is) h.ahead (append_assoc done (here ∷ []) h.rest ∙ h.all)

@@ -57,14 +57,14 @@ until_called : {s : List ℕ} {Stop : List ℕ → Type 0} {p q : Plain} {at : O
 until_called {s} {Stop} (until_end {q = q} is) =
     record {
       calls = own_call s ∷ [];
-      allowed = λ d m. own_allowed s d (⊎_elim (λ e. e) (λ n. absurd (Memᴰ.not_nil n)) (Memᴰ.cases_cons m));
+      allowed = λ d m. own_allowed s d (⊎_elim (λ e. e) (λ n. absurd (Memᴰ.not-nil n)) (Memᴰ.cases_cons m));
       stopped = subst (λ (o : PlainStep). Stopped Stop (o.answer ∷ []) none) (sym is) at_end;
       left = sym (ap (λ (o : PlainStep). o.reading) is);
     }
 until_called {s} {Stop} (until_key {q = q} e is stop) =
     record {
       calls = own_call s ∷ [];
-      allowed = λ d m. own_allowed s d (⊎_elim (λ x. x) (λ n. absurd (Memᴰ.not_nil n)) (Memᴰ.cases_cons m));
+      allowed = λ d m. own_allowed s d (⊎_elim (λ x. x) (λ n. absurd (Memᴰ.not-nil n)) (Memᴰ.cases_cons m));
       stopped = subst (λ (o : PlainStep). Stopped Stop (o.answer ∷ []) (some e.key)) (sym is) (at_key stop);
       left = sym (ap (λ (o : PlainStep). o.reading) is);
     }

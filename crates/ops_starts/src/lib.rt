@@ -1,4 +1,6 @@
 // The starts of a page of items: a card for each file, its reading between two bounds that all files share, still to be stepped.
+#![tactic(auto)]
+
 ghost use Rattle.std.specs.Prelude.{◌≡◌, map, ◌≤◌, take};
 ghost use Rattle.ops_paging.specs.ItemPaging as P;
 ghost use Rattle.stream_start.specs.Views.{bound_is};
@@ -12,7 +14,7 @@ use stream_start::{Begins, Bound, Reading};
 const ANY: u64 = 18_446_744_073_709_551_615;
 
 // The cards of the starts beside the answer, in the form of stream_start::Started. After a refusal they carry no meaning.
-#[derive(Drop)]
+#[derive(Clone, Copy)]
 pub struct StartedCards {
     pub answer: Begins,
     pub cards: [Card; 8],

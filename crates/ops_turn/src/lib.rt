@@ -1,4 +1,6 @@
 // One card's part in a round, where what is seen of the cards stands beside them: the reading is the card's, the slot and the value are those seen.
+#![tactic(auto)]
+
 ghost use Rattle.std.specs.Prelude.{◌≡◌, ◌<◌, length};
 ghost use Rattle.ops_turn.specs.Parts.{after_is, SeenStepped};
 
@@ -9,7 +11,7 @@ use stream::Plain;
 use stream_step::Answer;
 
 // What a call of next makes of its card: a refusal's number, or the slot and the value afterwards. The rest carries no meaning.
-#[derive(Drop)]
+#[derive(Clone, Copy)]
 struct After {
     halted: bool,
     why: u8,
@@ -18,7 +20,7 @@ struct After {
 }
 
 // A card after its step with what is seen of it, or the number of a refusal, where the rest carries no meaning.
-#[derive(Drop)]
+#[derive(Clone, Copy)]
 pub struct SeenStep {
     pub halted: bool,
     pub why: u8,

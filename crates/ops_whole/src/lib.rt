@@ -1,5 +1,7 @@
 // A whole operation over several files in one call, on numbers and slices, for the comparison with the Rust (crate `oracle_ops`). Nothing is asked of a
 // caller: it answers on every input. It promises nothing of the items that it writes: what they are is promised of `ops::next_item`.
+#![tactic(auto)]
+
 use ops::{Cards, Merged};
 use ops_decide::Op;
 use ops_round::Card;
@@ -178,7 +180,7 @@ fn totals(cards: Cards) -> [u64; 8] {
 }
 
 // What a call came to: ITEM_PUT, ENDED, or REFUSED plus the refusal; and the cards after it.
-#[derive(Drop)]
+#[derive(Clone, Copy)]
 struct Called {
     came: u64,
     cards: Cards,

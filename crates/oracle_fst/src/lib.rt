@@ -1,6 +1,8 @@
 // Opening, admission, the table of keys and lookup as functions on numbers and slices, for the comparison with the Rust (oracle/README.md).
 // Nothing is asked of a caller: each function answers on every input, and its contract says the answer and what the
 // lent buffers hold afterwards. A slice is passed as its pointer and then its length.
+#![tactic(auto)]
+
 ghost use Rattle.std.specs.Prelude.{◌≡◌, [], ◌∷◌, length};
 ghost use Rattle.format.specs.Opening.{opening};
 ghost use Rattle.format.specs.Lookup as L;

@@ -1,5 +1,7 @@
 // One start, next, mark or return of the comparison of marks, plain or by pattern, for crate oracle_marks. Nothing is promised of the answers: what they are
 // is promised of the calls of crates marks and marks_by that are made here.
+#![tactic(auto)]
+
 use marks::Change;
 use oracle_marks_held::{Held, Ran, held_by, told};
 use patterned::Patterned;

@@ -1,5 +1,7 @@
 // What the comparison of marks holds between operations, and the states that it makes of it, for crate oracle_marks. Nothing is asked of a caller but
 // by the types, and nothing is promised of what is made.
+#![tactic(auto)]
+
 use marks_held::{MARKS, Mark, Marks};
 use patterned::Patterned;
 use patterned_held::Pattern;
@@ -7,7 +9,7 @@ use stream::Plain;
 use stream_start::Reading;
 
 // What is held between operations. A plain reading has no pattern, and a reading by pattern no number of keys.
-#[derive(Drop)]
+#[derive(Clone, Copy)]
 pub struct Held {
     pub plain: Plain,
     pub pattern: Pattern,
@@ -15,7 +17,7 @@ pub struct Held {
 }
 
 // What an operation answers, and what is held after it.
-#[derive(Drop)]
+#[derive(Clone, Copy)]
 pub struct Ran {
     pub told: [u64; 6],
     pub held: Held,

@@ -21,6 +21,8 @@
 // An answer is six numbers: a key's length, or 1000 for the end, 1002 for what was done, 2000 plus a refusal, 3000 plus the refusal of a start, or 4000
 // for an operation that is none; the value; and then the reading's total, number of keys to come and levels, and how many marks there are. The key stands
 // in a row of 255 bytes.
+#![tactic(auto)]
+
 use oracle_marks_calls::{named, next_of, started};
 use oracle_marks_held::{Held, Ran, changed, nothing, told};
 

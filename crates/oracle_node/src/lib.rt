@@ -1,6 +1,8 @@
 // The node layer as functions on numbers and slices, for the comparison with the Rust (oracle/README.md).
 // Nothing is asked of a caller: each function answers on every input, and its contract says the answer and what the
 // lent buffer holds afterwards. A slice is passed as its pointer and then its length.
+#![tactic(auto)]
+
 ghost use Rattle.std.specs.Prelude.{◌≡◌, [], ◌∷◌, length, get_or};
 ghost use Rattle.format.specs.Bytes.{pack_size};
 ghost use Rattle.format.specs.CommonInputs.{common_inputs, common_inputs_inv, common_idx};

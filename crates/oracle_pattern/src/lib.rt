@@ -4,6 +4,8 @@
 //
 // A reading stands in the six arrays of `stream_arrays`; by pattern it holds no number of keys to come. A held pattern stands in two: pattern has
 // its length and 0 where no rest may follow, positions its positions.
+#![tactic(auto)]
+
 ghost use Rattle.std.specs.Prelude.{◌≡◌, ltb, length, get_or};
 ghost use Rattle.stream_start.specs.Views.{bound_is, view_is};
 ghost use Rattle.pattern.specs.Pattern.{start_by, next_by};

@@ -1,6 +1,8 @@
 // A range as a function on numbers and slices, for the comparison with the Rust (oracle/README.md). Nothing is asked of a caller: it answers on every
 // input, and its contract says the answer and what the lent buffers hold afterwards. A slice is passed as its pointer and then its length, an array
 // as its pointer.
+#![tactic(auto)]
+
 ghost use Rattle.std.specs.Prelude.{length};
 ghost use Rattle.paging.specs.Paging as P;
 ghost use Rattle.stream_start.specs.Views.{bound_is};

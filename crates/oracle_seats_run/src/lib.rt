@@ -13,6 +13,8 @@
 // An answer is four numbers: a key's length, or 1000 for the end, 1001 for nobody, 1002 for a change that was made, 2000 plus a refusal, 3000 plus the
 // refusal of a start, or 4000 for an event that is none; the seat; the value; and the total of that seat's reading. The key stands in a row of 255
 // bytes.
+#![tactic(auto)]
+
 use seats::{Change, Seated, Served};
 use seats_turn::{LAST_SEAT, Seat, Seats};
 use stream_arrays::kind_of;
@@ -22,7 +24,7 @@ use stream_start::Begins;
 const ROW: usize = 255;
 
 // What an event answers, and the seats after it.
-#[derive(Drop)]
+#[derive(Clone, Copy)]
 struct Ran {
     told: [u64; 4],
     seats: Seats,

@@ -1,6 +1,8 @@
 // A plain reading's start and next as functions on numbers, slices and arrays, for the comparison with the Rust (oracle/README.md). Nothing
 // is asked of a caller: each function answers on every input, and its contract says the answer and what the lent buffers hold afterwards. A
 // slice is passed as its pointer and then its length, an array as its pointer. A reading stands in the arrays of `stream_arrays`.
+#![tactic(auto)]
+
 ghost use Rattle.std.specs.Prelude.{◌≡◌, length};
 ghost use Rattle.reading.specs.Reading as R;
 ghost use Rattle.plain.specs.Plain as P;

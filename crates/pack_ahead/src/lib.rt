@@ -1,4 +1,6 @@
 // Keys opened until a node has to be finished, and the row of that node. No output and no cell is touched.
+#![tactic(auto)]
+
 ghost use Rattle.std.specs.Prelude.{◌≡◌, cond, List, ℕ, ◌+◌, ◌*◌, ◌/◌, ◌%◌, ◌≤◌, ◌<◌, eqb, length};
 ghost use Rattle.packing.specs.Lists.{IsList, count_in, key_at};
 ghost use Rattle.packing.specs.Registry.{hash_of};
@@ -6,7 +8,7 @@ ghost use Rattle.packing_rows.specs.WorkTables.{tables_with, least_from};
 ghost use Rattle.pack_ahead.specs.Ahead.{LeavesAt, OpensKey, Started, GoesAhead, RowAsked, row_next};
 
 // The open nodes between two finished ones.
-#[derive(Drop)]
+#[derive(Clone, Copy)]
 pub struct Way {
     // the depth of the deepest open node
     pub depth: usize,

@@ -1,11 +1,13 @@
 // What packing a list answers, whether its working tables have their sizes, and the ends of a file. Its laws are of the answer (specs/).
+#![tactic(auto)]
+
 ghost use Rattle.std.specs.Prelude.{◌≡◌, ◌+◌, ◌≤◌, length};
 ghost use Rattle.pack_blank.specs.PackBlank.{tables_test, trailed};
 
 use le_bytes::pack_uint_in;
 
 // What packing answers.
-#[derive(Drop)]
+#[derive(Clone, Copy)]
 pub enum Packed {
     // the length of the file, which stands at the output's front
     Len(usize),

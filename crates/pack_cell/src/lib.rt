@@ -1,11 +1,13 @@
 // The table of cells as a slice of structs, an address and a hash each: a cell stored, the two cells of a row stored or exchanged, all emptied.
 // Each function is walked, since the kit's borrow checker covers no reference to a struct.
+#![tactic(auto)]
+
 ghost use Rattle.std.specs.Prelude.{◌≡◌, ◌+◌, ◌<◌, length, set, replicate};
 ghost use Rattle.pack_cell.specs.Cells.{empty, at};
 
 // Two words for a C caller: functions for C are lent a table of them.
 #[repr(C)]
-#[derive(Drop)]
+#[derive(Clone, Copy)]
 pub struct Cell {
     // the address of a node; 1 when the cell is empty
     pub addr: u64,

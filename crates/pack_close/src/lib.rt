@@ -1,6 +1,8 @@
 // Open nodes finished, deepest first: each becomes a transition of the node above it, along the byte that led to it and with the least
 // value below it.
 // Row d of the three tables, 256 entries from 256 d on, has the finished transitions of the open node at depth d.
+#![tactic(auto)]
+
 ghost use Rattle.std.specs.Prelude.{◌≡◌, ◌+◌, ◌*◌, ◌≤◌, ◌<◌, length, get_or, set};
 ghost use Rattle.packing_rows.specs.WorkTables.{tables_with};
 ghost use Rattle.pack_intern.specs.Interning.{build_is};
@@ -9,7 +11,7 @@ ghost use Rattle.pack_close.specs.Closing.{Closable, StepIs, closed_to, ClosesTo
 use pack_intern::Placed;
 
 // How finishing open nodes ends.
-#[derive(Drop)]
+#[derive(Clone, Copy)]
 pub enum Closed {
     // the place past the nodes
     Done(usize),

@@ -1,4 +1,6 @@
 // The end of packing, once no node is to be finished: the ends of the file are written, or it is refused and the output is zeros.
+#![tactic(auto)]
+
 ghost use Rattle.std.specs.Prelude.{◌≡◌};
 ghost use Rattle.pack_end.specs.Ending.{EndAsked, Ends, Finishes, refused_test};
 

@@ -1,5 +1,7 @@
 // A row of the working tables finished: its outputs are counted from a base, and its record goes through the cells.
 // Row d of the three tables, 256 entries from 256 d on, has the finished transitions of the open node at depth d.
+#![tactic(auto)]
+
 ghost use Rattle.std.specs.Prelude.{◌≡◌, true, cond, ◌-◌, ◌*◌, ◌≤◌, min, drop};
 ghost use Rattle.packing.specs.Registry.{intern};
 ghost use Rattle.packing_rows.specs.WorkTables.{least_num, least_from};

@@ -1,4 +1,6 @@
 // A key more: how far it goes along the open nodes, and the rest of it opened, once the nodes off it are finished. Its laws say what adding a key is.
+#![tactic(auto)]
+
 ghost use Rattle.std.specs.Prelude.{◌≡◌, List, ℕ, ◌≤◌, ◌<◌, length};
 ghost use Rattle.packing_rows.specs.WorkTables.{tables_with};
 ghost use Rattle.pack_insert.specs.Inserting.{CommonIs, Opened};

@@ -1,5 +1,7 @@
 // One record interned: its address among the nodes so far, found through the cells or written after them.
 // A cell is an address and a hash, a row two cells, as in `RegistryCache` of src/raw/registry.rs.
+#![tactic(auto)]
+
 ghost use Rattle.std.specs.Prelude.{◌≡◌, ◌+◌, ◌*◌, ◌/◌, ◌%◌, ◌≤◌, ◌<◌, length};
 ghost use Rattle.node_compile.specs.Compile.{builder_with};
 ghost use Rattle.node_compile.specs.Parts.{RecordFits};
@@ -10,7 +12,7 @@ use node_compile::Compiled;
 use registry::Choice;
 
 // Where a record is.
-#[derive(Drop)]
+#[derive(Clone, Copy)]
 pub enum Placed {
     // its address, and the place past the nodes
     At(usize, usize),

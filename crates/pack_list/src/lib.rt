@@ -1,5 +1,7 @@
 // The list that is packed, judged before anything is written, and read: the number of keys, ends, values.
 // A list is: the number of keys and the total of their bytes, an end for each key, a value for each key, the key bytes.
+#![tactic(auto)]
+
 ghost use Rattle.std.specs.Prelude.{◌≡◌, ◌+◌, ◌*◌, ◌≤◌, ◌<◌, length};
 ghost use Rattle.buffers.specs.Decide.{Decides};
 ghost use Rattle.format.specs.Opening.{number_at};

@@ -1,4 +1,6 @@
 // A node that is not the root, finished in the two cells of its row, and then keys opened until the next node has to be finished.
+#![tactic(auto)]
+
 ghost use Rattle.packing_rows.specs.WorkTables.{tables_with};
 ghost use Rattle.pack_node.specs.NodeSteps.{NodeAsked, NodeSteps};
 
@@ -6,7 +8,7 @@ use pack_ahead::Way;
 use pack_cell::Cell;
 
 // What finishing a node, and opening keys, leaves.
-#[derive(Drop)]
+#[derive(Clone, Copy)]
 pub struct NodeStep {
     // whether the output had room
     pub done: bool,

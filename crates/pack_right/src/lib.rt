@@ -1,1 +1,2 @@
 // No code: what the contract of `pack` says of a file that it answers with.
+#![tactic(auto)]

@@ -1,5 +1,7 @@
 // A node finished in its row of two cells, which are given by value: the row that is its own, found before it is finished.
 // That finishing it there alone is finishing it in the whole table is said in specs/.
+#![tactic(auto)]
+
 ghost use Rattle.std.specs.Prelude.{◌≡◌, true, cond, map, ℕ, ◌+◌, ◌-◌, ◌*◌, ◌/◌, ◌%◌, ◌≤◌, ◌<◌, length, take, get_or};
 ghost use Rattle.packing.specs.Registry.{hash_of};
 ghost use Rattle.pack_finish.specs.FinishRow.{row_node};

@@ -1,5 +1,7 @@
 // Packing that stops at each finished node: a turn says which row of cells the next node wants, and a step is given that row by value.
 // So whoever has the table of cells takes two of them, makes a step, and puts two back.
+#![tactic(auto)]
+
 ghost use Rattle.std.specs.Prelude.{◌≡◌, false, List, ◌∷◌, [], ℕ, length, replicate};
 ghost use Rattle.packing_rows.specs.WorkTables.{tables_with};
 ghost use Rattle.pack_blank.specs.PackBlank.{tables_test};
@@ -12,7 +14,7 @@ use pack_intern::Placed;
 use pack_node::NodeStep;
 
 // Where packing stands between two nodes.
-#[derive(Drop)]
+#[derive(Clone, Copy)]
 pub struct Turn {
     // whether a node is still to be finished
     pub going: bool,
@@ -31,7 +33,7 @@ pub struct Turn {
 }
 
 // A step made: the turn after it, and the row as it is to be put back.
-#[derive(Drop)]
+#[derive(Clone, Copy)]
 pub struct Stepped {
     pub turn: Turn,
     pub one: Cell,

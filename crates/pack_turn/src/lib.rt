@@ -1,4 +1,6 @@
 // The deepest open node, and at the end the root, finished in the two cells of its row, which are given and given back by value.
+#![tactic(auto)]
+
 ghost use Rattle.std.specs.Prelude.{◌≡◌, ◌+◌};
 ghost use Rattle.packing_rows.specs.WorkTables.{tables_with};
 ghost use Rattle.packing.specs.Registry.{intern};
@@ -12,7 +14,7 @@ use pack_close::Closed;
 use pack_intern::Placed;
 
 // What finishing a node leaves.
-#[derive(Drop)]
+#[derive(Clone, Copy)]
 pub struct RowClosed {
     // whether the output had room
     pub done: bool,
@@ -78,7 +80,7 @@ pub fn close_in_row(
 }
 
 // What finishing the root leaves.
-#[derive(Drop)]
+#[derive(Clone, Copy)]
 pub struct RowPlaced {
     // where it is
     pub placed: Placed,

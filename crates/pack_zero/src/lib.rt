@@ -1,4 +1,6 @@
 // Lent slices filled whole with zeros: bytes and numbers.
+#![tactic(auto)]
+
 ghost use Rattle.std.specs.Prelude.{◌≡◌, length, replicate};
 
 // Every byte to 0.

@@ -37,14 +37,14 @@ rising_front [] ys h = tt
 rising_front (x ∷ xs) ys h = (after_front x.key xs ys h.0, rising_front xs ys h.1)
 
 after_back_lem : (k : List ℕ) (xs ys : List Entry) → AllAfter k (keys_out (xs ++ ys)) → (y : Entry) → Memᴰ y ys → Before k y.key
-after_back_lem k [] [] h y on = absurd (Memᴰ.not_nil on)
+after_back_lem k [] [] h y on = absurd (Memᴰ.not-nil on)
 after_back_lem k [] (z ∷ ys) h y on =
     ⊎_elim (λ (q : y ≡ z). rw q h.0) (λ (g : Memᴰ y ys). after_back_lem k [] ys h.1 y g) (Memᴰ.cases_cons on)
 after_back_lem k (x ∷ xs) ys h y on = after_back_lem k xs ys h.1 y on
 
 -- each of the first part comes before each of the second
 pub rising_parts : (xs ys : List Entry) → Rising (keys_out (xs ++ ys)) → (x y : Entry) → Memᴰ x xs → Memᴰ y ys → Before x.key y.key
-rising_parts [] ys h x y mx my = absurd (Memᴰ.not_nil mx)
+rising_parts [] ys h x y mx my = absurd (Memᴰ.not-nil mx)
 rising_parts (z ∷ xs) ys h x y mx my =
     ⊎_elim
     (λ (q : x ≡ z). rw q (after_back_lem z.key xs ys h.0 y my))

@@ -1,5 +1,7 @@
 // Readings by pattern (src/raw/mod.rs: `next_with` with an automaton for the pattern): the keys between two bounds that fit, on any file, admitted
 // or not, and from any reading, also one that no start gave.
+#![tactic(auto)]
+
 ghost use Rattle.std.specs.Prelude.{◌≡◌, ◌<◌, length};
 ghost use Rattle.format.specs.Limits.{max_path};
 ghost use Rattle.format.specs.Strings as S;
@@ -16,7 +18,7 @@ use stream_start::{Begins, Bound, Reading};
 use stream_step::Answer;
 
 // A reading by pattern, passed by value. Its own type, so that a request for a plain reading cannot be handed one.
-#[derive(Drop)]
+#[derive(Clone, Copy)]
 pub struct Patterned {
     pub reading: Reading,
     pub pattern: Pattern,
@@ -24,14 +26,14 @@ pub struct Patterned {
 
 // What a start gives back. After a refusal the reading carries no meaning, and the contract of start leaves it free; next answers on it as on any
 // reading.
-#[derive(Drop)]
+#[derive(Clone, Copy)]
 pub struct PatternedStart {
     pub answer: Begins,
     pub patterned: Patterned,
 }
 
 // What a call of next gives back.
-#[derive(Drop)]
+#[derive(Clone, Copy)]
 pub struct PatternedStep {
     pub answer: Answer,
     pub patterned: Patterned,

@@ -1,4 +1,6 @@
 // The descent of a reading by pattern: from a level that can go on down to a key that fits, or to a level that cannot go on.
+#![tactic(auto)]
+
 ghost use Rattle.std.specs.Prelude.{◌≡◌, true, ◌∷◌, ◌≤◌, ◌<◌, length, take, drop, get_or};
 ghost use Rattle.format.specs.Limits.{max_path, max_levels};
 ghost use Rattle.format.specs.Paths.{fst_with};
@@ -18,7 +20,7 @@ use stream_pop::wide_place;
 use stream_start::Bound;
 
 // What following one transition gives: the target's node, whose level is written, or the number of a refusal.
-#[derive(Drop)]
+#[derive(Clone, Copy)]
 enum Followed {
     To(Node),
     Halted(u8),
@@ -26,7 +28,7 @@ enum Followed {
 
 // What a descent finds: the place of the level where a key ends, the key's value and the total; the total where the upper bound is
 // passed; the number of a refusal; or how many levels are left below a level that cannot go on, with the total.
-#[derive(Drop)]
+#[derive(Clone, Copy)]
 pub enum Down {
     Found(usize, u64, u64),
     Passed(u64),

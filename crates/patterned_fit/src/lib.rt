@@ -1,4 +1,6 @@
 // How much of a key fits a pattern: the tests of a reading by pattern.
+#![tactic(auto)]
+
 ghost use Rattle.std.specs.Prelude.{◌≡◌, cond, ◌&&◌, suc, ◌-◌, ◌≤◌, ◌<◌, ltb, length, take, drop};
 ghost use Rattle.format.specs.Limits.{max_path, max_levels};
 ghost use Rattle.pattern.specs.Pattern.{at_test};

@@ -1,4 +1,6 @@
 // A pattern as a reading holds it, and how a start's positions are held.
+#![tactic(auto)]
+
 ghost use Rattle.std.specs.Prelude.{◌≡◌, ◌≤◌, length};
 ghost use Rattle.format.specs.Limits.{max_path};
 ghost use Rattle.patterned_held.specs.HeldPatterns.{held_is, given_is};
@@ -7,7 +9,7 @@ use format::MAX_KEY;
 
 // A pattern, passed by value. A position below 256 is its byte, any other number is any byte, so that no position can be wrong. Entries past the
 // pattern's length carry no meaning.
-#[derive(Drop)]
+#[derive(Clone, Copy)]
 pub struct Pattern {
     pub len: usize,
     // whether any rest may follow the positions

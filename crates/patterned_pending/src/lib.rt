@@ -1,4 +1,6 @@
 // A call of next by pattern once its tests are passed: the walk to the next key that fits, and a pending empty key before it.
+#![tactic(auto)]
+
 ghost use Rattle.std.proofs.Math.Option.{some};
 ghost use Rattle.std.specs.Prelude.{◌≤◌, ◌<◌, length};
 ghost use Rattle.format.specs.Limits.{max_path, max_levels};

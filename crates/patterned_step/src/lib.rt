@@ -1,4 +1,6 @@
 // A call of next on a reading and a pattern: what it tests, in its order.
+#![tactic(auto)]
+
 ghost use Rattle.std.specs.Prelude.{length};
 ghost use Rattle.stream_start.specs.Views.{view_is};
 ghost use Rattle.stream_step.specs.Stepped.{Stepped};

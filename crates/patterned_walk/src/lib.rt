@@ -1,5 +1,7 @@
 // The walk of a reading by pattern: levels are popped down to one that can go on, and transitions are followed from there, until a key fits,
 // the upper bound is passed or no level is left. A call may follow any number of transitions.
+#![tactic(auto)]
+
 ghost use Rattle.std.specs.Prelude.{◌≡◌, ◌≤◌, ◌<◌, length, take};
 ghost use Rattle.format.specs.Limits.{max_path, max_levels};
 ghost use Rattle.format.specs.Paths.{fst_with};
@@ -17,7 +19,7 @@ use stream_start::Bound;
 
 // What the walk finds: the place of the level where a key ends, the key's value and the total; the total at the end; or the number of a
 // refusal.
-#[derive(Drop)]
+#[derive(Clone, Copy)]
 pub enum Walked {
     Found(usize, u64, u64),
     Ended(u64),

@@ -282,11 +282,11 @@ reads_of_lem f lo hi is = rw is
 read_in_table : (f : Fst) (hi : Bound) (d : ℕ) → Memᴰ d (reads_within f hi) → InTable f d
 read_in_table f unbounded d mem =
     elim (ℕ_discrete f.root 0) [
-      | yes z ↦ absurd (Memᴰ.not_nil (rw (eq-eqb f.root 0 z) at mem))
+      | yes z ↦ absurd (Memᴰ.not-nil (rw (eq-eqb f.root 0 z) at mem))
       | no z ↦
           ⊎_elim {A = d ≡ f.root} {B = Memᴰ d []}
           (λ q. rw q (root_in_table f z))
-          (λ n. absurd (Memᴰ.not_nil n))
+          (λ n. absurd (Memᴰ.not-nil n))
           (Memᴰ.cases_cons (rw (ne_eqb f.root 0 z) at mem))
     ]
 read_in_table f (included x) d mem = reads_in_table f x f.root [] 0 here d mem
@@ -301,8 +301,8 @@ fits_right f c lo hi is (inl filled) = (
 )
 fits_right f c lo hi is (inr none) =
     let nil : reads_within f hi ++ reads_to f f.root (bound_bytes lo) ≡ [] = sym (reads_of_lem f lo hi is) ∙ none in (
-      λ d mem. absurd (Memᴰ.not_nil (rw nil at (Memᴰ.append_left (reads_to f f.root (bound_bytes lo)) mem))),
-      λ d mem. absurd (Memᴰ.not_nil (rw nil at (Memᴰ.append_right (reads_within f hi) mem))),
+      λ d mem. absurd (Memᴰ.not-nil (rw nil at (Memᴰ.append_left (reads_to f f.root (bound_bytes lo)) mem))),
+      λ d mem. absurd (Memᴰ.not-nil (rw nil at (Memᴰ.append_right (reads_within f hi) mem))),
     )
 
 -- the keys within the upper bound fit 64 bits
@@ -316,7 +316,7 @@ fits_within f c lo hi low is (inl filled) w e W =
     ]
 fits_within f c lo hi low is (inr none) w e W =
     let nil : reads_within f hi ++ reads_to f f.root (bound_bytes lo) ≡ [] = sym (reads_of_lem f lo hi is) ∙ none in
-    omega (arith, within_few f c hi w (λ d mem. Memᴰ.not_nil (rw nil at (Memᴰ.append_left (reads_to f f.root (bound_bytes lo)) mem))) e)
+    omega (arith, within_few f c hi w (λ d mem. Memᴰ.not-nil (rw nil at (Memᴰ.append_left (reads_to f f.root (bound_bytes lo)) mem))) e)
 
 -- in a file that has bytes and whose reached nodes are sound
 pub number_right_of : (f : Fst) (c : List ℕ) (lo hi : Bound) → 0 < length f.bytes → AllSound f f.root → 2 * (f.root + 1) ≤ max_sum → TableFits f lo hi c

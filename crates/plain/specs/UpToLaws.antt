@@ -72,7 +72,7 @@ module _ (f : Fst) (a : ℕ) (m : Node) (e : node_in f a ≡ sound m) (b : ℕ) 
 
 -- the entry of a smaller input's target is read
 below_read : (b : ℕ) (ts : List Transition) (t : Transition) → Memᴰ t ts → t.inp < b → ¬ (t.addr ≡ 0) → Memᴰ t.addr (reads_below b ts)
-below_read b [] t mem l ne = absurd (mathlib.Core.List.Memᴰ.not_nil mem)
+below_read b [] t mem l ne = absurd (mathlib.Core.List.Memᴰ.not-nil mem)
 below_read b (u ∷ ts) t mem l ne =
     ⊎_elim {A = t ≡ u} {B = Memᴰ t ts}
     (λ q.
@@ -272,7 +272,7 @@ up_to_comes f c own (b ∷ x) a all =
 -- an entry that is read is that of a smaller input's target
 read_below : (b : ℕ) (ts : List Transition) (d : ℕ) → Memᴰ d (reads_below b ts)
     → (t : Transition) × Memᴰ t ts × (t.inp < b) × (t.addr ≡ d) × (¬ (d ≡ 0))
-read_below b [] d mem = absurd (mathlib.Core.List.Memᴰ.not_nil mem)
+read_below b [] d mem = absurd (mathlib.Core.List.Memᴰ.not-nil mem)
 read_below b (u ∷ ts) d mem =
     ⊎_elim {A = Memᴰ d (cond (ltb u.inp b) (entry_at u.addr) [])} {B = Memᴰ d (reads_below b ts)}
     (λ g. by (ltb u.inp b) refl (eqb u.addr 0) refl g)
@@ -281,21 +281,21 @@ read_below b (u ∷ ts) d mem =
   where
     by : (w : Bool) → ltb u.inp b ≡ w → (z : Bool) → eqb u.addr 0 ≡ z → Memᴰ d (cond w (cond z [] (u.addr ∷ [])) [])
         → (t : Transition) × Memᴰ t (u ∷ ts) × (t.inp < b) × (t.addr ≡ d) × (¬ (d ≡ 0))
-    by true l true z g = absurd (mathlib.Core.List.Memᴰ.not_nil g)
+    by true l true z g = absurd (mathlib.Core.List.Memᴰ.not-nil g)
     by true l false z g =
         ⊎_elim {A = d ≡ u.addr} {B = Memᴰ d []}
-        (λ q. (u, mathlib.Core.List.Memᴰ.head refl, ltb-true u.inp b l, sym q, λ y. eqb-false u.addr 0 z (sym q ∙ y))) (λ n. absurd (mathlib.Core.List.Memᴰ.not_nil n))
+        (λ q. (u, mathlib.Core.List.Memᴰ.head refl, ltb-true u.inp b l, sym q, λ y. eqb-false u.addr 0 z (sym q ∙ y))) (λ n. absurd (mathlib.Core.List.Memᴰ.not-nil n))
         (mathlib.Core.List.Memᴰ.cases_cons g)
-    by false l z y g = absurd (mathlib.Core.List.Memᴰ.not_nil g)
+    by false l z y g = absurd (mathlib.Core.List.Memᴰ.not-nil g)
 
 pub reads_in_table : (f : Fst) (x : List ℕ) (a : ℕ) (k : List ℕ) (sum : ℕ) → Path f f.root k sum a → (d : ℕ) → Memᴰ d (reads_to f a x) → InTable f d
 unfolding reads_to
-reads_in_table f [] a k sum path d mem = absurd (mathlib.Core.List.Memᴰ.not_nil mem)
+reads_in_table f [] a k sum path d mem = absurd (mathlib.Core.List.Memᴰ.not-nil mem)
 reads_in_table f (b ∷ x) a k sum path d mem = go (λ i l s p g. reads_in_table f x i l s p d g) (node_in f a) refl mem
   where
     on : ((i : ℕ) (l : List ℕ) (s : ℕ) → Path f f.root l s i → Memᴰ d (reads_to f i x) → InTable f d) → (m : Node) → node_in f a ≡ sound m
         → (p : Search) → find_input m.transitions b ≡ p → Memᴰ d (on_search p (λ i. reads_to f (transition_at m.transitions i).addr x) (λ i. [])) → InTable f d
-    on rest m e (Search.absent p) none g = absurd (mathlib.Core.List.Memᴰ.not_nil g)
+    on rest m e (Search.absent p) none g = absurd (mathlib.Core.List.Memᴰ.not-nil g)
     on rest m e (Search.at p) found g =
         let t = transition_at m.transitions p in
         rest t.addr (k ++ (t.inp ∷ [])) (sum + t.out) (path_snoc m t path e (at_member m.transitions p (find_member f a m e b p found).0)) g
@@ -304,7 +304,7 @@ reads_in_table f (b ∷ x) a k sum path d mem = go (λ i l s p g. reads_in_table
         → Memᴰ d
         (on_node j (λ m. reads_below b m.transitions ++ on_search (find_input m.transitions b) (λ p. reads_to f (transition_at m.transitions p).addr x) (λ p. [])) [])
         → InTable f d
-    go rest unsound e g = absurd (mathlib.Core.List.Memᴰ.not_nil g)
+    go rest unsound e g = absurd (mathlib.Core.List.Memᴰ.not-nil g)
     go rest (sound m) e g =
         ⊎_elim
         {A = Memᴰ d (reads_below b m.transitions)}

@@ -1,5 +1,7 @@
 // A range in one call (src/raw/mod.rs: `range`, `ge` to `lt`, and the loop of `next` over it): up to so many keys between two bounds, each in a row of
 // 256 bytes with its value beside it, on any file, admitted or not.
+#![tactic(auto)]
+
 ghost use Rattle.std.specs.Prelude.{◌≡◌, true, ◌*◌, ◌≤◌, length};
 ghost use Rattle.reading.specs.Reading as R;
 ghost use Rattle.paging.specs.Paging as P;

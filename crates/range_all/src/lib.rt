@@ -1,4 +1,6 @@
 // The keys of a range after its start: a pending empty key first, then the loop.
+#![tactic(auto)]
+
 ghost use Rattle.std.specs.Prelude.{◌*◌, ◌≤◌, length, take};
 ghost use Rattle.paging.specs.Paging as P;
 ghost use Rattle.stream_start.specs.Views.{bound_is, empty_is, stack_is};

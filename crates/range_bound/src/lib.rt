@@ -1,5 +1,7 @@
 // How the keys of a range stand to its upper bound, by one byte for each transition: how many leading bytes agree with the bound, and on which side of it
 // the first byte that does not.
+#![tactic(auto)]
+
 ghost use Rattle.std.specs.Prelude.{◌≡◌, List, ℕ, ◌+◌, ◌≤◌, ◌<◌, length, take, drop, set};
 ghost use Rattle.format.specs.Limits.{max_path, max_levels};
 ghost use Rattle.stream_start.specs.Views.{bound_is};
@@ -9,7 +11,7 @@ use format::{LEVELS, MAX_KEY};
 use stream_start::Bound;
 
 // Where a key lies whose bytes before the last agree with the bound: below it, with all that it begins; along it; or past it, with all that it begins.
-#[derive(Drop)]
+#[derive(Clone, Copy)]
 pub enum Side {
     Below,
     Along,
@@ -17,14 +19,14 @@ pub enum Side {
 }
 
 // How many leading bytes of a key agree with the bound, and whether the key is past it where it has more.
-#[derive(Drop)]
+#[derive(Clone, Copy)]
 pub struct Standing {
     pub same: usize,
     pub over: bool,
 }
 
 // A key after one byte more: how many leading bytes agree, or that it passes the bound.
-#[derive(Drop)]
+#[derive(Clone, Copy)]
 pub enum Reach {
     Within(usize),
     Past,

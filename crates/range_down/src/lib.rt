@@ -1,5 +1,7 @@
 // The descent of a range, from a level that has a transition left down to the next key, on arrays that the next descent goes on with. A node is
 // judged once, as it is entered, and read by its address after that.
+#![tactic(auto)]
+
 ghost use Rattle.std.specs.Prelude.{◌≡◌, ◌+◌, ◌≤◌, ◌<◌, length, take, drop, get_or};
 ghost use Rattle.format.specs.Limits.{max_path, max_levels};
 ghost use Rattle.format.specs.Paths.{fst_with};
@@ -17,7 +19,7 @@ use stream_start::Bound;
 
 // What the descent finds: the place of the level where a key ends, the key's value, and how many of its leading bytes agree with the upper bound; that
 // this bound is passed; or the number of a refusal.
-#[derive(Drop)]
+#[derive(Clone, Copy)]
 pub enum Went {
     Found(usize, u64, usize),
     Passed,

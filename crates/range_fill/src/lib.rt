@@ -1,4 +1,6 @@
 // The loop of a range: the keys after the levels in the caller's arrays, each in a row of 256 bytes with its value beside it.
+#![tactic(auto)]
+
 ghost use Rattle.std.specs.Prelude.{◌≡◌, ◌-◌, ◌*◌, ◌≤◌, length, take};
 ghost use Rattle.std.proofs.Math.Option.{none};
 ghost use Rattle.paging.specs.Paging as P;
@@ -13,7 +15,7 @@ use range_turn::{Turn, step_on};
 use stream_start::Bound;
 
 // Why a range stopped: no key is left; as many were handed out as asked for; or the number of a refusal.
-#[derive(Drop)]
+#[derive(Clone, Copy)]
 pub enum Stop {
     End,
     More,
@@ -21,7 +23,7 @@ pub enum Stop {
 }
 
 // What a range gives back: how many rows and values were written, and why it stopped.
-#[derive(Drop)]
+#[derive(Clone, Copy)]
 pub struct Ranged {
     pub count: usize,
     pub stop: Stop,

@@ -1,4 +1,6 @@
 // A node on the way of a range: what is judged as it is entered, and what is read of it later, by its address, with no node kept between the two.
+#![tactic(auto)]
+
 ghost use Rattle.std.specs.Prelude.{◌≡◌};
 ghost use Rattle.format.specs.Node.{SoundAt, node_at};
 ghost use Rattle.format.specs.Paths.{fst_with};
@@ -10,14 +12,14 @@ use le_bytes::small;
 use node_sound::is_sound;
 
 // Whether a key ends at a node, and then what that adds to its value.
-#[derive(Drop)]
+#[derive(Clone, Copy)]
 pub enum Ending {
     Final(u64),
     Inner,
 }
 
 // What entering a node says: that it is sound, and whether a key ends there; or that it is not.
-#[derive(Drop)]
+#[derive(Clone, Copy)]
 pub enum Met {
     Sound(Ending),
     Unsound,

@@ -1,4 +1,6 @@
 // What a range tests before its walk, its bounds and the room for its rows, and how a row is written.
+#![tactic(auto)]
+
 ghost use Rattle.std.specs.Prelude.{◌≡◌, ◌∷◌, ◌+◌, ◌≤◌, length, take};
 ghost use Rattle.buffers.specs.Put.{put};
 ghost use Rattle.format.specs.Limits.{max_path};

@@ -1,5 +1,7 @@
 // One key more of a range, on the levels in the caller's own arrays: what a call of next does where no empty key is pending, with nothing passed by
 // value but numbers. Every level is that of a judged node, so none is judged again. A refusal ends the range, so nothing is restored.
+#![tactic(auto)]
+
 ghost use Rattle.std.specs.Prelude.{◌≡◌, ℕ, ◌-◌, ◌≤◌, ◌<◌, length, take, drop};
 ghost use Rattle.format.specs.Limits.{max_path, max_levels};
 ghost use Rattle.format.specs.Paths.{fst_with};
@@ -16,7 +18,7 @@ use stream_pop::wide_place;
 use stream_start::Bound;
 
 // What the pops find: the place of the highest level that has a transition left, or that there is none.
-#[derive(Drop)]
+#[derive(Clone, Copy)]
 enum Top {
     At(usize),
     Empty,
@@ -24,7 +26,7 @@ enum Top {
 
 // What a turn finds: the place of the level where the next key ends, the key's value, and how many of its leading bytes agree with the upper bound; that
 // no key is left; or the number of a refusal.
-#[derive(Drop)]
+#[derive(Clone, Copy)]
 pub enum Turn {
     Key(usize, u64, usize),
     End,

@@ -38,7 +38,7 @@ pub record FactsOf (Begun : List ℕ → Type 0) (Out : List ℕ → ℕ → Typ
 -- ---- ascending lists of visits, cut in two
 
 rising_cut : (xs ys : List Visit) → RisingV (xs ++ ys) → (v w : Visit) → Memᴰ v xs → Memᴰ w ys → Before v.key w.key
-rising_cut [] ys h v w mv mw = absurd (mathlib.Core.List.Memᴰ.not_nil mv)
+rising_cut [] ys h v w mv mw = absurd (mathlib.Core.List.Memᴰ.not-nil mv)
 rising_cut (x ∷ xs) ys h v w mv mw =
     ⊎_elim
     (λ (e : v ≡ x). rw e (all_mem (λ y. Before x.key y.key) (xs ++ ys) h.0 w (mathlib.Core.List.Memᴰ.append_right xs mw)))
@@ -66,7 +66,7 @@ keys_rising [] h = tt
 keys_rising (v ∷ vs) h = (keys_after v.key vs h.0, keys_rising vs h.1)
 
 keys_mem : (vs : List Visit) (x : List ℕ) → Memᴰ x (keys_in vs) → (v : Visit) × Memᴰ v vs × (v.key ≡ x)
-keys_mem [] x on = absurd (mathlib.Core.List.Memᴰ.not_nil on)
+keys_mem [] x on = absurd (mathlib.Core.List.Memᴰ.not-nil on)
 keys_mem (v ∷ vs) x on =
     ⊎_elim
     (λ (e : x ≡ v.key). (v, mathlib.Core.List.Memᴰ.head refl, sym e))
@@ -74,7 +74,7 @@ keys_mem (v ∷ vs) x on =
     (mathlib.Core.List.Memᴰ.cases_cons on)
 
 mem_keys : (vs : List Visit) (v : Visit) (x : List ℕ) → Memᴰ v vs → v.key ≡ x → Memᴰ x (keys_in vs)
-mem_keys [] v x on e = absurd (mathlib.Core.List.Memᴰ.not_nil on)
+mem_keys [] v x on e = absurd (mathlib.Core.List.Memᴰ.not-nil on)
 mem_keys (w ∷ vs) v x on e =
     ⊎_elim
     (λ (q : v ≡ w). mathlib.Core.List.Memᴰ.head (sym e ∙ ap (λ (y : Visit). y.key) q))
@@ -86,7 +86,7 @@ abbrev Source : Entry → List Visit → Type 0
 Source e vs = (v : Visit) × Memᴰ v vs × (v.final ≡ true) × (e ≡ entry v.key v.value)
 
 entries_mem : (vs : List Visit) (e : Entry) → Memᴰ e (entries_of vs) → Source e vs
-entries_mem [] e on = absurd (mathlib.Core.List.Memᴰ.not_nil on)
+entries_mem [] e on = absurd (mathlib.Core.List.Memᴰ.not-nil on)
 entries_mem (v ∷ vs) e on = by v.final refl (λ h. entries_mem vs e h) on
   where
     later : Source e vs → Source e (v ∷ vs)
@@ -98,7 +98,7 @@ entries_mem (v ∷ vs) e on = by v.final refl (λ h. entries_mem vs e h) on
     by false eb ih h = later (ih h)
 
 mem_entries : (vs : List Visit) (v : Visit) → Memᴰ v vs → v.final ≡ true → Memᴰ (entry v.key v.value) (entries_of vs)
-mem_entries [] v on fin = absurd (mathlib.Core.List.Memᴰ.not_nil on)
+mem_entries [] v on fin = absurd (mathlib.Core.List.Memᴰ.not-nil on)
 mem_entries (w ∷ vs) v on fin =
     ⊎_elim
     (λ (q : v ≡ w). let f : w.final ≡ true = ap (λ (y : Visit). y.final) (sym q) ∙ fin in rw (f, q) (mathlib.Core.List.Memᴰ.head refl))
@@ -131,7 +131,7 @@ entries_rising (v ∷ vs) h = by v.final (entries_rising vs h.1)
 
 -- in an ascending list of entries the last comes after every other
 pub rising_last : (es : List Entry) (e d : Entry) → Rising (keys_out (es ++ (e ∷ []))) → Memᴰ d es → Before d.key e.key
-rising_last [] e d h on = absurd (mathlib.Core.List.Memᴰ.not_nil on)
+rising_last [] e d h on = absurd (mathlib.Core.List.Memᴰ.not-nil on)
 rising_last (x ∷ es) e d h on =
     ⊎_elim
     (λ (q : d ≡ x). rw q (all_last es h.0))
@@ -159,11 +159,11 @@ module _ (Begun : List ℕ → Type 0) (Out : List ℕ → ℕ → Type 0) (lo h
     pub under : AllV (λ v. passes_test hi v.key ≡ false) taken
 
   pre_held : (pre : List Entry) → Pre hi e₀ pre → (e : Entry) → Memᴰ e pre → (Out e.key e.value × Between lo hi e.key) × (e.key ≡ [])
-  pre_held pre (no_empty z) e on = absurd (mathlib.Core.List.Memᴰ.not_nil on)
+  pre_held pre (no_empty z) e on = absurd (mathlib.Core.List.Memᴰ.not-nil on)
   pre_held pre (empty_key v is p) e on =
       ⊎_elim
       (λ (q : e ≡ entry [] v). let h = F.empty_held v is in rw q ((h.0, record { meets = h.1; within = (decides_passes hi []).no p }), refl))
-      (λ g. absurd (mathlib.Core.List.Memᴰ.not_nil g))
+      (λ g. absurd (mathlib.Core.List.Memᴰ.not-nil g))
       (mathlib.Core.List.Memᴰ.cases_cons on)
 
   module _ {pre : List Entry} {taken rest : List Visit} (C : Cut pre taken rest) where
@@ -270,7 +270,7 @@ module _ (Begun : List ℕ → Type 0) (Out : List ℕ → ℕ → Type 0) (lo h
     not_after_last last w on = by taken last refl on
       where
         by : (ts : List Visit) → LastFinal ts → ts ≡ taken → Memᴰ w ts → NotAfterLast handed w.key
-        by ts no_visit e h = absurd (mathlib.Core.List.Memᴰ.not_nil h)
+        by ts no_visit e h = absurd (mathlib.Core.List.Memᴰ.not-nil h)
         by ts (last_visit vs v fin) e h =
             record {
               before = pre ++ entries_of vs;
@@ -281,7 +281,7 @@ module _ (Begun : List ℕ → Type 0) (Out : List ℕ → ℕ → Type 0) (lo h
                   (λ (g : Memᴰ w vs).
                   before_irrefl w.key (before_trans (rising_cut vs (v ∷ []) (rising_left (vs ++ (v ∷ [])) rest (rw (sym e) at rises)) w v g (mathlib.Core.List.Memᴰ.head refl)) b))
                   (λ (g : Memᴰ w (v ∷ [])).
-                  ⊎_elim (λ (q : w ≡ v). before_irrefl w.key (rw (sym q) at b)) (λ z. mathlib.Core.List.Memᴰ.not_nil z) (mathlib.Core.List.Memᴰ.cases_cons g))
+                  ⊎_elim (λ (q : w ≡ v). before_irrefl w.key (rw (sym q) at b)) (λ z. mathlib.Core.List.Memᴰ.not-nil z) (mathlib.Core.List.Memᴰ.cases_cons g))
                   (mathlib.Core.List.Memᴰ.append_cases vs h);
             }
 

@@ -41,11 +41,11 @@ none_facts : (f : Fst) (lo : Bound) → length f.bytes ≡ 0 → Facts f lo [] n
 none_facts f lo z =
     record {
       rising = tt;
-      full = λ v on. absurd (mathlib.Core.List.Memᴰ.not_nil on);
-      begins = λ v on. absurd (mathlib.Core.List.Memᴰ.not_nil on);
-      meets = λ v on. absurd (mathlib.Core.List.Memᴰ.not_nil on);
+      full = λ v on. absurd (mathlib.Core.List.Memᴰ.not-nil on);
+      begins = λ v on. absurd (mathlib.Core.List.Memᴰ.not-nil on);
+      meets = λ v on. absurd (mathlib.Core.List.Memᴰ.not-nil on);
       whole = λ x b meets. absurd (blank_held z b.held);
-      held = λ v on fin. absurd (mathlib.Core.List.Memᴰ.not_nil on);
+      held = λ v on fin. absurd (mathlib.Core.List.Memᴰ.not-nil on);
       keys = λ k w h ne meets. absurd (blank_held z h);
       empty_held = λ v e. absurd (none_some e);
       empty_pending = λ v h meets. absurd (blank_held z h);
@@ -167,13 +167,13 @@ module _ {s : List ℕ} (A : Admitted s) (lo hi : Bound) (short : length (bound_
       (mathlib.Core.List.Memᴰ.cases_cons on)
 
   pub comes_held : (handed : List Entry) (ends : ℕ) (r : View) → Comes handed ends r → (e : Entry) → Memᴰ e handed → Held f e.key e.value × Between lo hi e.key
-  comes_held handed ends r (fresh levels v sane w is) e on = absurd (mathlib.Core.List.Memᴰ.not_nil on)
+  comes_held handed ends r (fresh levels v sane w is) e on = absurd (mathlib.Core.List.Memᴰ.not-nil on)
   comes_held handed ends r (going pre taken levels hpre sane w under last) e on =
       cut_held (BeginsHeld f) (Held f) lo hi visits pend F (cut_at pre taken (to_come f levels) hpre w under) e on
   comes_held handed ends r (finished pre n hpre under) e on = cut_held (BeginsHeld f) (Held f) lo hi visits pend F (whole_cut pre hpre under) e on
   comes_held handed ends r (beyond pre n taken v more hpre w under ps) e on =
       cut_held (BeginsHeld f) (Held f) lo hi visits pend F (cut_at pre taken (v ∷ more) hpre w under) e on
-  comes_held handed ends r (shut n v is p) e on = absurd (mathlib.Core.List.Memᴰ.not_nil on)
+  comes_held handed ends r (shut n v is p) e on = absurd (mathlib.Core.List.Memᴰ.not-nil on)
 
   pub comes_rising : (handed : List Entry) (ends : ℕ) (r : View) → Comes handed ends r → Rising (keys_out handed)
   comes_rising handed ends r (fresh levels v sane w is) = tt
@@ -186,14 +186,14 @@ module _ {s : List ℕ} (A : Admitted s) (lo hi : Bound) (short : length (bound_
 
   comes_none_left_out : (handed : List Entry) (ends : ℕ) (r : View) → Comes handed ends r
       → (k : List ℕ) (v : ℕ) → Held f k v → Between lo hi k → (e : Entry) → Memᴰ e handed → ¬ Before e.key k → Memᴰ (entry k v) handed
-  comes_none_left_out handed ends r (fresh levels v₀ sane w is) k v h b e on na = absurd (mathlib.Core.List.Memᴰ.not_nil on)
+  comes_none_left_out handed ends r (fresh levels v₀ sane w is) k v h b e on na = absurd (mathlib.Core.List.Memᴰ.not-nil on)
   comes_none_left_out handed ends r (going pre taken levels hpre sane w under last) k v h b e on na =
       cut_none_left_out (BeginsHeld f) (Held f) lo hi visits pend F (cut_at pre taken (to_come f levels) hpre w under) k v h b e on na
   comes_none_left_out handed ends r (finished pre n hpre under) k v h b e on na =
       cut_none_left_out (BeginsHeld f) (Held f) lo hi visits pend F (whole_cut pre hpre under) k v h b e on na
   comes_none_left_out handed ends r (beyond pre n taken v₀ more hpre w under ps) k v h b e on na =
       cut_none_left_out (BeginsHeld f) (Held f) lo hi visits pend F (cut_at pre taken (v₀ ∷ more) hpre w under) k v h b e on na
-  comes_none_left_out handed ends r (shut n v₀ is p) k v h b e on na = absurd (mathlib.Core.List.Memᴰ.not_nil on)
+  comes_none_left_out handed ends r (shut n v₀ is p) k v h b e on na = absurd (mathlib.Core.List.Memᴰ.not-nil on)
 
   -- where the empty string passes the upper bound, every string does
   all_pass : passes_test hi [] ≡ true → (k : List ℕ) → passes_test hi k ≡ true
@@ -204,7 +204,7 @@ module _ {s : List ℕ} (A : Admitted s) (lo hi : Bound) (short : length (bound_
   comes_none_left handed ends r (fresh levels v sane w is) pos = absurd (omega arith)
   comes_none_left handed ends r (going pre taken levels hpre sane w under last) pos = absurd (omega arith)
   comes_none_left handed ends r (finished pre n hpre under) pos =
-      cut_none_left (BeginsHeld f) (Held f) lo hi visits pend F (whole_cut pre hpre under) (λ w on. absurd (mathlib.Core.List.Memᴰ.not_nil on))
+      cut_none_left (BeginsHeld f) (Held f) lo hi visits pend F (whole_cut pre hpre under) (λ w on. absurd (mathlib.Core.List.Memᴰ.not-nil on))
   comes_none_left handed ends r (beyond pre n taken v more hpre w under ps) pos =
       cut_none_left (BeginsHeld f) (Held f) lo hi visits pend F (cut_at pre taken (v ∷ more) hpre w under) (beyond_past taken v more w ps)
   comes_none_left handed ends r (shut n v is p) pos = λ k u h b. absurd (b.within ((decides_passes hi k).yes (all_pass p k)))
@@ -218,7 +218,7 @@ module _ {s : List ℕ} (A : Admitted s) (lo hi : Bound) (short : length (bound_
   comes_total_ended handed ends r (finished pre n hpre under) not_shut pos = (
     length visits,
     0,
-    cut_number (BeginsHeld f) (Held f) lo hi visits pend F (whole_cut pre hpre under) (λ w on. absurd (mathlib.Core.List.Memᴰ.not_nil on)),
+    cut_number (BeginsHeld f) (Held f) lo hi visits pend F (whole_cut pre hpre under) (λ w on. absurd (mathlib.Core.List.Memᴰ.not-nil on)),
     no_more (λ x b.
         let w = F.whole x b.0 b.1.0 in
         (decides_passes hi x).no (rw w.2 at (all_mem (λ v. passes_test hi v.key ≡ false) visits under w.0 w.1)) b.1.1),
@@ -244,7 +244,7 @@ module _ {s : List ℕ} (A : Admitted s) (lo hi : Bound) (short : length (bound_
     record {
       strings = [];
       rising = tt;
-      such = λ x on. absurd (mathlib.Core.List.Memᴰ.not_nil on);
+      such = λ x on. absurd (mathlib.Core.List.Memᴰ.not-nil on);
       all = λ x h. absurd (snoc_not_nil h.1.before h.1.last h.1.is_last);
       number = refl;
     },
@@ -332,10 +332,10 @@ module _ {s : List ℕ} (A : Admitted s) (lo hi : Bound) (short : length (bound_
   comes_limit handed ends r (fresh levels v sane w is) c k long = rw (pending_followed levels v 0 sane c) (omega arith)
   comes_limit handed ends r (going pre taken levels hpre sane w under last) c k long =
       open_followed levels (length taken) k sane (come_long taken (to_come f levels) w k long) c
-  comes_limit handed ends r (finished pre n hpre under) c k long = open_followed [] (length visits) k tt (λ v on. absurd (mathlib.Core.List.Memᴰ.not_nil on)) c
+  comes_limit handed ends r (finished pre n hpre under) c k long = open_followed [] (length visits) k tt (λ v on. absurd (mathlib.Core.List.Memᴰ.not-nil on)) c
   comes_limit handed ends r (beyond pre n taken v more hpre w under ps) c k long =
-      open_followed [] (suc (length taken)) k tt (λ v on. absurd (mathlib.Core.List.Memᴰ.not_nil on)) c
-  comes_limit handed ends r (shut n v is p) c k long = open_followed [] 0 k tt (λ v on. absurd (mathlib.Core.List.Memᴰ.not_nil on)) c
+      open_followed [] (suc (length taken)) k tt (λ v on. absurd (mathlib.Core.List.Memᴰ.not-nil on)) c
+  comes_limit handed ends r (shut n v is p) c k long = open_followed [] 0 k tt (λ v on. absurd (mathlib.Core.List.Memᴰ.not-nil on)) c
 
   comes_none_followed : (handed : List Entry) (ends : ℕ) (r : View) → Comes handed ends r → EmptyExcluded f lo hi → (c : Call s) → followed r c ≡ 0
   comes_none_followed handed ends r (fresh levels v sane w is) x c = pending_followed levels v 0 sane c
@@ -343,7 +343,7 @@ module _ {s : List ℕ} (A : Admitted s) (lo hi : Bound) (short : length (bound_
   comes_none_followed handed ends r (finished pre n hpre under) x c = absurd (excluded_pre x pre hpre)
   comes_none_followed handed ends r (beyond pre n taken v more hpre w under ps) x c = absurd (excluded_pre x pre hpre)
   comes_none_followed handed ends r (shut n v is p) x c =
-      let h = open_followed [] 0 0 tt (λ v on. absurd (mathlib.Core.List.Memᴰ.not_nil on)) c in
+      let h = open_followed [] 0 0 tt (λ v on. absurd (mathlib.Core.List.Memᴰ.not-nil on)) c in
       omega arith
 
   -- ---- one call more

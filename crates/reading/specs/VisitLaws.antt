@@ -32,7 +32,7 @@ use Rattle.reading.specs.VisitLists.{fine_node}
 -- ---- a fact of each visit
 
 pub all_mem : (P : Visit → Type 0) (vs : List Visit) → AllV P vs → (v : Visit) → Memᴰ v vs → P v
-all_mem P [] h v m = absurd (mathlib.Core.List.Memᴰ.not_nil m)
+all_mem P [] h v m = absurd (mathlib.Core.List.Memᴰ.not-nil m)
 all_mem P (w ∷ vs) h v m = ⊎_elim (λ e. rw e h.0) (λ n. all_mem P vs h.1 v n) (mathlib.Core.List.Memᴰ.cases_cons m)
 
 pub mem_all : (P : Visit → Type 0) (vs : List Visit) → ((v : Visit) → Memᴰ v vs → P v) → AllV P vs
@@ -42,7 +42,7 @@ mem_all P (w ∷ vs) h = (h w (mathlib.Core.List.Memᴰ.head refl), mem_all P vs
 -- ---- the visits that pass a test
 
 pub kept_mem : (P : List ℕ → Bool) (vs : List Visit) (v : Visit) → Memᴰ v (kept P vs) → Memᴰ v vs × (P v.key ≡ true)
-kept_mem P [] v m = absurd (mathlib.Core.List.Memᴰ.not_nil m)
+kept_mem P [] v m = absurd (mathlib.Core.List.Memᴰ.not-nil m)
 kept_mem P (w ∷ vs) v m = go (P w.key) refl (kept_mem P vs v) m
   where
     go : (b : Bool) → P w.key ≡ b → (Memᴰ v (kept P vs) → Memᴰ v vs × (P v.key ≡ true))
@@ -52,7 +52,7 @@ kept_mem P (w ∷ vs) v m = go (P w.key) refl (kept_mem P vs v) m
     go false e rest m = let r = rest m in (mathlib.Core.List.Memᴰ.tail r.0, r.1)
 
 pub mem_kept : (P : List ℕ → Bool) (vs : List Visit) (v : Visit) → Memᴰ v vs → P v.key ≡ true → Memᴰ v (kept P vs)
-mem_kept P [] v m is = absurd (mathlib.Core.List.Memᴰ.not_nil m)
+mem_kept P [] v m is = absurd (mathlib.Core.List.Memᴰ.not-nil m)
 mem_kept P (w ∷ vs) v m is = go (P w.key) refl (λ n. mem_kept P vs v n is) (mathlib.Core.List.Memᴰ.cases_cons m)
   where
     go : (b : Bool) → P w.key ≡ b → (Memᴰ v vs → Memᴰ v (kept P vs)) → (v ≡ w) ⊎ Memᴰ v vs
@@ -120,7 +120,7 @@ module _ (sub : ℕ → List Visit) (f : Fst) where
   by_key v t (inr (w, m, e)) = (w.key, ap (λ (x : Visit). x.key) (sym e))
 
   row_by : (ts : List Transition) (v : Visit) → Memᴰ v (row sub f ts) → (t : Transition) × Memᴰ t ts × By sub f v t
-  row_by [] v m = absurd (mathlib.Core.List.Memᴰ.not_nil m)
+  row_by [] v m = absurd (mathlib.Core.List.Memᴰ.not-nil m)
   row_by (t ∷ ts) v m = go (row_by ts v) (mathlib.Core.List.Memᴰ.cases_cons m)
     where
       further : ((u : Transition) × Memᴰ u ts × By sub f v u) → (u : Transition) × Memᴰ u (t ∷ ts) × By sub f v u
@@ -135,7 +135,7 @@ module _ (sub : ℕ → List Visit) (f : Fst) where
           (mathlib.Core.List.Memᴰ.append_cases (map (under (t.inp ∷ []) t.out) (sub t.addr)) n)
 
   by_row : (ts : List Transition) (v : Visit) (t : Transition) → Memᴰ t ts → By sub f v t → Memᴰ v (row sub f ts)
-  by_row [] v t m b = absurd (mathlib.Core.List.Memᴰ.not_nil m)
+  by_row [] v t m b = absurd (mathlib.Core.List.Memᴰ.not-nil m)
   by_row (u ∷ ts) v t m b = go (λ n. by_row ts v t n b) (mathlib.Core.List.Memᴰ.cases_cons m)
     where
       first : By sub f v u → Memᴰ v (row sub f (u ∷ ts))
@@ -233,7 +233,7 @@ module _ (f : Fst) (a : ℕ) (m : Node) (e : node_in f a ≡ sound m) (t : Trans
       }
 
 pub visit_path : (d : ℕ) (f : Fst) (a sum : ℕ) → Fine d f a sum → (v : Visit) → Memᴰ v (below d f a) → PathTo f a v
-visit_path zero f a sum h v on = absurd (mathlib.Core.List.Memᴰ.not_nil on)
+visit_path zero f a sum h v on = absurd (mathlib.Core.List.Memᴰ.not-nil on)
 visit_path (suc d) f a sum (m, e, light, targets) v on =
     go (λ t mem w. visit_path d f t.addr (sum + t.out) (targets t mem) w) (row_by (below d f) f m.transitions v (rw e at on))
   where
@@ -256,7 +256,7 @@ path_visit zero f a sum (m, e, light, none) x k o b p n g =
     let s = path_step p in
     let judged = s.judged in
     let same : s.node ≡ m = cc in
-    absurd (mathlib.Core.List.Memᴰ.not_nil (rw (same, none) at s.member))
+    absurd (mathlib.Core.List.Memᴰ.not-nil (rw (same, none) at s.member))
 path_visit (suc d) f a sum (m, e, light, targets) x k o b p n g =
     let s = path_step p in
     let judged = s.judged in

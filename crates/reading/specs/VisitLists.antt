@@ -77,7 +77,7 @@ pub fine_step : (d : ℕ) (f : Fst) (a sum : ℕ) (m : Node) (t : Transition) �
     → (0 < d) × Fine (d - 1) f t.addr (sum + t.out)
 fine_step zero f a sum m t h e mem =
     let same : h.0 ≡ m = cc in
-    absurd (Memᴰ.not_nil (rw h.3 at (rw (sym same) at mem)))
+    absurd (Memᴰ.not-nil (rw h.3 at (rw (sym same) at mem)))
 fine_step (suc d) f a sum m t h e mem =
     let same : h.0 ≡ m = cc in
     let z : suc d - 1 ≡ d = omega arith in

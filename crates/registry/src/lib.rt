@@ -1,5 +1,7 @@
 // Equal nodes shared through a table of cells: a record's hash, and whether a stored node is the record.
 // Ports `Registry::hash` of src/raw/registry.rs and the comparison of `RegistryCache::entry`, which here reads the node back.
+#![tactic(auto)]
+
 ghost use Rattle.std.specs.Prelude.{◌≡◌, ◌-◌, ◌*◌, ◌%◌, ◌^◌, ◌≤◌, cond, ◌&&◌, length, ◌==◌};
 ghost use Rattle.format.specs.Node.{transitions_of, node_at};
 ghost use Rattle.node.specs.Read.{transitions_in, Readable};
@@ -145,7 +147,7 @@ pub fn same_node(
 pub const NONE_ADDRESS: usize = 1;
 
 // What a row's two cells say of a record.
-#[derive(Drop)]
+#[derive(Clone, Copy)]
 pub enum Choice {
     First,
     Second,

@@ -1,6 +1,8 @@
 // Replays recorded answers of the conversion of version 1 files, with no Rust at hand. The list on standard input has files, each with conversions in
 // buffers of any length (README.md). Each is asked again, and the answer, the new file, the table of new addresses and the two work tables are held to what
 // is recorded. A difference changes a count that is written.
+#![tactic(auto)]
+
 ghost use Rattle.std.specs.Prelude.{◌+◌, ◌*◌, ◌≤◌, length};
 ghost use Rattle.format.specs.Limits.{max_len};
 ghost use Rattle.replay_list.specs.Records.{Within};

@@ -2,6 +2,8 @@
 // files, each with what opening and admission answer and with lookups (README.md). Each is asked
 // again, and the answers, both tables and the key buffer are held to what is recorded. A difference
 // changes a count that is written.
+#![tactic(auto)]
+
 ghost use Rattle.std.specs.Prelude.{◌≡◌, ◌+◌, ◌*◌, ◌≤◌, ◌<◌, length};
 ghost use Rattle.replay_list.specs.Records.{Within};
 

@@ -1,6 +1,8 @@
 // A list of recorded answers, as the replay programs read it: its records, what they are about,
 // bytes that are held to a part of it, and the counts that a program writes (oracle/README.md, "The
 // replay lists").
+#![tactic(auto)]
+
 ghost use Rattle.std.specs.Prelude.{◌≡◌, ◌+◌, ◌*◌, ◌≤◌, ◌<◌, length, take, drop};
 ghost use Rattle.buffers.specs.Decide.{Decides};
 ghost use Rattle.format.specs.Bytes.{le};
@@ -15,7 +17,7 @@ pub const FILE: u64 = 1;
 pub const KEPT: u8 = 170;
 
 // A record of the list: its numbers, and where its part stands in the list.
-#[derive(Drop)]
+#[derive(Clone, Copy)]
 pub struct Entry {
     pub kind: u64,
     pub a: u64,
@@ -25,7 +27,7 @@ pub struct Entry {
     pub len: usize,
 }
 
-#[derive(Drop)]
+#[derive(Clone, Copy)]
 pub enum Parsed {
     Good(Entry),
     // the list ends within the record
@@ -33,7 +35,7 @@ pub enum Parsed {
 }
 
 // Where the file that is asked stands in the list.
-#[derive(Drop)]
+#[derive(Clone, Copy)]
 pub struct Place {
     pub from: usize,
     pub to: usize,

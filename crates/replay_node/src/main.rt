@@ -2,6 +2,8 @@
 // each with its name, what it packs to and stored nodes that are to be read as it (README.md). Each
 // is asked again. A difference changes a count that is written, and the name of its node is written
 // too.
+#![tactic(auto)]
+
 ghost use Rattle.std.specs.Prelude.{◌≡◌, ◌+◌, ◌*◌, ◌≤◌, ◌<◌, length};
 ghost use Rattle.node.specs.Read.{Readable};
 ghost use Rattle.replay_list.specs.Records.{Within};

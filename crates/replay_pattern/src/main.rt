@@ -1,6 +1,8 @@
 // Replays recorded readings by pattern, with no Rust at hand. The list on standard input has files, each with starts and the calls
 // of next after them (README.md). Each is asked again, and the answer, the total, the number of levels and the key buffer are held
 // to what is recorded. A difference changes a count that is written.
+#![tactic(auto)]
+
 ghost use Rattle.std.specs.Prelude.{◌+◌, ◌*◌, ◌≤◌, ◌<◌, length};
 ghost use Rattle.replay_list.specs.Records.{Within};
 

@@ -2,6 +2,8 @@
 // tables of keys, starts and the calls of next after them (README.md). Each is asked again, and the
 // answer, the total, the number of keys to come and the key buffer are held to what is recorded. A
 // difference changes a count that is written.
+#![tactic(auto)]
+
 ghost use Rattle.std.specs.Prelude.{◌+◌, ◌*◌, ◌≤◌, ◌<◌, length};
 ghost use Rattle.replay_list.specs.Records.{Within};
 
@@ -28,7 +30,7 @@ const CELLS: usize = 1_024;
 
 // What the records up to a place leave: the reading that the last of them left, and how many entries
 // of the table are lent.
-#[derive(Drop)]
+#[derive(Clone, Copy)]
 struct Left {
     plain: Plain,
     lent: u64,

@@ -2,6 +2,8 @@
 // seat with one call of its reading, in turn after the seat served last.
 // A refused dispatch changes nothing, the turn neither: a seat whose reading is refused again and again, one of another file say, keeps its turn and
 // holds the others up. The remedy is to seat another reading there.
+#![tactic(auto)]
+
 ghost use Rattle.std.specs.Prelude.{◌≡◌, true, ◌≤◌, length};
 ghost use Rattle.std.proofs.Math.Option.{some};
 ghost use Rattle.format.specs.Limits as L;
@@ -16,14 +18,14 @@ use stream::Plain;
 use stream_step::Answer;
 
 // Whether a seat was changed, or the number of a refusal.
-#[derive(Drop)]
+#[derive(Clone, Copy)]
 pub enum Change {
     Done,
     Refused(u8),
 }
 
 // What seating and raising give back. After a refusal the seats are those given.
-#[derive(Drop)]
+#[derive(Clone, Copy)]
 pub struct Seated {
     pub answer: Change,
     pub seats: Seats,
@@ -31,7 +33,7 @@ pub struct Seated {
 
 // What a dispatch answers: the seat served, with the length of its key in the buffer and its value; the seat served, whose reading is at its end;
 // that nobody waits; or the number of a refusal.
-#[derive(Drop)]
+#[derive(Clone, Copy)]
 pub enum Served {
     Key(u8, usize, u64),
     End(u8),
@@ -40,7 +42,7 @@ pub enum Served {
 }
 
 // What a dispatch gives back. After a refusal the seats are those given.
-#[derive(Drop)]
+#[derive(Clone, Copy)]
 pub struct Dispatched {
     pub served: Served,
     pub seats: Seats,

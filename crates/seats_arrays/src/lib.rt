@@ -3,6 +3,8 @@
 //
 // The seat served last is a number. `taken` and `waiting` have a number for each seat, 0 for no and any other for yes. The arrays of stream_arrays have
 // a row for each seat. They are passed as slices here, so that their lengths are known to a caller that has them as arrays of eight.
+#![tactic(auto)]
+
 ghost use Rattle.std.specs.Prelude.{◌≡◌, ◌<◌, length};
 ghost use Rattle.stream_arrays.specs.Arrays.{held};
 ghost use Rattle.seats_arrays.specs.SeatArrays.{FlagPut, rows, Within, plain_of, RowSet, RowPut};

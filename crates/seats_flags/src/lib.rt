@@ -1,4 +1,6 @@
 // What the flags of eight seats in arrays say: whether they can be right, and whose turn it is.
+#![tactic(auto)]
+
 ghost use Rattle.std.specs.Prelude.{◌≤◌};
 ghost use Rattle.seats_arrays.specs.SeatArrays.{RightTold, TurnTold};
 

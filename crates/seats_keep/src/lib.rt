@@ -1,4 +1,6 @@
 // What is kept of a seat that was served, in the arrays of `seats_arrays`: the reading that its call gave back, unless it was refused.
+#![tactic(auto)]
+
 ghost use Rattle.std.specs.Prelude.{◌≡◌, ◌<◌};
 ghost use Rattle.seats_arrays.specs.SeatArrays.{rows};
 ghost use Rattle.seats_keep.specs.Keeps.{is_refused, KeptIn};

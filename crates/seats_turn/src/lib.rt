@@ -1,4 +1,6 @@
 // Eight seats on one index (document 02, N13): what is held for them, whether it is right, whose turn it is, and one seat put in its place.
+#![tactic(auto)]
+
 ghost use Rattle.std.specs.Prelude.{◌≡◌, ◌≤◌, ◌<◌};
 ghost use Rattle.turns.specs.Turns as T;
 ghost use Rattle.seats_turn.specs.SeatViews.{seat_is, seats_is, turn_is, no_seats, put_seat};
@@ -11,7 +13,7 @@ pub const SEATS: usize = 8;
 pub const LAST_SEAT: usize = 7;
 
 // A seat: whether it has a reading, whether it has raised a request, and the reading, which carries no meaning where the seat has none.
-#[derive(Drop)]
+#[derive(Clone, Copy)]
 pub struct Seat {
     pub taken: bool,
     pub waiting: bool,
@@ -19,14 +21,14 @@ pub struct Seat {
 }
 
 // The eight seats, passed by value, and the seat that was served last.
-#[derive(Drop)]
+#[derive(Clone, Copy)]
 pub struct Seats {
     pub last: usize,
     pub seats: [Seat; SEATS],
 }
 
 // Whose turn it is.
-#[derive(Drop)]
+#[derive(Clone, Copy)]
 pub enum Turn {
     Of(usize),
     Nobody,

@@ -13,7 +13,7 @@ use Rattle.format.specs.Laws.StringLaws.{before_irrefl, before_asym}
 -- ordered by k
 module _ {A : Type 0} (k : A → List ℕ) where
   after_mem : (a : List ℕ) (xs : List A) → AllAfter a (map k xs) → (y : A) → Memᴰ y xs → Before a (k y)
-  after_mem a [] h y on = absurd (Memᴰ.not_nil on)
+  after_mem a [] h y on = absurd (Memᴰ.not-nil on)
   after_mem a (x ∷ xs) h y on =
       ⊎_elim (λ (e : y ≡ x). subst (λ (z : A). Before a (k z)) (sym e) h.0) (λ (g : Memᴰ y xs). after_mem a xs h.1 y g) (Memᴰ.cases_cons on)
 
@@ -54,8 +54,8 @@ module _ {A : Type 0} (k : A → List ℕ) where
   pub rising_unique : (xs ys : List A) → Rising (map k xs) → Rising (map k ys) → ((z : A) → Memᴰ z xs → Memᴰ z ys)
       → ((z : A) → Memᴰ z ys → Memᴰ z xs) → xs ≡ ys
   rising_unique [] [] h g to from = refl
-  rising_unique [] (y ∷ ys) h g to from = absurd (Memᴰ.not_nil (from y (Memᴰ.head refl)))
-  rising_unique (x ∷ xs) [] h g to from = absurd (Memᴰ.not_nil (to x (Memᴰ.head refl)))
+  rising_unique [] (y ∷ ys) h g to from = absurd (Memᴰ.not-nil (from y (Memᴰ.head refl)))
+  rising_unique (x ∷ xs) [] h g to from = absurd (Memᴰ.not-nil (to x (Memᴰ.head refl)))
   rising_unique (x ∷ xs) (y ∷ ys) h g to from =
       let e = heads_same x y xs ys h.0 g.0 (to x (Memᴰ.head refl)) (from y (Memᴰ.head refl)) in
       ap₂ ◌∷◌ e (rising_unique xs ys h.1 g.1 (tail_in x y xs ys h.0 e to) (tail_in y x ys xs g.0 (sym e) from))

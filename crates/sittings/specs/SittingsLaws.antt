@@ -50,7 +50,7 @@ end_unrefused (end ∷ xs) on = Memᴰ.head refl
 end_unrefused (Answer.refused n ∷ xs) on = ⊎_elim (λ e. absurd (end_not_refused e)) (λ h. end_unrefused xs h) (Memᴰ.cases_cons on)
 
 end_counted : (es : List Entry) (n : ℕ) → Memᴰ end (map hand_out es ++ replicate n end) → 0 < n
-end_counted [] zero on = absurd (Memᴰ.not_nil on)
+end_counted [] zero on = absurd (Memᴰ.not-nil on)
 end_counted [] (suc n) on = omega arith
 end_counted (e ∷ es) n on = ⊎_elim (λ q. absurd (end_not_key q)) (λ h. end_counted es n h) (Memᴰ.cases_cons on)
 
@@ -69,7 +69,7 @@ record EndAt {s : List ℕ} (r : View) (cs : List (Call s)) : Type 0 where
   answer_is_lem : (call (reading_after r earlier) at).answer ≡ end
 
 end_at_lem : {s : List ℕ} (r : View) (cs : List (Call s)) → Memᴰ end (answers r cs) → EndAt r cs
-end_at_lem r [] on = absurd (Memᴰ.not_nil on)
+end_at_lem r [] on = absurd (Memᴰ.not-nil on)
 end_at_lem {s} r (c ∷ cs) on =
     ⊎_elim
     (λ (e : end ≡ (call r c).answer). record { earlier = []; later = cs; at = c; split = refl; answer_is_lem = sym e })
@@ -139,7 +139,7 @@ module _ {s : List ℕ} (A : Admitted s) (lo hi : Bound) (t : List ℕ) where
   pub keys_started : (D : DemandPlain A lo hi t []) → KeysBetween (fst_of s A.meta) lo hi D.reading.keys
   keys_started D =
       number_iff (StillToCome (fst_of s A.meta) lo hi []) (λ k. ((v : ℕ) × Held (fst_of s A.meta) k v) × Between lo hi k) D.reading.keys
-      (λ k h. ((h.0, h.1), h.2)) (λ k h. (h.0.0, h.0.1, h.1, λ on. Memᴰ.not_nil on)) D.keys_to_come
+      (λ k h. ((h.0, h.1), h.2)) (λ k h. (h.0.0, h.0.1, h.1, λ on. Memᴰ.not-nil on)) D.keys_to_come
 
 begun_same : {p p' : Plain} → begun p ≡ begun p' → p ≡ p'
 begun_same e = cc

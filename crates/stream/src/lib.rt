@@ -1,5 +1,7 @@
 // Plain readings (document 02, N11): a reading with the number of keys still to come. A start works the number out from a table of keys, without
 // visiting them, and each key that a call hands out lowers it by one.
+#![tactic(auto)]
+
 ghost use Rattle.std.specs.Prelude.{◌≤◌, ◌<◌, ◌≡◌, length};
 ghost use Rattle.format.specs.Limits.{max_path};
 ghost use Rattle.format.specs.Paths.{fst_with};
@@ -18,7 +20,7 @@ use stream_start::{Begins, Bound, Reading};
 use stream_step::Answer;
 
 // A plain reading, passed by value.
-#[derive(Drop)]
+#[derive(Clone, Copy)]
 pub struct Plain {
     pub reading: Reading,
     // the number of keys to come
@@ -26,14 +28,14 @@ pub struct Plain {
 }
 
 // What a start gives back, in the form of stream_start::Started. After a refusal the reading carries no meaning.
-#[derive(Drop)]
+#[derive(Clone, Copy)]
 pub struct Started {
     pub answer: Begins,
     pub plain: Plain,
 }
 
 // What a call gives back: its answer, and the reading after it.
-#[derive(Drop)]
+#[derive(Clone, Copy)]
 pub struct Step {
     pub answer: Answer,
     pub plain: Plain,

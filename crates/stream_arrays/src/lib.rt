@@ -3,6 +3,8 @@
 // A reading stands in six arrays: head has the file's length, the upper bound's kind and length, 1 where an empty key is pending, its
 // value, the total and the number of levels; the others have the bound's bytes and the levels. Beside them stands an array of one, the
 // number of keys to come.
+#![tactic(auto)]
+
 ghost use Rattle.std.specs.Prelude.{◌≡◌};
 ghost use Rattle.stream_arrays.specs.Arrays.{kind_is, kind_number, pending_is, pending_flag, pending_value, head_as, held, held_is, held_as, PlainPut};
 

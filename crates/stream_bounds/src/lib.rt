@@ -1,4 +1,6 @@
 // What a call of next tests first, whether the reading can go on, and what it tests of each key, the upper bound.
+#![tactic(auto)]
+
 ghost use Rattle.std.specs.Prelude.{◌≡◌, ◌≤◌, ◌<◌, length, take, drop};
 ghost use Rattle.format.specs.Limits.{max_path, max_levels};
 ghost use Rattle.reading.specs.Reading as R;
@@ -10,7 +12,7 @@ use format::{LEVELS, MAX_KEY};
 use stream_start::Bound;
 
 // How one string stands to another.
-#[derive(Drop)]
+#[derive(Clone, Copy)]
 enum Order {
     Less,
     Equal,

@@ -1,4 +1,6 @@
 // The descent of a reading: from a level that has a transition left down to the next key.
+#![tactic(auto)]
+
 ghost use Rattle.std.specs.Prelude.{◌≡◌, ◌≤◌, ◌<◌, length, take, get_or};
 ghost use Rattle.format.specs.Limits.{max_path, max_levels};
 ghost use Rattle.reading.specs.Reading as R;
@@ -14,7 +16,7 @@ use stream_start::Bound;
 
 // What the descent finds: the place of the level where a key ends, the key's value and the total; the total where the upper bound is
 // passed; or the number of a refusal.
-#[derive(Drop)]
+#[derive(Clone, Copy)]
 pub enum Down {
     Found(usize, u64, u64),
     Passed(u64),
@@ -22,7 +24,7 @@ pub enum Down {
 }
 
 // A sum, or that it passes 2^64 - 1.
-#[derive(Drop)]
+#[derive(Clone, Copy)]
 pub enum Added {
     Within(u64),
     Past,

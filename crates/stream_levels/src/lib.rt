@@ -1,4 +1,6 @@
 // The levels of a walk as four arrays that the caller lends: the writing of one, and the last of a walk along a lower bound (src/raw/mod.rs: `seek_min`).
+#![tactic(auto)]
+
 ghost use Rattle.std.specs.Prelude.{◌-◌, ◌<◌, get_or};
 ghost use Rattle.format.specs.Limits.{max_levels};
 ghost use Rattle.reading.specs.Reading as R;

@@ -1,5 +1,7 @@
 // The next key of a reading (src/raw/mod.rs: `next_with` with `AlwaysMatch`), on any file, admitted or not, and from any reading, also one
 // that no start gave.
+#![tactic(auto)]
+
 ghost use Rattle.std.specs.Prelude.{◌≡◌, List, ℕ, ◌≤◌, ◌<◌, length, take};
 ghost use Rattle.std.proofs.Math.Option.{Option, none, some};
 ghost use Rattle.format.specs.Limits.{max_path, max_levels};
@@ -37,7 +39,7 @@ fn pending(reading: Reading, value: u64) -> Step
 }
 
 // What the walk comes to: a key's length and value, or the end, each with the number of transitions followed; or the number of a refusal.
-#[derive(Drop)]
+#[derive(Clone, Copy)]
 enum Gone {
     Key(usize, u64, u64),
     End(u64),

@@ -1,6 +1,8 @@
 // The number of keys between two bounds, as a start works it out from a table of the keys from each node (document 02, N11): those that do
 // not pass the upper bound, less those that do not meet the lower. On any file, admitted or not, and with any table; no key is visited. The
 // Rust has nothing of it.
+#![tactic(auto)]
+
 ghost use Rattle.std.specs.Prelude.{◌≡◌, ℕ, ◌≤◌, ◌<◌, length};
 ghost use Rattle.format.specs.Paths.{fst_with};
 ghost use Rattle.format.specs.Strings.{before_test};
@@ -15,7 +17,7 @@ use stream_start::Bound;
 use stream_upto::{Total, Walked, keys_at, up_to};
 
 // The number of keys between two bounds, or the number of a refusal.
-#[derive(Drop)]
+#[derive(Clone, Copy)]
 pub enum Tallied {
     Comes(u64),
     Refused(u8),

@@ -1,4 +1,6 @@
 // The levels of a reading popped: the highest that has a transition left.
+#![tactic(auto)]
+
 ghost use Rattle.std.specs.Prelude.{◌≡◌, ◌≤◌};
 ghost use Rattle.format.specs.Limits.{max_levels};
 ghost use Rattle.stream_pop.specs.Pops.{Pops};
@@ -8,7 +10,7 @@ use node::{Judged, Node};
 
 // What the pops find: the place of the highest level that has a transition left, with its node; no such level; or a node that is not
 // sound.
-#[derive(Drop)]
+#[derive(Clone, Copy)]
 pub enum Popped {
     At(usize, Node),
     Empty,

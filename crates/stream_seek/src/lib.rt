@@ -1,5 +1,7 @@
 // The walk of a start along its lower bound (src/raw/mod.rs: `seek_min`), in a file that opens, admitted or not: the levels are written to four arrays that the
 // caller lends, so that a start can make a reading of them and a range can go on from them where they stand.
+#![tactic(auto)]
+
 ghost use Rattle.std.specs.Prelude.{◌≡◌, [], ◌≤◌, ◌<◌, length};
 ghost use Rattle.format.specs.Limits.{max_path, max_levels};
 ghost use Rattle.format.specs.Paths.{fst_with};
@@ -12,7 +14,7 @@ use node::{Found, Judged};
 use stream_levels::{last_levels, put_level};
 
 // A byte looked for at a node: its place, with the target and the output; the place of the first greater input; or the node is not sound.
-#[derive(Drop)]
+#[derive(Clone, Copy)]
 enum Entered {
     Hit(u16, u32, u64),
     Miss(u16),
@@ -20,7 +22,7 @@ enum Entered {
 }
 
 // What the walk along a lower bound finds: how many levels it wrote, or the number of a refusal.
-#[derive(Drop)]
+#[derive(Clone, Copy)]
 pub enum Sought {
     Levels(usize),
     Halted(u8),

@@ -1,5 +1,7 @@
 // The start of a reading (src/raw/mod.rs: `StreamBuilder`, `seek_min`), on any file, admitted or not; and the reading itself, which next takes
 // and gives back (crate stream_next).
+#![tactic(auto)]
+
 ghost use Rattle.std.specs.Prelude.{◌≡◌, List, [], ℕ, ◌≤◌, ◌<◌, length, take};
 ghost use Rattle.format.specs.Limits.{max_path};
 ghost use Rattle.format.specs.Paths.{fst_with, node_in};
@@ -15,7 +17,7 @@ use node::Judged;
 use stream_seek::{Sought, seek};
 
 // Which kind a bound is; its bytes stand beside it. The bytes beside an unbounded one carry no meaning.
-#[derive(Drop)]
+#[derive(Clone, Copy)]
 pub enum Bound {
     Included,
     Excluded,
@@ -23,14 +25,14 @@ pub enum Bound {
 }
 
 // The value of the empty key, where that key is still to be handed out.
-#[derive(Drop)]
+#[derive(Clone, Copy)]
 pub enum EmptyOutput {
     Pending(u64),
     Absent,
 }
 
 // A reading, passed by value. Entries past the last level, and bytes past the bound's length, carry no meaning.
-#[derive(Drop)]
+#[derive(Clone, Copy)]
 pub struct Reading {
     // the length of the file that it reads
     pub len: usize,
@@ -51,7 +53,7 @@ pub struct Reading {
 }
 
 // Whether a start gave a reading, or the number of a refusal.
-#[derive(Drop)]
+#[derive(Clone, Copy)]
 pub enum Begins {
     Began,
     Refused(u8),
@@ -59,7 +61,7 @@ pub enum Begins {
 
 // What a start gives back. The reading stands beside the answer: the borrow checker covers no enum that holds an array. After a refusal
 // it carries no meaning, and the contract of start leaves it free; next answers on it as on any reading.
-#[derive(Drop)]
+#[derive(Clone, Copy)]
 pub struct Started {
     pub answer: Begins,
     pub reading: Reading,

@@ -1,4 +1,6 @@
 // What a call of next gives back, and the end of a reading.
+#![tactic(auto)]
+
 ghost use Rattle.std.specs.Prelude.{◌≡◌, List, ℕ};
 ghost use Rattle.stream_start.specs.Views.{view_is};
 ghost use Rattle.stream_step.specs.Stepped.{Stepped};
@@ -7,7 +9,7 @@ ghost use Rattle.stream_step.specs.Steps.{placed_at, ended_at};
 use stream_start::{EmptyOutput, Reading};
 
 // What a call of next answers: a key's length and value, that no key is left, or the number of a refusal.
-#[derive(Drop)]
+#[derive(Clone, Copy)]
 pub enum Answer {
     Key(usize, u64),
     End,
@@ -15,7 +17,7 @@ pub enum Answer {
 }
 
 // What a call of next gives back.
-#[derive(Drop)]
+#[derive(Clone, Copy)]
 pub struct Step {
     pub answer: Answer,
     pub reading: Reading,

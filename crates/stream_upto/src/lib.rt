@@ -1,5 +1,7 @@
 // The keys that come before a string, by a table of the keys from each node (document 02, N11): the walk along the string adds up those from the
 // smaller inputs at each node. On any file, admitted or not, and with any table. The Rust has nothing of it.
+#![tactic(auto)]
+
 ghost use Rattle.std.specs.Prelude.{◌≡◌, ◌&&◌, List, [], ℕ, ◌+◌, ◌≤◌, length, take};
 ghost use Rattle.format.specs.declared.Transition.{Transition};
 ghost use Rattle.format.specs.Paths.{fst_with};
@@ -13,14 +15,14 @@ use format::NODE;
 use node::{Found, Judged, Node};
 
 // A number of keys, or that it passes 2^64 - 1. One that passes is kept and not answered: a node further on is refused before it.
-#[derive(Drop)]
+#[derive(Clone, Copy)]
 pub enum Total {
     Is(u64),
     Over,
 }
 
 // One byte of a string looked for at a node, with the number so far: where it leads; that it leads nowhere; or the node is not sound.
-#[derive(Drop)]
+#[derive(Clone, Copy)]
 enum Turned {
     On(usize, Total),
     Gone(Total),
@@ -28,7 +30,7 @@ enum Turned {
 }
 
 // What the walk along a string finds: the keys up to it, or the number of a refusal.
-#[derive(Drop)]
+#[derive(Clone, Copy)]
 pub enum Walked {
     Came(Total),
     Halted(u8),

@@ -88,10 +88,10 @@ module _ (f : Fst) (bytes : (i : ℕ) → get_or f.bytes i 0 < 256) where
 
   origin_none : (c : ℕ) → Memᴰ c (new_nodes (lay_out f []).moved) → Origin [] (lay_out f []).moved c
   unfolding lay_out new_nodes
-  origin_none c mem = absurd (Memᴰ.not_nil mem)
+  origin_none c mem = absurd (Memᴰ.not-nil mem)
 
   pub origin : {a : ℕ} {l : List ℕ} → Chain f a l → (c : ℕ) → Memᴰ c (new_nodes (lay_out f l).moved) → Origin l (lay_out f l).moved c
-  origin {a} (last m e done) c mem = origin_step a [] m e (λ j k. absurd (Memᴰ.not_nil k)) origin_none c mem
+  origin {a} (last m e done) c mem = origin_step a [] m e (λ j k. absurd (Memᴰ.not-nil k)) origin_none c mem
   origin {a} (next {l = l} m e more d) c mem =
       let ne = chain_not_zero (next m e more d) in
       origin_step a l m e (λ j k. omega (arith, chain_le d j k, node_first_le f a m e ne, node_first_low f a m e ne)) (λ b k. origin d b k) c mem
@@ -206,7 +206,7 @@ module _ {s : List ℕ} (A : Admitted s) (has_bytes : 0 < length s) where
     gone_len = omega (arith, length_converted A has_bytes, ap length (vanished_none A has_bytes gone))
 
     gone_nodes : Nodes (new_fst A) []
-    gone_nodes = record { chain = empty (zero_vanished A has_bytes gone A.meta.root); closed = λ a m t mem e k ne. absurd (Memᴰ.not_nil mem) }
+    gone_nodes = record { chain = empty (zero_vanished A has_bytes gone A.meta.root); closed = λ a m t mem e k ne. absurd (Memᴰ.not-nil mem) }
 
     gone_root_right : root_test 2 (moved_to A A.meta.root) (length (converted A)) ≡ true
     gone_root_right =

@@ -128,7 +128,7 @@ module _ {s : List ℕ} (A : Admitted s) (has_bytes : 0 < length s) where
   vanished_none gone = ap (λ (r : Laid). r.nodes) (nothing_laid gone)
 
   pub zero_vanished : vanishes (node_in (old_fst A) A.meta.root) ≡ true → (a : ℕ) → moved_to A a ≡ 0
-  zero_vanished gone a = ap (λ (r : Laid). new_addr r.moved a) (nothing_laid gone) ∙ new_addr_off (old_fst A) [] a (λ mem. Memᴰ.not_nil mem)
+  zero_vanished gone a = ap (λ (r : Laid). new_addr r.moved a) (nothing_laid gone) ∙ new_addr_off (old_fst A) [] a (λ mem. Memᴰ.not-nil mem)
 
   pub mirrors_vanished : vanishes (node_in (old_fst A) A.meta.root) ≡ true → Mirror (old_fst A) (new_fst A) (moved_to A) (λ a. a ≡ A.meta.root)
   mirrors_vanished gone =
@@ -138,7 +138,7 @@ module _ {s : List ℕ} (A : Admitted s) (has_bytes : 0 < length s) where
         closed = λ a m t z e mem.
             let j = w.judged in
             let same : w.node ≡ m = let q : node_in (old_fst A) A.meta.root ≡ sound m = ap (node_in (old_fst A)) (sym z) ∙ e in cc in
-            absurd (Memᴰ.not_nil (rw w.none at (rw (sym same) at mem)));
+            absurd (Memᴰ.not-nil (rw w.none at (rw (sym same) at mem)));
         root_on = refl;
         root_is = refl;
       }

@@ -20,7 +20,7 @@ mem_map f (Memᴰ.head e) = Memᴰ.head (ap f e)
 mem_map f (Memᴰ.tail m) = Memᴰ.tail (mem_map f m)
 
 pub map_mem : {A B : Type 0} (f : A → B) {y : B} (xs : List A) → Memᴰ y (map f xs) → (x : A) × Memᴰ x xs × (f x ≡ y)
-map_mem f [] m = absurd (Memᴰ.not_nil m)
+map_mem f [] m = absurd (Memᴰ.not-nil m)
 map_mem f (x ∷ xs) m =
     ⊎_elim (λ e. (x, Memᴰ.head refl, sym e)) (λ k. let r = map_mem f xs k in (r.0, Memᴰ.tail r.1, r.2)) (Memᴰ.cases_cons m)
 

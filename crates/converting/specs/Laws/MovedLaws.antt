@@ -78,10 +78,10 @@ module _ (f : Fst) (bytes : (i : ℕ) → get_or f.bytes i 0 < 256) where
 
   along_none : Along f [] (lay_out f []).moved
   unfolding lay_out new_nodes nonzero
-  along_none = record { tells = λ j mem. absurd (Memᴰ.not_nil mem); order = refl }
+  along_none = record { tells = λ j mem. absurd (Memᴰ.not-nil mem); order = refl }
 
   pub along : {a : ℕ} {l : List ℕ} → Chain f a l → Along f l (lay_out f l).moved
-  along {a} (last m e done) = along_step a [] m e (λ j k. absurd (Memᴰ.not_nil k)) along_none
+  along {a} (last m e done) = along_step a [] m e (λ j k. absurd (Memᴰ.not-nil k)) along_none
   along {a} (next {l = l} m e more d) =
       let ne = chain_not_zero (next m e more d) in
       along_step a l m e (λ j k. omega (arith, chain_le d j k, node_first_le f a m e ne, node_first_low f a m e ne)) (along d)

@@ -182,12 +182,12 @@ module _ (f : Fst) (bytes : (i : ℕ) → get_or f.bytes i 0 < 256) where
 
   standing_none : (g : Fst) → Standing f [] (lay_out f []) g
   unfolding lay_out new_nodes
-  standing_none g = record { images = λ j mem. absurd (Memᴰ.not_nil mem); chained = inl (refl, refl) }
+  standing_none g = record { images = λ j mem. absurd (Memᴰ.not-nil mem); chained = inl (refl, refl) }
 
   pub standing : {a : ℕ} {l : List ℕ} → Chain f a l → (pre post : List ℕ) (root : ℕ) → Around l a pre root
       → Standing f l (lay_out f l) (fst_with (pre ++ ((lay_out f l).nodes ++ post)) 2 root)
   standing {a} (last m e done) pre post root w =
-      standing_step a [] m e (chain_not_zero (last m e done)) (λ j mem. absurd (Memᴰ.not_nil mem)) pre post root w (standing_none _)
+      standing_step a [] m e (chain_not_zero (last m e done)) (λ j mem. absurd (Memᴰ.not-nil mem)) pre post root w (standing_none _)
   standing {a} (next {l = l} m e more c) pre post root w =
       let ne = chain_not_zero (next m e more c) in
       let first_le = node_first_le f a m e ne in

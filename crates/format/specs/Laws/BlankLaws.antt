@@ -30,7 +30,7 @@ blank_admitted =
       meta = meta_of [];
       nodes = [];
       opens = opening_blank [] refl;
-      chained = record { chain = empty (ap (λ (m : Meta). m.root) blank_meta); closed = λ a m t on e mem ne. absurd (Memᴰ.not_nil on) };
+      chained = record { chain = empty (ap (λ (m : Meta). m.root) blank_meta); closed = λ a m t on e mem ne. absurd (Memᴰ.not-nil on) };
       shallow = λ a k sum b on p. omega (arith, ap length (blank_path refl p));
       light = λ a k sum b m on p e. absurd (omega (arith, sound_not_empty [] (meta_of []).version (meta_of []).root b m e));
     }

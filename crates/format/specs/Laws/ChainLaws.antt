@@ -109,7 +109,7 @@ root_chain_unique (rooted ne c) d = ⊎_elim (λ h. absurd (ne h.0)) (λ h. chai
 
 -- an address is on the file's chain only where the root is not 0
 pub root_chain_of : {f : Fst} {l : List ℕ} {j : ℕ} → RootChain f l → Memᴰ j l → Chain f f.root l
-root_chain_of (empty z) mem = absurd (Memᴰ.not_nil mem)
+root_chain_of (empty z) mem = absurd (Memᴰ.not-nil mem)
 root_chain_of (rooted ne c) mem = c
 
 pub root_chain_sound : {f : Fst} {l : List ℕ} → RootChain f l → (j : ℕ) → Memᴰ j l → (m : Node) × (node_in f j ≡ sound m)
@@ -127,7 +127,7 @@ root_chain_root c ne = ⊎_elim (λ h. absurd (ne h.0)) (λ h. chain_head h.1) (
 -- ---- membership is decided
 
 pub dec_mem : (j : ℕ) (l : List ℕ) → Dec (Memᴰ j l)
-dec_mem j [] = no (λ m. Memᴰ.not_nil m)
+dec_mem j [] = no (λ m. Memᴰ.not-nil m)
 dec_mem j (a ∷ l) = go (ℕ_discrete j a) (dec_mem j l)
   where
     go : Dec (j ≡ a) → Dec (Memᴰ j l) → Dec (Memᴰ j (a ∷ l))

@@ -38,7 +38,7 @@ sum_same g h (t ∷ ts) same = let p = sum_same g h ts (λ u m. same u (Memᴰ.t
 
 pub sum_member : (g : Transition → ℕ) (ts : List Transition) (t : Transition) → Memᴰ t ts → g t ≤ sum_of g ts
 unfolding sum_of
-sum_member g [] t m = absurd (Memᴰ.not_nil m)
+sum_member g [] t m = absurd (Memᴰ.not-nil m)
 sum_member g (u ∷ ts) t m = ⊎_elim (λ e. omega (arith, ap g e)) (λ k. let h = sum_member g ts t k in omega arith) (Memᴰ.cases_cons m)
 
 -- over the first i of them, as a loop that counts up adds them
@@ -62,7 +62,7 @@ target_below f a t = go (node_in f a) refl
   where
     go : (j : Judgement) → node_in f a ≡ j → Memᴰ t (transitions_of? j) → t.addr < a
     go (sound m) e mem = node_target_lt f a m e t mem
-    go unsound e mem = absurd (Memᴰ.not_nil mem)
+    go unsound e mem = absurd (Memᴰ.not-nil mem)
 
 sum_at_zero : (f : Fst) (g : Transition → ℕ) (a : ℕ) → a ≡ 0 → sum_of g (transitions_of? (node_in f a)) ≡ 0
 unfolding sum_of
@@ -138,7 +138,7 @@ By K ts x = (t : Transition) × Memᴰ t ts × Under t.inp (K t) x
 pub by_number : (K : Transition → List ℕ → Type 0) (g : Transition → ℕ) (ts : List Transition) → Ascends ts
     → ((t : Transition) → Memᴰ t ts → NumberOf (K t) (g t)) → NumberOf (By K ts) (sum_of g ts)
 unfolding sum_of
-by_number K g [] asc each = number_none (By K []) (λ x h. Memᴰ.not_nil h.1)
+by_number K g [] asc each = number_none (By K []) (λ x h. Memᴰ.not-nil h.1)
 by_number K g (t ∷ ts) asc each =
     number_iff (λ x. (Under t.inp (K t) x) ⊎ (By K ts x)) (By K (t ∷ ts)) (g t + sum_of g ts) to from
     (number_append (Under t.inp (K t)) (By K ts) (g t) (sum_of g ts) order

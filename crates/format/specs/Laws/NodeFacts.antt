@@ -200,7 +200,7 @@ module _ (f : Fst) (a : ℕ) (m : Node) (e : node_in f a ≡ sound m) where
 
   -- address 0 has no transitions
   pub node_zero_none : a ≡ 0 → (t : Transition) → Memᴰ t m.transitions → ⊥
-  node_zero_none z t mem = Memᴰ.not_nil (rw (node_zero z) at mem)
+  node_zero_none z t mem = Memᴰ.not-nil (rw (node_zero z) at mem)
 
   node_zero_length : a ≡ 0 → length m.transitions ≡ 0
   node_zero_length z = rw (node_zero z)

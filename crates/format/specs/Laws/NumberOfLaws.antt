@@ -23,7 +23,7 @@ use Rattle.format.specs.Laws.StringLaws.{before_irrefl, before_asym, before_tota
 -- ---- lists of strings
 
 pub after_mem : (k : List ℕ) (xs : List (List ℕ)) → AllAfter k xs → (x : List ℕ) → Memᴰ x xs → Before k x
-after_mem k [] h x m = absurd (Memᴰ.not_nil m)
+after_mem k [] h x m = absurd (Memᴰ.not-nil m)
 after_mem k (y ∷ xs) h x m = ⊎_elim (λ e. rw e h.0) (λ n. after_mem k xs h.1 x n) (Memᴰ.cases_cons m)
 
 pub mem_after : (k : List ℕ) (xs : List (List ℕ)) → ((x : List ℕ) → Memᴰ x xs → Before k x) → AllAfter k xs
@@ -56,7 +56,7 @@ in_tail m ne = ⊎_elim (λ e. absurd (ne e)) (λ n. n) (Memᴰ.cases_cons m)
 -- a rising list that stands in another is not longer
 rising_most : (ys xs : List (List ℕ)) → Rising ys → Rising xs → ((x : List ℕ) → Memᴰ x xs → Memᴰ x ys) → length xs ≤ length ys
 rising_most ys [] ry rx h = omega arith
-rising_most [] (x ∷ xs) ry rx h = absurd (Memᴰ.not_nil (h x (Memᴰ.head refl)))
+rising_most [] (x ∷ xs) ry rx h = absurd (Memᴰ.not-nil (h x (Memᴰ.head refl)))
 rising_most (y ∷ ys) (x ∷ xs) ry rx h =
     ⊎_elim {A = x ≡ y} {B = Memᴰ x ys}
     (λ e.
@@ -92,14 +92,14 @@ number_iff P Q n to from N =
     record { strings = N.strings; rising = N.rising; such = λ x m. to x (N.such x m); all = λ x q. N.all x (from x q); number = N.number }
 
 pub number_none : (P : List ℕ → Type 0) → ((x : List ℕ) → ¬ P x) → NumberOf P 0
-number_none P none = record { strings = []; rising = tt; such = λ x m. absurd (Memᴰ.not_nil m); all = λ x p. absurd (none x p); number = refl }
+number_none P none = record { strings = []; rising = tt; such = λ x m. absurd (Memᴰ.not-nil m); all = λ x p. absurd (none x p); number = refl }
 
 pub number_one : (k : List ℕ) → NumberOf (λ x. x ≡ k) 1
 number_one k =
     record {
       strings = k ∷ [];
       rising = (tt, tt);
-      such = λ x m. ⊎_elim (λ e. e) (λ n. absurd (Memᴰ.not_nil n)) (Memᴰ.cases_cons m);
+      such = λ x m. ⊎_elim (λ e. e) (λ n. absurd (Memᴰ.not-nil n)) (Memᴰ.cases_cons m);
       all = λ x e. Memᴰ.head e;
       number = refl;
     }
@@ -143,7 +143,7 @@ kept_by t [] = []
 kept_by t (x ∷ xs) = cond (t x) (x ∷ kept_by t xs) (kept_by t xs)
 
 kept_mem : (t : List ℕ → Bool) (xs : List (List ℕ)) (x : List ℕ) → Memᴰ x (kept_by t xs) → Memᴰ x xs × (t x ≡ true)
-kept_mem t [] x m = absurd (Memᴰ.not_nil m)
+kept_mem t [] x m = absurd (Memᴰ.not-nil m)
 kept_mem t (y ∷ xs) x m = go (t y) refl (kept_mem t xs x) m
   where
     go : (b : Bool) → t y ≡ b → (Memᴰ x (kept_by t xs) → Memᴰ x xs × (t x ≡ true)) → Memᴰ x (cond b (y ∷ kept_by t xs) (kept_by t xs))
@@ -152,7 +152,7 @@ kept_mem t (y ∷ xs) x m = go (t y) refl (kept_mem t xs x) m
     go false e rest m = let r = rest m in (Memᴰ.tail r.0, r.1)
 
 mem_kept : (t : List ℕ → Bool) (xs : List (List ℕ)) (x : List ℕ) → Memᴰ x xs → t x ≡ true → Memᴰ x (kept_by t xs)
-mem_kept t [] x m is = absurd (Memᴰ.not_nil m)
+mem_kept t [] x m is = absurd (Memᴰ.not-nil m)
 mem_kept t (y ∷ xs) x m is = go (t y) refl (λ n. mem_kept t xs x n is) (Memᴰ.cases_cons m)
   where
     go : (b : Bool) → t y ≡ b → (Memᴰ x xs → Memᴰ x (kept_by t xs)) → (x ≡ y) ⊎ Memᴰ x xs → Memᴰ x (cond b (y ∷ kept_by t xs) (kept_by t xs))
@@ -216,7 +216,7 @@ mem_test x [] = false
 mem_test x (y ∷ ys) = eq_test x y || mem_test x ys
 
 decides_mem : (x : List ℕ) (ys : List (List ℕ)) → Decides (mem_test x ys) (Memᴰ x ys)
-decides_mem x [] = decides_false (λ m. Memᴰ.not_nil m)
+decides_mem x [] = decides_false (λ m. Memᴰ.not-nil m)
 decides_mem x (y ∷ ys) =
     decides_iff (λ h. ⊎_elim (λ e. Memᴰ.head e) (λ m. Memᴰ.tail m) h) (λ m. Memᴰ.cases_cons m)
     (decides_or (eq_test x y) (mem_test x ys) (decides_eq_strings x y) (decides_mem x ys))

@@ -69,10 +69,10 @@ pub record PathSplit (f : Fst) (a : ℕ) (k k' : List ℕ) (sum c : ℕ) : Type 
   pub sum_is : sum ≡ sum_to + sum_from
 
 pub path_split : {f : Fst} {a : ℕ} (k k' : List ℕ) {sum c : ℕ} → Path f a (k ++ k') sum c → PathSplit f a k k' sum c
-path_split {a = a} [] k' {sum} p = record { middle = a; sum_to = 0; sum_from = sum; to = here; from = p; sum_is = sym (zero-add sum) }
-path_split (x ∷ k) k' p =
+path_split {f = f} {a = a} [] k' {sum} p = record { middle = a; sum_to = 0; sum_from = sum; to = here; from = p; sum_is = sym (zero-add sum) }
+path_split {f = f} {a = a} (x ∷ k) k' {sum = sum} {c = c} p =
     let s = path_step p in
-    let r = path_split k k' s.rest in
+    let r = path_split {f = f} {a = s.by.addr} k k' {sum = s.more} {c = c} s.rest in
     record {
       middle = r.middle;
       sum_to = s.by.out + r.sum_to;

@@ -26,7 +26,7 @@ max_same g h (t ∷ ts) same = let p = max_same g h ts (λ u m. same u (Memᴰ.t
 
 pub max_bound : (g : Transition → ℕ) (ts : List Transition) (t : Transition) → Memᴰ t ts → g t ≤ max_of g ts
 unfolding max_of
-max_bound g [] t m = absurd (Memᴰ.not_nil m)
+max_bound g [] t m = absurd (Memᴰ.not-nil m)
 max_bound g (u ∷ ts) t m = ⊎_elim (λ e. omega (arith, ap g e)) (λ k. let h = max_bound g ts t k in omega arith) (Memᴰ.cases_cons m)
 
 pub record Best (g : Transition → ℕ) (ts : List Transition) : Type 0 where
@@ -51,7 +51,7 @@ target_below f a t = go (node_in f a) refl
   where
     go : (j : Judgement) → node_in f a ≡ j → Memᴰ t (transitions_of? j) → t.addr < a
     go (sound m) e mem = node_target_lt f a m e t mem
-    go unsound e mem = absurd (Memᴰ.not_nil mem)
+    go unsound e mem = absurd (Memᴰ.not-nil mem)
 
 -- address 0 has no transitions and output 0, also where there is no node
 none_at_zero : (f : Fst) (a : ℕ) → a ≡ 0 → transitions_of? (node_in f a) ≡ []
@@ -195,7 +195,7 @@ module _ (f : Fst) (S : ℕ → Type 0) (sounds : (a : ℕ) → S a → (m : Nod
             ]
 
     attained_zero : (a : ℕ) → 0 < length f.bytes → a ≡ 0 → W a (val a)
-    attained_zero a pos z = attained_step a empty_final (rw z (node_at_zero f.bytes f.version f.root pos)) (λ t mem. absurd (Memᴰ.not_nil mem))
+    attained_zero a pos z = attained_step a empty_final (rw z (node_at_zero f.bytes f.version f.root pos)) (λ t mem. absurd (Memᴰ.not-nil mem))
 
     attained_to : (k a : ℕ) → a ≤ k → S a → W a (val a)
     attained_to zero a h s = attained_zero a (let q = sounds a s in sound_not_empty f.bytes f.version f.root a q.0 q.1) (omega arith)

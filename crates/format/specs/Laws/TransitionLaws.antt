@@ -86,7 +86,7 @@ find_from_member k (t ∷ ts) b i e = go (eqb t.inp b) refl (find_from_member (k
 
 find_from_none : (k : ℕ) (ts : List Transition) (b : ℕ) → find_from k ts b ≡ absent → (t : Transition) → Memᴰ t ts → ¬ (t.inp ≡ b)
 unfolding find_from
-find_from_none k [] b e t m is = Memᴰ.not_nil m
+find_from_none k [] b e t m is = Memᴰ.not-nil m
 find_from_none k (u ∷ ts) b e t m is = go (eqb u.inp b) refl (find_from_none (k + 1) ts b) e (Memᴰ.cases_cons m)
   where
     go : (z : Bool) → eqb u.inp b ≡ z → (find_from (k + 1) ts b ≡ absent → (t : Transition) → Memᴰ t ts → ¬ (t.inp ≡ b))

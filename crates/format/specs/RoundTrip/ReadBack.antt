@@ -32,7 +32,7 @@ numbers_of_stored pre (n ∷ ns) post k h =
     let same : pre ++ ((stored_numbers k ns ++ bytes_of k n) ++ post) ≡ pre ++ (stored_numbers k ns ++ (bytes_of k n ++ post)) = rw append_assoc in
     let at : length (pre ++ stored_numbers k ns) ≡ length pre + length ns * k = length-append pre (stored_numbers k ns) ∙ rw length_stored_numbers in
     let first = number_between (pre ++ stored_numbers k ns) post k n (length pre + length ns * k) (h 0 (omega arith)) at in
-    rw same (ap₂ ◌∷◌ (rw append_assoc at first) ih)
+    ap (λ (xs : List ℕ). numbers_down xs (length pre) k (suc (length ns))) same ∙ ap₂ ◌∷◌ (rw append_assoc at first) ih
 
 pub inputs_of_stored : (pre bs post : List ℕ) → bytes_down (pre ++ (stored_bytes bs ++ post)) (length pre) (length bs) ≡ bs
 unfolding bytes_down down_from stored_bytes
@@ -42,7 +42,7 @@ inputs_of_stored pre (b ∷ bs) post =
     let same : pre ++ ((stored_bytes bs ++ (b ∷ [])) ++ post) ≡ pre ++ (stored_bytes bs ++ (b ∷ post)) = rw append_assoc in
     let at : length (pre ++ stored_bytes bs) ≡ length pre + length bs = length-append pre (stored_bytes bs) ∙ rw length_stored_bytes in
     let first = get_or_at (pre ++ stored_bytes bs) b post 0 (length pre + length bs) at in
-    rw same (ap₂ ◌∷◌ (rw append_assoc at first) ih)
+    ap (λ (xs : List ℕ). bytes_down xs (length pre) (suc (length bs))) same ∙ ap₂ ◌∷◌ (rw append_assoc at first) ih
 
 -- ---- targets
 

@@ -172,7 +172,7 @@ pub record InternOk (B : Build) (b : BuilderNode) (log : List Entry) (r : Intern
 
 module _ (B : Build) (log : List Entry) (ok : BuildOk B log) (small : 15 + length B.nodes < max_len) (b : BuilderNode) where
   none_added : (e : Entry) (a : ℕ) → Memᴰ e [] → (e.node ≡ b) × (e.addr ≡ a)
-  none_added e a mem = absurd (Memᴰ.not_nil mem)
+  none_added e a mem = absurd (Memᴰ.not-nil mem)
 
   -- the cell at i matches
   pub matched : (i : ℕ) → matches B.nodes b (cell_at B.cells i) ≡ true → At B.nodes b (cell_at B.cells i).addr × InLog (cell_at B.cells i).addr log
@@ -341,7 +341,7 @@ module _ (B : Build) (log : List Entry) (ok : BuildOk B log) (small : 15 + lengt
   intern_by_lem fine r (wrote some no_first no_second) = record {
     added = new fine some ∷ [];
     build = written_ok fine some no_first no_second;
-    added_is = λ e mem. ⊎_elim (λ z. (ap (λ (x : Entry). x.node) z, ap (λ (x : Entry). x.addr) z)) (λ m. absurd (Memᴰ.not_nil m)) (Memᴰ.cases_cons mem);
+    added_is = λ e mem. ⊎_elim (λ z. (ap (λ (x : Entry). x.node) z, ap (λ (x : Entry). x.addr) z)) (λ m. absurd (Memᴰ.not-nil m)) (Memᴰ.cases_cons mem);
     at = (new_stands fine some).at;
     on = inr (record { entry = new fine some; member = Memᴰ.head refl; is = refl });
     more = packed (16 + length B.nodes) b;

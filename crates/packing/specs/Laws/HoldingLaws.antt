@@ -54,7 +54,7 @@ pub record OfArc (base : ℕ) (arcs : List Arc) (t : Transition) : Type 0 where
   pub is : t ≡ transition_by base arc
 
 of_arc : (base : ℕ) (arcs : List Arc) (t : Transition) → Memᴰ t (map (transition_by base) arcs) → OfArc base arcs t
-of_arc base [] t mem = absurd (Memᴰ.not_nil mem)
+of_arc base [] t mem = absurd (Memᴰ.not-nil mem)
 of_arc base (a ∷ arcs) t mem = by (Memᴰ.cases_cons mem) (λ m. of_arc base arcs t m)
   where
     by : (t ≡ transition_by base a) ⊎ Memᴰ t (map (transition_by base) arcs) → (Memᴰ t (map (transition_by base) arcs) → OfArc base arcs t)
@@ -86,7 +86,7 @@ least_of_start (a ∷ more) v = le_trans (least_of_start more (min v a.least)) (
 
 least_of_arc : (arcs : List Arc) (v : ℕ) (a : Arc) → Memᴰ a arcs → least_of arcs v ≤ a.least
 unfolding least_of
-least_of_arc [] v a mem = absurd (Memᴰ.not_nil mem)
+least_of_arc [] v a mem = absurd (Memᴰ.not-nil mem)
 least_of_arc (b ∷ more) v a mem = by (Memᴰ.cases_cons mem) (λ m. least_of_arc more (min v b.least) a m)
   where
     by : (a ≡ b) ⊎ Memᴰ a more → (Memᴰ a more → least_of more (min v b.least) ≤ a.least) → least_of more (min v b.least) ≤ a.least
@@ -98,7 +98,7 @@ some_inj e = cc
 
 least_in_lem : (value : Option ℕ) (arcs : List Arc) → ((a : Arc) → Memᴰ a arcs → least_in value arcs ≤ a.least) × ((v : ℕ) → value ≡ some v → least_in value arcs ≤ v)
 least_in_lem (some w) arcs = (λ a mem. least_of_arc arcs w a mem, λ v e. subst (λ (n : ℕ). least_of arcs w ≤ n) (some_inj e) (least_of_start arcs w))
-least_in_lem none [] = (λ a mem. absurd (Memᴰ.not_nil mem), λ v e. omega arith)
+least_in_lem none [] = (λ a mem. absurd (Memᴰ.not-nil mem), λ v e. omega arith)
 least_in_lem none (a ∷ more) = (
   λ b mem. ⊎_elim (λ z. rw z (least_of_start more a.least)) (λ m. least_of_arc more a.least b m) (Memᴰ.cases_cons mem),
   λ v e. absurd (let z : ◌≡◌ {A = ℕ} 0 1 = cc in omega arith),

@@ -61,11 +61,11 @@ unfolding Ascending
 ascending_none i l = absurd (omega arith)
 
 none_ok : (log : List Entry) (b : ℕ) → OpenOk log (record { inp = b; value = none; arcs = [] })
-none_ok log b = record { arcs_ok = λ a mem. absurd (Memᴰ.not_nil mem); value_ok = λ v e. absurd (some_none e refl); ascending = ascending_none }
+none_ok log b = record { arcs_ok = λ a mem. absurd (Memᴰ.not-nil mem); value_ok = λ v e. absurd (some_none e refl); ascending = ascending_none }
 
 some_ok : (log : List Entry) (b v : ℕ) → v ≤ max_sum → OpenOk log (record { inp = b; value = some v; arcs = [] })
 some_ok log b v fits = record {
-  arcs_ok = λ a mem. absurd (Memᴰ.not_nil mem);
+  arcs_ok = λ a mem. absurd (Memᴰ.not-nil mem);
   value_ok = λ w e. omega (arith, fits, some_inj e);
   ascending = ascending_none;
 }
@@ -75,7 +75,7 @@ pub open_key_ok : (log : List Entry) (o : Open) (b : ℕ) (k : List ℕ) (v : �
 unfolding open_key
 open_key_ok log o b [] v ok before bytes fits = (ok, record { before = before; byte = bytes.0 }, some_ok log b v fits)
 open_key_ok log o b (c ∷ k) v ok before bytes fits =
-    (ok, record { before = before; byte = bytes.0 }, open_key_ok log (record { inp = b; value = none; arcs = [] }) c k v (none_ok log b) (λ a mem. absurd (Memᴰ.not_nil mem)) bytes.1 fits)
+    (ok, record { before = before; byte = bytes.0 }, open_key_ok log (record { inp = b; value = none; arcs = [] }) c k v (none_ok log b) (λ a mem. absurd (Memᴰ.not-nil mem)) bytes.1 fits)
 
 pub open_key_last : (o : Open) (b : ℕ) (k : List ℕ) (v : ℕ) → LastFinal o (open_key b k v)
 unfolding open_key
@@ -95,11 +95,11 @@ open_key_inputs b (c ∷ k) v = ap (λ (l : List ℕ). b ∷ l) (open_key_inputs
 module _ (g : Fst) where
   none_holds : (b : ℕ) (l : List ℕ) (w : ℕ) → OpenHolds g (record { inp = b; value = none; arcs = [] }) l w → ⊥
   none_holds b l w (ends e is) = some_none is refl
-  none_holds b l w (along a mem h) = Memᴰ.not_nil mem
+  none_holds b l w (along a mem h) = Memᴰ.not-nil mem
 
   some_holds : (b v : ℕ) (l : List ℕ) (w : ℕ) → OpenHolds g (record { inp = b; value = some v; arcs = [] }) l w → (l ≡ []) × (w ≡ v)
   some_holds b v l w (ends e is) = (e, sym (some_inj is))
-  some_holds b v l w (along a mem h) = absurd (Memᴰ.not_nil mem)
+  some_holds b v l w (along a mem h) = absurd (Memᴰ.not-nil mem)
 
   pub open_key_holds : (o : Open) (b : ℕ) (k : List ℕ) (v : ℕ) (l : List ℕ) (w : ℕ) → StackHolds g o (open_key b k v) l w
       → (OpenHolds g o l w) ⊎ ((l ≡ b ∷ k) × (w ≡ v))
@@ -268,7 +268,7 @@ module _ (g : Fst) (n : ℕ) where
   insert_ok B o (p ∷ s) [] v log has build shorter ok below (inr h) bytes fits short bare =
       absurd (let e = h.1 in let z : ◌≡◌ {A = ℕ} 0 1 = cc in omega arith)
   insert_ok B o [] (b ∷ k) v log has build shorter ok below next bytes fits short bare =
-      opening B o b k v log build shorter ok (λ a mem. absurd (Memᴰ.not_nil (subst (Memᴰ a) bare mem))) bytes fits
+      opening B o b k v log build shorter ok (λ a mem. absurd (Memᴰ.not-nil (subst (Memᴰ a) bare mem))) bytes fits
   insert_ok B o (p ∷ s) (b ∷ k) v log has build shorter (ok, next_ok, below_ok) below next bytes fits short bare =
       go (eqb p.inp b) refl has (λ h q. insert_ok B p s k v log h build shorter below_ok (last_below p s below) q bytes.1 fits (λ l w z. omega (arith, short (p.inp ∷ l) w (inr (l, refl, z)))) bare)
     where
@@ -317,7 +317,7 @@ module _ (g : Fst) (n : ℕ) where
     ended = inl refl;
     holds = λ l w h. inl h;
     old = λ l w h. h;
-    new = λ p mem. absurd (Memᴰ.not_nil mem);
+    new = λ p mem. absurd (Memᴰ.not-nil mem);
     kept = λ x w. kept_as (sym (and_true x)) w;
   }
   insert_all_ok t (p ∷ ps) log has build shorter stack final bare short pairs follows rising =

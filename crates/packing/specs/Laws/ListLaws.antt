@@ -53,7 +53,7 @@ pub record PlaceOf (s : List ℕ) (i n : ℕ) (p : Pair) : Type 0 where
 
 pub place_of : (s : List ℕ) (i n : ℕ) (p : Pair) → Memᴰ p (pairs_from s i n) → PlaceOf s i n p
 unfolding pairs_from
-place_of s i zero p mem = absurd (Memᴰ.not_nil mem)
+place_of s i zero p mem = absurd (Memᴰ.not-nil mem)
 place_of s i (suc n) p mem = by (Memᴰ.cases_cons mem) (λ m. place_of s (i + 1) n p m)
   where
     by : (p ≡ pair_at s i) ⊎ Memᴰ p (pairs_from s (i + 1) n) → (Memᴰ p (pairs_from s (i + 1) n) → PlaceOf s (i + 1) n p) → PlaceOf s i (suc n) p

@@ -127,7 +127,7 @@ module _ (m : ℕ) where
 
     no_transition : (t : Transition) → Memᴰ t (transitions_of [] [] []) → ⊥
     unfolding transitions_of
-    no_transition t mem = Memᴰ.not_nil mem
+    no_transition t mem = Memᴰ.not-nil mem
 
     only_here : (k : List ℕ) (sum b : ℕ) → Path g r.addr k sum b → (length k ≡ 0) × (sum ≡ 0) × (b ≡ r.addr)
     only_here [] sum b p = let q = path_nil p in (refl, q.0, q.1)
@@ -155,7 +155,7 @@ module _ (m : ℕ) where
     no_file = record {
       nodes = none_nodes;
       held = λ k v h. absurd (never k v h);
-      holds = λ k v mem. absurd (Memᴰ.not_nil mem);
+      holds = λ k v mem. absurd (Memᴰ.not-nil mem);
       shallow = (shallow_root g).1 (λ k sum b p. omega (arith, (only_here k sum b p).0));
       light = (light_root g).1 (λ k sum b n p e.
           let q = only_here k sum b p in

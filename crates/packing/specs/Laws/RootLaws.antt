@@ -37,7 +37,7 @@ pub record Longest (ps : List Pair) : Type 0 where
   pub longest : (p : Pair) → Memᴰ p ps → length p.key ≤ length pair.key
 
 pub longest : (p : Pair) (ps : List Pair) → Longest (p ∷ ps)
-longest p [] = record { pair = p; member = Memᴰ.head refl; longest = λ q mem. ⊎_elim (λ z. rw z (omega arith)) (λ m. absurd (Memᴰ.not_nil m)) (Memᴰ.cases_cons mem) }
+longest p [] = record { pair = p; member = Memᴰ.head refl; longest = λ q mem. ⊎_elim (λ z. rw z (omega arith)) (λ m. absurd (Memᴰ.not-nil m)) (Memᴰ.cases_cons mem) }
 longest p (q ∷ ps) = by (longest q ps) (leb (length (longest q ps).pair.key) (length p.key)) refl
   where
     by : (l : Longest (q ∷ ps)) (x : Bool) → leb (length l.pair.key) (length p.key) ≡ x → Longest (p ∷ q ∷ ps)
@@ -176,31 +176,31 @@ cell_empty (suc m) (suc i) = cell_empty m i
 
 start_ok : (m : ℕ) → BuildOk (start (replicate m empty_cell)).build []
 start_ok m = record {
-  stands = λ e mem. absurd (Memᴰ.not_nil mem);
+  stands = λ e mem. absurd (Memᴰ.not-nil mem);
   chained = λ g h. inl (refl, refl);
   cells_ok = λ i. inl (cell_empty m i);
-  minimal = λ d e md me cd ce s. absurd (Memᴰ.not_nil md);
+  minimal = λ d e md me cd ce s. absurd (Memᴰ.not-nil md);
 }
 
 pub start_kept : (m : ℕ) → 2 ≤ m → Kept (start (replicate m empty_cell)).build [] true
 start_kept m two = record {
   two = omega (arith, two, length-replicate m empty_cell);
   distinct = λ i j e filled. absurd (filled (ap (λ (c : Cell). c.addr) (cell_empty m i)));
-  all = λ t e mem. absurd (Memᴰ.not_nil mem);
+  all = λ t e mem. absurd (Memᴰ.not-nil mem);
   lost = λ f. absurd (let z : ◌≡◌ {A = ℕ} 0 1 = cc in omega arith);
 }
 
 start_stack : OpenOk [] (record { inp = 0; value = none; arcs = [] })
 unfolding Ascending
 start_stack = record {
-  arcs_ok = λ a mem. absurd (Memᴰ.not_nil mem);
+  arcs_ok = λ a mem. absurd (Memᴰ.not-nil mem);
   value_ok = λ v e. absurd (let z : ◌≡◌ {A = ℕ} 0 1 = cc in omega arith);
   ascending = λ i l. absurd (omega arith);
 }
 
 start_holds : (g : Fst) (k : List ℕ) (v : ℕ) → OpenHolds g (record { inp = 0; value = none; arcs = [] }) k v → ⊥
 start_holds g k v (ends e is) = let z : ◌≡◌ {A = ℕ} 0 1 = cc in omega arith
-start_holds g k v (along a mem h) = Memᴰ.not_nil mem
+start_holds g k v (along a mem h) = Memᴰ.not-nil mem
 
 first_next : (k : List ℕ) → Next (record { inp = 0; value = none; arcs = [] }) [] k
 first_next [] = inr (refl, refl, refl)
@@ -219,7 +219,7 @@ run_ok g p ps m listed has =
     let l = longest p ps in
     let n : ℕ = length l.pair.key in
     let has₀ = has_grown (close_root_grows u.build u.top u.below) has in
-    let r = insert_all_ok g n t (p ∷ ps) [] has₀ (start_ok m) (λ e mem k v h. absurd (Memᴰ.not_nil mem)) start_stack tt refl
+    let r = insert_all_ok g n t (p ∷ ps) [] has₀ (start_ok m) (λ e mem k v h. absurd (Memᴰ.not-nil mem)) start_stack tt refl
     (λ k v h. absurd (start_holds g k v h))
     (λ q mem. let ok = listed.pairs q mem in record { bytes = ok.bytes; short = l.longest q mem; fits = ok.fits }) (first_next p.key) listed.rising in
     let there : (k : List ℕ) (v : ℕ) → StackHolds g u.top u.below k v → Memᴰ (pair_with k v) (p ∷ ps) =

@@ -111,7 +111,7 @@ pub record OfLog (log : List Entry) (a : ℕ) : Type 0 where
   pub is : entry.addr ≡ a
 
 of_log : (log : List Entry) (a : ℕ) → Memᴰ a (addrs log) → OfLog log a
-of_log [] a mem = absurd (Memᴰ.not_nil mem)
+of_log [] a mem = absurd (Memᴰ.not-nil mem)
 of_log (e ∷ log) a mem = by (Memᴰ.cases_cons mem) (λ m. of_log log a m)
   where
     by : (a ≡ e.addr) ⊎ Memᴰ a (addrs log) → (Memᴰ a (addrs log) → OfLog log a) → OfLog (e ∷ log) a
@@ -248,7 +248,7 @@ module _ (p : Pair) (ps : List Pair) (m : ℕ) (listed : Listed (p ∷ ps)) (sma
       by : ((r.addr ≡ 0) × (length r.build.nodes ≡ 0)) ⊎ ((r.addr ≡ 15 + length r.build.nodes) × (0 < length r.build.nodes)) → Nodes g (addrs run.log)
       by (inl (z, none)) =
           subst (λ (log : List Entry). Nodes g (addrs log)) (sym (no_log none))
-          (record { chain = empty z; closed = λ a m t mem e k ne. absurd (Memᴰ.not_nil mem) })
+          (record { chain = empty z; closed = λ a m t mem e k ne. absurd (Memᴰ.not-nil mem) })
       by (inr (e, some)) =
           let same : g₀ ≡ g = ap (fst_with (pack_file (p ∷ ps) m) 2) (sym e) in
           subst (λ (f : Fst). Nodes f (addrs run.log)) same (record {
@@ -266,8 +266,8 @@ module _ (p : Pair) (ps : List Pair) (m : ℕ) (listed : Listed (p ∷ ps)) (sma
           × (((a : ℕ) → Memᴰ a (addrs run.log) → InCell (pack_cells (p ∷ ps) m) a) → (a b : ℕ) → Memᴰ a (addrs run.log) → Memᴰ b (addrs run.log)
           → SameNodes g a b → a ≡ b)
       by (inl (z, none)) = (
-        λ i. ⊎_elim (λ q. inl q) (λ f. absurd (Memᴰ.not_nil (subst (λ (log : List Entry). Memᴰ f.entry log) (no_log none) f.member))) (run.build.cells_ok i),
-        λ all a b ma mb s. absurd (Memᴰ.not_nil (subst (λ (log : List Entry). Memᴰ a (addrs log)) (no_log none) ma)),
+        λ i. ⊎_elim (λ q. inl q) (λ f. absurd (Memᴰ.not-nil (subst (λ (log : List Entry). Memᴰ f.entry log) (no_log none) f.member))) (run.build.cells_ok i),
+        λ all a b ma mb s. absurd (Memᴰ.not-nil (subst (λ (log : List Entry). Memᴰ a (addrs log)) (no_log none) ma)),
       )
       by (inr (e, some)) =
           let same : g₀ ≡ g = ap (fst_with (pack_file (p ∷ ps) m) 2) (sym e) in (

@@ -92,7 +92,7 @@ module _ {s : List ℕ} (A : Admitted s) (lo hi : Bound) (short : length (bound_
 
   stands_held : (handed : List Entry) → Stands handed → (e : Entry) → Memᴰ e handed → Out f p e.key e.value × Between lo hi e.key
   stands_held handed (stands pre taken rest C is) e on = cut_held (Begun f p) (Out f p) lo hi visits (fitting p pend) F C e (rw is at on)
-  stands_held handed (nothing_yet is) e on = absurd (mathlib.Core.List.Memᴰ.not_nil (rw is at on))
+  stands_held handed (nothing_yet is) e on = absurd (mathlib.Core.List.Memᴰ.not-nil (rw is at on))
 
   stands_rising : (handed : List Entry) → Stands handed → Rising (keys_out handed)
   stands_rising handed (stands pre taken rest C is) = rw is (cut_rising (Begun f p) (Out f p) lo hi visits (fitting p pend) F C)
@@ -102,7 +102,7 @@ module _ {s : List ℕ} (A : Admitted s) (lo hi : Bound) (short : length (bound_
       → Memᴰ (entry k v) handed
   stands_none_left_out handed (stands pre taken rest C is) k v h b e on na =
       rw is (cut_none_left_out (Begun f p) (Out f p) lo hi visits (fitting p pend) F C k v h b e (rw is at on) na)
-  stands_none_left_out handed (nothing_yet is) k v h b e on na = absurd (mathlib.Core.List.Memᴰ.not_nil (rw is at on))
+  stands_none_left_out handed (nothing_yet is) k v h b e on na = absurd (mathlib.Core.List.Memᴰ.not-nil (rw is at on))
 
   -- where the empty string passes the upper bound, every string does
   all_pass : passes_test hi [] ≡ true → (k : List ℕ) → passes_test hi k ≡ true
@@ -114,7 +114,7 @@ module _ {s : List ℕ} (A : Admitted s) (lo hi : Bound) (short : length (bound_
   comes_none_left handed ends r (fresh levels v sane w is) pos = absurd (omega arith)
   comes_none_left handed ends r (going pre taken levels hpre unshut sane w under last) pos = absurd (omega arith)
   comes_none_left handed ends r (finished pre n hpre unshut under) pos =
-      cut_none_left (Begun f p) (Out f p) lo hi visits (fitting p pend) F (whole_cut pre hpre under) (λ w on. absurd (mathlib.Core.List.Memᴰ.not_nil on))
+      cut_none_left (Begun f p) (Out f p) lo hi visits (fitting p pend) F (whole_cut pre hpre under) (λ w on. absurd (mathlib.Core.List.Memᴰ.not-nil on))
   comes_none_left handed ends r (beyond pre n taken v more hpre unshut w under ps) pos =
       cut_none_left (Begun f p) (Out f p) lo hi visits (fitting p pend) F (cut_at pre taken (v ∷ more) hpre w under) (beyond_past taken v more w ps)
   comes_none_left handed ends r (shut n v is q) pos = λ k u h b. absurd (b.within ((decides_passes hi k).yes (all_pass q k)))
@@ -135,7 +135,7 @@ module _ {s : List ℕ} (A : Admitted s) (lo hi : Bound) (short : length (bound_
     length visits,
     0,
     followed_number (length visits)
-        (cut_number (Begun f p) (Out f p) lo hi visits (fitting p pend) F (whole_cut pre hpre under) (λ w on. absurd (mathlib.Core.List.Memᴰ.not_nil on))),
+        (cut_number (Begun f p) (Out f p) lo hi visits (fitting p pend) F (whole_cut pre hpre under) (λ w on. absurd (mathlib.Core.List.Memᴰ.not-nil on))),
     no_more (λ x b.
         let w = F.whole x (b.0, b.1.0) b.1.1.0 in
         (decides_passes hi x).no (rw w.2 at (all_mem (λ v. passes_test hi v.key ≡ false) visits under w.0 w.1)) b.1.1.1),
@@ -163,7 +163,7 @@ module _ {s : List ℕ} (A : Admitted s) (lo hi : Bound) (short : length (bound_
     record {
       strings = [];
       rising = tt;
-      such = λ x on. absurd (mathlib.Core.List.Memᴰ.not_nil on);
+      such = λ x on. absurd (mathlib.Core.List.Memᴰ.not-nil on);
       all = λ x h. absurd (snoc_not_nil h.1.before h.1.last h.1.is_last);
       number = refl;
     },
