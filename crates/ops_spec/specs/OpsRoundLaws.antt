@@ -134,11 +134,11 @@ on_pairs i k (e ∷ es) L more h = by (same_test e.key k) h
     by true q = insert_not_nil (indexed e.value i) (head_pairs (i + 1) k L) q
     by false q = more q
 
-headed_pairs : (i : ℕ) (k : List ℕ) (L : Lanes) → Headed k L → ¬ (head_pairs i k L ≡ [])
-headed_pairs i k _ (head_here {e} {es} {L} q) h =
+headed_pairs : (k : List ℕ) (i : ℕ) (L : Lanes) → Headed k L → ¬ (head_pairs i k L ≡ [])
+headed_pairs k i _ (head_here {e} {es} {L} q) h =
     let t = same_true e.key k q in
     insert_not_nil (indexed e.value i) (head_pairs (i + 1) k L) (sym (rw t) ∙ h)
-headed_pairs i k _ (head_on {es} {L} w) h = on_pairs i k es L (headed_pairs (i + 1) k L w) h
+headed_pairs k i _ (head_on {es} {L} w) h = on_pairs i k es L (headed_pairs k (i + 1) L w) h
 
 pub drop_heads_length : (P : List ℕ → Bool) (L : Lanes) → length (drop_heads P L) ≡ length L
 drop_heads_length P [] = refl
@@ -191,7 +191,7 @@ module _ (op : Op) (L : Lanes) (rising : AllRising L) (some_lane : 0 < length L)
               absurd (belongs_not_nil op (past_all k L) l ps (omega arith) b (pairs_past_none 0 k l L rising ((decides_before k l).no q)))
 
   at_least_lem : RoundIs op L (judge_at op k L)
-  at_least_lem = by (takes_test op (length L) (head_pairs 0 k L)) (takes_decides op (length L) (head_pairs 0 k L) (headed_pairs 0 k L w.headed))
+  at_least_lem = by (takes_test op (length L) (head_pairs 0 k L)) (takes_decides op (length L) (head_pairs 0 k L) (headed_pairs k 0 L w.headed))
     where
       less : total (drop_heads (λ l. same_test l k) L) < total L
       less = drop_less (λ l. same_test l k) k L w.headed (same_true k k refl)

@@ -6,7 +6,7 @@ use Rattle.format.specs.CommonInputs.{common_inputs}
 use Rattle.common_inputs.proofs.common_inputs_at.Statement.{statement}
 use Rattle.common_inputs.proofs.common_inputs_at.Tie as tie
 
-array-read-result : tie.Need-array-read-result
+array-read-result : tie.Need-bounds-b
 array-read-result c = search rules
 
 -- the code's table is the definition's
@@ -15,4 +15,6 @@ unfolding common_inputs
 returns c = refl
 
 pub common_inputs_at_spec : {M : Type 1} → statement M
-common_inputs_at_spec = tie.close (tie.spec array-read-result returns)
+common_inputs_at_spec = tie.close (tie.spec
+    array-read-result
+    returns)

@@ -9,20 +9,24 @@ use Rattle.le_bytes.proofs.pack_size.Statement.{statement}
 use Rattle.le_bytes.proofs.pack_size.Tie as tie
 
 -- zero
-returns : tie.Need-returns
-returns c = rw c.if1.true (packed_in (omega arith) size_zero)
+returns : tie.Need-returns-then-n-eq0
+returns c = rw c.if-n-eq0.true (packed_in (omega arith) size_zero)
 
-sub-result : tie.Need-overflow-sub-result
+sub-result : tie.Need-overflow_sub-result
 sub-result c = omega (arith, leading_le 64 c.before.args.n)
 
-cast-result : tie.Need-overflow-cast-result
+cast-result : tie.Need-overflow_cast-result
 cast-result c = search rules
 
 -- any other number
-returns-2 : tie.Need-returns-2
+returns-2 : tie.Need-returns
 returns-2 c =
     let fits = c.before.ranges.n.fits in
     packed_in fits (size_is c.before.args.n (omega arith) fits)
 
 pub pack_size_spec : {M : Type 1} → statement M
-pack_size_spec = tie.close (tie.spec returns sub-result cast-result returns-2)
+pack_size_spec = tie.close (tie.spec
+    returns
+    sub-result
+    cast-result
+    returns-2)

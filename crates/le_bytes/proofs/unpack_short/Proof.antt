@@ -5,13 +5,13 @@ use Rattle.le_bytes.proofs.Weights.{le_padded}
 use Rattle.le_bytes.proofs.unpack_short.Statement.{statement}
 use Rattle.le_bytes.proofs.unpack_short.Tie as tie
 
-slice-aggregate-copy-front : tie.Need-slice-aggregate-copy-front
+slice-aggregate-copy-front : tie.Need-slice_bounds-copy_front-end
 slice-aggregate-copy-front c = search rules
 
-copy-front-requires : tie.Need-copy-front-requires
+copy-front-requires : tie.Need-copy_front-requires
 copy-front-requires c κs = search rules
 
-slice-aggregate-load8 : tie.Need-slice-aggregate-load8
+slice-aggregate-load8 : tie.Need-slice_bounds-load8-end
 slice-aggregate-load8 c = search rules
 
 load8-requires : tie.Need-load8-requires
@@ -22,7 +22,7 @@ returns : tie.Need-returns
 returns c =
     let copied = c.before.before.before in
     let start = copied.before.before.before in
-    rw (c.load8.ensures, copied.copy-front.ensures)
+    rw (c.load8.ensures, copied.copy_front.ensures)
     (le_padded start.args.slice.now start.args.nbytes start.requires.0 start.requires.1)
 
 pub unpack_short_spec : {M : Type 1} → statement M

@@ -7,31 +7,38 @@ use Rattle.listing_lines.proofs.Digits.{CountedTo, counted_none, counted_few, co
 use Rattle.listing_lines.proofs.digit_count.Statement.{statement}
 use Rattle.listing_lines.proofs.digit_count.Tie as tie
 
-abbrev invariant-loop : tie.invariant-loop
-invariant-loop n count₀ rest₀ count rest = CountedTo n count rest
+abbrev invariant-loop-rest : tie.invariant-loop-rest
+invariant-loop-rest n count₀ rest₀ count rest = CountedTo n count rest
 
-abbrev decreases-loop : tie.decreases-loop
-decreases-loop n count₀ rest₀ count rest = rest
+abbrev decreases-loop-rest : tie.decreases-loop-rest
+decreases-loop-rest n count₀ rest₀ count rest = rest
 
 -- one digit is counted, and all of n is left
-loop-holds : tie.Need-loop-init invariant-loop decreases-loop
+loop-holds : tie.Need-loop-rest-init invariant-loop-rest decreases-loop-rest
 loop-holds c = counted_none c.args.n c.ranges.n.fits
 
 -- fewer than 20 digits are counted so far
-add-count : tie.Need-overflow-add-count invariant-loop decreases-loop
-add-count c = omega (arith, counted_few c.loop-test.true c.before.loop.invariant)
+add-count : tie.Need-overflow_add-count invariant-loop-rest decreases-loop-rest
+add-count c = omega (arith, counted_few c.loop-rest-test.true c.before.loop-rest.invariant)
 
-loop-less : tie.Need-loop-smaller invariant-loop decreases-loop
+loop-less : tie.Need-loop-rest-smaller invariant-loop-rest decreases-loop-rest
 loop-less c = search rules
 
 -- one digit more is counted
-loop-again : tie.Need-loop-preserved invariant-loop decreases-loop
-loop-again c = counted_step c.loop-test.true c.before.loop.invariant
+loop-again : tie.Need-loop-rest-preserved invariant-loop-rest decreases-loop-rest
+loop-again c = counted_step c.loop-rest-test.true c.before.loop-rest.invariant
 
 -- a single digit is left, and it is counted
-returns : tie.Need-returns invariant-loop decreases-loop
-returns c = counted_all c.loop-test.false c.before.loop.invariant
+returns : tie.Need-returns invariant-loop-rest decreases-loop-rest
+returns c = counted_all c.loop-rest-test.false c.before.loop-rest.invariant
 
 pub digit_count_spec : {M : Type 1} → statement M
 digit_count_spec =
-    tie.close (tie.spec invariant-loop decreases-loop loop-holds add-count loop-less loop-again returns)
+    tie.close (tie.spec
+    invariant-loop-rest
+    decreases-loop-rest
+    loop-holds
+    add-count
+    loop-less
+    loop-again
+    returns)

@@ -39,100 +39,88 @@ at_word s =
     (omega (arith, length_end_line a.keys a.followed, s.requires))
 
 -- the entry, seen from each place
-abbrev s₁ : tie.After-put-text → tie.Start
-s₁ c = c.before.before.before.before
+abbrev s₁ : tie.After-put_text-keys_at → tie.Start
+s₁ c = c.before.before.before.before.before
 
-at_keys : (c : tie.After-put-text) → Stage (s₁ c) (from_keys (s₁ c)) c.put-text.new.0 c.put-text.result
+at_keys : (c : tie.After-put_text-keys_at) → Stage (s₁ c) (from_keys (s₁ c)) c.put_text-keys_at.new.line c.put_text-keys_at.result
 at_keys c =
-    part_written word (from_keys (s₁ c)) c.put-text.new.0 c.put-text.result (at_word (s₁ c)) c.put-text.ensures
+    part_written word (from_keys (s₁ c)) c.put_text-keys_at.new.line c.put_text-keys_at.result (at_word (s₁ c)) c.put_text-keys_at.ensures
 
-abbrev s₂ : tie.After-put-number → tie.Start
+abbrev s₂ : tie.After-put_number-space_at → tie.Start
 s₂ c = s₁ c.before.before.before.before
 
-at_space : (c : tie.After-put-number) → Stage (s₂ c) (from_space (s₂ c)) c.put-number.new.0 c.put-number.result
+at_space : (c : tie.After-put_number-space_at) → Stage (s₂ c) (from_space (s₂ c)) c.put_number-space_at.new.line c.put_number-space_at.result
 at_space c =
     let s = s₂ c in
     let number = at_keys c.before.before.before.before in
-    part_written (decimal s.args.keys) (from_space s) c.put-number.new.0 c.put-number.result number
-    c.put-number.ensures
+    part_written (decimal s.args.keys) (from_space s) c.put_number-space_at.new.line c.put_number-space_at.result number
+    c.put_number-space_at.ensures
 
-abbrev s₃ : tie.After-put-text2 → tie.Start
-s₃ c = s₂ c.before.before.before.before.before
+abbrev s₃ : tie.After-put_text-followed_at → tie.Start
+s₃ c = s₂ c.before.before.before.before.before.before
 
-at_followed : (c : tie.After-put-text2) → Stage (s₃ c) (from_followed (s₃ c)) c.put-text2.new.0 c.put-text2.result
+at_followed : (c : tie.After-put_text-followed_at) → Stage (s₃ c) (from_followed (s₃ c)) c.put_text-followed_at.new.line c.put_text-followed_at.result
 at_followed c =
-    let space = at_space c.before.before.before.before.before in
-    part_written (32 ∷ []) (from_followed (s₃ c)) c.put-text2.new.0 c.put-text2.result space c.put-text2.ensures
+    let space = at_space c.before.before.before.before.before.before in
+    part_written (32 ∷ []) (from_followed (s₃ c)) c.put_text-followed_at.new.line c.put_text-followed_at.result space c.put_text-followed_at.ensures
 
-abbrev s₄ : tie.After-put-number2 → tie.Start
+abbrev s₄ : tie.After-put_number-newline_at → tie.Start
 s₄ c = s₃ c.before.before.before.before
 
-at_newline : (c : tie.After-put-number2) → Stage (s₄ c) (10 ∷ []) c.put-number2.new.0 c.put-number2.result
+at_newline : (c : tie.After-put_number-newline_at) → Stage (s₄ c) (10 ∷ []) c.put_number-newline_at.new.line c.put_number-newline_at.result
 at_newline c =
     let number = at_followed c.before.before.before.before in
-    part_written (decimal (s₄ c).args.followed) (10 ∷ []) c.put-number2.new.0 c.put-number2.result number
-    c.put-number2.ensures
+    part_written (decimal (s₄ c).args.followed) (10 ∷ []) c.put_number-newline_at.new.line c.put_number-newline_at.result number
+    c.put_number-newline_at.ensures
 
 -- ---- the needs
 
-slice-aggregate-put-text : tie.Need-slice-aggregate-put-text
-slice-aggregate-put-text c = search rules
-
-put-text-requires : tie.Need-put-text-requires
+put-text-requires : tie.Need-put_text-keys_at-requires
 put-text-requires c κs = search rules
 
 -- the line has room for the number of keys
-put-number-requires : tie.Need-put-number-requires
+put-number-requires : tie.Need-put_number-space_at-requires
 put-number-requires c κs =
     let w = c.before.before.before in
     let s = s₁ w in
     part_room (decimal s.args.keys) (from_space s) (at_keys w)
 
-slice-aggregate-put-text-2 : tie.Need-slice-aggregate-put-text-2
-slice-aggregate-put-text-2 c = search rules
-
 -- the line has room for the space
-put-text-requires-2 : tie.Need-put-text-requires-2
+put-text-requires-2 : tie.Need-put_text-followed_at-requires
 put-text-requires-2 c κs =
-    let w = c.before.before.before.before in
+    let w = c.before.before.before.before.before in
     part_room (32 ∷ []) (from_followed (s₂ w)) (at_space w)
 
 -- the line has room for the number of transitions followed
-put-number-requires-2 : tie.Need-put-number-requires-2
+put-number-requires-2 : tie.Need-put_number-newline_at-requires
 put-number-requires-2 c κs =
     let w = c.before.before.before in
     part_room (decimal (s₃ w).args.followed) (10 ∷ []) (at_followed w)
 
-slice-aggregate-put-text-3 : tie.Need-slice-aggregate-put-text-3
-slice-aggregate-put-text-3 c = search rules
-
 -- the line has room for the newline
-put-text-requires-3 : tie.Need-put-text-requires-3
-put-text-requires-3 c κs = part_room (10 ∷ []) [] (at_newline c.before.before.before.before)
+put-text-requires-3 : tie.Need-put_text-requires
+put-text-requires-3 c κs = part_room (10 ∷ []) [] (at_newline c.before.before.before.before.before)
 
-same_length : tie.Need-same-length
+same_length : tie.Need-shape_of-line
 same_length c = search rules
 
 -- all five parts are written
 returns : tie.Need-returns
 returns c =
     let call = c.before.before in
-    let w = call.before.before.before.before.before in
+    let w = call.before.before.before.before.before.before in
     let a = (s₄ w).args in
-    line_written call.put-text3.new.0 call.put-text3.result (length_end_line a.keys a.followed) (at_newline w)
-    call.put-text3.ensures
+    line_written call.put_text.new.line call.put_text.result (length_end_line a.keys a.followed) (at_newline w)
+    call.put_text.ensures
 
 pub end_line_spec : {M : Type 1} → statement M
 end_line_spec =
     tie.close
     (tie.spec
-    slice-aggregate-put-text
     put-text-requires
     put-number-requires
-    slice-aggregate-put-text-2
     put-text-requires-2
     put-number-requires-2
-    slice-aggregate-put-text-3
     put-text-requires-3
     same_length
     returns)

@@ -32,64 +32,56 @@ at_word s =
     writing_none s.args.line.now (refused_line n) (word ++ from_number s) refl (omega (arith, length_refused_line n, s.requires))
 
 -- the entry, seen from each place
-abbrev s₁ : tie.After-put-text → tie.Start
-s₁ c = c.before.before.before.before
+abbrev s₁ : tie.After-put_text-number_at → tie.Start
+s₁ c = c.before.before.before.before.before
 
-at_number : (c : tie.After-put-text) → Stage (s₁ c) (from_number (s₁ c)) c.put-text.new.0 c.put-text.result
+at_number : (c : tie.After-put_text-number_at) → Stage (s₁ c) (from_number (s₁ c)) c.put_text-number_at.new.line c.put_text-number_at.result
 at_number c =
-    part_written word (from_number (s₁ c)) c.put-text.new.0 c.put-text.result (at_word (s₁ c)) c.put-text.ensures
+    part_written word (from_number (s₁ c)) c.put_text-number_at.new.line c.put_text-number_at.result (at_word (s₁ c)) c.put_text-number_at.ensures
 
-abbrev s₂ : tie.After-put-number → tie.Start
+abbrev s₂ : tie.After-put_number-newline_at → tie.Start
 s₂ c = s₁ c.before.before.before.before
 
-at_newline : (c : tie.After-put-number) → Stage (s₂ c) (10 ∷ []) c.put-number.new.0 c.put-number.result
+at_newline : (c : tie.After-put_number-newline_at) → Stage (s₂ c) (10 ∷ []) c.put_number-newline_at.new.line c.put_number-newline_at.result
 at_newline c =
     let number = at_number c.before.before.before.before in
-    part_written (decimal (s₂ c).args.number) (10 ∷ []) c.put-number.new.0 c.put-number.result number
-    c.put-number.ensures
+    part_written (decimal (s₂ c).args.number) (10 ∷ []) c.put_number-newline_at.new.line c.put_number-newline_at.result number
+    c.put_number-newline_at.ensures
 
 -- ---- the needs
 
-slice-aggregate-put-text : tie.Need-slice-aggregate-put-text
-slice-aggregate-put-text c = search rules
-
-put-text-requires : tie.Need-put-text-requires
+put-text-requires : tie.Need-put_text-number_at-requires
 put-text-requires c κs = search rules
 
 -- the line has room for the refusal's number
-put-number-requires : tie.Need-put-number-requires
+put-number-requires : tie.Need-put_number-newline_at-requires
 put-number-requires c κs =
     let w = c.before.before.before in
     let s = s₁ w in
     part_room (decimal s.args.number) (10 ∷ []) (at_number w)
 
-slice-aggregate-put-text-2 : tie.Need-slice-aggregate-put-text-2
-slice-aggregate-put-text-2 c = search rules
-
 -- the line has room for the newline
-put-text-requires-2 : tie.Need-put-text-requires-2
+put-text-requires-2 : tie.Need-put_text-requires
 put-text-requires-2 c κs =
-    part_room (10 ∷ []) [] (at_newline c.before.before.before.before)
+    part_room (10 ∷ []) [] (at_newline c.before.before.before.before.before)
 
-same_length : tie.Need-same-length
+same_length : tie.Need-shape_of-line
 same_length c = search rules
 
 -- all three parts are written
 returns : tie.Need-returns
 returns c =
     let call = c.before.before in
-    let w = call.before.before.before.before.before in
-    line_written call.put-text2.new.0 call.put-text2.result (length_refused_line (s₂ w).args.number) (at_newline w)
-    call.put-text2.ensures
+    let w = call.before.before.before.before.before.before in
+    line_written call.put_text.new.line call.put_text.result (length_refused_line (s₂ w).args.number) (at_newline w)
+    call.put_text.ensures
 
 pub refused_line_spec : {M : Type 1} → statement M
 refused_line_spec =
     tie.close
     (tie.spec
-    slice-aggregate-put-text
     put-text-requires
     put-number-requires
-    slice-aggregate-put-text-2
     put-text-requires-2
     same_length
     returns)

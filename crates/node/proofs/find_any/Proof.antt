@@ -7,20 +7,20 @@ use native.Mathlib.Omega.{arith}
 use Rattle.node.proofs.find_any.Statement.{statement}
 use Rattle.node.proofs.find_any.Tie as tie
 
-mul-inputs : tie.Need-overflow-mul-inputs
+mul-inputs : tie.Need-overflow_mul-inputs
 mul-inputs c = search rules
 
-add-inputs : tie.Need-overflow-add-inputs
+add-inputs : tie.Need-overflow_add-inputs
 add-inputs c = search rules
 
-mul-inputs-2 : tie.Need-overflow-mul-inputs-2
+mul-inputs-2 : tie.Need-overflow_mul-inputs-2
 mul-inputs-2 c = search rules
 
-add-inputs-2 : tie.Need-overflow-add-inputs-2
+add-inputs-2 : tie.Need-overflow_add-inputs-2
 add-inputs-2 c = search rules
 
 -- the node can be read
-find-in-requires : tie.Need-find-in-requires
+find-in-requires : tie.Need-find_in-requires
 find-in-requires c κs =
     let start = c.before.before.before.before in
     any_searchable start.args.file.now start.args.node start.requires.0 start.requires.1
@@ -29,7 +29,7 @@ find-in-requires c κs =
 returns : tie.Need-returns
 returns c =
     let start = c.before.before.before.before.before in
-    any_finds start.args.file.now start.args.node start.requires.0 start.args.b c.find-in.result start.requires.1 c.find-in.ensures
+    any_finds start.args.file.now start.args.node start.requires.0 start.args.b c.find_in.result start.requires.1 c.find_in.ensures
 
 pub find_any_spec : {M : Type 1} → statement M
 find_any_spec =

@@ -12,43 +12,50 @@ use Rattle.node.proofs.find_in.Statement.{statement}
 use Rattle.node.proofs.find_in.Tie as tie
 
 -- the inputs lie within the file
-add_small : tie.Need-overflow-add-small
+add_small : tie.Need-overflow_add-at
 add_small c = omega (arith, c.before.before.requires.room)
 
 -- the entry lies within the file
-add-small-2 : tie.Need-overflow-add-small-2
+add-small-2 : tie.Need-overflow_add-at-then-index_len-ne0
 add-small-2 c =
     let start = c.before.before in
-    omega (arith, start.requires.room, start.requires.entries_len c.if1.true, start.ranges.b.fits)
+    omega (arith, start.requires.room, start.requires.entries_len c.if-index_len-ne0.true, start.ranges.b.fits)
 
 -- the entry lies within the file
-shared-slice-read-small : tie.Need-shared-slice-read-small
+shared-slice-read-small : tie.Need-bounds-file-at
 shared-slice-read-small c =
     let test = c.before in
     let start = test.before.before in
-    omega (arith, start.requires.room, start.requires.entries_len test.if1.true, start.ranges.b.fits)
+    omega (arith, start.requires.room, start.requires.entries_len test.if-index_len-ne0.true, start.ranges.b.fits)
 
-small-requires : tie.Need-small-requires
+small-requires : tie.Need-small-e-requires
 small-requires c κs = search rules
 
 -- by the index
-returns : tie.Need-returns
+returns : tie.Need-returns-then-e-n
 returns c =
     let call = c.before in
     let test = call.before.before in
     let start = test.before.before in
     let a = start.args in
     let s = a.file.now in
-    entry_finds (bytes_down s a.at a.n) (take 256 (drop (a.at + a.n) s)) a.b call.small.result (start.requires.index test.if1.true) start.ranges.b.fits
-    (rw (length_bytes_down s a.at a.n) c.if2.true)
-    (entry_is_lem s (a.at + a.n) a.b call.small.result start.ranges.b.fits call.small.ensures)
+    entry_finds (bytes_down s a.at a.n) (take 256 (drop (a.at + a.n) s)) a.b call.small-e.result (start.requires.index test.if-index_len-ne0.true) start.ranges.b.fits
+    (rw (length_bytes_down s a.at a.n) c.if-e-n.true)
+    (entry_is_lem s (a.at + a.n) a.b call.small-e.result start.ranges.b.fits call.small-e.ensures)
 
 seek-requires : tie.Need-seek-requires
 seek-requires c κs = search rules
 
 -- by the inputs
-returns-2 : tie.Need-returns-2
+returns-2 : tie.Need-returns
 returns-2 c = c.seek.ensures
 
 pub find_in_spec : {M : Type 1} → statement M
-find_in_spec = tie.close (tie.spec add_small add-small-2 shared-slice-read-small small-requires returns seek-requires returns-2)
+find_in_spec = tie.close (tie.spec
+    add_small
+    add-small-2
+    shared-slice-read-small
+    small-requires
+    returns
+    seek-requires
+    returns-2)

@@ -17,19 +17,19 @@ low : (b : tie.Start) → 16 ≤ b.args.addr
 low b = sound_low b.args.file.now b.args.version b.args.root b.args.addr b.requires.0
 
 -- the address lies in the file
-add-first : tie.Need-overflow-add-first
+add-first : tie.Need-overflow_add-first
 add-first c = omega (arith, c.before.requires.0.inside)
 
 -- the address lies in the file
-head-len-requires : tie.Need-head-len-requires
+head-len-requires : tie.Need-head_len-requires
 head-len-requires c κs = c.before.requires.0.inside
 
 -- a sound node's address is 16 at least
-sub-first : tie.Need-overflow-sub-first
+sub-first : tie.Need-overflow_sub-first
 sub-first c = omega (arith, low c.before.before)
 
 -- a sound node's address is 16 at least
-input-of-requires : tie.Need-input-of-requires
+input-of-requires : tie.Need-input_of-input-requires
 input-of-requires c κs = let b = c.before.before in (omega (arith, low b), b.requires.0.inside)
 
 -- the node is that of the form 11
@@ -40,14 +40,19 @@ returns c =
     let start = call.before.before in
     let a = start.args in
     let s = a.file.now in
-    let len = call.head-len.result in
-    let is_h = shape_next s a.version a.addr len start.requires.1 call.head-len.ensures.is in
+    let len = call.head_len.result in
+    let is_h = shape_next s a.version a.addr len start.requires.1 call.head_len.ensures.is in
     let ne : ¬ (a.addr ≡ 0) = λ z. omega (arith, low start) in (
-      judged_yes s a.version a.root a.addr (next_shape len) is_h ne 0 c.Input-of.result (a.addr + 1 - len)
-          (shape_sound s a.version a.root a.addr (next_shape len) is_h ne start.requires.0) refl (rw c.Input-of.ensures) (sym (add-zero (a.addr + 1 - len))),
+      judged_yes s a.version a.root a.addr (next_shape len) is_h ne 0 c.input_of-input.result (a.addr + 1 - len)
+          (shape_sound s a.version a.root a.addr (next_shape len) is_h ne start.requires.0) refl (rw c.input_of-input.ensures) (sym (add-zero (a.addr + 1 - len))),
       refl,
     )
 
 pub next_node_spec : {M : Type 1} → statement M
 next_node_spec =
-    tie.close (tie.spec add-first head-len-requires sub-first input-of-requires returns)
+    tie.close (tie.spec
+    add-first
+    head-len-requires
+    sub-first
+    input-of-requires
+    returns)

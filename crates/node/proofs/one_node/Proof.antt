@@ -20,66 +20,66 @@ low : (b : tie.Start) → 16 ≤ b.args.addr
 low b = sound_low b.args.file.now b.args.version b.args.root b.args.addr b.requires.0
 
 -- the parameters and the shape, seen from where the sizes byte is read
-abbrev start : tie.After-small → tie.Start
+abbrev start : tie.After-small-sizes → tie.Start
 start q = q.before.before.before.before
 
-abbrev file : tie.After-small → List ℕ
+abbrev file : tie.After-small-sizes → List ℕ
 file q = (start q).args.file.now
 
-abbrev addr : tie.After-small → ℕ
+abbrev addr : tie.After-small-sizes → ℕ
 addr q = (start q).args.addr
 
-abbrev sizes : tie.After-small → ℕ
-sizes q = q.small.result
+abbrev sizes : tie.After-small-sizes → ℕ
+sizes q = q.small-sizes.result
 
-abbrev size : tie.After-small → ℕ
-size q = sizes q % 16 + sizes q / 16 + 1 + q.before.before.head-len.result
+abbrev size : tie.After-small-sizes → ℕ
+size q = sizes q % 16 + sizes q / 16 + 1 + q.before.before.head_len-len.result
 
-abbrev h_at : tie.After-small → F.Shape
+abbrev h_at : tie.After-small-sizes → F.Shape
 h_at q = one_shape (sizes q / 16) (sizes q % 16) (size q)
 
-is_h : (q : tie.After-small) → h_at q ≡ shape_of (file q) (start q).args.version (addr q)
+is_h : (q : tie.After-small-sizes) → h_at q ≡ shape_of (file q) (start q).args.version (addr q)
 is_h q =
-    shape_one (file q) (start q).args.version (addr q) q.before.before.head-len.result (sizes q) (start q).requires.1 (start q).requires.2 q.before.before.head-len.ensures.is
-    q.small.ensures
+    shape_one (file q) (start q).args.version (addr q) q.before.before.head_len-len.result (sizes q) (start q).requires.1 (start q).requires.2 q.before.before.head_len-len.ensures.is
+    q.small-sizes.ensures
 
-sound_at : (q : tie.After-small) → SoundShape (file q) (start q).args.root (addr q) (h_at q) (addr q + 1 - size q)
+sound_at : (q : tie.After-small-sizes) → SoundShape (file q) (start q).args.root (addr q) (h_at q) (addr q + 1 - size q)
 sound_at q = shape_sound (file q) (start q).args.version (start q).args.root (addr q) (h_at q) (is_h q) (λ z. omega (arith, low (start q))) (start q).requires.0
 
 -- the address lies in the file
-head-len-requires : tie.Need-head-len-requires
+head-len-requires : tie.Need-head_len-len-requires
 head-len-requires c κs = c.before.requires.0.inside
 
 -- a sound node's address is 16 at least
-sub_small : tie.Need-overflow-sub-small
+sub_small : tie.Need-overflow_sub-addr
 sub_small c = omega (arith, low c.before.before)
 
 -- the sizes byte lies below the state, in the file
-shared-slice-read-small : tie.Need-shared-slice-read-small
+shared-slice-read-small : tie.Need-bounds-file-addr
 shared-slice-read-small c = omega (arith, low c.before.before.before, c.before.before.before.requires.0.inside)
 
-small-requires : tie.Need-small-requires
+small-requires : tie.Need-small-sizes-requires
 small-requires c κs = search rules
 
 -- the address lies in the file
-add-first : tie.Need-overflow-add-first
+add-first : tie.Need-overflow_add-first
 add-first c = omega (arith, c.before.before.before.before.requires.0.inside)
 
-add-first-2 : tie.Need-overflow-add-first-2
+add-first-2 : tie.Need-overflow_add-first-2
 add-first-2 c = search rules
 
-add-first-3 : tie.Need-overflow-add-first-3
+add-first-3 : tie.Need-overflow_add-first-3
 add-first-3 c = search rules
 
-add-first-4 : tie.Need-overflow-add-first-4
+add-first-4 : tie.Need-overflow_add-first-4
 add-first-4 c = search rules
 
 -- the node lies above the header
-sub-first : tie.Need-overflow-sub-first
+sub-first : tie.Need-overflow_sub-first
 sub-first c = omega (arith, (sound_at c).above)
 
 -- a sound node's address is 16 at least
-input-of-requires : tie.Need-input-of-requires
+input-of-requires : tie.Need-input_of-input-requires
 input-of-requires c κs = (omega (arith, low (start c)), (start c).requires.0.inside)
 
 -- the node is that of the form 10
@@ -87,8 +87,8 @@ returns : tie.Need-returns
 unfolding le
 returns c =
     let q = c.before in (
-      judged_yes (file q) (start q).args.version (start q).args.root (addr q) (h_at q) (is_h q) (λ z. omega (arith, low (start q))) 0 c.Input-of.result
-          (addr q + 1 - size q) (sound_at q) refl (rw c.Input-of.ensures) (sym (add-zero (addr q + 1 - size q))),
+      judged_yes (file q) (start q).args.version (start q).args.root (addr q) (h_at q) (is_h q) (λ z. omega (arith, low (start q))) 0 c.input_of-input.result
+          (addr q + 1 - size q) (sound_at q) refl (rw c.input_of-input.ensures) (sym (add-zero (addr q + 1 - size q))),
       refl,
     )
 

@@ -7,7 +7,7 @@ use native.Mathlib.Omega.{arith}
 use Rattle.node.proofs.output.Statement.{statement}
 use Rattle.node.proofs.output.Tie as tie
 
-number-of-requires : tie.Need-number-of-requires
+number-of-requires : tie.Need-number_of-requires
 number-of-requires c κs = search rules
 
 -- the one way out: the number that was read is the output
@@ -17,4 +17,6 @@ returns c = let start = c.before.before in
     c.number_of.ensures ∙ output_is s m r i l
 
 pub output_spec : {M : Type 1} → statement M
-output_spec = tie.close (tie.spec number-of-requires returns)
+output_spec = tie.close (tie.spec
+    number-of-requires
+    returns)

@@ -6,12 +6,14 @@ use Rattle.node.proofs.place_beside.Statement.{statement}
 use Rattle.node.proofs.place_beside.Tie as tie
 
 -- the one input is below b
-returns : tie.Need-returns
-returns c = single_below c.if1.true
+returns : tie.Need-returns-then-input-b
+returns c = single_below c.if-input-b.true
 
 -- the one input is not below b, and it is another
-returns-2 : tie.Need-returns-2
-returns-2 c = single_above (omega (arith, c.if1.false, c.before.requires))
+returns-2 : tie.Need-returns-else-input-b
+returns-2 c = single_above (omega (arith, c.if-input-b.false, c.before.requires))
 
 pub place_beside_spec : {M : Type 1} → statement M
-place_beside_spec = tie.close (tie.spec returns returns-2)
+place_beside_spec = tie.close (tie.spec
+    returns
+    returns-2)

@@ -13,66 +13,66 @@ use Rattle.node_compile.proofs.Largest.{LargestFrom, largest_none, largest_step,
 use Rattle.node_compile.proofs.largest_delta.Statement.{statement}
 use Rattle.node_compile.proofs.largest_delta.Tie as tie
 
-abbrev invariant-loop : tie.invariant-loop
-invariant-loop first targets most₀ i₀ most i = LargestFrom (map (delta_of first) targets) most i
+abbrev invariant-loop-i : tie.invariant-loop-i
+invariant-loop-i first targets most₀ i₀ most i = LargestFrom (map (delta_of first) targets) most i
 
-abbrev decreases-loop : tie.decreases-loop
-decreases-loop first targets most₀ i₀ most i = i
+abbrev decreases-loop-i : tie.decreases-loop-i
+decreases-loop-i first targets most₀ i₀ most i = i
 
 -- no delta is seen yet
-loop-holds : tie.Need-loop-init invariant-loop decreases-loop
+loop-holds : tie.Need-loop-i-init invariant-loop-i decreases-loop-i
 loop-holds c =
     let first = c.before.args.first in
     let targets = c.before.args.targets.now in
     largest_none (map (delta_of first) targets) (length targets) (sym (length_deltas first targets))
 
-sub-i : tie.Need-overflow-sub-i invariant-loop decreases-loop
+sub-i : tie.Need-overflow_sub-i invariant-loop-i decreases-loop-i
 sub-i c = search rules
 
 -- there are as many targets as deltas, so target i is in the list
-mul-delta-of : tie.Need-overflow-mul-delta-of invariant-loop decreases-loop
+mul-delta-of : tie.Need-offset_bounds-targets-i invariant-loop-i decreases-loop-i
 mul-delta-of c =
     let start = c.before.before.before in
     omega (arith, length_deltas start.args.first start.args.targets.now)
 
 -- there are as many targets as deltas, so target i is in the list
-shared-slice-read-delta-of : tie.Need-shared-slice-read-delta-of invariant-loop decreases-loop
+shared-slice-read-delta-of : tie.Need-bounds-targets-i invariant-loop-i decreases-loop-i
 shared-slice-read-delta-of c =
     let start = c.before.before.before.before in
     omega (arith, length_deltas start.args.first start.args.targets.now)
 
 -- the target is not above F
-delta-of-requires : tie.Need-delta-of-requires invariant-loop decreases-loop
+delta-of-requires : tie.Need-delta_of-requires invariant-loop-i decreases-loop-i
 delta-of-requires c κs =
     let start = c.before.before.before.before in
     let targets = start.args.targets.now in
     targets_le start.args.first targets start.requires _ (omega (arith, length_deltas start.args.first targets))
 
-larger-requires : tie.Need-larger-requires invariant-loop decreases-loop
+larger-requires : tie.Need-larger-most-requires invariant-loop-i decreases-loop-i
 larger-requires c κs = search rules
 
-loop-less : tie.Need-loop-smaller invariant-loop decreases-loop
+loop-less : tie.Need-loop-i-smaller invariant-loop-i decreases-loop-i
 loop-less c = search rules
 
 -- one delta more is seen
-loop-again : tie.Need-loop-preserved invariant-loop decreases-loop
+loop-again : tie.Need-loop-i-preserved invariant-loop-i decreases-loop-i
 loop-again c =
-    let delta = c.before.delta-of in
+    let delta = c.before.delta_of in
     let body = c.before.before.before in
     let start = body.before.before.before in
-    largest_step c.larger.result delta.result body.loop-test.true
-    (delta.ensures ∙ sym (get_d_deltas start.args.first start.args.targets.now _)) c.larger.ensures body.before.loop.invariant
+    largest_step c.larger-most.result delta.result body.loop-i-test.true
+    (delta.ensures ∙ sym (get_d_deltas start.args.first start.args.targets.now _)) c.larger-most.ensures body.before.loop-i.invariant
 
 -- all deltas are seen
-returns : tie.Need-returns invariant-loop decreases-loop
-returns c = largest_all c.loop-test.false c.before.loop.invariant
+returns : tie.Need-returns invariant-loop-i decreases-loop-i
+returns c = largest_all c.loop-i-test.false c.before.loop-i.invariant
 
 pub largest_delta_spec : {M : Type 1} → statement M
 largest_delta_spec =
     tie.close
     (tie.spec
-    invariant-loop
-    decreases-loop
+    invariant-loop-i
+    decreases-loop-i
     loop-holds
     sub-i
     mul-delta-of

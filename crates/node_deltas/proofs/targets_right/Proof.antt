@@ -7,22 +7,27 @@ use native.Mathlib.Omega.{arith}
 use Rattle.node_deltas.proofs.targets_right.Statement.{statement}
 use Rattle.node_deltas.proofs.targets_right.Tie as tie
 
-sub-near : tie.Need-overflow-sub-near
+sub-near : tie.Need-overflow_sub-first
 sub-near c = search rules
 
 near-requires : tie.Need-near-requires
 near-requires c κs = search rules
 
 -- all deltas are within reach
-returns : tie.Need-returns
-returns c = decides_true (near_right c.before.before.before.requires.2 (c.before.near.ensures c.if1.true))
+returns : tie.Need-returns-then-near
+returns c = decides_true (near_right c.before.before.before.requires.2 (c.before.near.ensures c.if-near.true))
 
-targets-slow-requires : tie.Need-targets-slow-requires
+targets-slow-requires : tie.Need-targets_slow-requires
 targets-slow-requires c κs = search rules
 
-returns-2 : tie.Need-returns-2
+returns-2 : tie.Need-returns
 returns-2 c = search rules
 
 pub targets_right_spec : {M : Type 1} → statement M
 targets_right_spec =
-    tie.close (tie.spec sub-near near-requires returns targets-slow-requires returns-2)
+    tie.close (tie.spec
+    sub-near
+    near-requires
+    returns
+    targets-slow-requires
+    returns-2)

@@ -7,13 +7,13 @@ use Rattle.node_inputs.proofs.count_below.Statement.{statement}
 use Rattle.node_inputs.proofs.count_below.Tie as tie
 
 -- every byte is below 256
-returns : tie.Need-returns
+returns : tie.Need-returns-then-n-ge256
 returns c =
     let known = c.before in
     let a = known.before.args in
-    below_every a.file.now a.index a.n known.before.requires (λ i. (known.shared-slice-known.given i).fits) (omega (arith, c.if1.true))
+    below_every a.file.now a.index a.n known.before.requires (λ i. (known.shared_slice_known-1.given i).fits) (omega (arith, c.if-n-ge256.true))
 
-cast-m : tie.Need-overflow-cast-m
+cast-m : tie.Need-overflow_cast-m
 cast-m c = search rules
 
 below128-requires : tie.Need-below128-requires
@@ -22,7 +22,7 @@ below128-requires c κs = search rules
 small-requires : tie.Need-small-requires
 small-requires c κs = search rules
 
-add-below128 : tie.Need-overflow-add-below128
+add-below128 : tie.Need-overflow_add-index
 add-below128 c = search rules
 
 below128-requires-2 : tie.Need-below128-requires-2
@@ -31,11 +31,11 @@ below128-requires-2 c κs = search rules
 small-requires-2 : tie.Need-small-requires-2
 small-requires-2 c κs = search rules
 
-add-result : tie.Need-overflow-add-result
+add-result : tie.Need-overflow_add-result
 add-result c = search rules
 
 -- the two halves are counted
-returns-2 : tie.Need-returns-2
+returns-2 : tie.Need-returns
 returns-2 c =
     let a = c.before.before.before.before.before.before.args in
     omega (arith, below_halves a.file.now a.index a.n)

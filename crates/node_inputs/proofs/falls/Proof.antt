@@ -10,59 +10,59 @@ use borrow.Author.Rules.{rules}
 use native.Mathlib.Omega.{arith}
 use Rattle.node_inputs.proofs.falls.Statement.{statement}
 use Rattle.node_inputs.proofs.falls.Tie as tie
+use Rattle.node_inputs.proofs.falls.Lts as lts
 
-abbrev invariant-loop : tie.invariant-loop
-invariant-loop file at pairs bad₀ j₀ bad j = (j ≤ pairs) × Decides (eqb bad 0) (Falls file at j)
+abbrev invariant-loop-j : tie.invariant-loop-j
+invariant-loop-j file at pairs bad₀ j₀ bad j = (j ≤ pairs) × Decides (eqb bad 0) (Falls file at j)
 
-abbrev decreases-loop : tie.decreases-loop
-decreases-loop file at pairs bad₀ j₀ bad j = pairs - j
+abbrev decreases-loop-j : tie.decreases-loop-j
+decreases-loop-j file at pairs bad₀ j₀ bad j = pairs - j
 
 -- no pair is tested yet
-loop-holds : tie.Need-loop-init invariant-loop decreases-loop
+loop-holds : tie.Need-loop-j-init invariant-loop-j decreases-loop-j
 loop-holds c = (omega arith, flag_none c.args.file.now c.args.at)
 
-add-if1 : tie.Need-overflow-add-if1 invariant-loop decreases-loop
+add-if1 : tie.Need-overflow_add-at invariant-loop-j decreases-loop-j
 add-if1 c = search rules
 
-shared-slice-read-if1 : tie.Need-shared-slice-read-if1 invariant-loop decreases-loop
+shared-slice-read-if1 : tie.Need-bounds-file-at invariant-loop-j decreases-loop-j
 shared-slice-read-if1 c = search rules
 
-add-if1-2 : tie.Need-overflow-add-if1-2 invariant-loop decreases-loop
+add-if1-2 : tie.Need-overflow_add-at-in-loop-j invariant-loop-j decreases-loop-j
 add-if1-2 c = search rules
 
-add-if1-3 : tie.Need-overflow-add-if1-3 invariant-loop decreases-loop
+add-if1-3 : tie.Need-overflow_add-at-in-loop-j-2 invariant-loop-j decreases-loop-j
 add-if1-3 c = search rules
 
-shared-slice-read-if1-2 : tie.Need-shared-slice-read-if1-2 invariant-loop decreases-loop
+shared-slice-read-if1-2 : tie.Need-bounds-file-at-in-loop-j invariant-loop-j decreases-loop-j
 shared-slice-read-if1-2 c = search rules
 
-add-j : tie.Need-overflow-add-j invariant-loop decreases-loop
+add-j : tie.Need-overflow_add-j invariant-loop-j decreases-loop-j
 add-j c = search rules
 
-loop-less : tie.Need-loop-smaller invariant-loop decreases-loop
+loop-less : tie.Need-loop-j-smaller invariant-loop-j decreases-loop-j
 loop-less c = search rules
 
 -- the pair does not fall, or it does
-loop-again : tie.Need-loop-preserved invariant-loop decreases-loop
+loop-again : tie.Need-loop-j-preserved invariant-loop-j decreases-loop-j
 loop-again c =
     let body = c.before.before.before in
-    let inv = body.before.loop.invariant in
+    let inv = body.before.loop-j.invariant in
     let a = body.before.before.args in (
       omega arith,
-      ⊎_elim (λ w. rw w.1 (flag_set a.file.now a.at body.before.loop.j w.0.taken))
-          (λ w. rw w.1 (flag_kept inv.1 w.0.left)) c.if1.branch,
+      (elim c.if-file-at.branch [ lts.then-file-at w ↦ rw w.bad-is (flag_set a.file.now a.at body.before.loop-j.j w.if-file-at.true) | lts.else-file-at w ↦ rw w.bad-is (flag_kept inv.1 w.if-file-at.false) ]),
     )
 
 -- all pairs are tested
-returns : tie.Need-returns invariant-loop decreases-loop
-returns c = flag_all c.before.before.args.pairs c.before.loop.invariant.0 c.loop-test.false c.before.loop.invariant.1
+returns : tie.Need-returns invariant-loop-j decreases-loop-j
+returns c = flag_all c.before.before.args.pairs c.before.loop-j.invariant.0 c.loop-j-test.false c.before.loop-j.invariant.1
 
 pub falls_spec : {M : Type 1} → statement M
 falls_spec =
     tie.close
     (tie.spec
-    invariant-loop
-    decreases-loop
+    invariant-loop-j
+    decreases-loop-j
     loop-holds
     add-if1
     shared-slice-read-if1

@@ -12,20 +12,24 @@ probes-requires : tie.Need-probes-requires
 probes-requires c κs = search rules
 
 -- an input's entry is not its place
-returns : tie.Need-returns
+returns : tie.Need-returns-else-probes
 unfolding Probed
-returns c = decides_false (λ right. c.before.probes.ensures.no c.if1.false (λ i l. right.present i l))
+returns c = decides_false (λ right. c.before.probes.ensures.no c.if-probes.false (λ i l. right.present i l))
 
-count-below-requires : tie.Need-count-below-requires
+count-below-requires : tie.Need-count_below-requires
 count-below-requires c κs = search rules
 
 -- each input's entry is its place: the count of the entries below n decides
-returns-2 : tie.Need-returns-2
+returns-2 : tie.Need-returns
 returns-2 c =
     let probed = c.before.before in
     let start = probed.before.before in
-    index_decides start.args.file.now start.args.at start.args.n start.args.index c.count-below.result start.requires.1
-    (λ i. (probed.before.shared-slice-known.given i).fits) (probed.probes.ensures.yes c.before.if1.true) c.count-below.ensures
+    index_decides start.args.file.now start.args.at start.args.n start.args.index c.count_below.result start.requires.1
+    (λ i. (probed.before.shared_slice_known-1.given i).fits) (probed.probes.ensures.yes c.before.if-probes.true) c.count_below.ensures
 
 pub index_right_spec : {M : Type 1} → statement M
-index_right_spec = tie.close (tie.spec probes-requires returns count-below-requires returns-2)
+index_right_spec = tie.close (tie.spec
+    probes-requires
+    returns
+    count-below-requires
+    returns-2)

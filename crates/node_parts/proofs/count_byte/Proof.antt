@@ -5,16 +5,19 @@ use borrow.Author.Tests.{eq-eqb, ne_eqb}
 use Rattle.node_parts.proofs.count_byte.Statement.{statement}
 use Rattle.node_parts.proofs.count_byte.Tie as tie
 
-cast-result : tie.Need-overflow-cast-result
+cast-result : tie.Need-overflow_cast-result
 cast-result c = search rules
 
 -- 256
-returns : tie.Need-returns
-returns c = rw (eq-eqb c.before.args.n 256 c.if1.true)
+returns : tie.Need-returns-then-n-eq-MAX_TRANS
+returns c = rw (eq-eqb c.before.args.n 256 c.if-n-eq-MAX_TRANS.true)
 
 -- any other count stands for itself
-returns-2 : tie.Need-returns-2
-returns-2 c = rw (ne_eqb c.before.args.n 256 c.if1.false)
+returns-2 : tie.Need-returns-else-n-eq-MAX_TRANS
+returns-2 c = rw (ne_eqb c.before.args.n 256 c.if-n-eq-MAX_TRANS.false)
 
 pub count_byte_spec : {M : Type 1} → statement M
-count_byte_spec = tie.close (tie.spec cast-result returns returns-2)
+count_byte_spec = tie.close (tie.spec
+    cast-result
+    returns
+    returns-2)

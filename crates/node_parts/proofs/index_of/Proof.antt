@@ -9,56 +9,56 @@ use Rattle.node_parts.proofs.Marking.{Marked, marked_none, marked_step, marked_a
 use Rattle.node_parts.proofs.index_of.Statement.{statement}
 use Rattle.node_parts.proofs.index_of.Tie as tie
 
-abbrev invariant-loop : tie.invariant-loop
-invariant-loop inputs index₀ i₀ index i = Marked inputs index i
+abbrev invariant-loop-i : tie.invariant-loop-i
+invariant-loop-i inputs index₀ i₀ index i = Marked inputs index i
 
-abbrev decreases-loop : tie.decreases-loop
-decreases-loop inputs index₀ i₀ index i = length inputs - i
+abbrev decreases-loop-i : tie.decreases-loop-i
+decreases-loop-i inputs index₀ i₀ index i = length inputs - i
 
 -- no input has its place yet
-loop-holds : tie.Need-loop-init invariant-loop decreases-loop
+loop-holds : tie.Need-loop-i-init invariant-loop-i decreases-loop-i
 loop-holds c = marked_none c.before.args.inputs.now
 
-shared-slice-read-small : tie.Need-shared-slice-read-small invariant-loop decreases-loop
+shared-slice-read-small : tie.Need-bounds-inputs-i invariant-loop-i decreases-loop-i
 shared-slice-read-small c = search rules
 
-small-requires : tie.Need-small-requires invariant-loop decreases-loop
+small-requires : tie.Need-small-input-requires invariant-loop-i decreases-loop-i
 small-requires c κs = search rules
 
-cast-index : tie.Need-overflow-cast-index invariant-loop decreases-loop
+cast-index : tie.Need-overflow_cast-index invariant-loop-i decreases-loop-i
 cast-index c = search rules
 
 -- an input is a byte, so it is below 256
-array-write-index : tie.Need-array-write-index invariant-loop decreases-loop
+array-write-index : tie.Need-bounds-index-input invariant-loop-i decreases-loop-i
 array-write-index c =
     let body = c.before.before in
-    omega (arith, c.small.ensures, c.before.shared-slice-known2.given body.before.loop.i)
+    omega (arith, c.small-input.ensures, c.before.shared_slice_known-in-loop-i-1.given body.before.loop-i.i)
 
-add-i : tie.Need-overflow-add-i invariant-loop decreases-loop
+add-i : tie.Need-overflow_add-i invariant-loop-i decreases-loop-i
 add-i c = search rules
 
-loop-less : tie.Need-loop-smaller invariant-loop decreases-loop
+loop-less : tie.Need-loop-i-smaller invariant-loop-i decreases-loop-i
 loop-less c = search rules
 
 -- one input more has its place
-loop-again : tie.Need-loop-preserved invariant-loop decreases-loop
+loop-again : tie.Need-loop-i-preserved invariant-loop-i decreases-loop-i
 loop-again c =
     let body = c.before.before in
-    marked_step c.small.result c.small.ensures body.loop-test.true body.before.loop.invariant
+    marked_step c.small-input.result c.small-input.ensures body.loop-i-test.true body.before.loop-i.invariant
 
 -- all inputs have their places
-returns : tie.Need-returns invariant-loop decreases-loop
+returns : tie.Need-returns invariant-loop-i decreases-loop-i
 returns c =
     let start = c.before.before.before in
-    marked_all start.args.inputs.now start.requires.1 (λ i l. (c.before.before.shared-slice-known.given i).fits) c.loop-test.false
-    c.before.loop.invariant
+    marked_all start.args.inputs.now start.requires.1 (λ i l. (c.before.before.shared_slice_known-1.given i).fits) c.loop-i-test.false
+    c.before.loop-i.invariant
 
 pub index_of_spec : {M : Type 1} → statement M
 index_of_spec =
     tie.close
     (tie.spec
-    invariant-loop
-    decreases-loop
+    invariant-loop-i
+    decreases-loop-i
     loop-holds
     shared-slice-read-small
     small-requires

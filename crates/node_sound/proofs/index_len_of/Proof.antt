@@ -10,18 +10,21 @@ use Rattle.node_sound.proofs.index_len_of.Statement.{statement}
 use Rattle.node_sound.proofs.index_len_of.Tie as tie
 
 -- below version 2
-returns : tie.Need-returns
+returns : tie.Need-returns-then-version-lt2
 unfolding index_len
-returns c = let start = c.before in (rw (lt-leb 2 start.args.version c.if1.true), omega arith)
+returns c = let start = c.before in (rw (lt-leb 2 start.args.version c.if-version-lt2.true), omega arith)
 
 -- more than 32 transitions
-returns-2 : tie.Need-returns-2
+returns-2 : tie.Need-returns-then-n-gt-TRANS_INDEX_THRESHOLD
 unfolding index_len
-returns-2 c = let start = c.before.before in (rw (le-leb 2 start.args.version c.before.if1.false, lt-ltb 32 start.args.n c.if2.true), omega arith)
+returns-2 c = let start = c.before.before in (rw (le-leb 2 start.args.version c.before.if-version-lt2.false, lt-ltb 32 start.args.n c.if-n-gt-TRANS_INDEX_THRESHOLD.true), omega arith)
 
 -- 32 transitions at most
-returns-3 : tie.Need-returns-3
-returns-3 c = let start = c.before.before in (sym (index_len_few start.args.version start.args.n c.if2.false), omega arith)
+returns-3 : tie.Need-returns-else-n-gt-TRANS_INDEX_THRESHOLD
+returns-3 c = let start = c.before.before in (sym (index_len_few start.args.version start.args.n c.if-n-gt-TRANS_INDEX_THRESHOLD.false), omega arith)
 
 pub index_len_of_spec : {M : Type 1} → statement M
-index_len_of_spec = tie.close (tie.spec returns returns-2 returns-3)
+index_len_of_spec = tie.close (tie.spec
+    returns
+    returns-2
+    returns-3)

@@ -10,28 +10,28 @@ ascends-requires : tie.Need-ascends-requires
 ascends-requires c κs = search rules
 
 -- the inputs do not ascend
-returns : tie.Need-returns
-returns c = decides_false (λ parts. c.before.ascends.ensures.no c.if1.false parts.ascending)
+returns : tie.Need-returns-else-ascends
+returns c = decides_false (λ parts. c.before.ascends.ensures.no c.if-ascends.false parts.ascending)
 
-targets-right-requires : tie.Need-targets-right-requires
+targets-right-requires : tie.Need-targets_right-requires
 targets-right-requires c κs = search rules
 
 -- a target is wrong
-returns-2 : tie.Need-returns-2
-returns-2 c = decides_false (λ parts. c.before.targets-right.ensures.no c.if2.false parts.targets)
+returns-2 : tie.Need-returns-else-targets_right
+returns-2 c = decides_false (λ parts. c.before.targets_right.ensures.no c.if-targets_right.false parts.targets)
 
-entries-right-requires : tie.Need-entries-right-requires
+entries-right-requires : tie.Need-entries_right-requires
 entries-right-requires c κs = search rules
 
 -- the other two hold: the answer is that of the index
-returns-3 : tie.Need-returns-3
+returns-3 : tie.Need-returns
 returns-3 c =
     decides_iff
     (λ index. record {
-      ascending = c.before.before.before.before.ascends.ensures.yes c.before.before.before.if1.true;
-      targets = c.before.before.targets-right.ensures.yes c.before.if2.true;
+      ascending = c.before.before.before.before.ascends.ensures.yes c.before.before.before.if-ascends.true;
+      targets = c.before.before.targets_right.ensures.yes c.before.if-targets_right.true;
       index = index;
-    }) (λ parts. parts.index) c.entries-right.ensures
+    }) (λ parts. parts.index) c.entries_right.ensures
 
 pub parts_right_spec : {M : Type 1} → statement M
 parts_right_spec =

@@ -10,46 +10,46 @@ use borrow.Author.Rules.{rules}
 use Rattle.pack_zero.proofs.zero_places.Statement.{statement}
 use Rattle.pack_zero.proofs.zero_places.Tie as tie
 
-abbrev invariant-loop : tie.invariant-loop
-invariant-loop t₀ i₀ t i = Filling 0 t₀ t i
+abbrev invariant-loop-i : tie.invariant-loop-i
+invariant-loop-i t₀ i₀ t i = Filling 0 t₀ t i
 
-abbrev decreases-loop : tie.decreases-loop
-decreases-loop t₀ i₀ t i = length t₀ - i
+abbrev decreases-loop-i : tie.decreases-loop-i
+decreases-loop-i t₀ i₀ t i = length t₀ - i
 
-loop-holds : tie.Need-loop-init invariant-loop decreases-loop
+loop-holds : tie.Need-loop-i-init invariant-loop-i decreases-loop-i
 loop-holds c = filling_none 0 c.args.t.now
 
-mul-t : tie.Need-overflow-mul-t invariant-loop decreases-loop
+mul-t : tie.Need-offset_bounds-t-i invariant-loop-i decreases-loop-i
 mul-t c = search rules
 
-slice-write-t : tie.Need-slice-write-t invariant-loop decreases-loop
+slice-write-t : tie.Need-bounds-t-i invariant-loop-i decreases-loop-i
 slice-write-t c = search rules
 
-add-i : tie.Need-overflow-add-i invariant-loop decreases-loop
+add-i : tie.Need-overflow_add-i invariant-loop-i decreases-loop-i
 add-i c = search rules
 
-loop-less : tie.Need-loop-smaller invariant-loop decreases-loop
+loop-less : tie.Need-loop-i-smaller invariant-loop-i decreases-loop-i
 loop-less c =
-    let l = filling_length c.before.loop.invariant in
+    let l = filling_length c.before.loop-i.invariant in
     search rules
 
-loop-again : tie.Need-loop-preserved invariant-loop decreases-loop
-loop-again c = filling_step c.before.loop.invariant (omega (arith, filling_length c.before.loop.invariant, c.loop-test.true))
+loop-again : tie.Need-loop-i-preserved invariant-loop-i decreases-loop-i
+loop-again c = filling_step c.before.loop-i.invariant (omega (arith, filling_length c.before.loop-i.invariant, c.loop-i-test.true))
 
-same_length : tie.Need-same-length invariant-loop decreases-loop
+same_length : tie.Need-shape_of-t invariant-loop-i decreases-loop-i
 same_length c =
-    let l = filling_length c.before.loop.invariant in
+    let l = filling_length c.before.loop-i.invariant in
     search rules
 
-returns : tie.Need-returns invariant-loop decreases-loop
-returns c = filling_all c.before.loop.invariant (omega (arith, filling_length c.before.loop.invariant, c.loop-test.false))
+returns : tie.Need-returns invariant-loop-i decreases-loop-i
+returns c = filling_all c.before.loop-i.invariant (omega (arith, filling_length c.before.loop-i.invariant, c.loop-i-test.false))
 
 pub zero_places_spec : {M : Type 1} → statement M
 zero_places_spec =
     tie.close
     (tie.spec
-    invariant-loop
-    decreases-loop
+    invariant-loop-i
+    decreases-loop-i
     loop-holds
     mul-t
     slice-write-t

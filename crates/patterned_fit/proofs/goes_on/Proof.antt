@@ -7,16 +7,19 @@ use Rattle.patterned_fit.proofs.goes_on.Statement.{statement}
 use Rattle.patterned_fit.proofs.goes_on.Tie as tie
 
 -- a byte does not fit
-returns : tie.Need-returns
-returns c = let a = c.before.args in goes_not a.k a.fit a.len a.rest c.if1.true
+returns : tie.Need-returns-then-fit-k
+returns c = let a = c.before.args in goes_not a.k a.fit a.len a.rest c.if-fit-k.true
 
 -- every byte has a position, but the last may be one past them
-returns-2 : tie.Need-returns-2
-returns-2 c = let a = c.before.before.args in goes_within a.k a.fit a.len a.rest c.before.if1.false (omega (arith, c.if2.true))
+returns-2 : tie.Need-returns-then-k-len
+returns-2 c = let a = c.before.before.args in goes_within a.k a.fit a.len a.rest c.before.if-fit-k.false (omega (arith, c.if-k-len.true))
 
 -- there are more bytes than positions: any rest decides
-returns-3 : tie.Need-returns-3
-returns-3 c = let a = c.before.before.args in goes_past a.k a.fit a.len a.rest c.before.if1.false (omega (arith, c.if2.false))
+returns-3 : tie.Need-returns
+returns-3 c = let a = c.before.before.args in goes_past a.k a.fit a.len a.rest c.before.if-fit-k.false (omega (arith, c.if-k-len.false))
 
 pub goes_on_spec : {M : Type 1} → statement M
-goes_on_spec = tie.close (tie.spec returns returns-2 returns-3)
+goes_on_spec = tie.close (tie.spec
+    returns
+    returns-2
+    returns-3)

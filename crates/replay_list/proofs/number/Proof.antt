@@ -6,21 +6,21 @@ use borrow.Author.Rules.{rules}
 use Rattle.replay_list.proofs.number.Statement.{statement}
 use Rattle.replay_list.proofs.number.Tie as tie
 
-sub-unpack-uint : tie.Need-overflow-sub-unpack-uint
+sub-unpack-uint : tie.Need-slice_bounds-unpack_uint-count
 sub-unpack-uint c = search rules
 
-part-unpack-uint-start : tie.Need-slice-bounds-unpack-uint-start
+part-unpack-uint-start : tie.Need-slice_bounds-unpack_uint-start
 part-unpack-uint-start c = search rules
 
-part-unpack-uint-end : tie.Need-slice-bounds-unpack-uint-end
+part-unpack-uint-end : tie.Need-slice_bounds-unpack_uint-end
 part-unpack-uint-end c = search rules
 
-unpack-uint-requires : tie.Need-unpack-uint-requires
+unpack-uint-requires : tie.Need-unpack_uint-requires
 unpack-uint-requires c κs = search rules
 
 -- the number of the bytes from place at on
 returns : tie.Need-returns
-returns c = c.unpack-uint.ensures ∙ rw part_rest
+returns c = c.unpack_uint.ensures ∙ rw part_rest
 
 pub number_spec : {M : Type 1} → statement M
 number_spec =

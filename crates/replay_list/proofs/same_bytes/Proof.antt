@@ -12,55 +12,55 @@ use native.Mathlib.Omega.{arith}
 use Rattle.replay_list.proofs.same_bytes.Statement.{statement}
 use Rattle.replay_list.proofs.same_bytes.Tie as tie
 
-abbrev invariant-loop : tie.invariant-loop
-invariant-loop list at n buffer i₀ i = (n ≤ 4096) × ((k : ℕ) → k < i → get_or buffer k 0 ≡ wanted_at list at n k)
+abbrev invariant-loop-i : tie.invariant-loop-i
+invariant-loop-i list at n buffer i₀ i = (n ≤ 4096) × ((k : ℕ) → k < i → get_or buffer k 0 ≡ wanted_at list at n k)
 
-abbrev decreases-loop : tie.decreases-loop
-decreases-loop list at n buffer i₀ i = 4096 - i
+abbrev decreases-loop-i : tie.decreases-loop-i
+decreases-loop-i list at n buffer i₀ i = 4096 - i
 
 -- more bytes than the buffer has
-returns : tie.Need-returns invariant-loop decreases-loop
+returns : tie.Need-returns-then-n-gt4096 invariant-loop-i decreases-loop-i
 returns c = decides_false (λ h. let f = h.fits in omega arith)
 
-loop-holds : tie.Need-loop-init invariant-loop decreases-loop
+loop-holds : tie.Need-loop-i-init invariant-loop-i decreases-loop-i
 loop-holds c = search rules
 
-element-copy-out-if2 : tie.Need-element-copy-out-if2 invariant-loop decreases-loop
+element-copy-out-if2 : tie.Need-bounds-buffer-i invariant-loop-i decreases-loop-i
 element-copy-out-if2 c = search rules
 
-wanted-requires : tie.Need-wanted-requires invariant-loop decreases-loop
+wanted-requires : tie.Need-wanted-requires invariant-loop-i decreases-loop-i
 wanted-requires c κs = search rules
 
 -- a byte is not the wanted one
-returns-2 : tie.Need-returns-2 invariant-loop decreases-loop
+returns-2 : tie.Need-returns-then-buffer-i invariant-loop-i decreases-loop-i
 returns-2 c =
     let asked = c.before in
-    decides_false (λ h. c.if2.true (h.bytes _ asked.before.before.loop-test.true ∙ sym asked.wanted.ensures))
+    decides_false (λ h. c.if-buffer-i.true (h.bytes _ asked.before.before.loop-i-test.true ∙ sym asked.wanted.ensures))
 
-add-i : tie.Need-overflow-add-i invariant-loop decreases-loop
+add-i : tie.Need-overflow_add-i invariant-loop-i decreases-loop-i
 add-i c = search rules
 
-loop-less : tie.Need-loop-smaller invariant-loop decreases-loop
+loop-less : tie.Need-loop-i-smaller invariant-loop-i decreases-loop-i
 loop-less c = search rules
 
 -- one byte more is the wanted one
-loop-again : tie.Need-loop-preserved invariant-loop decreases-loop
+loop-again : tie.Need-loop-i-preserved invariant-loop-i decreases-loop-i
 loop-again c =
-    let inv = c.before.before.before.before.loop.invariant in
-    (inv.0, below_more _ _ inv.1 (c.if2.false ∙ c.before.wanted.ensures))
+    let inv = c.before.before.before.before.loop-i.invariant in
+    (inv.0, below_more _ _ inv.1 (c.if-buffer-i.false ∙ c.before.wanted.ensures))
 
 -- every byte is the wanted one
-returns-3 : tie.Need-returns-3 invariant-loop decreases-loop
+returns-3 : tie.Need-returns invariant-loop-i decreases-loop-i
 returns-3 c =
-    let inv = c.before.loop.invariant in
+    let inv = c.before.loop-i.invariant in
     decides_true (record { fits = inv.0; bytes = λ k h. inv.1 k (omega arith) })
 
 pub same_bytes_spec : {M : Type 1} → statement M
 same_bytes_spec =
     tie.close
     (tie.spec
-    invariant-loop
-    decreases-loop
+    invariant-loop-i
+    decreases-loop-i
     returns
     loop-holds
     element-copy-out-if2

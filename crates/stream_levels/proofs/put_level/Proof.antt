@@ -7,25 +7,25 @@ use native.Mathlib.Omega.{arith}
 use Rattle.stream_levels.proofs.put_level.Statement.{statement}
 use Rattle.stream_levels.proofs.put_level.Tie as tie
 
-mul-addrs : tie.Need-overflow-mul-addrs
+mul-addrs : tie.Need-offset_bounds-addrs-k
 mul-addrs c = search rules
 
-element-write-addrs : tie.Need-element-write-addrs
+element-write-addrs : tie.Need-bounds-addrs-k
 element-write-addrs c = search rules
 
-element-write-inps : tie.Need-element-write-inps
+element-write-inps : tie.Need-bounds-inps-k
 element-write-inps c = search rules
 
-mul-trans : tie.Need-overflow-mul-trans
+mul-trans : tie.Need-offset_bounds-trans-k
 mul-trans c = search rules
 
-element-write-trans : tie.Need-element-write-trans
+element-write-trans : tie.Need-bounds-trans-k
 element-write-trans c = search rules
 
-mul-outs : tie.Need-overflow-mul-outs
+mul-outs : tie.Need-offset_bounds-outs-k
 mul-outs c = search rules
 
-element-write-outs : tie.Need-element-write-outs
+element-write-outs : tie.Need-bounds-outs-k
 element-write-outs c = search rules
 
 -- the four entries make level k
