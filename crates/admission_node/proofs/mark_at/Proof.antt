@@ -10,70 +10,70 @@ use native.Mathlib.Omega.{arith}
 use Rattle.admission_node.proofs.mark_at.Statement.{statement}
 use Rattle.admission_node.proofs.mark_at.Tie as tie
 
-abbrev start : tie.After-small → tie.Start
+abbrev start : tie.After-small-state → tie.Start
 start q = q.before.before.before.before
 
-abbrev node : tie.After-any-node → tie.Start
+abbrev node : tie.After-any_node-m → tie.Start
 node q = start q.before.before
 
-abbrev file : tie.After-any-node → Fst
+abbrev file : tie.After-any_node-m → Fst
 file q = fst_with (node q).args.file.now (node q).args.version (node q).args.root
 
-judged : (q : tie.After-any-node) → node_in (file q) (node q).args.a ≡ sound (meaning (file q).bytes q.any-node.result)
-judged q = judged_sound q.any-node.ensures.0 q.any-node.result refl
+judged : (q : tie.After-any_node-m) → node_in (file q) (node q).args.a ≡ sound (meaning (file q).bytes q.any_node-m.result)
+judged q = judged_sound q.any_node-m.ensures.0 q.any_node-m.result refl
 
 -- the state of a sound node lies within the file
-shared-slice-read-small : tie.Need-shared-slice-read-small
+shared-slice-read-small : tie.Need-bounds-file-a
 shared-slice-read-small c = c.before.before.before.requires.0.inside
 
-small-requires : tie.Need-small-requires
+small-requires : tie.Need-small-state-requires
 small-requires c κs = search rules
 
 -- the node is sound, and has any number of transitions
-any-node-requires : tie.Need-any-node-requires
-any-node-requires c κs = let q = c.before in ((start q).requires.0, omega (arith, q.small.ensures))
+any-node-requires : tie.Need-any_node-m-requires
+any-node-requires c κs = let q = c.before in ((start q).requires.0, omega (arith, q.small-state.ensures))
 
 -- the targets lie below the node
-mark-targets-requires : tie.Need-mark-targets-requires
+mark-targets-requires : tie.Need-mark_targets-requires
 mark-targets-requires c κs =
     let q = c.before in
-    (q.any-node.ensures.0.readable _ refl, markable_node (file q) (node q).args.a _ _ (judged q) (node q).requires.0 (node q).requires.1)
+    (q.any_node-m.ensures.0.readable _ refl, markable_node (file q) (node q).args.a _ _ (judged q) (node q).requires.0 (node q).requires.1)
 
 -- the depths keep their length
-same_length : tie.Need-same-length
-same_length c = c.before.before.mark-targets.ensures.kept.long
+same_length : tie.Need-shape_of-depths-then-state-lt128
+same_length c = c.before.before.mark_targets.ensures.kept.long
 
 -- a node with any number of transitions
-returns : tie.Need-returns
+returns : tie.Need-returns-then-state-lt128
 returns c =
     let marked = c.before.before in
-    marks_at _ (judged marked.before.before) marked.mark-targets.ensures
+    marks_at _ (judged marked.before.before) marked.mark_targets.ensures
 
 -- the node is sound, and has one transition
-mark-one-requires : tie.Need-mark-one-requires
+mark-one-requires : tie.Need-mark_one-requires
 mark-one-requires c κs =
     let q = c.before.before.before in
-    ((start q).requires.0, omega (arith, q.small.ensures), omega (arith, q.small.ensures), (start q).requires.1)
+    ((start q).requires.0, omega (arith, q.small-state.ensures), omega (arith, q.small-state.ensures), (start q).requires.1)
 
-same-length-2 : tie.Need-same-length-2
+same-length-2 : tie.Need-shape_of-depths-then-state-lt192
 same-length-2 c = search rules
 
 -- a node with one transition
-returns-2 : tie.Need-returns-2
-returns-2 c = c.before.before.mark-one.ensures
+returns-2 : tie.Need-returns-then-state-lt192
+returns-2 c = c.before.before.mark_one.ensures
 
 -- the node is sound, and leads to the node just below it
-mark-next-requires : tie.Need-mark-next-requires
+mark-next-requires : tie.Need-mark_next-requires
 mark-next-requires c κs =
     let q = c.before.before.before in
-    ((start q).requires.0, omega (arith, q.small.ensures), (start q).requires.1)
+    ((start q).requires.0, omega (arith, q.small-state.ensures), (start q).requires.1)
 
-same-length-3 : tie.Need-same-length-3
+same-length-3 : tie.Need-shape_of-depths
 same-length-3 c = search rules
 
 -- a node with one transition to the node just below it
-returns-3 : tie.Need-returns-3
-returns-3 c = c.before.before.mark-next.ensures
+returns-3 : tie.Need-returns
+returns-3 c = c.before.before.mark_next.ensures
 
 pub mark_at_spec : {M : Type 1} → statement M
 mark_at_spec =

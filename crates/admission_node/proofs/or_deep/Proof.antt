@@ -7,12 +7,14 @@ use Rattle.admission_node.proofs.or_deep.Statement.{statement}
 use Rattle.admission_node.proofs.or_deep.Tie as tie
 
 -- over the limit now
-returns : tie.Need-returns
-returns c = simp (lt-ltb max_levels c.before.args.d (omega (arith, c.if1.true)))
+returns : tie.Need-returns-then-d-gt-DEEPEST
+returns c = simp (lt-ltb max_levels c.before.args.d (omega (arith, c.if-d-gt-DEEPEST.true)))
 
 -- not over it now, so as before
-returns-2 : tie.Need-returns-2
-returns-2 c = simp (le-ltb max_levels c.before.args.d (omega (arith, c.if1.false)))
+returns-2 : tie.Need-returns
+returns-2 c = simp (le-ltb max_levels c.before.args.d (omega (arith, c.if-d-gt-DEEPEST.false)))
 
 pub or_deep_spec : {M : Type 1} → statement M
-or_deep_spec = tie.close (tie.spec returns returns-2)
+or_deep_spec = tie.close (tie.spec
+    returns
+    returns-2)

@@ -17,67 +17,67 @@ use Rattle.admission_node.proofs.survey_one.Tie as tie
 
 -- ---- the node
 
-abbrev start : tie.After-one-node → tie.Start
+abbrev start : tie.After-one_node-m → tie.Start
 start q = q.before.before.before.before
 
-abbrev file : tie.After-one-node → Fst
+abbrev file : tie.After-one_node-m → Fst
 file q = fst_with (start q).args.file.now (start q).args.version (start q).args.root
 
-judged : (q : tie.After-one-node) → node_in (file q) (start q).args.a ≡ sound (meaning (file q).bytes q.one-node.result)
-judged q = judged_sound q.one-node.ensures.0 q.one-node.result refl
+judged : (q : tie.After-one_node-m) → node_in (file q) (start q).args.a ≡ sound (meaning (file q).bytes q.one_node-m.result)
+judged q = judged_sound q.one_node-m.ensures.0 q.one_node-m.result refl
 
-readable : (q : tie.After-one-node) → Readable (file q).bytes q.one-node.result
-readable q = q.one-node.ensures.0.readable _ refl
+readable : (q : tie.After-one_node-m) → Readable (file q).bytes q.one_node-m.result
+readable q = q.one_node-m.ensures.0.readable _ refl
 
 -- it has one transition
-form : (q : tie.After-one-node) → is_any q.one-node.result.state ≡ false
-form q = ap is_any q.one-node.ensures.1
+form : (q : tie.After-one_node-m) → is_any q.one_node-m.result.state ≡ false
+form q = ap is_any q.one_node-m.ensures.1
 
-listed : (q : tie.After-one-node) → 0 < length (transitions_in (file q).bytes q.one-node.result)
+listed : (q : tie.After-one_node-m) → 0 < length (transitions_in (file q).bytes q.one_node-m.result)
 listed q = omega (arith, one_listed (readable q) (form q))
 
-ready : (q : tie.After-one-node) → Surveyable (start q).args.depths.now (start q).args.sums.now q.one-node.result.final_output (transitions_in (file q).bytes q.one-node.result)
+ready : (q : tie.After-one_node-m) → Surveyable (start q).args.depths.now (start q).args.sums.now q.one_node-m.result.final_output (transitions_in (file q).bytes q.one_node-m.result)
 ready q = (start q).requires.3.each _ (judged q)
 
 -- the node is sound, and has this form
-one-node-requires : tie.Need-one-node-requires
+one-node-requires : tie.Need-one_node-m-requires
 one-node-requires c κs = let pre = c.before.before.before.requires in (pre.0, pre.1, pre.2)
 
 -- there is a first transition
-transition-addr-requires : tie.Need-transition-addr-requires
+transition-addr-requires : tie.Need-transition_addr-t-requires
 transition-addr-requires c κs = (readable c, omega (arith, one_counted (readable c) (form c)))
 
 -- the target lies within the depths
-child-depth-requires : tie.Need-child-depth-requires
-child-depth-requires c κs = target_in_depths (ready c.before) 0 (listed c.before) _ c.transition_addr.ensures
+child-depth-requires : tie.Need-child_depth-d-requires
+child-depth-requires c κs = target_in_depths (ready c.before) 0 (listed c.before) _ c.transition_addr-t.ensures
 
 -- the target lies within the sums
-child-sum-requires : tie.Need-child-sum-requires
+child-sum-requires : tie.Need-child_sum-s-requires
 child-sum-requires c κs =
     let targeted = c.before in
-    target_in_sums (ready targeted.before) 0 (listed targeted.before) _ targeted.transition_addr.ensures
+    target_in_sums (ready targeted.before) 0 (listed targeted.before) _ targeted.transition_addr-t.ensures
 
 -- there is a first transition
-output-requires : tie.Need-output-requires
+output-requires : tie.Need-output-w-requires
 output-requires c κs =
     let q = c.before.before.before in
     (readable q, omega (arith, one_counted (readable q) (form q)))
 
-larger16-requires : tie.Need-larger16-requires
+larger16-requires : tie.Need-larger16-best-requires
 larger16-requires c κs = search rules
 
-raised-requires : tie.Need-raised-requires
+raised-requires : tie.Need-raised-total-requires
 raised-requires c κs = search rules
 
 -- the entry of the target is small
-add-t15 : tie.Need-overflow-add-t15
+add-t15 : tie.Need-overflow_add-result
 add-t15 c =
     let targeted = c.before.before.before.before.before in
     let q = targeted.before in
     omega (
       arith,
-      c.before.larger16.ensures,
-      target_small (ready q) 0 (listed q) _ targeted.transition_addr.ensures _ c.before.before.before.before.child-depth.ensures,
+      c.before.larger16-best.ensures,
+      target_small (ready q) 0 (listed q) _ targeted.transition_addr-t.ensures _ c.before.before.before.before.child_depth-d.ensures,
     )
 
 -- the transition is all that there is
@@ -87,8 +87,8 @@ returns c =
     let targeted = summed.before.before in
     let q = targeted.before in
     surveyed_node _ (judged q)
-    (one_surveyed (ready q) (one_listed (readable q) (form q)) _ targeted.transition_addr.ensures _ summed.before.child-depth.ensures
-    _ _ _ _ summed.child-sum.ensures c.before.before.output.ensures c.before.larger16.ensures c.raised.ensures)
+    (one_surveyed (ready q) (one_listed (readable q) (form q)) _ targeted.transition_addr-t.ensures _ summed.before.child_depth-d.ensures
+    _ _ _ _ summed.child_sum-s.ensures c.before.before.output-w.ensures c.before.larger16-best.ensures c.raised-total.ensures)
 
 pub survey_one_spec : {M : Type 1} → statement M
 survey_one_spec =

@@ -12,4 +12,5 @@ returns c = blank_is_meta
 pub blank_spec : {M : Type 1} → statement M
 blank_spec =
     tie.close
-    (tie.spec returns)
+    (tie.spec
+    returns)

@@ -8,12 +8,14 @@ use Rattle.fst.proofs.trailer_len.Statement.{statement}
 use Rattle.fst.proofs.trailer_len.Tie as tie
 
 -- version 3 has a checksum
-returns : tie.Need-returns
-returns c = (rw (eq-eqb c.before.args.version 3 c.if1.true), omega arith, omega arith)
+returns : tie.Need-returns-then-version-eq3
+returns c = (rw (eq-eqb c.before.args.version 3 c.if-version-eq3.true), omega arith, omega arith)
 
 -- another version has none
-returns-2 : tie.Need-returns-2
-returns-2 c = (rw (ne_eqb c.before.args.version 3 c.if1.false), omega arith, omega arith)
+returns-2 : tie.Need-returns-else-version-eq3
+returns-2 c = (rw (ne_eqb c.before.args.version 3 c.if-version-eq3.false), omega arith, omega arith)
 
 pub trailer_len_spec : {M : Type 1} → statement M
-trailer_len_spec = tie.close (tie.spec returns returns-2)
+trailer_len_spec = tie.close (tie.spec
+    returns
+    returns-2)

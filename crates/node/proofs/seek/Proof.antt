@@ -82,7 +82,7 @@ returns-2 : tie.Need-returns invariant-loop-j decreases-loop-j
 returns-2 c =
     let end = c.before.before in
     over_missing c.before.small-p.result c.before.small-p.ensures end.before.before.before.requires.1 end.loop-j-test.false end.before.loop-j.invariant
-    ((elim c.if-p-n.branch [ lts.then-p-n+else-file-b w ↦ λ _. w.if-file-b.false | lts.else-p-n w ↦ λ l. absurd (omega (arith, w.if-p-n.false)) ]))
+    ((elim c.if-p-n.branch [ lts.then-p-n+else-file-at w ↦ λ _. w.if-file-at.false | lts.else-p-n w ↦ λ l. absurd (omega (arith, w.if-p-n.false)) ]))
 
 pub seek_spec : {M : Type 1} → statement M
 seek_spec =

@@ -14,89 +14,89 @@ use Rattle.node_choice.proofs.any_choice.Tie as tie
 
 -- the node that the parameters make up, which can be read
 abbrev m : tie.Start → Node
-m b = any_node b.args.first b.args.outputs b.args.n b.args.tsize b.args.osize b.args.index-len
+m b = any_node b.args.first b.args.outputs b.args.n b.args.tsize b.args.osize b.args.index_len
 
 abbrev s : tie.Start → List ℕ
 s b = b.args.file.now
 
 -- what is known where some output fits
-abbrev start : tie.Else1 → tie.Start
+abbrev start : tie.Else-count-eq0 → tie.Start
 start q = q.before.before.before
 
-abbrev last : tie.Else1 → ℕ
-last q = q.before.fitting.result - 1
+abbrev last : tie.Else-count-eq0 → ℕ
+last q = q.before.fitting-count.result - 1
 
-low : (q : tie.Else1) → last q < (start q).args.n
-low q = count_lt (s (start q)) (m (start q)) (start q).requires (start q).args.left q.before.fitting.result q.if1.false q.before.fitting.ensures
+low : (q : tie.Else-count-eq0) → last q < (start q).args.n
+low q = count_lt (s (start q)) (m (start q)) (start q).requires (start q).args.left q.before.fitting-count.result q.if-count-eq0.false q.before.fitting-count.ensures
 
 -- the outputs lie within the file
-fitting-requires : tie.Need-fitting-requires
+fitting-requires : tie.Need-fitting-count-requires
 fitting-requires c κs = (omega (arith, c.before.requires.room), c.before.requires.osize_le)
 
 -- no output fits
-returns : tie.Need-returns
+returns : tie.Need-returns-then-count-eq0
 returns c =
     let b = c.before.before.before in
-    choice_none (s b) (m b) b.requires b.args.left c.before.fitting.result c.if1.true c.before.fitting.ensures
+    choice_none (s b) (m b) b.requires b.args.left c.before.fitting-count.result c.if-count-eq0.true c.before.fitting-count.ensures
 
-sub-last : tie.Need-overflow-sub-last
+sub-last : tie.Need-overflow_sub-last
 sub-last c = search rules
 
 -- the outputs are no longer than the file
-mul-deltas : tie.Need-overflow-mul-deltas
+mul-deltas : tie.Need-overflow_mul-deltas
 mul-deltas c = omega (arith, (start c).requires.room)
 
 -- the deltas start within the file
-add-deltas : tie.Need-overflow-add-deltas
+add-deltas : tie.Need-overflow_add-deltas
 add-deltas c = omega (arith, (start c).requires.room)
 
 -- the deltas are no longer than the file
-mul-inputs : tie.Need-overflow-mul-inputs
+mul-inputs : tie.Need-overflow_mul-inputs
 mul-inputs c = omega (arith, (start c).requires.room)
 
 -- the inputs start within the file
-add-inputs : tie.Need-overflow-add-inputs
+add-inputs : tie.Need-overflow_add-inputs
 add-inputs c = omega (arith, (start c).requires.room)
 
 -- there is a transition
-sub-inp : tie.Need-overflow-sub-inp
+sub-inp : tie.Need-overflow_sub-inp
 sub-inp c = omega (arith, low c)
 
 -- the place is below the count
-sub-inp-2 : tie.Need-overflow-sub-inp-2
+sub-inp-2 : tie.Need-overflow_sub-inp-2
 sub-inp-2 c = omega (arith, low c)
 
 -- the input lies within the file
-add-inp : tie.Need-overflow-add-inp
+add-inp : tie.Need-overflow_add-inp
 add-inp c = omega (arith, low c, (start c).requires.room)
 
 -- the input lies within the file
-shared-slice-read-inp : tie.Need-shared-slice-read-inp
+shared-slice-read-inp : tie.Need-bounds-file-inputs
 shared-slice-read-inp c = omega (arith, low c.before, (start c.before).requires.room)
 
 -- the outputs lie within the file
-number-of-requires : tie.Need-number-of-requires
+number-of-requires : tie.Need-number_of-out-requires
 number-of-requires c κs = let q = c.before in (omega (arith, (start q).requires.room), (start q).requires.osize_le, omega (arith, low q))
 
 -- the deltas lie within the file
-number-of-requires-2 : tie.Need-number-of-requires-2
+number-of-requires-2 : tie.Need-number_of-delta-requires
 number-of-requires-2 c κs = let q = c.before.before in (omega (arith, (start q).requires.room), (start q).requires.tsize_le, low q)
 
 -- no delta is above the first byte
-target-of-requires : tie.Need-target-of-requires
+target-of-requires : tie.Need-target_of-requires
 target-of-requires c κs =
     let q = c.before.before.before in
-    delta_le (s (start q)) (m (start q)) (start q).requires (last q) (low q) c.number-of2.result c.number-of2.ensures
+    delta_le (s (start q)) (m (start q)) (start q).requires (last q) (low q) c.number_of-delta.result c.number_of-delta.ensures
 
 -- the last transition that fits
-returns-2 : tie.Need-returns-2
+returns-2 : tie.Need-returns
 returns-2 c =
     let delta = c.before in
     let out = delta.before in
     let q = out.before.before in
     let b = start q in
-    choice_to (s b) (m b) b.pre b.args.left q.before.fitting.result _ out.number_of.result c.target-of.result q.if1.false q.before.fitting.ensures
-    (input_any (s b) (m b) b.pre (last q) (low q) refl) out.number_of.ensures (rw (← delta.number-of2.ensures) c.target-of.ensures)
+    choice_to (s b) (m b) b.requires b.args.left q.before.fitting-count.result _ out.number_of-out.result c.target_of.result q.if-count-eq0.false q.before.fitting-count.ensures
+    (input_any (s b) (m b) b.requires (last q) (low q) refl) out.number_of-out.ensures (rw (← delta.number_of-delta.ensures) c.target_of.ensures)
 
 pub any_choice_spec : {M : Type 1} → statement M
 any_choice_spec =

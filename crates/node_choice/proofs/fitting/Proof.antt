@@ -9,52 +9,52 @@ use native.Mathlib.Omega.{arith}
 use Rattle.node_choice.proofs.fitting.Statement.{statement}
 use Rattle.node_choice.proofs.fitting.Tie as tie
 
-abbrev invariant-loop : tie.invariant-loop
-invariant-loop file at size n left i₀ i = Passed (numbers_down file at size n) left i
+abbrev invariant-loop-i : tie.invariant-loop-i
+invariant-loop-i file at size n left i₀ i = Passed (numbers_down file at size n) left i
 
-abbrev decreases-loop : tie.decreases-loop
-decreases-loop file at size n left i₀ i = n - i
+abbrev decreases-loop-i : tie.decreases-loop-i
+decreases-loop-i file at size n left i₀ i = n - i
 
 -- no number is looked at yet
-loop-holds : tie.Need-loop-init invariant-loop decreases-loop
+loop-holds : tie.Need-loop-i-init invariant-loop-i decreases-loop-i
 loop-holds c = let a = c.before.args in passed_none (numbers_down a.file.now a.at a.size a.n) a.left
 
-number-of-requires : tie.Need-number-of-requires invariant-loop decreases-loop
+number-of-requires : tie.Need-number_of-requires invariant-loop-i decreases-loop-i
 number-of-requires c κs = search rules
 
 -- the number at i is above what is left
-returns : tie.Need-returns invariant-loop decreases-loop
+returns : tie.Need-returns-then-left-number_of invariant-loop-i decreases-loop-i
 returns c =
     let call = c.before in
-    leading_stop call.number_of.result call.number_of.ensures c.if1.true call.before.before.loop.invariant
+    leading_stop call.number_of.result call.number_of.ensures c.if-left-number_of.true call.before.before.loop-i.invariant
 
-add-i : tie.Need-overflow-add-i invariant-loop decreases-loop
+add-i : tie.Need-overflow_add-i invariant-loop-i decreases-loop-i
 add-i c = search rules
 
-loop-less : tie.Need-loop-smaller invariant-loop decreases-loop
+loop-less : tie.Need-loop-i-smaller invariant-loop-i decreases-loop-i
 loop-less c = search rules
 
 -- one number more is not above
-loop-again : tie.Need-loop-preserved invariant-loop decreases-loop
+loop-again : tie.Need-loop-i-preserved invariant-loop-i decreases-loop-i
 loop-again c =
     let call = c.before in
     let body = call.before in
     let a = body.before.before.before.args in
-    passed_step call.number_of.result call.number_of.ensures (omega (arith, body.loop-test.true, length_numbers_down a.file.now a.at a.size a.n))
-    c.if1.false body.before.loop.invariant
+    passed_step call.number_of.result call.number_of.ensures (omega (arith, body.loop-i-test.true, length_numbers_down a.file.now a.at a.size a.n))
+    c.if-left-number_of.false body.before.loop-i.invariant
 
 -- no number is above what is left
-returns-2 : tie.Need-returns-2 invariant-loop decreases-loop
+returns-2 : tie.Need-returns invariant-loop-i decreases-loop-i
 returns-2 c =
     let a = c.before.before.before.args in
-    leading_all a.n (length_numbers_down a.file.now a.at a.size a.n) c.loop-test.false c.before.loop.invariant
+    leading_all a.n (length_numbers_down a.file.now a.at a.size a.n) c.loop-i-test.false c.before.loop-i.invariant
 
 pub fitting_spec : {M : Type 1} → statement M
 fitting_spec =
     tie.close
     (tie.spec
-    invariant-loop
-    decreases-loop
+    invariant-loop-i
+    decreases-loop-i
     loop-holds
     number-of-requires
     returns

@@ -14,83 +14,83 @@ use Rattle.node_way.proofs.any_way.Tie as tie
 
 -- the node that the parameters make up, which can be read
 abbrev m : tie.Start → Node
-m b = any_node b.args.first b.args.outputs b.args.n b.args.tsize b.args.osize b.args.index-len
+m b = any_node b.args.first b.args.outputs b.args.n b.args.tsize b.args.osize b.args.index_len
 
 abbrev s : tie.Start → List ℕ
 s b = b.args.file.now
 
 -- what is known where the input's place is found
 abbrev At : Type 0
-At = tie.After-known-told2
+At = tie.In-At
 
 abbrev start : At → tie.Start
-start q = q.before.before.before.before.before
+start q = q.before.before.before
 
 abbrev i : At → ℕ
-i q = q.before.found2.given.0.0
+i q = q.in-At.i
 
 low : (q : At) → i q < (start q).args.n
 low q =
-    let f = q.before.before.before.find-in in
-    place_lt (s (start q)) (m (start q)) (start q).requires (start q).args.b f.result f.ensures (i q) q.before.found2.given.1
+    let f = q.before.find_in-found in
+    place_lt (s (start q)) (m (start q)) (start q).requires (start q).args.b f.result f.ensures (i q) q.in-At.is
 
 -- the outputs are no longer than the file
-mul-deltas : tie.Need-overflow-mul-deltas
+mul-deltas : tie.Need-overflow_mul-deltas
 mul-deltas c = omega (arith, c.before.requires.room)
 
 -- the deltas start within the file
-add-deltas : tie.Need-overflow-add-deltas
+add-deltas : tie.Need-overflow_add-deltas
 add-deltas c = omega (arith, c.before.requires.room)
 
 -- the deltas are no longer than the file
-mul-inputs : tie.Need-overflow-mul-inputs
+mul-inputs : tie.Need-overflow_mul-inputs
 mul-inputs c = omega (arith, c.before.requires.room)
 
 -- the inputs start within the file
-add-inputs : tie.Need-overflow-add-inputs
+add-inputs : tie.Need-overflow_add-inputs
 add-inputs c = omega (arith, c.before.requires.room)
 
 -- the node can be read
-find-in-requires : tie.Need-find-in-requires
+find-in-requires : tie.Need-find_in-found-requires
 find-in-requires c κs = let b = c.before in any_searchable (s b) (m b) b.requires refl
 
-enum-known-found : tie.Need-enum-known-found
+enum-known-found : tie.Need-enum_known-found
 enum-known-found c = search rules
 
-enum-known-found-2 : tie.Need-enum-known-found-2
+enum-known-found-2 : tie.Need-enum_known-found-in-At-1
 enum-known-found-2 c = search rules
 
 -- no transition has the input
-returns : tie.Need-returns
+returns : tie.Need-returns-in-Absent
 returns c =
-    let call = c.before.before.before in
+    let call = c.before in
     let b = call.before.before in
-    way_absent (s b) (m b) b.requires b.args.b call.find-in.result call.find-in.ensures c.before.found.given.0.0 c.before.found.given.1
+    way_absent (s b) (m b) b.requires b.args.b call.find_in-found.result call.find_in-found.ensures c.in-Absent.p c.in-Absent.is
 
 -- the outputs lie within the file
-number-of-requires : tie.Need-number-of-requires
+number-of-requires : tie.Need-number_of-out-requires
 number-of-requires c κs = (omega (arith, (start c).requires.room), (start c).requires.osize_le, omega (arith, low c))
 
 -- the deltas lie within the file
-number-of-requires-2 : tie.Need-number-of-requires-2
+number-of-requires-2 : tie.Need-number_of-delta-requires
 number-of-requires-2 c κs = let q = c.before in (omega (arith, (start q).requires.room), (start q).requires.tsize_le, low q)
 
 -- no delta is above the first byte
-target-of-requires : tie.Need-target-of-requires
+target-of-requires : tie.Need-target_of-requires
 target-of-requires c κs =
     let q = c.before.before in
-    delta_le (s (start q)) (m (start q)) (start q).requires (i q) (low q) c.number-of2.result c.number-of2.ensures
+    delta_le (s (start q)) (m (start q)) (start q).requires (i q) (low q) c.number_of-delta.result c.number_of-delta.ensures
 
 -- the transition at its place
-returns-2 : tie.Need-returns-2
+returns-2 : tie.Need-returns-in-At
 returns-2 c =
     let delta = c.before in
     let out = delta.before in
     let q = out.before in
-    let f = q.before.before.before.find-in in
+    let f = q.before.find_in-found in
     let b = start q in
-    way_to (s b) (m b) b.pre b.args.b f.result f.ensures (i q) out.number_of.result c.target-of.result q.before.found2.given.1
-    out.number_of.ensures (rw (← delta.number-of2.ensures) c.target-of.ensures)
+    way_to (s b) (m b) b.requires b.args.b f.result f.ensures (i q) out.number_of-out.result c.target_of.result q.in-At.is
+    out.number_of-out.ensures (rw (← delta.number_of-delta.ensures) c.target_of.ensures)
 
 pub any_way_spec : {M : Type 1} → statement M
 any_way_spec =

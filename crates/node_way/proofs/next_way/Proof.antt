@@ -26,64 +26,70 @@ low : (b : tie.Start) → 16 ≤ b.args.addr
 low b = sound_low b.args.file.now b.args.version b.args.root b.args.addr b.requires.0
 
 -- the parameters, seen from where the input is read, and the node
-abbrev start : tie.After-input-of → tie.Start
+abbrev start : tie.After-input_of-input → tie.Start
 start w = w.before.before.before
 
-abbrev file : tie.After-input-of → List ℕ
+abbrev file : tie.After-input_of-input → List ℕ
 file w = (start w).args.file.now
 
-abbrev first : tie.After-input-of → ℕ
-first w = (start w).args.addr + 1 - w.before.head-len.result
+abbrev first : tie.After-input_of-input → ℕ
+first w = (start w).args.addr + 1 - w.before.head_len-len.result
 
-abbrev m : tie.After-input-of → Node
-m w = code_node (next_shape w.before.head-len.result) (first w) 0 w.Input-of.result (first w)
+abbrev m : tie.After-input_of-input → Node
+m w = code_node (next_shape w.before.head_len-len.result) (first w) 0 w.input_of-input.result (first w)
 
-judged : (w : tie.After-input-of) → Judges (file w) (start w).args.version (start w).args.root (start w).args.addr (Sound (m w))
+judged : (w : tie.After-input_of-input) → Judges (file w) (start w).args.version (start w).args.root (start w).args.addr (Sound (m w))
 unfolding le
 judged w =
     let a = (start w).args in
-    let len = w.before.head-len.result in
-    let is_h = shape_next (file w) a.version a.addr len (start w).requires.1 w.before.head-len.ensures.is in
+    let len = w.before.head_len-len.result in
+    let is_h = shape_next (file w) a.version a.addr len (start w).requires.1 w.before.head_len-len.ensures.is in
     let ne : ¬ (a.addr ≡ 0) = λ z. omega (arith, low (start w)) in
-    judged_yes (file w) a.version a.root a.addr (next_shape len) is_h ne 0 w.Input-of.result (first w)
-    (shape_sound (file w) a.version a.root a.addr (next_shape len) is_h ne (start w).requires.0) refl (ap {B = List ℕ} (λ (x : ℕ). x ∷ []) w.Input-of.ensures) (sym (add-zero (first w)))
+    judged_yes (file w) a.version a.root a.addr (next_shape len) is_h ne 0 w.input_of-input.result (first w)
+    (shape_sound (file w) a.version a.root a.addr (next_shape len) is_h ne (start w).requires.0) refl (ap {B = List ℕ} (λ (x : ℕ). x ∷ []) w.input_of-input.ensures) (sym (add-zero (first w)))
 
-readable : (w : tie.After-input-of) → Readable (file w) (m w)
+readable : (w : tie.After-input_of-input) → Readable (file w) (m w)
 readable w = (judged w).readable (m w) refl
 
 -- the address lies in the file
-head-len-requires : tie.Need-head-len-requires
+head-len-requires : tie.Need-head_len-len-requires
 head-len-requires c κs = c.before.requires.0.inside
 
 -- a sound node's address is 16 at least
-input-of-requires : tie.Need-input-of-requires
+input-of-requires : tie.Need-input_of-input-requires
 input-of-requires c κs = let b = c.before.before in (omega (arith, low b), b.requires.0.inside)
 
-place-beside-requires : tie.Need-place-beside-requires
+place-beside-requires : tie.Need-place_beside-requires
 place-beside-requires c κs = search rules
 
 -- the one input is another
-returns : tie.Need-returns
+returns : tie.Need-returns-then-input-b
 returns c =
     let w = c.before.before in
-    let p = c.place-beside.result in
+    let p = c.place_beside.result in
     step_yes (file w) (start w).args.version (start w).args.root (start w).args.addr (start w).args.b (m w) (Nowhere p) (judged w)
-    (way_absent (file w) (m w) (readable w) (start w).args.b (Missing p) c.place-beside.ensures p refl)
+    (way_absent (file w) (m w) (readable w) (start w).args.b (Missing p) c.place_beside.ensures p refl)
 
 -- a sound node's address is 16 at least
-sub-t10 : tie.Need-overflow-sub-t10
+sub-t10 : tie.Need-overflow_sub-result
 sub-t10 c = omega (arith, low (start c.before))
 
 -- the one input is b: there is no output, and the target is the byte before the first
-returns-2 : tie.Need-returns-2
+returns-2 : tie.Need-returns
 unfolding le
 returns-2 c =
     let w = c.before in
-    let len = w.before.head-len.result in
+    let len = w.before.head_len-len.result in
     let none = get_d_numbers_down (file w) (first w) 0 1 0 (omega arith) in
     step_yes (file w) (start w).args.version (start w).args.root (start w).args.addr (start w).args.b (m w) (To 0 ((start w).args.addr - len)) (judged w)
-    (way_to (file w) (m w) (readable w) (start w).args.b (At 0) (single_here c.if1.false) 0 0 ((start w).args.addr - len) refl (sym none)
+    (way_to (file w) (m w) (readable w) (start w).args.b (At 0) (single_here c.if-input-b.false) 0 0 ((start w).args.addr - len) refl (sym none)
     (omega (arith, low (start w))))
 
 pub next_way_spec : {M : Type 1} → statement M
-next_way_spec = tie.close (tie.spec head-len-requires input-of-requires place-beside-requires returns sub-t10 returns-2)
+next_way_spec = tie.close (tie.spec
+    head-len-requires
+    input-of-requires
+    place-beside-requires
+    returns
+    sub-t10
+    returns-2)

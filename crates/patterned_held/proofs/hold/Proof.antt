@@ -10,52 +10,52 @@ use borrow.Author.Rules.{rules}
 use Rattle.patterned_held.proofs.hold.Statement.{statement}
 use Rattle.patterned_held.proofs.hold.Tie as tie
 
-abbrev invariant-loop : tie.invariant-loop
-invariant-loop positions rest held₀ len i₀ held i = Copied positions len held₀ held i
+abbrev invariant-loop-i : tie.invariant-loop-i
+invariant-loop-i positions rest held₀ len i₀ held i = Copied positions len held₀ held i
 
-abbrev decreases-loop : tie.decreases-loop
-decreases-loop positions rest held₀ len i₀ held i = len - i
+abbrev decreases-loop-i : tie.decreases-loop-i
+decreases-loop-i positions rest held₀ len i₀ held i = len - i
 
 -- nothing is copied yet
-loop-holds : tie.Need-loop-init invariant-loop decreases-loop
+loop-holds : tie.Need-loop-i-init invariant-loop-i decreases-loop-i
 loop-holds c = copied_none c.args.positions.now (length c.args.positions.now) (replicate 255 0)
 
-mul-held : tie.Need-overflow-mul-held invariant-loop decreases-loop
+mul-held : tie.Need-offset_bounds-positions-i invariant-loop-i decreases-loop-i
 mul-held c = search rules
 
-shared-slice-read-held : tie.Need-shared-slice-read-held invariant-loop decreases-loop
+shared-slice-read-held : tie.Need-bounds-positions-i invariant-loop-i decreases-loop-i
 shared-slice-read-held c = search rules
 
-mul-held-2 : tie.Need-overflow-mul-held-2 invariant-loop decreases-loop
+mul-held-2 : tie.Need-offset_bounds-held-i invariant-loop-i decreases-loop-i
 mul-held-2 c = search rules
 
-array-write-held : tie.Need-array-write-held invariant-loop decreases-loop
+array-write-held : tie.Need-bounds-held-i invariant-loop-i decreases-loop-i
 array-write-held c = search rules
 
-add-i : tie.Need-overflow-add-i invariant-loop decreases-loop
+add-i : tie.Need-overflow_add-i invariant-loop-i decreases-loop-i
 add-i c = search rules
 
-loop-less : tie.Need-loop-smaller invariant-loop decreases-loop
+loop-less : tie.Need-loop-i-smaller invariant-loop-i decreases-loop-i
 loop-less c = search rules
 
 -- one position more is copied
-loop-again : tie.Need-loop-preserved invariant-loop decreases-loop
+loop-again : tie.Need-loop-i-preserved invariant-loop-i decreases-loop-i
 loop-again c = let body = c.before in
     let start = body.before.before in
-    copied_step body.loop-test.true body.loop-test.true (omega (arith, body.loop-test.true, start.requires)) body.before.loop.invariant
+    copied_step body.loop-i-test.true body.loop-i-test.true (omega (arith, body.loop-i-test.true, start.requires)) body.before.loop-i.invariant
 
 -- all positions are copied
-returns : tie.Need-returns invariant-loop decreases-loop
+returns : tie.Need-returns invariant-loop-i decreases-loop-i
 returns c = let start = c.before.before in
     let a = start.args in
-    held_front a.positions.now (replicate 255 0) c.before.loop.held a.rest (copied_all c.loop-test.false c.before.loop.invariant) _ refl
+    held_front a.positions.now (replicate 255 0) c.before.loop-i.held a.rest (copied_all c.loop-i-test.false c.before.loop-i.invariant) _ refl
 
 pub hold_spec : {M : Type 1} → statement M
 hold_spec =
     tie.close
     (tie.spec
-    invariant-loop
-    decreases-loop
+    invariant-loop-i
+    decreases-loop-i
     loop-holds
     mul-held
     shared-slice-read-held
