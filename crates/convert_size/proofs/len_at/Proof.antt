@@ -12,55 +12,55 @@ use native.Mathlib.Omega.{arith}
 use Rattle.convert_size.proofs.len_at.Statement.{statement}
 use Rattle.convert_size.proofs.len_at.Tie as tie
 
-abbrev start : tie.After-small → tie.Start
+abbrev start : tie.After-small-state → tie.Start
 start q = q.before.before.before.before
 
 -- the state of a sound node lies within the file
-shared-slice-read-small : tie.Need-shared-slice-read-small
+shared-slice-read-small : tie.Need-bounds-file-a
 shared-slice-read-small c = c.before.before.before.requires.0.inside
 
-small-requires : tie.Need-small-requires
+small-requires : tie.Need-small-state-requires
 small-requires c κs = search rules
 
 -- the node is sound, and has any number of transitions
-any-node-requires : tie.Need-any-node-requires
-any-node-requires c κs = let q = c.before in ((start q).requires.0, omega (arith, q.small.ensures))
+any-node-requires : tie.Need-any_node-node-requires
+any-node-requires c κs = let q = c.before in ((start q).requires.0, omega (arith, q.small-state.ensures))
 
-len-any-requires : tie.Need-len-any-requires
+len-any-requires : tie.Need-len_any-requires
 len-any-requires c κs =
     let s = start c.before.before in
-    (c.any-node.ensures.0.readable _ refl, s.pre.1.each _ (judged_at c.any-node.ensures.0))
+    (c.any_node-node.ensures.0.readable _ refl, s.requires.1.each _ (judged_at c.any_node-node.ensures.0))
 
 -- a node with any number of transitions
-returns : tie.Need-returns
+returns : tie.Need-returns-then-state-lt128
 returns c =
     let q = c.before in
     let a = (start q.before.before).args in
     record {
       each = λ m e.
-          subst (λ (n : Node). c.len-any.result ≡ length (packed a.first (record_by (entry_in a.moved.now) n))) (judged_same q.any-node.ensures.0 m e)
-          c.len-any.ensures;
+          subst (λ (n : Node). c.len_any.result ≡ length (packed a.first (record_by (entry_in a.moved.now) n))) (judged_same q.any_node-node.ensures.0 m e)
+          c.len_any.ensures;
     }
 
 -- the node is sound, and has one transition
-len-one-requires : tie.Need-len-one-requires
+len-one-requires : tie.Need-len_one-requires
 len-one-requires c κs =
     let q = c.before.before in
-    ((start q).requires.0, omega (arith, q.small.ensures), omega (arith, q.small.ensures), (start q).requires.1)
+    ((start q).requires.0, omega (arith, q.small-state.ensures), omega (arith, q.small-state.ensures), (start q).requires.1)
 
 -- a node with one transition
-returns-2 : tie.Need-returns-2
-returns-2 c = c.len-one.ensures
+returns-2 : tie.Need-returns-then-state-lt192
+returns-2 c = c.len_one.ensures
 
 -- the node is sound, and leads to the node just below it
-len-next-requires : tie.Need-len-next-requires
+len-next-requires : tie.Need-len_next-requires
 len-next-requires c κs =
     let q = c.before.before in
-    ((start q).requires.0, omega (arith, q.small.ensures), (start q).requires.1)
+    ((start q).requires.0, omega (arith, q.small-state.ensures), (start q).requires.1)
 
 -- a node with one transition to the node just below it
-returns-3 : tie.Need-returns-3
-returns-3 c = c.len-next.ensures
+returns-3 : tie.Need-returns
+returns-3 c = c.len_next.ensures
 
 pub len_at_spec : {M : Type 1} → statement M
 len_at_spec =

@@ -19,49 +19,49 @@ use Rattle.convert_size.proofs.len_next.Tie as tie
 
 -- ---- the node that is read
 
-abbrev start : tie.After-next-node → tie.Start
+abbrev start : tie.After-next_node-node → tie.Start
 start q = q.before.before.before
 
-abbrev file : tie.After-next-node → List ℕ
+abbrev file : tie.After-next_node-node → List ℕ
 file q = (start q).args.file.now
 
-form : (q : tie.After-next-node) → 128 ≤ get_or (file q) (start q).args.a 0
+form : (q : tie.After-next_node-node) → 128 ≤ get_or (file q) (start q).args.a 0
 form q = omega (arith, (start q).requires.1)
 
-sizable : (q : tie.After-next-node) → Sizable (meaning (file q) q.next-node.result) (start q).args.first (start q).args.moved.now
-sizable q = (start q).requires.2.each _ (judged_at q.next-node.ensures.0)
+sizable : (q : tie.After-next_node-node) → Sizable (meaning (file q) q.next_node-node.result) (start q).args.first (start q).args.moved.now
+sizable q = (start q).requires.2.each _ (judged_at q.next_node-node.ensures.0)
 
 -- the node is sound, and has this form
-next-node-requires : tie.Need-next-node-requires
+next-node-requires : tie.Need-next_node-node-requires
 next-node-requires c κs = let pre = c.before.before.requires in (pre.0, pre.1)
 
 -- there is a first transition
-transition-addr-requires : tie.Need-transition-addr-requires
-transition-addr-requires c κs = (c.next-node.ensures.0.readable _ refl, judged_count c.next-node.ensures.0 (start c).requires.0 (form c))
+transition-addr-requires : tie.Need-transition_addr-to-requires
+transition-addr-requires c κs = (c.next_node-node.ensures.0.readable _ refl, judged_count c.next_node-node.ensures.0 (start c).requires.0 (form c))
 
-output-requires : tie.Need-output-requires
-output-requires c κs = let q = c.before in (q.next-node.ensures.0.readable _ refl, judged_count q.next-node.ensures.0 (start q).requires.0 (form q))
+output-requires : tie.Need-output-out-requires
+output-requires c κs = let q = c.before in (q.next_node-node.ensures.0.readable _ refl, judged_count q.next_node-node.ensures.0 (start q).requires.0 (form q))
 
 -- the target has an entry
-new-target-requires : tie.Need-new-target-requires
+new-target-requires : tie.Need-new_target-target-requires
 new-target-requires c κs =
     let to = c.before in
     let q = to.before in
-    target_in (sizable q) 0 (judged_listed q.next-node.ensures.0 (start q).requires.0 (form q)) _ to.transition_addr.ensures
+    target_in (sizable q) 0 (judged_listed q.next_node-node.ensures.0 (start q).requires.0 (form q)) _ to.transition_addr-to.ensures
 
 -- a sound node's address is 16 at least
-idx-of-requires : tie.Need-idx-of-requires
+idx-of-requires : tie.Need-idx_of-requires
 idx-of-requires c κs =
     let q = c.before.before.before in
     (omega (arith, sound_low (file q) 1 (start q).args.root (start q).args.a (start q).requires.0), (start q).requires.0.inside)
 
 -- the target went below the node
-one-len-requires : tie.Need-one-len-requires
+one-len-requires : tie.Need-one_len-requires
 one-len-requires c κs =
     let target = c.before in
     let to = target.before.before in
     let q = to.before in
-    ((sizable q).ranges.first_low, target_le (sizable q) 0 (judged_listed q.next-node.ensures.0 (start q).requires.0 (form q)) _ _ to.transition_addr.ensures target.new-target.ensures)
+    ((sizable q).ranges.first_low, target_le (sizable q) 0 (judged_listed q.next_node-node.ensures.0 (start q).requires.0 (form q)) _ _ to.transition_addr-to.ensures target.new_target-target.ensures)
 
 returns : tie.Need-returns
 returns c =
@@ -71,15 +71,15 @@ returns c =
     let to = out.before in
     let q = to.before in
     let a = (start q).args in
-    let idx = coded.idx-of.result in
+    let idx = coded.idx_of.result in
     let moved = a.moved.now in
-    let packs = single_packed (judged_single q.next-node.ensures.0 (start q).requires.0 (form q)) a.first moved idx (get_or (file q) (a.a - 1) 0) out.output.result to.transition_addr.result
-    target.new-target.result coded.idx-of.ensures out.output.ensures to.transition_addr.ensures target.new-target.ensures in
-    let is = c.one-len.ensures
-    ∙ length_bytes a.first idx 0 (get_or (file q) (a.a - 1) 0) out.output.result target.new-target.result ∙ ap (λ (l : List ℕ). length l) packs in
+    let packs = single_packed (judged_single q.next_node-node.ensures.0 (start q).requires.0 (form q)) a.first moved idx (get_or (file q) (a.a - 1) 0) out.output-out.result to.transition_addr-to.result
+    target.new_target-target.result coded.idx_of.ensures out.output-out.ensures to.transition_addr-to.ensures target.new_target-target.ensures in
+    let is = c.one_len.ensures
+    ∙ length_bytes a.first idx 0 (get_or (file q) (a.a - 1) 0) out.output-out.result target.new_target-target.result ∙ ap (λ (l : List ℕ). length l) packs in
     record {
       each = λ m e.
-          subst (λ (n : Node). c.one-len.result ≡ length (packed a.first (record_by (entry_in moved) n))) (judged_same q.next-node.ensures.0 m e) is;
+          subst (λ (n : Node). c.one_len.result ≡ length (packed a.first (record_by (entry_in moved) n))) (judged_same q.next_node-node.ensures.0 m e) is;
     }
 
 pub len_next_spec : {M : Type 1} → statement M

@@ -19,49 +19,49 @@ use Rattle.convert_size.proofs.len_one.Tie as tie
 
 -- ---- the node that is read
 
-abbrev start : tie.After-one-node → tie.Start
+abbrev start : tie.After-one_node-node → tie.Start
 start q = q.before.before.before
 
-abbrev file : tie.After-one-node → List ℕ
+abbrev file : tie.After-one_node-node → List ℕ
 file q = (start q).args.file.now
 
-form : (q : tie.After-one-node) → 128 ≤ get_or (file q) (start q).args.a 0
+form : (q : tie.After-one_node-node) → 128 ≤ get_or (file q) (start q).args.a 0
 form q = (start q).requires.1
 
-sizable : (q : tie.After-one-node) → Sizable (meaning (file q) q.one-node.result) (start q).args.first (start q).args.moved.now
-sizable q = (start q).requires.3.each _ (judged_at q.one-node.ensures.0)
+sizable : (q : tie.After-one_node-node) → Sizable (meaning (file q) q.one_node-node.result) (start q).args.first (start q).args.moved.now
+sizable q = (start q).requires.3.each _ (judged_at q.one_node-node.ensures.0)
 
 -- the node is sound, and has this form
-one-node-requires : tie.Need-one-node-requires
+one-node-requires : tie.Need-one_node-node-requires
 one-node-requires c κs = let pre = c.before.before.requires in (pre.0, pre.1, pre.2)
 
 -- there is a first transition
-transition-addr-requires : tie.Need-transition-addr-requires
-transition-addr-requires c κs = (c.one-node.ensures.0.readable _ refl, judged_count c.one-node.ensures.0 (start c).requires.0 (form c))
+transition-addr-requires : tie.Need-transition_addr-to-requires
+transition-addr-requires c κs = (c.one_node-node.ensures.0.readable _ refl, judged_count c.one_node-node.ensures.0 (start c).requires.0 (form c))
 
-output-requires : tie.Need-output-requires
-output-requires c κs = let q = c.before in (q.one-node.ensures.0.readable _ refl, judged_count q.one-node.ensures.0 (start q).requires.0 (form q))
+output-requires : tie.Need-output-out-requires
+output-requires c κs = let q = c.before in (q.one_node-node.ensures.0.readable _ refl, judged_count q.one_node-node.ensures.0 (start q).requires.0 (form q))
 
 -- the target has an entry
-new-target-requires : tie.Need-new-target-requires
+new-target-requires : tie.Need-new_target-target-requires
 new-target-requires c κs =
     let to = c.before in
     let q = to.before in
-    target_in (sizable q) 0 (judged_listed q.one-node.ensures.0 (start q).requires.0 (form q)) _ to.transition_addr.ensures
+    target_in (sizable q) 0 (judged_listed q.one_node-node.ensures.0 (start q).requires.0 (form q)) _ to.transition_addr-to.ensures
 
 -- a sound node's address is 16 at least
-idx-of-requires : tie.Need-idx-of-requires
+idx-of-requires : tie.Need-idx_of-requires
 idx-of-requires c κs =
     let q = c.before.before.before in
     (omega (arith, sound_low (file q) 1 (start q).args.root (start q).args.a (start q).requires.0), (start q).requires.0.inside)
 
 -- the target went below the node
-one-len-requires : tie.Need-one-len-requires
+one-len-requires : tie.Need-one_len-requires
 one-len-requires c κs =
     let target = c.before in
     let to = target.before.before in
     let q = to.before in
-    ((sizable q).ranges.first_low, target_le (sizable q) 0 (judged_listed q.one-node.ensures.0 (start q).requires.0 (form q)) _ _ to.transition_addr.ensures target.new-target.ensures)
+    ((sizable q).ranges.first_low, target_le (sizable q) 0 (judged_listed q.one_node-node.ensures.0 (start q).requires.0 (form q)) _ _ to.transition_addr-to.ensures target.new_target-target.ensures)
 
 returns : tie.Need-returns
 returns c =
@@ -71,15 +71,15 @@ returns c =
     let to = out.before in
     let q = to.before in
     let a = (start q).args in
-    let idx = coded.idx-of.result in
+    let idx = coded.idx_of.result in
     let moved = a.moved.now in
-    let packs = single_packed (judged_single q.one-node.ensures.0 (start q).requires.0 (form q)) a.first moved idx (get_or (file q) (a.a - 1) 0) out.output.result to.transition_addr.result
-    target.new-target.result coded.idx-of.ensures out.output.ensures to.transition_addr.ensures target.new-target.ensures in
-    let is = c.one-len.ensures
-    ∙ length_bytes a.first idx 0 (get_or (file q) (a.a - 1) 0) out.output.result target.new-target.result ∙ ap (λ (l : List ℕ). length l) packs in
+    let packs = single_packed (judged_single q.one_node-node.ensures.0 (start q).requires.0 (form q)) a.first moved idx (get_or (file q) (a.a - 1) 0) out.output-out.result to.transition_addr-to.result
+    target.new_target-target.result coded.idx_of.ensures out.output-out.ensures to.transition_addr-to.ensures target.new_target-target.ensures in
+    let is = c.one_len.ensures
+    ∙ length_bytes a.first idx 0 (get_or (file q) (a.a - 1) 0) out.output-out.result target.new_target-target.result ∙ ap (λ (l : List ℕ). length l) packs in
     record {
       each = λ m e.
-          subst (λ (n : Node). c.one-len.result ≡ length (packed a.first (record_by (entry_in moved) n))) (judged_same q.one-node.ensures.0 m e) is;
+          subst (λ (n : Node). c.one_len.result ≡ length (packed a.first (record_by (entry_in moved) n))) (judged_same q.one_node-node.ensures.0 m e) is;
     }
 
 pub len_one_spec : {M : Type 1} → statement M

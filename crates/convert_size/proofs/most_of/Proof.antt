@@ -12,84 +12,84 @@ use borrow.Author.Rules.{rules}
 use Rattle.convert_size.proofs.most_of.Statement.{statement}
 use Rattle.convert_size.proofs.most_of.Tie as tie
 
-abbrev invariant-loop : tie.invariant-loop
-invariant-loop file node first moved output₀ delta₀ i₀ output delta i = Seen (meaning file node) first moved output delta i × (i ≤ node.ntrans)
+abbrev invariant-loop-i : tie.invariant-loop-i
+invariant-loop-i file node first moved output₀ delta₀ i₀ output delta i = Seen (meaning file node) first moved output delta i × (i ≤ node.ntrans)
 
-abbrev decreases-loop : tie.decreases-loop
-decreases-loop file node first moved output₀ delta₀ i₀ output delta i = i
+abbrev decreases-loop-i : tie.decreases-loop-i
+decreases-loop-i file node first moved output₀ delta₀ i₀ output delta i = i
 
-abbrev start : tie.At-loop invariant-loop decreases-loop → tie.Start invariant-loop decreases-loop
+abbrev start : tie.At-loop-i invariant-loop-i decreases-loop-i → tie.Start invariant-loop-i decreases-loop-i
 start q = q.before.before.before
 
-count : (s : tie.Start invariant-loop decreases-loop) → length (transitions_in s.args.file.now s.args.node) ≡ s.args.node.ntrans
+count : (s : tie.Start invariant-loop-i decreases-loop-i) → length (transitions_in s.args.file.now s.args.node) ≡ s.args.node.ntrans
 count s = length_node_transitions s.args.file.now s.args.node s.requires.0
 
-in_list : (q : tie.In-loop invariant-loop decreases-loop) → q.before.loop.i - 1 < length (transitions_in (start q.before).args.file.now (start q.before).args.node)
-in_list q = omega (arith, count (start q.before), q.before.loop.invariant.1)
+in_list : (q : tie.In-loop-i invariant-loop-i decreases-loop-i) → q.before.loop-i.i - 1 < length (transitions_in (start q.before).args.file.now (start q.before).args.node)
+in_list q = omega (arith, count (start q.before), q.before.loop-i.invariant.1)
 
 -- no transition is seen yet
-loop-holds : tie.Need-loop-init invariant-loop decreases-loop
+loop-holds : tie.Need-loop-i-init invariant-loop-i decreases-loop-i
 loop-holds c = let s = c.before.before in (seen_none s.args.node.ntrans (sym (count s)), omega arith)
 
-sub-i : tie.Need-overflow-sub-i invariant-loop decreases-loop
+sub-i : tie.Need-overflow_sub-i invariant-loop-i decreases-loop-i
 sub-i c = search rules
 
-transition-addr-requires : tie.Need-transition-addr-requires invariant-loop decreases-loop
-transition-addr-requires c κs = let s = start c.before in (s.pre.0, omega (arith, c.before.loop.invariant.1))
+transition-addr-requires : tie.Need-transition_addr-to-requires invariant-loop-i decreases-loop-i
+transition-addr-requires c κs = let s = start c.before in (s.requires.0, omega (arith, c.before.loop-i.invariant.1))
 
-output-requires : tie.Need-output-requires invariant-loop decreases-loop
-output-requires c κs = let turn = c.before in let s = start turn.before in (s.pre.0, omega (arith, turn.before.loop.invariant.1))
+output-requires : tie.Need-output-out-requires invariant-loop-i decreases-loop-i
+output-requires c κs = let turn = c.before in let s = start turn.before in (s.requires.0, omega (arith, turn.before.loop-i.invariant.1))
 
 -- the target has an entry
-new-target-requires : tie.Need-new-target-requires invariant-loop decreases-loop
+new-target-requires : tie.Need-new_target-target-requires invariant-loop-i decreases-loop-i
 new-target-requires c κs =
     let to = c.before in
     let turn = to.before in
-    target_in (start turn.before).pre.1 _ (in_list turn) _ to.transition_addr.ensures
+    target_in (start turn.before).requires.1 _ (in_list turn) _ to.transition_addr-to.ensures
 
-larger-requires : tie.Need-larger-requires invariant-loop decreases-loop
+larger-requires : tie.Need-larger-output-requires invariant-loop-i decreases-loop-i
 larger-requires c κs = search rules
 
 -- the target went below the node
-delta-of-requires : tie.Need-delta-of-requires invariant-loop decreases-loop
+delta-of-requires : tie.Need-delta_of-requires invariant-loop-i decreases-loop-i
 delta-of-requires c κs =
     let target = c.before in
     let to = target.before.before in
     let turn = to.before in
-    target_le (start turn.before).pre.1 _ (in_list turn) _ _ to.transition_addr.ensures target.new-target.ensures
+    target_le (start turn.before).requires.1 _ (in_list turn) _ _ to.transition_addr-to.ensures target.new_target-target.ensures
 
-larger-requires-2 : tie.Need-larger-requires-2 invariant-loop decreases-loop
+larger-requires-2 : tie.Need-larger-delta-requires invariant-loop-i decreases-loop-i
 larger-requires-2 c κs = search rules
 
-loop-less : tie.Need-loop-smaller invariant-loop decreases-loop
+loop-less : tie.Need-loop-i-smaller invariant-loop-i decreases-loop-i
 loop-less c = search rules
 
 -- one transition more is seen
-loop-again : tie.Need-loop-preserved invariant-loop decreases-loop
+loop-again : tie.Need-loop-i-preserved invariant-loop-i decreases-loop-i
 loop-again c =
     let target = c.before.before.before in
     let to = target.before.before in
     let turn = to.before in
     let at = turn.before in (
-      seen_step c.before.before.larger.result c.larger2.result target.before.output.result to.transition_addr.result target.new-target.result c.before.delta-of.result
-          turn.loop-test.true (omega (arith, count (start at), at.loop.invariant.1)) target.before.output.ensures to.transition_addr.ensures target.new-target.ensures c.before.delta-of.ensures
-          c.before.before.larger.ensures c.larger2.ensures at.loop.invariant.0,
-      omega (arith, at.loop.invariant.1),
+      seen_step c.before.before.larger-output.result c.larger-delta.result target.before.output-out.result to.transition_addr-to.result target.new_target-target.result c.before.delta_of.result
+          turn.loop-i-test.true (omega (arith, count (start at), at.loop-i.invariant.1)) target.before.output-out.ensures to.transition_addr-to.ensures target.new_target-target.ensures c.before.delta_of.ensures
+          c.before.before.larger-output.ensures c.larger-delta.ensures at.loop-i.invariant.0,
+      omega (arith, at.loop-i.invariant.1),
     )
 
-larger-requires-3 : tie.Need-larger-requires-3 invariant-loop decreases-loop
+larger-requires-3 : tie.Need-larger-requires invariant-loop-i decreases-loop-i
 larger-requires-3 c κs = search rules
 
 -- all transitions are seen
-returns : tie.Need-returns invariant-loop decreases-loop
-returns c = let at = c.before.before in seen_all _ c.before.loop-test.false c.larger3.ensures refl at.loop.invariant.0
+returns : tie.Need-returns invariant-loop-i decreases-loop-i
+returns c = let at = c.before.before in seen_all _ c.before.loop-i-test.false c.larger.ensures refl at.loop-i.invariant.0
 
 pub most_of_spec : {M : Type 1} → statement M
 most_of_spec =
     tie.close
     (tie.spec
-    invariant-loop
-    decreases-loop
+    invariant-loop-i
+    decreases-loop-i
     loop-holds
     sub-i
     transition-addr-requires

@@ -6,28 +6,35 @@ use Rattle.counting_node.proofs.Adding.{added_over, added_is}
 use Rattle.counting_node.proofs.added.Statement.{statement}
 use Rattle.counting_node.proofs.added.Tie as tie
 
-enum_told : tie.Need-enum-told
+enum_told : tie.Need-enum_told-1
 enum_told c = search rules
 
-enum-known-t : tie.Need-enum-known-t
+enum-known-t : tie.Need-enum_known-t
 enum-known-t c = search rules
 
-sub-if1 : tie.Need-overflow-sub-if1
+sub-if1 : tie.Need-overflow_sub-x
 sub-if1 c = search rules
 
 -- the sum passes the limit
-returns : tie.Need-returns
-returns c = added_over c.before.before.before.before.args.t c.before.before.t.given.0.0 _ c.before.before.t.given.1 (omega arith)
+returns : tie.Need-returns-then-x-b
+returns c = added_over c.before.before.args.t c.before.in-Is.b _ c.before.in-Is.is (omega arith)
 
-add-t5 : tie.Need-overflow-add-t5
+add-t5 : tie.Need-overflow_add-result
 add-t5 c = search rules
 
-returns-2 : tie.Need-returns-2
+returns-2 : tie.Need-returns-in-Over
 returns-2 c = search rules
 
 -- the sum is within the limit
-returns-3 : tie.Need-returns-3
-returns-3 c = added_is c.before.before.before.before.args.t c.before.before.t.given.0.0 _ c.before.before.t.given.1 (omega arith)
+returns-3 : tie.Need-returns-else-x-b
+returns-3 c = added_is c.before.before.args.t c.before.in-Is.b _ c.before.in-Is.is (omega arith)
 
 pub added_spec : {M : Type 1} → statement M
-added_spec = tie.close (tie.spec enum_told enum-known-t sub-if1 returns add-t5 returns-2 returns-3)
+added_spec = tie.close (tie.spec
+    enum_told
+    enum-known-t
+    sub-if1
+    returns
+    add-t5
+    returns-2
+    returns-3)

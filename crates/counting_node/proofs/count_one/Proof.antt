@@ -10,20 +10,20 @@ use native.Mathlib.Omega.{arith}
 use Rattle.counting_node.proofs.count_one.Statement.{statement}
 use Rattle.counting_node.proofs.count_one.Tie as tie
 
-abbrev start : tie.After-transition-addr → tie.Start
+abbrev start : tie.After-transition_addr-t → tie.Start
 start q = q.before.before.before
 
-one_listed : (q : tie.After-transition-addr) → length (transitions_in (start q).args.file.now (start q).args.node) ≡ 1
+one_listed : (q : tie.After-transition_addr-t) → length (transitions_in (start q).args.file.now (start q).args.node) ≡ 1
 one_listed q = length_node_transitions (start q).args.file.now (start q).args.node (start q).requires.0 ∙ (start q).requires.1
 
-transition-addr-requires : tie.Need-transition-addr-requires
+transition-addr-requires : tie.Need-transition_addr-t-requires
 transition-addr-requires c κs = search rules
 
 -- the target lies within the table
-child-keys-requires : tie.Need-child-keys-requires
-child-keys-requires c κs = target_inside 0 (omega (arith, one_listed c)) _ c.transition_addr.ensures (start c).requires.2
+child-keys-requires : tie.Need-child_keys-k-requires
+child-keys-requires c κs = target_inside 0 (omega (arith, one_listed c)) _ c.transition_addr-t.ensures (start c).requires.2
 
-own-key-requires : tie.Need-own-key-requires
+own-key-requires : tie.Need-own_key-requires
 own-key-requires c κs = search rules
 
 added-requires : tie.Need-added-requires
@@ -36,11 +36,16 @@ returns c =
     let child = own.before in
     let targeted = child.before in
     counted_all
-    (counted_step 0 (omega (arith, one_listed targeted)) _ targeted.transition_addr.ensures _ _ (counted_none _ _ _ _ own.own_key.ensures)
-    child.child-keys.ensures c.added.ensures)
+    (counted_step 0 (omega (arith, one_listed targeted)) _ targeted.transition_addr-t.ensures _ _ (counted_none _ _ _ _ own.own_key.ensures)
+    child.child_keys-k.ensures c.added.ensures)
     (omega (arith, one_listed targeted))
 
 pub count_one_spec : {M : Type 1} → statement M
 count_one_spec =
     tie.close
-    (tie.spec transition-addr-requires child-keys-requires own-key-requires added-requires returns)
+    (tie.spec
+    transition-addr-requires
+    child-keys-requires
+    own-key-requires
+    added-requires
+    returns)

@@ -22,7 +22,7 @@ returns c = sym (ap past_sum (answer_unsound c.before.node_at-judged.ensures c.i
 
 -- the node is sound: SUM
 returns-2 : tie.Need-returns-in-Sound
-returns-2 c = sym (ap past_sum (answer_sound c.before.node_at-judged.ensures c.in-Sound.field_0 c.in-Sound.is))
+returns-2 c = sym (ap past_sum (answer_sound c.before.node_at-judged.ensures c.in-Sound.field-0 c.in-Sound.is))
 
 pub past_sum_spec : {M : Type 1} → statement M
 past_sum_spec = tie.close (tie.spec

@@ -95,7 +95,7 @@ module _ {M : Type 1} {𝓤 : Ura M} (𝓛 : Logic 𝓤) (mem : Memory → SProp
   to = (((κ, tt), (q, tt), tt, passed, passed_at), tt)
 
   abbrev Asks : SProp 𝓤
-  Asks = (Plain 𝓛 mem run).pre to
+  Asks = (Plain 𝓛 mem run).requires to
 
   abbrev Ensured : SearchAnswer → SProp 𝓤
   Ensured r = ensured 𝓛 plain.ended (plain.clauses 𝓛 mem run) (κ, tt) passed tt r
@@ -185,5 +185,5 @@ find_input_spec 𝓤 𝓛 𝓜 𝓡 =
     entered 𝓤 𝓛.H (triple_of 𝓛 viewed.signature (viewed.spec 𝓛 𝓜.mem 𝓡.run))
     (tables 𝓤 𝓛.H 𝓜 𝓡 code.env).C (tables 𝓤 𝓛.H 𝓜 𝓡 code.env).Λ #node_view·find_input code.function (code.unfolded 𝓤 𝓛.H 𝓜 𝓡)
     (find_input_meets 𝓛 𝓜.mem 𝓡.run (tables_of 𝓤 𝓛.H 𝓜 (tables 𝓤 𝓛.H 𝓜 𝓡 code.env))
-    (cited 𝓤 𝓛.H (Plain 𝓛 𝓜.mem 𝓡.run) 𝓜 𝓡 code.env #node_view·place_in plain_def.routine code.calls-node-view::place_in
+    (cited 𝓤 𝓛.H (Plain 𝓛 𝓜.mem 𝓡.run) 𝓜 𝓡 code.env #node_view·place_in plain_def.routine code.calls_node_view::place_in
     (plain_thm.met 𝓤 𝓛 𝓜 𝓡)))

@@ -86,7 +86,7 @@ module _ {M : Type 1} {𝓤 : Ura M} (𝓛 : Logic 𝓤) (mem : Memory → SProp
   to = (((κ, tt), (q, tt), tt, passed, passed_at), tt)
 
   abbrev Asks : SProp 𝓤
-  Asks = (NodeAt 𝓛 mem run).pre to
+  Asks = (NodeAt 𝓛 mem run).requires to
 
   abbrev Ensured : Judged → SProp 𝓤
   Ensured r = ensured 𝓛 Node-at.ended (Node-at.clauses 𝓛 mem run) (κ, tt) passed tt r
@@ -172,5 +172,5 @@ judged_spec 𝓤 𝓛 𝓜 𝓡 =
     entered 𝓤 𝓛.H (triple_of 𝓛 judged.signature (judged.spec 𝓛 𝓜.mem 𝓡.run))
     (tables 𝓤 𝓛.H 𝓜 𝓡 code.env).C (tables 𝓤 𝓛.H 𝓜 𝓡 code.env).Λ #node_view·judged code.function (code.unfolded 𝓤 𝓛.H 𝓜 𝓡)
     (judged_meets 𝓛 𝓜.mem 𝓡.run (tables_of 𝓤 𝓛.H 𝓜 (tables 𝓤 𝓛.H 𝓜 𝓡 code.env))
-    (cited 𝓤 𝓛.H (NodeAt 𝓛 𝓜.mem 𝓡.run) 𝓜 𝓡 code.env #node·node_at node_at_def.routine code.calls-node::node_at
+    (cited 𝓤 𝓛.H (NodeAt 𝓛 𝓜.mem 𝓡.run) 𝓜 𝓡 code.env #node·node_at node_at_def.routine code.calls_node::node_at
     (node_at_thm.met 𝓤 𝓛 𝓜 𝓡)))

@@ -116,7 +116,7 @@ module _ {M : Type 1} {𝓤 : Ura M} (𝓛 : Logic 𝓤) (mem : Memory → SProp
   to_new = (((κ, tt), (q, tt), tt, new_args, new_at), tt)
 
   abbrev NewAsks : SProp 𝓤
-  NewAsks = (New 𝓛 mem run).pre to_new
+  NewAsks = (New 𝓛 mem run).requires to_new
 
   abbrev NewEnsured : Node → SProp 𝓤
   NewEnsured d = ensured 𝓛 new.ended (new.clauses 𝓛 mem run) (κ, tt) new_args tt d
@@ -140,7 +140,7 @@ module _ {M : Type 1} {𝓤 : Ura M} (𝓛 : Logic 𝓤) (mem : Memory → SProp
   to_next d u = (((κ, tt), (q, tt), tt, (d, (i, tt)), (u ∷ [], (vint w64 i ∷ [], tt))), tt)
 
   abbrev NextAsks : Node → Val → SProp 𝓤
-  NextAsks d u = (Next 𝓛 mem run).pre (to_next d u)
+  NextAsks d u = (Next 𝓛 mem run).requires (to_next d u)
 
   abbrev NextEnsured : Node → TransitionAnswer → SProp 𝓤
   NextEnsured d r = ensured 𝓛 next.ended (next.clauses 𝓛 mem run) (κ, tt) (d, (i, tt)) tt r
@@ -245,7 +245,7 @@ transition_at_spec 𝓤 𝓛 𝓜 𝓡 =
     entered 𝓤 𝓛.H (triple_of 𝓛 above.signature (above.spec 𝓛 𝓜.mem 𝓡.run))
     (tables 𝓤 𝓛.H 𝓜 𝓡 code.env).C (tables 𝓤 𝓛.H 𝓜 𝓡 code.env).Λ #node_view·transition_at code.function (code.unfolded 𝓤 𝓛.H 𝓜 𝓡)
     (transition_at_meets 𝓛 𝓜.mem 𝓡.run (tables_of 𝓤 𝓛.H 𝓜 (tables 𝓤 𝓛.H 𝓜 𝓡 code.env))
-    (cited 𝓤 𝓛.H (New 𝓛 𝓜.mem 𝓡.run) 𝓜 𝓡 code.env #node_view·new new_def.routine code.calls-node-view::new
+    (cited 𝓤 𝓛.H (New 𝓛 𝓜.mem 𝓡.run) 𝓜 𝓡 code.env #node_view·new new_def.routine code.calls_node_view::new
     (new_thm.met 𝓤 𝓛 𝓜 𝓡))
-    (cited 𝓤 𝓛.H (Next 𝓛 𝓜.mem 𝓡.run) 𝓜 𝓡 code.env #node_view·transition next_def.routine code.calls-node-view::transition
+    (cited 𝓤 𝓛.H (Next 𝓛 𝓜.mem 𝓡.run) 𝓜 𝓡 code.env #node_view·transition next_def.routine code.calls_node_view::transition
     (next_thm.met 𝓤 𝓛 𝓜 𝓡)))

@@ -9,23 +9,27 @@ use Rattle.ops_pairs.proofs.goes_before.Reads as reads
 use Rattle.ops_pairs.proofs.goes_before.Lts as lts
 
 -- src/lib.rt:33:9
-returns : tie.Need-returns
+returns : tie.Need-returns-then-found
 returns c = search rules
 
 -- src/lib.rt:36:9
-returns-2 : tie.Need-returns-2
+returns-2 : tie.Need-returns-then-value-other
 returns-2 c = let a = c.before.before.args in
-    rw c.before.if1.false (before_lower a.value a.file a.other a.beside c.if2.true)
+    rw c.before.if-found.false (before_lower a.value a.file a.other a.beside c.if-value-other.true)
 
 -- src/lib.rt:39:9
-returns-3 : tie.Need-returns-3
+returns-3 : tie.Need-returns-then-value-other-2
 returns-3 c = let a = c.before.before.before.args in
-    rw c.before.before.if1.false (before_equal a.value a.file a.other a.beside c.before.if2.false c.if3.true)
+    rw c.before.before.if-found.false (before_equal a.value a.file a.other a.beside c.before.if-value-other.false c.if-value-other-2.true)
 
 -- src/lib.rt:29:1
-returns-4 : tie.Need-returns-4
+returns-4 : tie.Need-returns
 returns-4 c = let a = c.before.before.before.args in
-    rw c.before.before.if1.false (before_higher a.value a.file a.other a.beside c.before.if2.false c.if3.false)
+    rw c.before.before.if-found.false (before_higher a.value a.file a.other a.beside c.before.if-value-other.false c.if-value-other-2.false)
 
 pub goes_before_spec : {M : Type 1} → statement M
-goes_before_spec = tie.close (tie.spec returns returns-2 returns-3 returns-4)
+goes_before_spec = tie.close (tie.spec
+    returns
+    returns-2
+    returns-3
+    returns-4)

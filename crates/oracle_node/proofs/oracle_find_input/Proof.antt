@@ -12,72 +12,72 @@ use Rattle.oracle_node.proofs.NodeTold.{found_unsound, found_absent, found_at}
 use Rattle.oracle_node.proofs.oracle_find_input.Statement.{statement}
 use Rattle.oracle_node.proofs.oracle_find_input.Tie as tie
 
-node-at-requires : tie.Need-node-at-requires
+node-at-requires : tie.Need-node_at-requires
 node-at-requires c κs = search rules
 
-enum-known-n : tie.Need-enum-known-n
+enum-known-n : tie.Need-enum_known-n
 enum-known-n c = search rules
 
-enum_told : tie.Need-enum-told
+enum_told : tie.Need-enum_told-1
 enum_told c = search rules
 
 -- an unsound node
-returns : tie.Need-returns
+returns : tie.Need-returns-in_default
 returns c =
-    let called = c.before.before in
+    let called = c.before in
     let start = called.before.before in
-    found_unsound called.node_at.ensures start.args.b c.enum_told.given.1
+    found_unsound called.node_at.ensures start.args.b c.in_default.is
 
 -- the judged node can be read
-find-input-requires : tie.Need-find-input-requires
+find-input-requires : tie.Need-find_input-found-requires
 find-input-requires c κs =
-    let bound = c.before in
-    bound.before.before.node_at.ensures.readable bound.n.given.0.0 bound.n.given.1
+    let bound = c in
+    bound.before.node_at.ensures.readable bound.in-Sound.n bound.in-Sound.is
 
-enum-known-found : tie.Need-enum-known-found
+enum-known-found : tie.Need-enum_known-found
 enum-known-found c = search rules
 
-enum-known-found-2 : tie.Need-enum-known-found-2
+enum-known-found-2 : tie.Need-enum_known-found-in-Absent-1
 enum-known-found-2 c = search rules
 
 -- a place is at most the count, and a node has at most 256 transitions
-add-result : tie.Need-overflow-add-result
+add-result : tie.Need-overflow_add-result
 add-result c =
-    let found = c.before.before.before in
-    let bound = found.before.before in
-    let called = bound.before.before in
+    let found = c.before in
+    let bound = found.before in
+    let called = bound.before in
     let start = called.before.before in
-    let m = bound.n.given.0.0 in
-    let r = called.node_at.ensures.readable m bound.n.given.1 in
-    let p = c.before.found2.given.0.0 in
+    let m = bound.in-Sound.n in
+    let r = called.node_at.ensures.readable m bound.in-Sound.is in
+    let p = c.in-Absent.p in
     let s = start.args.file.now in
     let f = fst_with s start.args.version start.args.root in
-    let is_m : node_in f start.args.addr ≡ sound (meaning s m) = answer_sound called.node_at.ensures m bound.n.given.1 in
-    let few = node_count f start.args.addr (meaning s m) is_m (λ j. (called.before.shared-slice-known.given j).fits) in
+    let is_m : node_in f start.args.addr ≡ sound (meaning s m) = answer_sound called.node_at.ensures m bound.in-Sound.is in
+    let few = node_count f start.args.addr (meaning s m) is_m (λ j. (called.before.shared_slice_known-1.given j).fits) in
     omega (
       arith,
-      gone_le s m r start.args.b p (search_gone _ found.find-input.result found.find-input.ensures p c.before.found2.given.1),
+      gone_le s m r start.args.b p (search_gone _ found.find_input-found.result found.find_input-found.ensures p c.in-Absent.is),
       few,
       length_node_transitions s m r,
     )
 
 -- the input is found
-returns-2 : tie.Need-returns-2
+returns-2 : tie.Need-returns-in-At
 returns-2 c =
-    let found = c.before.before.before in
-    let bound = found.before.before in
-    let called = bound.before.before in
+    let found = c.before in
+    let bound = found.before in
+    let called = bound.before in
     let start = called.before.before in
-    found_at called.node_at.ensures bound.n.given.0.0 start.args.b found.find-input.result c.before.found.given.0.0 bound.n.given.1 c.before.found.given.1 found.find-input.ensures
+    found_at called.node_at.ensures bound.in-Sound.n start.args.b found.find_input-found.result c.in-At.i bound.in-Sound.is c.in-At.is found.find_input-found.ensures
 
 -- an absent input
-returns-3 : tie.Need-returns-3
+returns-3 : tie.Need-returns-in-Absent
 returns-3 c =
-    let found = c.before.before.before in
-    let bound = found.before.before in
-    let called = bound.before.before in
+    let found = c.before in
+    let bound = found.before in
+    let called = bound.before in
     let start = called.before.before in
-    found_absent called.node_at.ensures bound.n.given.0.0 start.args.b found.find-input.result c.before.found2.given.0.0 bound.n.given.1 c.before.found2.given.1 found.find-input.ensures
+    found_absent called.node_at.ensures bound.in-Sound.n start.args.b found.find_input-found.result c.in-Absent.p bound.in-Sound.is c.in-Absent.is found.find_input-found.ensures
 
 pub oracle_find_input_spec : {M : Type 1} → statement M
 oracle_find_input_spec =

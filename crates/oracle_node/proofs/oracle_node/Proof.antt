@@ -5,40 +5,40 @@ use Rattle.oracle_node.proofs.NodeTold.{node_unsound, node_sound}
 use Rattle.oracle_node.proofs.oracle_node.Statement.{statement}
 use Rattle.oracle_node.proofs.oracle_node.Tie as tie
 
-node-at-requires : tie.Need-node-at-requires
+node-at-requires : tie.Need-node_at-requires
 node-at-requires c κs = search rules
 
-enum-known-n : tie.Need-enum-known-n
+enum-known-n : tie.Need-enum_known-n
 enum-known-n c = search rules
 
-enum_told : tie.Need-enum-told
+enum_told : tie.Need-enum_told-1
 enum_told c = search rules
 
 -- an unsound node
-returns : tie.Need-returns
+returns : tie.Need-returns-in_default
 returns c =
-    let called = c.before.before in
+    let called = c.before in
     let start = called.before.before.before in
-    node_unsound called.node_at.ensures start.args.out.now c.enum_told.given.1
+    node_unsound called.node_at.ensures start.args.out.now c.in_default.is
 
-flag-requires : tie.Need-flag-requires
+flag-requires : tie.Need-flag-is_final-requires
 flag-requires c κs = search rules
 
-put-four-requires : tie.Need-put-four-requires
+put-four-requires : tie.Need-put_four-requires
 put-four-requires c κs = search rules
 
-same_length : tie.Need-same-length
+same_length : tie.Need-shape_of-out
 same_length c = search rules
 
 -- a sound node
-returns-2 : tie.Need-returns-2
+returns-2 : tie.Need-returns
 returns-2 c =
     let put = c.before.before in
     let flagged = put.before.before in
-    let bound = flagged.before.before in
-    let called = bound.before.before in
+    let bound = flagged.before in
+    let called = bound.before in
     let start = called.before.before.before in
-    node_sound called.node_at.ensures bound.n.given.0.0 flagged.flag.result start.args.out.now _ bound.n.given.1 flagged.flag.ensures put.put_four.ensures
+    node_sound called.node_at.ensures bound.in-Sound.n flagged.flag-is_final.result start.args.out.now _ bound.in-Sound.is flagged.flag-is_final.ensures put.put_four.ensures
 
 pub oracle_node_spec : {M : Type 1} → statement M
 oracle_node_spec =

@@ -6,39 +6,39 @@ use borrow.Author.Rules.{rules}
 use Rattle.range_node.proofs.ending_of.Statement.{statement}
 use Rattle.range_node.proofs.ending_of.Tie as tie
 
-shared-slice-read-small : tie.Need-shared-slice-read-small
+shared-slice-read-small : tie.Need-bounds-file-addr
 shared-slice-read-small c = search rules
 
 small-requires : tie.Need-small-requires
 small-requires c κs = search rules
 
 -- one transition: not final
-returns : tie.Need-returns
+returns : tie.Need-returns-then-small-ge128
 returns c =
     let call = c.before in
     let start = call.before.before.before in
     let a = start.args in
-    met_inner a.file.now a.version a.root a.addr start.requires (omega (arith, call.small.ensures, c.if1.true))
+    met_inner a.file.now a.version a.root a.addr start.requires (omega (arith, call.small.ensures, c.if-small-ge128.true))
 
-any-node-requires : tie.Need-any-node-requires
+any-node-requires : tie.Need-any_node-m-requires
 any-node-requires c κs =
     let call = c.before in
     let start = call.before.before.before in
-    (start.requires, omega (arith, call.small.ensures, c.if1.false))
+    (start.requires, omega (arith, call.small.ensures, c.if-small-ge128.false))
 
-returns-2 : tie.Need-returns-2
+returns-2 : tie.Need-returns-then-m
 returns-2 c =
     let node = c.before in
     let start = node.before.before.before.before.before in
     let a = start.args in
-    met_final a.file.now a.version a.root a.addr start.requires node.any-node.ensures.0 c.if2.true
+    met_final a.file.now a.version a.root a.addr start.requires node.any_node-m.ensures.0 c.if-m.true
 
-returns-3 : tie.Need-returns-3
+returns-3 : tie.Need-returns
 returns-3 c =
     let node = c.before in
     let start = node.before.before.before.before.before in
     let a = start.args in
-    met_other a.file.now a.version a.root a.addr start.requires node.any-node.ensures.0 c.if2.false
+    met_other a.file.now a.version a.root a.addr start.requires node.any_node-m.ensures.0 c.if-m.false
 
 pub ending_of_spec : {M : Type 1} → statement M
 ending_of_spec =

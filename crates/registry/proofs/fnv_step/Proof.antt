@@ -8,13 +8,15 @@ use Rattle.registry.proofs.fnv_step.Lts as lts
 use Rattle.registry.proofs.times_prime.Reads as times_prime_reads
 
 -- src/lib.rt:32:5
-times-prime-requires : tie.Need-times-prime-requires
+times-prime-requires : tie.Need-times_prime-requires
 times-prime-requires c κs = search rules
 
 -- src/lib.rt:29:1
 returns : tie.Need-returns
 unfolding fnv_step
-returns c = c.times-prime.ensures
+returns c = c.times_prime.ensures
 
 pub fnv_step_spec : {M : Type 1} → statement M
-fnv_step_spec = tie.close (tie.spec times-prime-requires returns)
+fnv_step_spec = tie.close (tie.spec
+    times-prime-requires
+    returns)

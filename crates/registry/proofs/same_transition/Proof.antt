@@ -6,22 +6,25 @@ use Rattle.registry.proofs.same_transition.Reads as reads
 use Rattle.registry.proofs.same_transition.Lts as lts
 
 -- src/lib.rt:74:1
-returns : tie.Need-returns
+returns : tie.Need-returns-then-t-out
 returns c =
     let a = c.before.before.before.before.before.args in
-    rw (eq-eqb a.t.inp a.inp c.before.before.before.if1.true, eq-eqb a.t.out a.out c.before.if2.true)
+    rw (eq-eqb a.t.inp a.inp c.before.before.before.if-t-inp.true, eq-eqb a.t.out a.out c.before.if-t-out.true)
 
 -- src/lib.rt:74:1
-returns-2 : tie.Need-returns-2
+returns-2 : tie.Need-returns-else-t-out
 returns-2 c =
     let a = c.before.before.before.before.args in
-    rw (eq-eqb a.t.inp a.inp c.before.before.if1.true, ne_eqb a.t.out a.out c.if2.false)
+    rw (eq-eqb a.t.inp a.inp c.before.before.if-t-inp.true, ne_eqb a.t.out a.out c.if-t-out.false)
 
 -- src/lib.rt:74:1
-returns-3 : tie.Need-returns-3
+returns-3 : tie.Need-returns-else-t-inp
 returns-3 c =
     let a = c.before.before.args in
-    rw (ne_eqb a.t.inp a.inp c.if1.false)
+    rw (ne_eqb a.t.inp a.inp c.if-t-inp.false)
 
 pub same_transition_spec : {M : Type 1} → statement M
-same_transition_spec = tie.close (tie.spec returns returns-2 returns-3)
+same_transition_spec = tie.close (tie.spec
+    returns
+    returns-2
+    returns-3)

@@ -14,112 +14,112 @@ use Rattle.registry.proofs.same_transitions.Lts as lts
 use Rattle.node.proofs.transition.Reads as transition_reads
 use Rattle.registry.proofs.same_transition.Reads as same_transition_reads
 
-abbrev invariant-loop : tie.invariant-loop
-invariant-loop file node inputs outputs targets n i₀ i =
+abbrev invariant-loop-i : tie.invariant-loop-i
+invariant-loop-i file node inputs outputs targets n i₀ i =
     (n ≡ node.ntrans) × (length inputs ≡ n) × Compared (transitions_in file node) (transitions_of inputs outputs targets) i
 
-abbrev decreases-loop : tie.decreases-loop
-decreases-loop file node inputs outputs targets n i₀ i = n - i
+abbrev decreases-loop-i : tie.decreases-loop-i
+decreases-loop-i file node inputs outputs targets n i₀ i = n - i
 
-abbrev start : tie.At-loop invariant-loop decreases-loop → tie.Start invariant-loop decreases-loop
+abbrev start : tie.At-loop-i invariant-loop-i decreases-loop-i → tie.Start invariant-loop-i decreases-loop-i
 start q = q.before.before.before.before.before.before
 
-abbrev transitions : tie.Start invariant-loop decreases-loop → List Transition
+abbrev transitions : tie.Start invariant-loop-i decreases-loop-i → List Transition
 transitions s = transitions_in s.args.file.now s.args.node
 
-count : (s : tie.Start invariant-loop decreases-loop) → length (transitions s) ≡ s.args.node.ntrans
+count : (s : tie.Start invariant-loop-i decreases-loop-i) → length (transitions s) ≡ s.args.node.ntrans
 count s = length_node_transitions s.args.file.now s.args.node s.requires.0
 
 -- rows of different lengths
-returns : tie.Need-returns invariant-loop decreases-loop
+returns : tie.Need-returns-then-inputs-n invariant-loop-i decreases-loop-i
 returns c =
     let s = c.before.before.before.before.before in
     let a = s.args in
     sym (lengths_differ (transitions s) (transitions_of a.inputs.now a.outputs.now a.targets.now)
-    (λ e. c.if1.true (sym (length_transitions_of a.inputs.now a.outputs.now a.targets.now s.requires.1 s.requires.2) ∙ sym e ∙ count s)))
+    (λ e. c.if-inputs-n.true (sym (length_transitions_of a.inputs.now a.outputs.now a.targets.now s.requires.1 s.requires.2) ∙ sym e ∙ count s)))
 
 -- src/lib.rt:99:5
-loop-holds : tie.Need-loop-init invariant-loop decreases-loop
+loop-holds : tie.Need-loop-i-init invariant-loop-i decreases-loop-i
 loop-holds c =
     let s = c.before.before.before.before.before in
     let a = s.args in
-    (refl, c.if1.false, compared_none (transitions s) a.inputs.now a.outputs.now a.targets.now s.requires.1 s.requires.2 (c.if1.false ∙ sym (count s)))
+    (refl, c.if-inputs-n.false, compared_none (transitions s) a.inputs.now a.outputs.now a.targets.now s.requires.1 s.requires.2 (c.if-inputs-n.false ∙ sym (count s)))
 
 -- src/lib.rt:100:13
-transition-requires : tie.Need-transition-requires invariant-loop decreases-loop
+transition-requires : tie.Need-transition-t-requires invariant-loop-i decreases-loop-i
 transition-requires c κs = search rules
 
 -- src/lib.rt:101:31
-shared-slice-read-same-transition : tie.Need-shared-slice-read-same-transition invariant-loop decreases-loop
+shared-slice-read-same-transition : tie.Need-bounds-inputs-i invariant-loop-i decreases-loop-i
 shared-slice-read-same-transition c = search rules
 
 -- src/lib.rt:101:42
-mul-same-transition : tie.Need-overflow-mul-same-transition invariant-loop decreases-loop
+mul-same-transition : tie.Need-offset_bounds-outputs-i invariant-loop-i decreases-loop-i
 mul-same-transition c = search rules
 
 -- src/lib.rt:101:42
-shared-slice-read-same-transition-2 : tie.Need-shared-slice-read-same-transition-2 invariant-loop decreases-loop
+shared-slice-read-same-transition-2 : tie.Need-bounds-outputs-i invariant-loop-i decreases-loop-i
 shared-slice-read-same-transition-2 c = search rules
 
 -- src/lib.rt:101:54
-mul-same-transition-2 : tie.Need-overflow-mul-same-transition-2 invariant-loop decreases-loop
+mul-same-transition-2 : tie.Need-offset_bounds-targets-i invariant-loop-i decreases-loop-i
 mul-same-transition-2 c = search rules
 
 -- src/lib.rt:101:54
-shared-slice-read-same-transition-3 : tie.Need-shared-slice-read-same-transition-3 invariant-loop decreases-loop
+shared-slice-read-same-transition-3 : tie.Need-bounds-targets-i invariant-loop-i decreases-loop-i
 shared-slice-read-same-transition-3 c = search rules
 
 -- src/lib.rt:101:12
-same-transition-requires : tie.Need-same-transition-requires invariant-loop decreases-loop
+same-transition-requires : tie.Need-same_transition-requires invariant-loop-i decreases-loop-i
 same-transition-requires c κs = search rules
 
 -- src/lib.rt:102:13
-returns-2 : tie.Need-returns-2 invariant-loop decreases-loop
+returns-2 : tie.Need-returns-else-same_transition invariant-loop-i decreases-loop-i
 returns-2 c =
     let compared = c.before in
     let turn = compared.before.before.before.before.before in
     let loop = turn.before in
     let s = start loop in
     let a = s.args in
-    compared_differ (transitions s) a.inputs.now a.outputs.now a.targets.now s.pre.1 s.pre.2 (loop.loop.invariant.1 ∙ loop.loop.invariant.0 ∙ sym (count s))
-    loop.loop.i (omega (arith, count s, loop.loop.invariant.0)) _ compared.before.before.before.before.transition.ensures _ compared.same_transition.ensures loop.loop.invariant.2 c.if2.false
+    compared_differ (transitions s) a.inputs.now a.outputs.now a.targets.now s.requires.1 s.requires.2 (loop.loop-i.invariant.1 ∙ loop.loop-i.invariant.0 ∙ sym (count s))
+    loop.loop-i.i (omega (arith, count s, loop.loop-i.invariant.0)) _ compared.before.before.before.before.transition-t.ensures _ compared.same_transition.ensures loop.loop-i.invariant.2 c.if-same_transition.false
 
 -- src/lib.rt:104:9
-add-i : tie.Need-overflow-add-i invariant-loop decreases-loop
+add-i : tie.Need-overflow_add-i invariant-loop-i decreases-loop-i
 add-i c = search rules
 
 -- src/lib.rt:99:5
-loop-less : tie.Need-loop-smaller invariant-loop decreases-loop
+loop-less : tie.Need-loop-i-smaller invariant-loop-i decreases-loop-i
 loop-less c = search rules
 
 -- src/lib.rt:99:5
-loop-again : tie.Need-loop-preserved invariant-loop decreases-loop
+loop-again : tie.Need-loop-i-preserved invariant-loop-i decreases-loop-i
 loop-again c =
     let compared = c.before in
     let turn = compared.before.before.before.before.before in
     let loop = turn.before in
     let s = start loop in
     let a = s.args in (
-      loop.loop.invariant.0,
-      loop.loop.invariant.1,
-      compared_step (transitions s) a.inputs.now a.outputs.now a.targets.now s.pre.1 s.pre.2 (loop.loop.invariant.1 ∙ loop.loop.invariant.0 ∙ sym (count s))
-          loop.loop.i (omega (arith, count s, loop.loop.invariant.0)) _ compared.before.before.before.before.transition.ensures _ compared.same_transition.ensures loop.loop.invariant.2 c.if2.true,
+      loop.loop-i.invariant.0,
+      loop.loop-i.invariant.1,
+      compared_step (transitions s) a.inputs.now a.outputs.now a.targets.now s.requires.1 s.requires.2 (loop.loop-i.invariant.1 ∙ loop.loop-i.invariant.0 ∙ sym (count s))
+          loop.loop-i.i (omega (arith, count s, loop.loop-i.invariant.0)) _ compared.before.before.before.before.transition-t.ensures _ compared.same_transition.ensures loop.loop-i.invariant.2 c.if-same_transition.true,
     )
 
 -- src/lib.rt:81:1
-returns-3 : tie.Need-returns-3 invariant-loop decreases-loop
+returns-3 : tie.Need-returns invariant-loop-i decreases-loop-i
 returns-3 c =
     let loop = c.before in
     let s = start loop in
     let a = s.args in
-    compared_all (transitions s) a.inputs.now a.outputs.now a.targets.now s.pre.1 s.pre.2 (loop.loop.invariant.1 ∙ loop.loop.invariant.0 ∙ sym (count s)) loop.loop.i (omega (arith, count s, loop.loop.invariant.0)) loop.loop.invariant.2
+    compared_all (transitions s) a.inputs.now a.outputs.now a.targets.now s.requires.1 s.requires.2 (loop.loop-i.invariant.1 ∙ loop.loop-i.invariant.0 ∙ sym (count s)) loop.loop-i.i (omega (arith, count s, loop.loop-i.invariant.0)) loop.loop-i.invariant.2
 
 pub same_transitions_spec : {M : Type 1} → statement M
 same_transitions_spec =
     tie.close
     (tie.spec
-    invariant-loop
-    decreases-loop
+    invariant-loop-i
+    decreases-loop-i
     returns
     loop-holds
     transition-requires

@@ -8,51 +8,51 @@ use borrow.Author.Rules.{rules}
 use Rattle.replay_node.proofs.outputs_of.Statement.{statement}
 use Rattle.replay_node.proofs.outputs_of.Tie as tie
 
-abbrev invariant-loop : tie.invariant-loop
-invariant-loop node n outputs₀ i₀ outputs i = (258 ≡ length outputs) × (i ≤ n)
+abbrev invariant-loop-i : tie.invariant-loop-i
+invariant-loop-i node n outputs₀ i₀ outputs i = (258 ≡ length outputs) × (i ≤ n)
 
-abbrev decreases-loop : tie.decreases-loop
-decreases-loop node n outputs₀ i₀ outputs i = n - i
+abbrev decreases-loop-i : tie.decreases-loop-i
+decreases-loop-i node n outputs₀ i₀ outputs i = n - i
 
-loop-holds : tie.Need-loop-init invariant-loop decreases-loop
+loop-holds : tie.Need-loop-i-init invariant-loop-i decreases-loop-i
 loop-holds c = search rules
 
-add-number : tie.Need-overflow-add-number invariant-loop decreases-loop
+add-number : tie.Need-overflow_add-n invariant-loop-i decreases-loop-i
 add-number c = search rules
 
-mul-number : tie.Need-overflow-mul-number invariant-loop decreases-loop
+mul-number : tie.Need-overflow_mul-i invariant-loop-i decreases-loop-i
 mul-number c = search rules
 
-add-number-2 : tie.Need-overflow-add-number-2 invariant-loop decreases-loop
+add-number-2 : tie.Need-overflow_add-n-in-loop-i invariant-loop-i decreases-loop-i
 add-number-2 c = search rules
 
-number-requires : tie.Need-number-requires invariant-loop decreases-loop
+number-requires : tie.Need-number-requires invariant-loop-i decreases-loop-i
 number-requires c κs = search rules
 
-mul-outputs : tie.Need-overflow-mul-outputs invariant-loop decreases-loop
+mul-outputs : tie.Need-offset_bounds-outputs-i invariant-loop-i decreases-loop-i
 mul-outputs c = search rules
 
-array-write-outputs : tie.Need-array-write-outputs invariant-loop decreases-loop
+array-write-outputs : tie.Need-bounds-outputs-i invariant-loop-i decreases-loop-i
 array-write-outputs c = search rules
 
-add-i : tie.Need-overflow-add-i invariant-loop decreases-loop
+add-i : tie.Need-overflow_add-i invariant-loop-i decreases-loop-i
 add-i c = search rules
 
-loop-less : tie.Need-loop-smaller invariant-loop decreases-loop
+loop-less : tie.Need-loop-i-smaller invariant-loop-i decreases-loop-i
 loop-less c = search rules
 
-loop-again : tie.Need-loop-preserved invariant-loop decreases-loop
+loop-again : tie.Need-loop-i-preserved invariant-loop-i decreases-loop-i
 loop-again c = search rules
 
-returns : tie.Need-returns invariant-loop decreases-loop
+returns : tie.Need-returns invariant-loop-i decreases-loop-i
 returns c = search rules
 
 pub outputs_of_spec : {M : Type 1} → statement M
 outputs_of_spec =
     tie.close
     (tie.spec
-    invariant-loop
-    decreases-loop
+    invariant-loop-i
+    decreases-loop-i
     loop-holds
     add-number
     mul-number

@@ -7,54 +7,54 @@ use native.Mathlib.Omega.{arith}
 use Rattle.replay_node.proofs.packed.Statement.{statement}
 use Rattle.replay_node.proofs.packed.Tie as tie
 
-add-end : tie.Need-overflow-add-end
+add-end : tie.Need-overflow_add-end
 add-end c = search rules
 
-number-requires : tie.Need-number-requires
+number-requires : tie.Need-number-is_final-requires
 number-requires c κs = search rules
 
-number-requires-2 : tie.Need-number-requires-2
+number-requires-2 : tie.Need-number-final_output-requires
 number-requires-2 c κs = search rules
 
-number-requires-3 : tie.Need-number-requires-3
+number-requires-3 : tie.Need-number-first-requires
 number-requires-3 c κs = search rules
 
-outputs-of-requires : tie.Need-outputs-of-requires
+outputs-of-requires : tie.Need-outputs_of-outputs-requires
 outputs-of-requires c κs = search rules
 
-targets-of-requires : tie.Need-targets-of-requires
+targets-of-requires : tie.Need-targets_of-targets-requires
 targets-of-requires c κs = search rules
 
-sub-compile : tie.Need-overflow-sub-compile
+sub-compile : tie.Need-slice_bounds-compile-count
 sub-compile c = search rules
 
-part-compile-start : tie.Need-slice-bounds-compile-start
+part-compile-start : tie.Need-slice_bounds-compile-start
 part-compile-start c = search rules
 
-part-compile-end : tie.Need-slice-bounds-compile-end
+part-compile-end : tie.Need-slice_bounds-compile-end
 part-compile-end c = search rules
 
-array-share-prefix-outputs : tie.Need-array-share-prefix-outputs
+array-share-prefix-outputs : tie.Need-slice_bounds-outputs-end
 array-share-prefix-outputs c = search rules
 
 -- no more outputs are lent than there are
-slice-aggregate-compile : tie.Need-slice-aggregate-compile
+slice-aggregate-compile : tie.Need-slice_bounds-compile-end-2
 slice-aggregate-compile c = sym (length-take-le _ _ (omega arith))
 
-array-share-prefix-targets : tie.Need-array-share-prefix-targets
+array-share-prefix-targets : tie.Need-slice_bounds-targets-end
 array-share-prefix-targets c = search rules
 
 -- no more targets are lent than there are
-slice-aggregate-compile-2 : tie.Need-slice-aggregate-compile-2
+slice-aggregate-compile-2 : tie.Need-slice_bounds-compile-end-3
 slice-aggregate-compile-2 c = sym (length-take-le _ _ (omega arith))
 
 compile-requires : tie.Need-compile-requires
 compile-requires c κs = search rules
 
-answer-number-requires : tie.Need-answer-number-requires
+answer-number-requires : tie.Need-answer_number-requires
 answer-number-requires c κs = search rules
 
-same_length : tie.Need-same-length
+same_length : tie.Need-shape_of-out
 same_length c = search rules
 
 returns : tie.Need-returns

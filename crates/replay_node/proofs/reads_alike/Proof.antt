@@ -7,56 +7,56 @@ use native.Mathlib.Omega.{arith}
 use Rattle.replay_node.proofs.reads_alike.Statement.{statement}
 use Rattle.replay_node.proofs.reads_alike.Tie as tie
 
-returns : tie.Need-returns
+returns : tie.Need-returns-then-entry-lt24
 returns c = search rules
 
 number-requires : tie.Need-number-requires
 number-requires c κs = search rules
 
-at-most-requires : tie.Need-at-most-requires
+at-most-requires : tie.Need-at_most-laid-requires
 at-most-requires c κs = search rules
 
-sub-if2 : tie.Need-overflow-sub-if2
+sub-if2 : tie.Need-overflow_sub-laid
 sub-if2 c = search rules
 
-returns-2 : tie.Need-returns-2
+returns-2 : tie.Need-returns-then-laid-len
 returns-2 c = search rules
 
-add-number : tie.Need-overflow-add-number
+add-number : tie.Need-overflow_add-part
 add-number c = search rules
 
-number-requires-2 : tie.Need-number-requires-2
+number-requires-2 : tie.Need-number-root-requires
 number-requires-2 c κs = search rules
 
-add-number-2 : tie.Need-overflow-add-number-2
+add-number-2 : tie.Need-overflow_add-part-2
 add-number-2 c = search rules
 
-number-requires-3 : tie.Need-number-requires-3
+number-requires-3 : tie.Need-number-addr-requires
 number-requires-3 c κs = search rules
 
-add-end : tie.Need-overflow-add-end
+add-end : tie.Need-overflow_add-end
 add-end c = search rules
 
-add-lay : tie.Need-overflow-add-lay
+add-lay : tie.Need-overflow_add-part-3
 add-lay c = search rules
 
-slice-aggregate-lay : tie.Need-slice-aggregate-lay
+slice-aggregate-lay : tie.Need-slice_bounds-lay-end
 slice-aggregate-lay c = search rules
 
 lay-requires : tie.Need-lay-requires
 lay-requires c κs = search rules
 
-array-share-prefix-file : tie.Need-array-share-prefix-file
+array-share-prefix-file : tie.Need-slice_bounds-file-end
 array-share-prefix-file c = search rules
 
 -- the node ends within the file
-slice-aggregate-versions-alike : tie.Need-slice-aggregate-versions-alike
+slice-aggregate-versions-alike : tie.Need-slice_bounds-versions_alike-end
 slice-aggregate-versions-alike c = sym (length-take-le _ _ (omega arith))
 
-versions-alike-requires : tie.Need-versions-alike-requires
+versions-alike-requires : tie.Need-versions_alike-requires
 versions-alike-requires c κs = search rules
 
-returns-3 : tie.Need-returns-3
+returns-3 : tie.Need-returns
 returns-3 c = search rules
 
 pub reads_alike_spec : {M : Type 1} → statement M
