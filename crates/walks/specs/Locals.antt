@@ -9,7 +9,7 @@ use mir.Syntax.{Ty, ty_array, assign, place, addr_of, repeat}
 use mir.Val.{WT, has_ty, vptr}
 use prog.Wp.{spot_of}
 use types.Logic.{Logic}
-use Rattle.std.specs.Borrow.{RattleType, Bor, Array}
+use Rattle.std.specs.Borrow.{RattleType, MutBor, Array}
 use denote.Laws.{Is, Lawful, Copy, Makes}
 use denote.Memory.{lone}
 use borrow.Table.Row.{Cx, St, get_row, get_life, out, dead}
@@ -47,7 +47,7 @@ lends_local {K} {L} {Γ} R nx nr β τ h side ty = record {
       t_sc_borrow 𝓛 (EnvOf 𝓛 L bs) 𝓣 Γ nx nr β R τ h s.0 s.1 s.2 ty;
 }
 
-abbrev pub backs_local : {L : List Ty} {Γ : Cx} (R : RattleType) (nr nx β : ℕ) (τ : Ty) (ref : (ent₁ Γ nr nx).1.Mod → Bor R.Denot) (due : (ent₂ Γ nr nx).1.Mod → ℕ)
+abbrev pub backs_local : {L : List Ty} {Γ : Cx} (R : RattleType) (nr nx β : ℕ) (τ : Ty) (ref : (ent₁ Γ nr nx).1.Mod → MutBor R.Denot) (due : (ent₂ Γ nr nx).1.Mod → ℕ)
     → ((M : Type 1) (𝓤 : Ura M) (𝓛 : Logic 𝓤) → As 𝓛 (ent₁ Γ nr nx).1 (mleft R τ) ref × As 𝓛 (ent₂ Γ nr nx).1 (sc_owed R β) due)
     → get_life β Γ.slots ≡ dead → Turns L Γ (AfterBack Γ nr nx β τ (whole R))
 backs_local {L} {Γ} R nr nx β τ ref due side e = record {

@@ -9,7 +9,7 @@ use Rattle.std.specs.Prelude.{◌≡◌, refl, List, [], ◌∷◌, ℕ}
 use seplogic.Ra.Ura.{Ura}
 use mir.Syntax.{Ty, Home, Body}
 use prog.Model.{Model}
-use prog.Routine.{Name, Routine}
+use prog.Routine.{Callee, Routine}
 use prog.Routine as routine
 use prog.Wp.{Closed}
 use base.Logic.{sep, emp, id⊢, via, mono_r}
@@ -49,7 +49,7 @@ module _ (K : Knows) (n : ℕ) (ps : List (ParamKind n)) (r : ResultKind n) (xs 
   Shown Pre Post = (κs : Lfts n) (qs : Shares n) (a : Dens κs ps) → GoodsP κs ps a → Pre κs a → (walk κs qs).Φ (want_q n ps r xs m κs qs a (Post κs a)) (init n ps r xs m κs qs a)
 
   module _ (Pre : In n ps) (Post : Out n ps r) (shown : Shown Pre Post) {M : Type 1} {𝓤 : Ura M} (𝓛 : Logic 𝓤) (𝓜 : Model 𝓤 𝓛.H) (𝓡 : Running 𝓤 𝓛.H 𝓜) (γ : routine.Env)
-      (k : Name) (closed : Closed 𝓤 𝓛.H (tables 𝓤 𝓛.H 𝓜 𝓡 γ).C (tables 𝓤 𝓛.H 𝓜 𝓡 γ).Λ k (fn_of n ps r xs m hs body)) (told : K M 𝓤 𝓛 (Over 𝓛 𝓜 𝓡 γ)) where
+      (k : Callee) (closed : Closed 𝓤 𝓛.H (tables 𝓤 𝓛.H 𝓜 𝓡 γ).C (tables 𝓤 𝓛.H 𝓜 𝓡 γ).Λ k (fn_of n ps r xs m hs body)) (told : K M 𝓤 𝓛 (Over 𝓛 𝓜 𝓡 γ)) where
     open 𝓛 use {H}
 
     plain : Triple 𝓤 (𝓡.run (γ k)) (plain_of 𝓛 n ps r Pre Post)
@@ -89,7 +89,7 @@ module _ (n : ℕ) (ps : List (ParamKind n)) (r : ResultKind n) (Post : Out n ps
   read_left : (κs : Lfts n) (a : ArgsD Sg κs) (g : Unit {0}) (z : ResD Sg κs) (e : AtExit (ended_of n ps r) κs) → Read (Base n ps r no_pin_at κs a) (no_own_at κs z e) (left κs a g z e)
   read_left κs a g z e = all_models (λ w. fact w.𝓤 (Post κs a z e)) (λ w. r_last (Post κs a z e)) (λ w. refl) (λ w. refl) (λ w. refl)
 
-  pub known : (Pre : In n ps) (w : World) (γ : routine.Env) (k : Name) (ρ : Routine) → γ k ≡ ρ
+  pub known : (Pre : In n ps) (w : World) (γ : routine.Env) (k : Callee) (ρ : Routine) → γ k ≡ ρ
       → Meets w.𝓛 (ended_of n ps r).signature (w.𝓡.run ρ) (closing w.𝓛 (ended_of n ps r) (plain_spec w.𝓤 n ps r Pre Post))
       → Known w.𝓛 (Over w.𝓛 w.𝓜 w.𝓡 γ) n ps r Pre Post k
   unfolding read_left
@@ -98,7 +98,7 @@ module _ (n : ℕ) (ps : List (ParamKind n)) (r : ResultKind n) (Post : Out n ps
       (λ κs a g. all_models (λ w'. fact w'.𝓤 (Pre κs a)) (λ w'. r_last (Pre κs a)) (λ w'. refl) (λ w'. refl) (λ w'. refl)) no_pin_at no_own_at read_left w γ k ρ same (λ κs a. tt)
       (λ κs a. id⊢ w.𝓤 (emp w.𝓤)) (λ κs a z ws ft p. tt) (λ κs. no_pins Sg κs w) met
 
-  pub known_free : (w : World) (γ : routine.Env) (k : Name) (ρ : Routine) → γ k ≡ ρ
+  pub known_free : (w : World) (γ : routine.Env) (k : Callee) (ρ : Routine) → γ k ≡ ρ
       → Meets w.𝓛 (ended_of n ps r).signature (w.𝓡.run ρ) (closing w.𝓛 (ended_of n ps r) (free_spec w.𝓤 n ps r Post))
       → Known w.𝓛 (Over w.𝓛 w.𝓜 w.𝓡 γ) n ps r (λ κs a. Unit {0}) Post k
   unfolding read_left
