@@ -53,7 +53,7 @@ any-fit-requires c κs = let call = c.before in (at_form call, rw (← call.smal
 
 -- any number of transitions
 returns-5 : tie.Need-returns-then-state-lt128
-returns-5 c = c.any_Fit.ensures
+returns-5 c = c.any_fit.ensures
 
 -- the range is tested, and the state is from 128 to 191
 one-fit-requires : tie.Need-one_fit-requires

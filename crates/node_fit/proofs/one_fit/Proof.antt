@@ -17,7 +17,7 @@ one-choice-requires c κs =
 
 -- a sound node
 returns : tie.Need-returns-then-one_sound
-returns c = c.one_Choice.ensures
+returns c = c.one_choice.ensures
 
 -- the test said that it is not
 returns-2 : tie.Need-returns

@@ -149,7 +149,7 @@ any-way-requires c κs =
 returns-5 : tie.Need-returns
 returns-5 c =
     let q = c.before.before.before.before.before.before.before.before in
-    step_yes (file q) (start q).args.version (start q).args.root (addr q) (start q).args.b _ c.any_Way.result (judged_at q (sound_at c.before)) c.any_Way.ensures
+    step_yes (file q) (start q).args.version (start q).args.root (addr q) (start q).args.b _ c.any_way.result (judged_at q (sound_at c.before)) c.any_way.ensures
 
 pub any_step_spec : {M : Type 1} → statement M
 any_step_spec =

@@ -17,7 +17,7 @@ next-way-requires c κs =
 
 -- a sound node
 returns : tie.Need-returns-then-next_sound
-returns c = c.next_Way.ensures
+returns c = c.next_way.ensures
 
 -- the test said that it is not
 returns-2 : tie.Need-returns

@@ -66,10 +66,7 @@ loop-again c =
     let a = c.before.before.before.before.before.before.args in
     let below = c.before.before.loop-j-test.true in
     let is = c.before.goes_before.ensures in
-    ⊎_elim
-    (λ w. rw (w.1, w.2, w.3, w.4, w.5) (placing_put a.value a.file a.pairs.count a.pairs.values a.pairs.files l.values l.files l.v l.f l.found l.j l.invariant below (sym is ∙ w.0.taken)))
-    (λ w. rw (w.1, w.2, w.3, w.4, w.5) (placing_pass a.value a.file a.pairs.count a.pairs.values a.pairs.files l.values l.files l.v l.f l.found l.j l.invariant below (sym is ∙ w.0.left)))
-    c.if-goes_before.branch
+    (elim c.if-goes_before.branch [ lts.then-goes_before w ↦ rw (w.values-is, w.files-is, w.v-is, w.f-is, w.found-is) (placing_put a.value a.file a.pairs.count a.pairs.values a.pairs.files l.values l.files l.v l.f l.found l.j l.invariant below (sym is ∙ w.if-goes_before.true)) | lts.else-goes_before w ↦ rw (w.values-is, w.files-is, w.v-is, w.f-is, w.found-is) (placing_pass a.value a.file a.pairs.count a.pairs.values a.pairs.files l.values l.files l.v l.f l.found l.j l.invariant below (sym is ∙ w.if-goes_before.false)) ])
 
 -- src/lib.rt:69:5
 mul-values-2 : tie.Need-offset_bounds-values-n invariant-loop-j decreases-loop-j

@@ -6,22 +6,22 @@ use native.Mathlib.Omega.{arith}
 use Rattle.pack_intern.proofs.put_row.Statement.{statement}
 use Rattle.pack_intern.proofs.put_row.Tie as tie
 
-mul-first : tie.Need-overflow-mul-first
+mul-first : tie.Need-offset_bounds-cells-i
 mul-first c = search rules
 
-slice-set-from-first : tie.Need-slice-set-from-first
+slice-set-from-first : tie.Need-bounds-cells-i
 slice-set-from-first c = search rules
 
-add-second : tie.Need-overflow-add-second
+add-second : tie.Need-overflow_add-second
 add-second c = search rules
 
-mul-second : tie.Need-overflow-mul-second
+mul-second : tie.Need-offset_bounds-cells-i-2
 mul-second c = search rules
 
-slice-set-from-second : tie.Need-slice-set-from-second
+slice-set-from-second : tie.Need-bounds-cells-i-2
 slice-set-from-second c = search rules
 
-same_length : tie.Need-same-length
+same_length : tie.Need-shape_of-cells
 same_length c = search rules
 
 returns : tie.Need-returns

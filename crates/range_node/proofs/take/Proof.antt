@@ -17,13 +17,15 @@ file_of q = let a = q.args in fst_with a.file.now a.version a.root
 abbrev start : Begun → tie.Start
 start w = w.before.before
 
-sound : (w : Begun) → SoundAt (start w).args.file.now (start w).args.version (start w).args.root (start w).args.addr
-sound w =
-    let q = start w in
+sound_at : (q : tie.Start) → SoundAt q.args.file.now q.args.version q.args.root q.args.addr
+sound_at q =
     sound_of (file_of q) q.args.addr q.requires.is (not_zero (file_of q) q.args.addr q.requires.is q.args.i q.requires.has)
 
+sound : (w : Begun) → SoundAt (start w).args.file.now (start w).args.version (start w).args.root (start w).args.addr
+sound w = sound_at (start w)
+
 shared-slice-read-small : tie.Need-bounds-file-addr
-shared-slice-read-small c = (sound c).inside
+shared-slice-read-small c = (sound_at c.before.before).inside
 
 small-requires : tie.Need-small-state-requires
 small-requires c κs = search rules

@@ -6,7 +6,7 @@ use Rattle.replay_node.proofs.node_alike.Statement.{statement}
 use Rattle.replay_node.proofs.node_alike.Tie as tie
 
 -- a node that judging answered can be read
-readable : (q : tie.In-Sound-2)
+readable : (q : tie.In-Sound)
     → Readable q.before.before.before.before.before.args.file.now q.in-Sound.read
 readable q = q.before.before.node_at.ensures.readable q.in-Sound.read q.in-Sound.is
 

@@ -18,14 +18,14 @@ abbrev decreases-loop-at : tie.decreases-loop-at
 decreases-loop-at list counts₀ place₀ at₀ counts place at = length list - at
 
 -- the list, and the place where the record was parsed
-abbrev listed : tie.In-Good-2 invariant-loop-at decreases-loop-at → List ℕ
+abbrev listed : tie.In-Good invariant-loop-at decreases-loop-at → List ℕ
 listed q = q.before.before.before.before.before.args.list.now
 
-abbrev placed : tie.In-Good-2 invariant-loop-at decreases-loop-at → ℕ
+abbrev placed : tie.In-Good invariant-loop-at decreases-loop-at → ℕ
 placed q = q.before.before.before.loop-at.at
 
 -- the record lies in the list, past that place
-found : (q : tie.In-Good-2 invariant-loop-at decreases-loop-at) → Found (listed q) (placed q) q.in-Good.entry
+found : (q : tie.In-Good invariant-loop-at decreases-loop-at) → Found (listed q) (placed q) q.in-Good.entry
 found q = parsed_found (sym q.before.parse.ensures ∙ q.in-Good.is)
 
 -- and so does what it is about

@@ -22,10 +22,10 @@ use Rattle.stream_seek.proofs.enter.Tie as tie
 -- ---- what is known where the node is read, and where the byte's place is found
 
 abbrev At : Type 0
-At = tie.After-known-told
+At = tie.In-Sound
 
 abbrev start : At → tie.Start
-start q = q.before.before.before.before.before
+start q = q.before.before.before
 
 abbrev file : At → List ℕ
 file q = (start q).args.file.now
@@ -40,31 +40,31 @@ abbrev b : At → ℕ
 b q = (start q).args.b
 
 abbrev m : At → Node
-m q = q.before.m.given.0.0
+m q = q.in-Sound.m
 
 node_is : (q : At) → node_in (f q) (addr q) ≡ sound (meaning (file q) (m q))
-node_is q = answer_sound q.before.before.before.node_at.ensures (m q) q.before.m.given.1
+node_is q = answer_sound q.before.node_at.ensures (m q) q.in-Sound.is
 
 readable : (q : At) → Readable (file q) (m q)
-readable q = q.before.before.before.node_at.ensures.readable (m q) q.before.m.given.1
+readable q = q.before.node_at.ensures.readable (m q) q.in-Sound.is
 
 bytes : (q : At) → (j : ℕ) → get_or (file q) j 0 < 256
-bytes q j = (q.before.before.before.before.shared-slice-known.given j).fits
+bytes q j = (q.before.before.shared_slice_known-1.given j).fits
 
 count : (q : At) → (m q).ntrans ≤ 256
 count q = omega (arith, node_count (f q) (addr q) (meaning (file q) (m q)) (node_is q) (bytes q), length_node_transitions (file q) (m q) (readable q))
 
 abbrev Found_at : Type 0
-Found_at = tie.After-known-told3
+Found_at = tie.In-At
 
 abbrev q_of : Found_at → At
-q_of w = w.before.before.before.before
+q_of w = w.before.before
 
 abbrev p : Found_at → ℕ
-p w = w.before.found2.given.0.0
+p w = w.in-At.p
 
 place : (w : Found_at) → find_input (transitions_in (file (q_of w)) (m (q_of w))) (b (q_of w)) ≡ Search.at (p w)
-place w = search_is_lem _ w.before.before.before.find-input.result w.before.before.before.find-input.ensures (p w) w.before.found2.given.1
+place w = search_is_lem _ w.before.find_input-found.result w.before.find_input-found.ensures (p w) w.in-At.is
 
 place_low : (w : Found_at) → p w < (m (q_of w)).ntrans
 place_low w = place_lt (file (q_of w)) (m (q_of w)) (readable (q_of w)) (b (q_of w)) (p w) (place w)
@@ -75,75 +75,75 @@ low w = place_fits (f (q_of w)) (addr (q_of w)) (meaning (file (q_of w)) (m (q_o
 target : (w : Found_at) → (transition_at (transitions_in (file (q_of w)) (m (q_of w))) (p w)).addr < (start (q_of w)).args.root
 target w = target_fits (f (q_of w)) (addr (q_of w)) (meaning (file (q_of w)) (m (q_of w))) (node_is (q_of w)) (b (q_of w)) (p w) (place w)
 
-node-at-requires : tie.Need-node-at-requires
+node-at-requires : tie.Need-node_at-requires
 node-at-requires c κs = search rules
 
-enum-known-m : tie.Need-enum-known-m
+enum-known-m : tie.Need-enum_known-m
 enum-known-m c = search rules
 
-enum_told : tie.Need-enum-told
+enum_told : tie.Need-enum_told-1
 enum_told c = search rules
 
 -- the node is not sound
-returns : tie.Need-returns
-returns c = let call = c.before.before in
+returns : tie.Need-returns-in_default
+returns c = let call = c.before in
     let a = call.before.before.args in
-    (sym (enter_unsound (fst_with a.file.now a.version a.root) a.addr a.b (answer_unsound call.node_at.ensures c.enum_told.given.1)), omega arith)
+    (sym (enter_unsound (fst_with a.file.now a.version a.root) a.addr a.b (answer_unsound call.node_at.ensures c.in_default.is)), omega arith)
 
 -- the judged node can be read
-find-input-requires : tie.Need-find-input-requires
+find-input-requires : tie.Need-find_input-found-requires
 find-input-requires c κs = readable c
 
-enum-known-found : tie.Need-enum-known-found
+enum-known-found : tie.Need-enum_known-found
 enum-known-found c = search rules
 
-enum-known-found-2 : tie.Need-enum-known-found-2
+enum-known-found-2 : tie.Need-enum_known-found-in-At-1
 enum-known-found-2 c = search rules
 
 -- ---- the byte is absent
 
 abbrev Gone-at : Type 0
-Gone-at = tie.After-known-told2
+Gone-at = tie.In-Absent
 
 abbrev g_of : Gone-at → At
-g_of w = w.before.before.before.before
+g_of w = w.before.before
 
 abbrev g : Gone-at → ℕ
-g w = w.before.found.given.0.0
+g w = w.in-Absent.p
 
 gone : (w : Gone-at) → find_input (transitions_in (file (g_of w)) (m (g_of w))) (b (g_of w)) ≡ Search.absent (g w)
-gone w = search_gone _ w.before.before.before.find-input.result w.before.before.before.find-input.ensures (g w) w.before.found.given.1
+gone w = search_gone _ w.before.find_input-found.result w.before.find_input-found.ensures (g w) w.in-Absent.is
 
 gone_low : (w : Gone-at) → g w ≤ 256
 gone_low w = omega (arith, gone_le (file (g_of w)) (m (g_of w)) (readable (g_of w)) (b (g_of w)) (g w) (gone w), count (g_of w))
 
 -- a node has at most 256 transitions, so the place fits in 16 bits
-cast-t16 : tie.Need-overflow-cast-t16
+cast-t16 : tie.Need-overflow_cast-result
 cast-t16 c = omega (arith, gone_low c)
 
 -- the byte is absent
-returns-2 : tie.Need-returns-2
+returns-2 : tie.Need-returns-in-Absent
 returns-2 c = let q = g_of c in (sym (enter_miss (f q) (addr q) (b q) (meaning (file q) (m q)) (node_is q) (g c) (gone c)), omega (arith, gone_low c))
 
 -- the judged node can be read, and it has the transition
-transition-addr-requires : tie.Need-transition-addr-requires
+transition-addr-requires : tie.Need-transition_addr-target-requires
 transition-addr-requires c κs = (readable (q_of c), place_low c)
 
 -- the judged node can be read, and it has the transition
-output-requires : tie.Need-output-requires
+output-requires : tie.Need-output-out-requires
 output-requires c κs = (readable (q_of c.before), place_low c.before)
 
-cast-place : tie.Need-overflow-cast-place
+cast-place : tie.Need-overflow_cast-place
 cast-place c = omega (arith, low c.before.before)
 
 -- the target is below the root, so it fits in 32 bits
-cast-to : tie.Need-overflow-cast-to
-cast-to c = omega (arith, target c.before.before, c.before.transition_addr.ensures)
+cast-to : tie.Need-overflow_cast-to
+cast-to c = omega (arith, target c.before.before, c.before.transition_addr-target.ensures)
 
 -- the byte is found
-returns-3 : tie.Need-returns-3
+returns-3 : tie.Need-returns-in-At
 returns-3 c = let w = c.before.before in
-    (rw (c.before.transition_addr.ensures, c.output.ensures) (sym (enter_hit (f (q_of w)) (addr (q_of w)) (b (q_of w)) (meaning (file (q_of w)) (m (q_of w))) (node_is (q_of w)) (p w) (place w))), omega (arith, low w))
+    (rw (c.before.transition_addr-target.ensures, c.output-out.ensures) (sym (enter_hit (f (q_of w)) (addr (q_of w)) (b (q_of w)) (meaning (file (q_of w)) (m (q_of w))) (node_is (q_of w)) (p w) (place w))), omega (arith, low w))
 
 pub enter_spec : {M : Type 1} → statement M
 enter_spec =

@@ -19,30 +19,30 @@ use native.Mathlib.Omega.{arith}
 use Rattle.stream_seek.proofs.seek.Statement.{statement}
 use Rattle.stream_seek.proofs.seek.Tie as tie
 
-abbrev invariant-loop : tie.invariant-loop
-invariant-loop file version root lower inclusive addrs₀ inps₀ trans₀ outs₀ k₀ addr₀ inp₀ sum₀ addrs inps trans outs k addr inp sum =
+abbrev invariant-loop-k : tie.invariant-loop-k
+invariant-loop-k file version root lower inclusive addrs₀ inps₀ trans₀ outs₀ k₀ addr₀ inp₀ sum₀ addrs inps trans outs k addr inp sum =
     (addr < 4294967296) × Seeking (fst_with file version root) inclusive lower addrs inps trans outs k addr inp sum
 
-abbrev decreases-loop : tie.decreases-loop
-decreases-loop file version root lower inclusive addrs₀ inps₀ trans₀ outs₀ k₀ addr₀ inp₀ sum₀ addrs inps trans outs k addr inp sum =
+abbrev decreases-loop-k : tie.decreases-loop-k
+decreases-loop-k file version root lower inclusive addrs₀ inps₀ trans₀ outs₀ k₀ addr₀ inp₀ sum₀ addrs inps trans outs k addr inp sum =
     length lower - k
 
 -- ---- what is known in a turn, where the byte leads on, and past the last turn
 
 abbrev Turn : Type 0
-Turn = tie.After-enter invariant-loop decreases-loop
+Turn = tie.After-enter-entered invariant-loop-k decreases-loop-k
 
-abbrev at_loop : Turn → tie.At-loop invariant-loop decreases-loop
+abbrev at_loop : Turn → tie.At-loop-k invariant-loop-k decreases-loop-k
 at_loop q = q.before.before.before
 
-abbrev start : Turn → tie.Start invariant-loop decreases-loop
+abbrev start : Turn → tie.Start invariant-loop-k decreases-loop-k
 start q = (at_loop q).before.before.before
 
 abbrev Hit-at : Type 0
-Hit-at = tie.After-known-told2 invariant-loop decreases-loop
+Hit-at = tie.In-Hit invariant-loop-k decreases-loop-k
 
 abbrev q_of : Hit-at → Turn
-q_of w = w.before.before.before
+q_of w = w.before
 
 abbrev f : Turn → Fst
 f q = let a = (start q).args in fst_with a.file.now a.version a.root
@@ -50,146 +50,146 @@ f q = let a = (start q).args in fst_with a.file.now a.version a.root
 abbrev lower : Turn → List ℕ
 lower q = (start q).args.lower.now
 
-hit : (w : Hit-at) → enter_of (f (q_of w)) (at_loop (q_of w)).loop.addr (get_or (lower (q_of w)) (at_loop (q_of w)).loop.k 0) ≡ Hit w.before.entered2.given.0.0 w.before.entered2.given.0.1.0 w.before.entered2.given.0.1.1.0
-hit w = sym (q_of w).enter.ensures.0 ∙ w.before.entered2.given.1
+hit : (w : Hit-at) → enter_of (f (q_of w)) (at_loop (q_of w)).loop-k.addr (get_or (lower (q_of w)) (at_loop (q_of w)).loop-k.k 0) ≡ Hit w.before.in-Hit.p w.before.in-Hit.target w.before.in-Hit.out
+hit w = sym (q_of w).enter-entered.ensures.0 ∙ w.in-Hit.is
 
-low : (w : Hit-at) → w.before.entered2.given.0.0 ≤ 256
-low w = rw w.before.entered2.given.1 at (q_of w).enter.ensures.1
+low : (w : Hit-at) → w.in-Hit.p ≤ 256
+low w = rw w.in-Hit.is at (q_of w).enter-entered.ensures.1
 
-cast-addr : tie.Need-overflow-cast-addr invariant-loop decreases-loop
+cast-addr : tie.Need-overflow_cast-addr invariant-loop-k decreases-loop-k
 cast-addr c = search rules
 
 -- no byte of the bound is followed yet
-loop-holds : tie.Need-loop-init invariant-loop decreases-loop
+loop-holds : tie.Need-loop-k-init invariant-loop-k decreases-loop-k
 loop-holds c = let start = c.before.before in
     let a = start.args in
     (omega arith, seeking_none (fst_with a.file.now a.version a.root) a.inclusive a.lower.now a.addrs.now a.inps.now a.trans.now a.outs.now start.requires.2)
 
-shared-slice-read-b : tie.Need-shared-slice-read-b invariant-loop decreases-loop
+shared-slice-read-b : tie.Need-bounds-lower-k invariant-loop-k decreases-loop-k
 shared-slice-read-b c = search rules
 
-cast-enter : tie.Need-overflow-cast-enter invariant-loop decreases-loop
-cast-enter c = omega (arith, c.before.before.loop.invariant.0)
+cast-enter : tie.Need-overflow_cast-addr-in-loop-k invariant-loop-k decreases-loop-k
+cast-enter c = omega (arith, c.before.before.loop-k.invariant.0)
 
-enter-requires : tie.Need-enter-requires invariant-loop decreases-loop
+enter-requires : tie.Need-enter-entered-requires invariant-loop-k decreases-loop-k
 enter-requires c κs = search rules
 
-enum_told : tie.Need-enum-told invariant-loop decreases-loop
+enum_told : tie.Need-enum_told-1 invariant-loop-k decreases-loop-k
 enum_told c = search rules
 
 -- the node is not sound
-returns : tie.Need-returns invariant-loop decreases-loop
-returns c = let q = c.before.before in
-    record { arrays = (at_loop q).loop.invariant.1.arrays; found = seeking_bad (at_loop q).loop.invariant.1 q.before.before.loop-test.true (sym q.enter.ensures.0 ∙ c.enum_told.given.1) }
+returns : tie.Need-returns-in-Unsound invariant-loop-k decreases-loop-k
+returns c = let q = c.before in
+    record { arrays = (at_loop q).loop-k.invariant.1.arrays; found = seeking_bad (at_loop q).loop-k.invariant.1 q.before.before.loop-k-test.true (sym q.enter-entered.ensures.0 ∙ c.in-Unsound.is) }
 
-enum-known-entered : tie.Need-enum-known-entered invariant-loop decreases-loop
+enum-known-entered : tie.Need-enum_known-entered invariant-loop-k decreases-loop-k
 enum-known-entered c = search rules
 
 -- the bound has at most 255 bytes, so level k is one of 256
-put-level-requires : tie.Need-put-level-requires invariant-loop decreases-loop
-put-level-requires c κs = let q = c.before.before.before.before.before.before.before in
-    (omega (arith, q.before.before.loop-test.true, (start q).requires.1), (at_loop q).loop.invariant.1.arrays)
+put-level-requires : tie.Need-put_level-requires invariant-loop-k decreases-loop-k
+put-level-requires c κs = let q = c.before.before.before.before.before in
+    (omega (arith, q.before.before.loop-k-test.true, (start q).requires.1), (at_loop q).loop-k.invariant.1.arrays)
 
-add-t29 : tie.Need-overflow-add-t29 invariant-loop decreases-loop
+add-t29 : tie.Need-overflow_add-result invariant-loop-k decreases-loop-k
 add-t29 c = search rules
 
 -- the bound leaves the file at this byte
-returns-2 : tie.Need-returns-2 invariant-loop decreases-loop
+returns-2 : tie.Need-returns-in-Miss invariant-loop-k decreases-loop-k
 returns-2 c = let known = c.before.before.before.before.before in
-    let q = known.before.before.before in
-    let w = known.before.entered.given in
-    record { arrays = c.put-level.ensures.arrays; found = seeking_miss (at_loop q).loop.invariant.1 q.before.before.loop-test.true w.0.0 (sym q.enter.ensures.0 ∙ w.1) c.put-level.ensures }
+    let q = known.before in
+    let w = known.entered.given in
+    record { arrays = c.put_level.ensures.arrays; found = seeking_miss (at_loop q).loop-k.invariant.1 q.before.before.loop-k-test.true w.0.0 (sym q.enter-entered.ensures.0 ∙ w.1) c.put_level.ensures }
 
-enum-known-entered-2 : tie.Need-enum-known-entered-2 invariant-loop decreases-loop
+enum-known-entered-2 : tie.Need-enum_known-entered-in-Hit-1 invariant-loop-k decreases-loop-k
 enum-known-entered-2 c = search rules
 
-sub-if1 : tie.Need-overflow-sub-if1 invariant-loop decreases-loop
-sub-if1 c = omega (arith, (at_loop (q_of c)).loop.inv.1.fits)
+sub-if1 : tie.Need-overflow_sub-sum invariant-loop-k decreases-loop-k
+sub-if1 c = omega (arith, (at_loop (q_of c)).loop-k.invariant.1.fits)
 
-cast-past-sum : tie.Need-overflow-cast-past-sum invariant-loop decreases-loop
+cast-past-sum : tie.Need-overflow_cast-target invariant-loop-k decreases-loop-k
 cast-past-sum c = search rules
 
-past-sum-requires : tie.Need-past-sum-requires invariant-loop decreases-loop
+past-sum-requires : tie.Need-past_sum-requires invariant-loop-k decreases-loop-k
 past-sum-requires c κs = search rules
 
 -- the sum up to the target does not fit
-returns-3 : tie.Need-returns-3 invariant-loop decreases-loop
+returns-3 : tie.Need-returns-then-sum-out invariant-loop-k decreases-loop-k
 returns-3 c = let w = c.before.before in
     let q = q_of w in
-    let l = (at_loop q).loop in
-    let sum = l.sum + w.before.entered2.given.0.1.1.0 in
-    let levels = level_with l.addr l.inp (w.before.entered2.given.0.0 + 1) l.sum ∷ stack_is l.k l.addrs l.inps l.trans l.outs in
+    let l = (at_loop q).loop-k in
+    let sum = l.sum + w.in-Hit.out in
+    let levels = level_with l.addr l.inp (w.in-Hit.p + 1) l.sum ∷ stack_is l.k l.addrs l.inps l.trans l.outs in
     let found =
-    ap halted c.past_sum_lem.ensures
-    ∙ sym (seek_past (f q) (start q).args.inclusive w.before.entered2.given.0.1.0 (get_or (lower q) l.k 0) sum levels (drop (l.k + 1) (lower q)) (omega (arith, c.before.if1.true, l.inv.1.fits)))
-    ∙ sym (seeking_on l.inv.1 q.before.before.loop-test.taken w.before.entered2.given.0.0 w.before.entered2.given.0.1.0 w.before.entered2.given.0.1.1.0 (hit w)) in
-    record { arrays = l.inv.1.arrays; found = found }
+    ap halted c.past_sum.ensures
+    ∙ sym (seek_past (f q) (start q).args.inclusive w.in-Hit.target (get_or (lower q) l.k 0) sum levels (drop (l.k + 1) (lower q)) (omega (arith, c.before.if-sum-out.true, l.invariant.1.fits)))
+    ∙ sym (seeking_on l.invariant.1 q.before.before.loop-k-test.true w.in-Hit.p w.in-Hit.target w.in-Hit.out (hit w)) in
+    record { arrays = l.invariant.1.arrays; found = found }
 
-add-put-level : tie.Need-overflow-add-put-level invariant-loop decreases-loop
+add-put-level : tie.Need-overflow_add-p invariant-loop-k decreases-loop-k
 add-put-level c = omega (arith, low c.before)
 
 -- the bound has at most 255 bytes, so level k is one of 256
-put-level-requires-2 : tie.Need-put-level-requires-2 invariant-loop decreases-loop
+put-level-requires-2 : tie.Need-put_level-requires-in-Hit invariant-loop-k decreases-loop-k
 put-level-requires-2 c κs = let q = q_of c.before.before.before.before.before in
-    (omega (arith, q.before.before.loop-test.taken, (start q).pre.1), (at_loop q).loop.inv.1.arrays)
+    (omega (arith, q.before.before.loop-k-test.true, (start q).requires.1), (at_loop q).loop-k.invariant.1.arrays)
 
 -- the sum up to the target fits, by the test before
-add-sum : tie.Need-overflow-add-sum invariant-loop decreases-loop
-add-sum c = let w = c.before.before.before.before.before.before in omega (arith, c.before.before.before.before.before.if1.false, (at_loop (q_of w)).loop.inv.1.fits)
+add-sum : tie.Need-overflow_add-sum invariant-loop-k decreases-loop-k
+add-sum c = let w = c.before.before.before.before.before.before in omega (arith, c.before.before.before.before.before.if-sum-out.false, (at_loop (q_of w)).loop-k.invariant.1.fits)
 
-add-k : tie.Need-overflow-add-k invariant-loop decreases-loop
+add-k : tie.Need-overflow_add-k invariant-loop-k decreases-loop-k
 add-k c = search rules
 
-loop-less : tie.Need-loop-smaller invariant-loop decreases-loop
+loop-less : tie.Need-loop-k-smaller invariant-loop-k decreases-loop-k
 loop-less c = search rules
 
 -- one byte more of the bound is followed
-loop-again : tie.Need-loop-preserved invariant-loop decreases-loop
+loop-again : tie.Need-loop-k-preserved invariant-loop-k decreases-loop-k
 loop-again c = let test = c.before.before.before.before.before in
     let w = test.before in
     let q = q_of w in
-    (omega (arith, w.known-told2.given), seeking_step (at_loop q).loop.inv.1 q.before.before.loop-test.taken w.before.entered2.given.0.0 w.before.entered2.given.0.1.0 w.before.entered2.given.0.1.1.0 (hit w) (omega (arith, test.if1.false, (at_loop q).loop.inv.1.fits)) c.put-level2.ensures)
+    (omega (arith, w.in-Hit.known_told_in_Hit_1_own.given), seeking_step (at_loop q).loop-k.invariant.1 q.before.before.loop-k-test.true w.in-Hit.p w.in-Hit.target w.in-Hit.out (hit w) (omega (arith, test.if-sum-out.false, (at_loop q).loop-k.invariant.1.fits)) c.put_level-in-Hit.ensures)
 
-cast-node-at : tie.Need-overflow-cast-node-at invariant-loop decreases-loop
-cast-node-at c = omega (arith, c.before.loop.invariant.0)
+cast-node-at : tie.Need-overflow_cast-addr-2 invariant-loop-k decreases-loop-k
+cast-node-at c = omega (arith, c.before.loop-k.invariant.0)
 
-node-at-requires : tie.Need-node-at-requires invariant-loop decreases-loop
+node-at-requires : tie.Need-node_at-requires invariant-loop-k decreases-loop-k
 node-at-requires c κs = search rules
 
-enum-told-2 : tie.Need-enum-told-2 invariant-loop decreases-loop
+enum-told-2 : tie.Need-enum_told-in-Sound invariant-loop-k decreases-loop-k
 enum-told-2 c = search rules
 
-enum-told-3 : tie.Need-enum-told-3 invariant-loop decreases-loop
+enum-told-3 : tie.Need-enum_told-in_default invariant-loop-k decreases-loop-k
 enum-told-3 c = search rules
 
 -- the last node is not sound
-returns-4 : tie.Need-returns-4 invariant-loop decreases-loop
-returns-4 c = let call = c.before.before in
-    let h = call.before.before.loop.invariant.1 in
-    record { arrays = h.arrays; found = seeking_unsound h (answer_unsound call.node_at.ensures c.enum-told3.given.1) }
+returns-4 : tie.Need-returns-in_default invariant-loop-k decreases-loop-k
+returns-4 c = let call = c.before in
+    let h = call.before.before.loop-k.invariant.1 in
+    record { arrays = h.arrays; found = seeking_unsound h (answer_unsound call.node_at.ensures c.in_default.is) }
 
 -- level k is one of 256, and the level before it has followed a transition
-last-levels-requires : tie.Need-last-levels-requires invariant-loop decreases-loop
-last-levels-requires c κs = let at = c.before.before.before.before.before.before.before.before in
-    (omega (arith, at.loop.invariant.1.within, at.before.before.before.requires.1), at.loop.invariant.1.arrays, at.loop.invariant.1.followed)
+last-levels-requires : tie.Need-last_levels-requires invariant-loop-k decreases-loop-k
+last-levels-requires c κs = let at = c.before.before.before.before.before.before.before in
+    (omega (arith, at.loop-k.invariant.1.within, at.before.before.before.requires.1), at.loop-k.invariant.1.arrays, at.loop-k.invariant.1.followed)
 
 -- the bound ends at a sound node
-returns-5 : tie.Need-returns-5 invariant-loop decreases-loop
+returns-5 : tie.Need-returns invariant-loop-k decreases-loop-k
 returns-5 c = let told = c.before.before.before.before.before in
-    let call = told.before.before in
+    let call = told.before in
     let at = call.before.before in
-    let m = told.enum-told2.given.0.0 in
+    let m = told.in-Sound.field-0 in
     record {
-      arrays = c.last_levels_lem.ensures.arrays;
-      found = seeking_done at.loop.invariant.1 call.before.loop-test.false (meaning at.before.before.before.args.file.now m) (answer_sound call.node_at.ensures m told.enum-told2.given.1) c.last_levels_lem.ensures;
+      arrays = c.last_levels.ensures.arrays;
+      found = seeking_done at.loop-k.invariant.1 call.before.loop-k-test.false (meaning at.before.before.before.args.file.now m) (answer_sound call.node_at.ensures m told.in-Sound.is) c.last_levels.ensures;
     }
 
 pub seek_spec : {M : Type 1} → statement M
 seek_spec =
     tie.close
     (tie.spec
-    invariant-loop
-    decreases-loop
+    invariant-loop-k
+    decreases-loop-k
     cast-addr
     loop-holds
     shared-slice-read-b

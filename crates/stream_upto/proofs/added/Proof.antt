@@ -6,29 +6,29 @@ use native.Mathlib.Omega.{arith}
 use Rattle.stream_upto.proofs.added.Statement.{statement}
 use Rattle.stream_upto.proofs.added.Tie as tie
 
-enum_told : tie.Need-enum-told
+enum_told : tie.Need-enum_told-1
 enum_told c = search rules
 
-enum-known-t : tie.Need-enum-known-t
+enum-known-t : tie.Need-enum_known-t
 enum-known-t c = search rules
 
-sub-if1 : tie.Need-overflow-sub-if1
+sub-if1 : tie.Need-overflow_sub-n
 sub-if1 c = search rules
 
 -- x + n passes the limit
-returns : tie.Need-returns
-returns c = let at = c.before.before in added_over at.before.before.args.t at.t.given.0.0 at.before.before.args.n at.t.given.1 (omega arith)
+returns : tie.Need-returns-then-n-x
+returns c = let at = c.before in added_over at.before.args.t at.in-Is.x at.before.args.n at.in-Is.is (omega arith)
 
-add-t5 : tie.Need-overflow-add-t5
+add-t5 : tie.Need-overflow_add-result
 add-t5 c = search rules
 
 -- what is past the limit stays past it
-returns-2 : tie.Need-returns-2
-returns-2 c = let start = c.before.before in added_past start.args.t start.args.n c.enum_told.given.1
+returns-2 : tie.Need-returns-in-Over
+returns-2 c = let start = c.before in added_past start.args.t start.args.n c.in-Over.is
 
 -- x + n is within the limit
-returns-3 : tie.Need-returns-3
-returns-3 c = let at = c.before.before in added_is at.before.before.args.t at.t.given.0.0 at.before.before.args.n at.t.given.1 (omega arith)
+returns-3 : tie.Need-returns-else-n-x
+returns-3 c = let at = c.before in added_is at.before.args.t at.in-Is.x at.before.args.n at.in-Is.is (omega arith)
 
 pub added_spec : {M : Type 1} → statement M
 added_spec =

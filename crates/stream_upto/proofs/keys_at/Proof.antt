@@ -6,18 +6,18 @@ use Rattle.stream_upto.proofs.keys_at.Statement.{statement}
 use Rattle.stream_upto.proofs.keys_at.Tie as tie
 
 -- address 0
-returns : tie.Need-returns
-returns c = let a = c.before.args in keys_zero a.counts.now a.a c.if1.true
+returns : tie.Need-returns-then-a-eq0
+returns c = let a = c.before.args in keys_zero a.counts.now a.a c.if-a-eq0.true
 
-mul-result : tie.Need-overflow-mul-result
-mul-result c = omega (arith, c.before.requires.inside c.if1.false)
+mul-result : tie.Need-offset_bounds-counts-a
+mul-result c = omega (arith, c.before.requires.inside c.if-a-eq0.false)
 
-shared-slice-read-result : tie.Need-shared-slice-read-result
-shared-slice-read-result c = c.before.before.requires.inside c.before.if1.false
+shared-slice-read-result : tie.Need-bounds-counts-a
+shared-slice-read-result c = c.before.before.requires.inside c.before.if-a-eq0.false
 
 -- any other address: what the table has there
-returns-2 : tie.Need-returns-2
-returns-2 c = let a = c.before.before.args in keys_entry a.counts.now a.a c.before.if1.false
+returns-2 : tie.Need-returns
+returns-2 c = let a = c.before.before.args in keys_entry a.counts.now a.a c.before.if-a-eq0.false
 
 pub keys_at_spec : {M : Type 1} → statement M
 keys_at_spec =
