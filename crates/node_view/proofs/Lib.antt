@@ -1,3 +1,2 @@
 -- Lemmas for the proofs of this crate.
 mod ViewAnswers
-mod Viewing

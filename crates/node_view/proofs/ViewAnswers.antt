@@ -7,7 +7,7 @@ use native.Mathlib.Omega.{arith}
 use borrow.Author.Tests.{lt-ltb, le-ltb}
 use lib.ListN.{length}
 use Rattle.format.specs.declared.Transition.{Transition}
-use Rattle.format.specs.Node.{Search, node_at, transition_at, find_input}
+use Rattle.format.specs.Node.{node_at, transition_at, find_input}
 use Rattle.node.specs.declared.Node.{Node}
 use Rattle.node.specs.declared.Judged.{Judged}
 use Rattle.node.specs.declared.Judged.TheVariants.{Sound, Unsound}

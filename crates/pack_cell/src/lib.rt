@@ -1,5 +1,4 @@
 // The table of cells as a slice of structs, an address and a hash each: a cell stored, the two cells of a row stored or exchanged, all emptied.
-// Each function is walked, since the kit's borrow checker covers no reference to a struct.
 #![tactic(auto)]
 
 ghost use Rattle.std.specs.Prelude.{◌≡◌, ◌+◌, ◌<◌, length, set, replicate};

@@ -1,2 +1,0 @@
-mod Sides
-mod Claims
