@@ -58,6 +58,7 @@ module _ (k : List ℕ) where
   -- ---- all files
 
   at_after : (cs : List Source) (more : AllAfter k cs) (i : ℕ) (l : List ℕ) (v : ℕ) → Before k l → HasAt cs i l v → HasAt (after_all k cs more) i l v
+  at_after _ no_source i l v b x4 = elim x4 [ ]
   at_after _ (one_source {c} {cs} a more) _ l v b (first h) = first (has_after c a l v b h)
   at_after _ (one_source {c} {cs} a more) _ l v b (further {i = i} h) = further (at_after cs more i l v b h)
 

@@ -120,7 +120,7 @@ any-len-requires c κs =
     let sized = c.before in
     let s = start sized.before.before.before.before.before in (
       omega (arith, s.requires.1.fits.few, count s, length-map (node s).transitions (λ (t : Transition). t.inp)),
-      omega (arith, sized.output_size.ensures, output_size_le sized.before.most_of-most.result.output-out),
+      omega (arith, sized.output_size.ensures, output_size_le sized.before.most_of-most.result.output),
       omega (arith, c.delta_size.ensures, delta_size_le s.args.node.ntrans sized.before.most_of-most.result.delta),
     )
 

@@ -61,7 +61,7 @@ one-len-requires c κs =
     let target = c.before in
     let to = target.before.before in
     let q = to.before in
-    ((sizable q).ranges.first_low, target_le (sizable q) 0 (judged_listed q.one_node-node.ensures.0 (start q).requires.0 (form q)) _ _ to.transition_addr-to.ensures target.new_target-target.ensures)
+    ((sizable q).fits.first_low, target_le (sizable q) 0 (judged_listed q.one_node-node.ensures.0 (start q).requires.0 (form q)) _ _ to.transition_addr-to.ensures target.new_target-target.ensures)
 
 returns : tie.Need-returns
 returns c =

@@ -21,11 +21,11 @@ use native.Mathlib.Omega.{arith}
 use Rattle.lookup.proofs.get_from.Statement.{statement}
 use Rattle.lookup.proofs.get_from.Tie as tie
 
-abbrev invariant-loop : tie.invariant-loop
-invariant-loop file version root key addr₀ sum₀ i₀ addr sum i = (sum ≤ max_sum) × Looking (fst_with file version root) key i addr sum
+abbrev invariant-loop-i : tie.invariant-loop-i
+invariant-loop-i file version root key addr₀ sum₀ i₀ addr sum i = (sum ≤ max_sum) × Looking (fst_with file version root) key i addr sum
 
-abbrev decreases-loop : tie.decreases-loop
-decreases-loop file version root key addr₀ sum₀ i₀ addr sum i = length key - i
+abbrev decreases-loop-i : tie.decreases-loop-i
+decreases-loop-i file version root key addr₀ sum₀ i₀ addr sum i = length key - i
 
 -- one byte more, along the way that it leads
 module _ {f : Fst} {key : List ℕ} {i a sum : ℕ} (h : Looking f key i a sum) (m : F.Node) (e : node_in f a ≡ sound m) (fits : sum ≤ max_sum) (more : i < length key)
@@ -42,12 +42,12 @@ module _ {f : Fst} {key : List ℕ} {i a sum : ℕ} (h : Looking f key i a sum) 
 -- ---- what is known where the node is judged, and where the byte leads on
 
 abbrev At : Type 0
-At = tie.After-known-told invariant-loop decreases-loop
+At = tie.In-Sound invariant-loop-i decreases-loop-i
 
-abbrev at_loop : At → tie.At-loop invariant-loop decreases-loop
-at_loop q = q.before.before.before.before.before.before
+abbrev at_loop : At → tie.At-loop-i invariant-loop-i decreases-loop-i
+at_loop q = q.before.before.before.before
 
-abbrev start : At → tie.Start invariant-loop decreases-loop
+abbrev start : At → tie.Start invariant-loop-i decreases-loop-i
 start q = (at_loop q).before.before.before
 
 abbrev f : At → Fst
@@ -57,125 +57,125 @@ abbrev key : At → List ℕ
 key q = (start q).args.key.now
 
 abbrev byte : At → ℕ
-byte q = get_or (key q) (at_loop q).loop.i 0
+byte q = get_or (key q) (at_loop q).loop-i.i 0
 
 abbrev way : At → Way
-way q = q.before.way.given.0.0
+way q = q.in-Sound.way
 
 -- the step is that of a sound node
-node_is : (q : At) → (m : F.Node) × ((node_in (f q) (at_loop q).loop.addr ≡ sound m) × (way q ≡ way_in m.transitions (byte q)))
+node_is : (q : At) → (m : F.Node) × ((node_in (f q) (at_loop q).loop-i.addr ≡ sound m) × (way q ≡ way_in m.transitions (byte q)))
 node_is q =
-    step_sound (node_in (f q) (at_loop q).loop.addr) (byte q) (way q) (sym q.before.way.given.1 ∙ q.before.before.before.step_at.ensures)
+    step_sound (node_in (f q) (at_loop q).loop-i.addr) (byte q) (way q) (sym q.in-Sound.is ∙ q.before.step_at.ensures)
 
-fits : (q : At) → (at_loop q).loop.sum ≤ max_sum
-fits q = (at_loop q).loop.invariant.0
+fits : (q : At) → (at_loop q).loop-i.sum ≤ max_sum
+fits q = (at_loop q).loop-i.invariant.0
 
 abbrev On : Type 0
-On = tie.After-known-told2 invariant-loop decreases-loop
+On = tie.In-To invariant-loop-i decreases-loop-i
 
 abbrev q_of : On → At
-q_of w = w.before.before.before
+q_of w = w.before
 
 abbrev out : On → ℕ
-out w = w.before.way2.given.0.0
+out w = w.in-To.out
 
 abbrev target : On → ℕ
-target w = w.before.way2.given.0.1.0
+target w = w.in-To.target
 
-next : (w : On) → Looking (f (q_of w)) (key (q_of w)) ((at_loop (q_of w)).loop.i + 1) (target w) ((at_loop (q_of w)).loop.sum + out w)
+next : (w : On) → Looking (f (q_of w)) (key (q_of w)) ((at_loop (q_of w)).loop-i.i + 1) (target w) ((at_loop (q_of w)).loop-i.sum + out w)
 next w =
     let q = q_of w in
     let n = node_is q in
-    looking_on (at_loop q).loop.inv.1 n.0 n.1.0 (fits q) q.before.before.before.before.before.loop-test.taken (out w) (target w)
-    (sym w.before.way2.given.1 ∙ n.1.1)
+    looking_on (at_loop q).loop-i.invariant.1 n.0 n.1.0 (fits q) q.before.before.before.loop-i-test.true (out w) (target w)
+    (sym w.in-To.is ∙ n.1.1)
 
 -- nothing is read yet
-loop-holds : tie.Need-loop-init invariant-loop decreases-loop
+loop-holds : tie.Need-loop-i-init invariant-loop-i decreases-loop-i
 loop-holds c = let a = c.before.before.args in (omega arith, looking_none (fst_with a.file.now a.version a.root) a.key.now)
 
-shared-slice-read-b : tie.Need-shared-slice-read-b invariant-loop decreases-loop
+shared-slice-read-b : tie.Need-bounds-key-i invariant-loop-i decreases-loop-i
 shared-slice-read-b c = search rules
 
-step-at-requires : tie.Need-step-at-requires invariant-loop decreases-loop
+step-at-requires : tie.Need-step_at-requires invariant-loop-i decreases-loop-i
 step-at-requires c κs = search rules
 
-enum-known-way : tie.Need-enum-known-way invariant-loop decreases-loop
+enum-known-way : tie.Need-enum_known-way invariant-loop-i decreases-loop-i
 enum-known-way c = search rules
 
-enum_told : tie.Need-enum-told invariant-loop decreases-loop
+enum_told : tie.Need-enum_told-1 invariant-loop-i decreases-loop-i
 enum_told c = search rules
 
 -- the node is not sound
-returns : tie.Need-returns invariant-loop decreases-loop
+returns : tie.Need-returns-in_default invariant-loop-i decreases-loop-i
 returns c =
-    let call = c.before.before in
+    let call = c.before in
     let at = call.before.before.before in
     let a = at.before.before.before.args in
-    sym (looking_unsound at.loop.invariant.1
-    (step_stuck (node_in (fst_with a.file.now a.version a.root) at.loop.addr) (get_or a.key.now at.loop.i 0) (sym c.enum_told.given.1 ∙ call.step_at.ensures)))
+    sym (looking_unsound at.loop-i.invariant.1
+    (step_stuck (node_in (fst_with a.file.now a.version a.root) at.loop-i.addr) (get_or a.key.now at.loop-i.i 0) (sym c.in_default.is ∙ call.step_at.ensures)))
 
-enum-known-way-2 : tie.Need-enum-known-way-2 invariant-loop decreases-loop
+enum-known-way-2 : tie.Need-enum_known-way-in-To-1 invariant-loop-i decreases-loop-i
 enum-known-way-2 c = search rules
 
-enum-told-2 : tie.Need-enum-told-2 invariant-loop decreases-loop
+enum-told-2 : tie.Need-enum_told-in_default-way invariant-loop-i decreases-loop-i
 enum-told-2 c = search rules
 
 -- no transition has the byte
-returns-2 : tie.Need-returns-2 invariant-loop decreases-loop
+returns-2 : tie.Need-returns-in_default-way invariant-loop-i decreases-loop-i
 returns-2 c =
-    let q = c.before.before in
+    let q = c.before in
     let n = node_is q in
-    sym (looking_absent (at_loop q).loop.invariant.1 n.0 n.1.0 (fits q) q.before.before.before.before.before.loop-test.true
-    (way_none n.0.transitions (byte q) c.enum-told2.given.0.0 (sym c.enum-told2.given.1 ∙ n.1.1)))
+    sym (looking_absent (at_loop q).loop-i.invariant.1 n.0 n.1.0 (fits q) q.before.before.before.loop-i-test.true
+    (way_none n.0.transitions (byte q) c.in_default-way.field-0 (sym c.in_default-way.is ∙ n.1.1)))
 
 -- the running sum is at most the largest
-sub-if1 : tie.Need-overflow-sub-if1 invariant-loop decreases-loop
+sub-if1 : tie.Need-overflow_sub-sum invariant-loop-i decreases-loop-i
 sub-if1 c = omega (arith, fits (q_of c))
 
-past-sum-requires : tie.Need-past-sum-requires invariant-loop decreases-loop
+past-sum-requires : tie.Need-past_sum-requires invariant-loop-i decreases-loop-i
 past-sum-requires c κs = search rules
 
 -- the sum passes the largest
-returns-3 : tie.Need-returns-3 invariant-loop decreases-loop
+returns-3 : tie.Need-returns-then-sum-out invariant-loop-i decreases-loop-i
 returns-3 c =
     let w = c.before.before in
     let q = q_of w in
-    sym ((next w).same ∙ (rw c.past_sum_lem.ensures
-    (get_from_past (f q) (drop ((at_loop q).loop.i + 1) (key q)) _ ((at_loop q).loop.sum + out w) (omega (arith, c.before.if1.true)))))
+    sym ((next w).same ∙ (rw c.past_sum.ensures
+    (get_from_past (f q) (drop ((at_loop q).loop-i.i + 1) (key q)) _ ((at_loop q).loop-i.sum + out w) (omega (arith, c.before.if-sum-out.true)))))
 
 -- the sum was tested
-add-sum : tie.Need-overflow-add-sum invariant-loop decreases-loop
+add-sum : tie.Need-overflow_add-sum invariant-loop-i decreases-loop-i
 add-sum c = omega (arith, fits (q_of c.before))
 
-add-i : tie.Need-overflow-add-i invariant-loop decreases-loop
+add-i : tie.Need-overflow_add-i invariant-loop-i decreases-loop-i
 add-i c = search rules
 
-loop-less : tie.Need-loop-smaller invariant-loop decreases-loop
+loop-less : tie.Need-loop-i-smaller invariant-loop-i decreases-loop-i
 loop-less c = search rules
 
 -- one byte more
-loop-again : tie.Need-loop-preserved invariant-loop decreases-loop
+loop-again : tie.Need-loop-i-preserved invariant-loop-i decreases-loop-i
 loop-again c = (omega (arith, fits (q_of c.before)), next c.before)
 
-at-end-requires : tie.Need-at-end-requires invariant-loop decreases-loop
+at-end-requires : tie.Need-at_end-requires invariant-loop-i decreases-loop-i
 at-end-requires c κs = search rules
 
 -- no byte is left
-returns-4 : tie.Need-returns-4 invariant-loop decreases-loop
+returns-4 : tie.Need-returns invariant-loop-i decreases-loop-i
 returns-4 c =
     let at = c.before.before in
     let a = at.before.before.before.args in
     c.at_end.ensures
-    ∙ sym (at.loop.invariant.1.same
-    ∙ ap (λ (l : List ℕ). get_from (fst_with a.file.now a.version a.root) l at.loop.addr at.loop.sum)
-    (drop_of_length-le a.key.now {i = at.loop.i} c.before.loop-test.false))
+    ∙ sym (at.loop-i.invariant.1.same
+    ∙ ap (λ (l : List ℕ). get_from (fst_with a.file.now a.version a.root) l at.loop-i.addr at.loop-i.sum)
+    (drop_of_length-le a.key.now {i = at.loop-i.i} c.before.loop-i-test.false))
 
 pub get_from_spec : {M : Type 1} → statement M
 get_from_spec =
     tie.close
     (tie.spec
-    invariant-loop
-    decreases-loop
+    invariant-loop-i
+    decreases-loop-i
     loop-holds
     shared-slice-read-b
     step-at-requires

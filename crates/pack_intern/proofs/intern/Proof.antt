@@ -148,7 +148,7 @@ returns-3 c =
     let chose = told.before in
     let t = at chose in
     found_second t.args.output.now t.args.first t.args.cells.now t.requires.0 (node t) (some_is chose) _ (row chose)
-    chose.before.before.before.row_of-i.ensures.1 chose.choose-choice.result chose.choose-choice.ensures told.in-Second.is _ c.cells.given call.put_row.ensures
+    chose.before.before.before.row_of-i.ensures.1 chose.choose-choice.result chose.choose-choice.ensures told.in-Second.is _ c.cells-1.given call.put_row.ensures
 
 same-length-4 : tie.Need-shape_of-output-in-Write
 same-length-4 c = search rules

@@ -20,7 +20,7 @@ abbrev node : tie.Start → BuilderNode
 node t = builder_with t.args.is_final t.args.final_output t.args.inputs.now t.args.outputs.now t.args.targets.now
 
 -- what was written lies within the output
-wrote_len : (c : tie.In-Len) → (s c.before.before.before.before.before).args.first + c.before.in-Len.len ≤ length (s c.before.before.before.before.before).args.output.now
+wrote_len : (c : tie.In-Len) → (s c.before.before.before).args.first + c.in-Len.len ≤ length (s c.before.before.before).args.output.now
 wrote_len c =
     let pack = c.before.before.before in
     let t = s pack in
@@ -79,7 +79,7 @@ returns c =
     let pack = told.before.before.before in
     let t = s pack in
     wrote t.args.output.now t.args.first t.args.cells.now t.requires.ready (node t) t.args.i t.args.own_hash t.requires _ pack.compile_record-done.result
-    told.in-Len.len pack.compile_record-done.ensures told.in-Len.is _ c.cells.given call.put_row.ensures
+    told.in-Len.len pack.compile_record-done.ensures told.in-Len.is _ c.cells-1.given call.put_row.ensures
 
 same-length-3 : tie.Need-shape_of-output-in-Refused
 same-length-3 c = search rules

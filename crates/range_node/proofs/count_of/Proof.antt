@@ -19,15 +19,18 @@ file_of q = let a = q.args in fst_with a.file.now a.version a.root
 abbrev start : Other → tie.Start
 start w = w.before.before.before
 
+sound_else : (w : tie.Else-addr-eq0) → SoundAt w.before.before.args.file.now w.before.before.args.version w.before.before.args.root w.before.before.args.addr
+sound_else w = sound_of (file_of w.before.before) w.before.before.args.addr w.before.before.requires.is w.if-addr-eq0.false
+
 sound : (w : Other) → SoundAt (start w).args.file.now (start w).args.version (start w).args.root (start w).args.addr
-sound w = sound_of (file_of (start w)) (start w).args.addr (start w).requires.is w.before.if-addr-eq0.false
+sound w = sound_else w.before
 
 -- no transition at address 0
 returns : tie.Need-returns-then-addr-eq0
 returns c = let q = c.before.before in λ m is. no_count (file_of q) q.args.addr is c.if-addr-eq0.true
 
 shared-slice-read-small : tie.Need-bounds-file-addr
-shared-slice-read-small c = (sound c).inside
+shared-slice-read-small c = (sound_else c.before).inside
 
 small-requires : tie.Need-small-state-requires
 small-requires c κs = search rules

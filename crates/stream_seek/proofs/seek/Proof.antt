@@ -50,7 +50,7 @@ f q = let a = (start q).args in fst_with a.file.now a.version a.root
 abbrev lower : Turn → List ℕ
 lower q = (start q).args.lower.now
 
-hit : (w : Hit-at) → enter_of (f (q_of w)) (at_loop (q_of w)).loop-k.addr (get_or (lower (q_of w)) (at_loop (q_of w)).loop-k.k 0) ≡ Hit w.before.in-Hit.p w.before.in-Hit.target w.before.in-Hit.out
+hit : (w : Hit-at) → enter_of (f (q_of w)) (at_loop (q_of w)).loop-k.addr (get_or (lower (q_of w)) (at_loop (q_of w)).loop-k.k 0) ≡ Hit w.in-Hit.p w.in-Hit.target w.in-Hit.out
 hit w = sym (q_of w).enter-entered.ensures.0 ∙ w.in-Hit.is
 
 low : (w : Hit-at) → w.in-Hit.p ≤ 256
@@ -97,8 +97,8 @@ add-t29 c = search rules
 returns-2 : tie.Need-returns-in-Miss invariant-loop-k decreases-loop-k
 returns-2 c = let known = c.before.before.before.before.before in
     let q = known.before in
-    let w = known.entered.given in
-    record { arrays = c.put_level.ensures.arrays; found = seeking_miss (at_loop q).loop-k.invariant.1 q.before.before.loop-k-test.true w.0.0 (sym q.enter-entered.ensures.0 ∙ w.1) c.put_level.ensures }
+    let w = known.in-Miss in
+    record { arrays = c.put_level.ensures.arrays; found = seeking_miss (at_loop q).loop-k.invariant.1 q.before.before.loop-k-test.true w.p (sym q.enter-entered.ensures.0 ∙ w.is) c.put_level.ensures }
 
 enum-known-entered-2 : tie.Need-enum_known-entered-in-Hit-1 invariant-loop-k decreases-loop-k
 enum-known-entered-2 c = search rules
@@ -148,7 +148,7 @@ loop-again : tie.Need-loop-k-preserved invariant-loop-k decreases-loop-k
 loop-again c = let test = c.before.before.before.before.before in
     let w = test.before in
     let q = q_of w in
-    (omega (arith, w.in-Hit.known_told_in_Hit_1_own.given), seeking_step (at_loop q).loop-k.invariant.1 q.before.before.loop-k-test.true w.in-Hit.p w.in-Hit.target w.in-Hit.out (hit w) (omega (arith, test.if-sum-out.false, (at_loop q).loop-k.invariant.1.fits)) c.put_level-in-Hit.ensures)
+    (omega (arith, w.in-Hit.known_told-in-Hit-1-own.given), seeking_step (at_loop q).loop-k.invariant.1 q.before.before.loop-k-test.true w.in-Hit.p w.in-Hit.target w.in-Hit.out (hit w) (omega (arith, test.if-sum-out.false, (at_loop q).loop-k.invariant.1.fits)) c.put_level-in-Hit.ensures)
 
 cast-node-at : tie.Need-overflow_cast-addr-2 invariant-loop-k decreases-loop-k
 cast-node-at c = omega (arith, c.before.loop-k.invariant.0)

@@ -34,9 +34,9 @@ returns-2 : tie.Need-returns
 returns-2 c = let known = c.before.before in
     let call = known.before in
     let a = call.before.before.args in
-    let m = known.m.given in
+    let m = known.in-Sound in
     λ d n e.
-    end_sound (fst_with a.file.now a.version a.root) a.own a.addr (meaning a.file.now m.0.0) (answer_sound call.node_at.ensures m.0.0 m.1)
+    end_sound (fst_with a.file.now a.version a.root) a.own a.addr (meaning a.file.now m.m) (answer_sound call.node_at.ensures m.m m.is)
     _ c.before.own_key-k.ensures a.total _ c.added.ensures d n e
 
 pub at_end_spec : {M : Type 1} → statement M

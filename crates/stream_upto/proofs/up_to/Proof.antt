@@ -73,8 +73,8 @@ loop-less c = search rules
 -- one byte more is followed
 loop-again : tie.Need-loop-k-preserved invariant-loop-k decreases-loop-k
 loop-again c = let q = c.before in
-    let w = c.turned2.given in
-    walking_step (at_loop q).loop-k.invariant q.before.before.loop-k-test.true w.0.0 w.0.1.0 (turned q ∙ w.1)
+    let w = c.in-On in
+    walking_step (at_loop q).loop-k.invariant q.before.before.loop-k-test.true w.target w.sum (turned q ∙ w.is)
 
 at-end-requires : tie.Need-at_end-requires invariant-loop-k decreases-loop-k
 at-end-requires c κs = search rules
