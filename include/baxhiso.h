@@ -119,7 +119,7 @@ static inline const char *fst_result_name(int result)
 #define FST_MAX_LEN   UINT64_C(4294967295) /* the longest file                                 */
 #define FST_KEY_SPACE 255                  /* the shortest key buffer, and the longest key in it */
 
-/* The stack that a call takes, in bytes: measured on x86-64 with the kit's compiler (tests/c/stack.c), and rounded up. */
+/* The stack that a call takes, in bytes: measured on x86-64 with the older toolchain's compiler (tests/c/stack.c), and rounded up. */
 #define FST_STACK_OPEN     64
 #define FST_STACK_GET      768
 #define FST_STACK_GET_KEY  3840
