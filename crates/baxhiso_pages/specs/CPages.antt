@@ -1,4 +1,4 @@
--- A range page after page, as a C program asks for it. CPagesLaws proves `pages-tell`.
+-- A range page after page, as a C program asks for it. CPagesLaws proves `pages_tell`.
 --     bytes_from b p n        n bytes of a buffer from place p on
 --     read_rows               the keys and values that a C program reads out of rows and values
 --     PageMade s lo hi       a call of fst_range_rows with room for at least one key: what was lent, and what its contract says of it afterwards

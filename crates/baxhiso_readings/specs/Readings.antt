@@ -55,7 +55,7 @@ next_value (R.Answer.refused n) v₀ = v₀
 
 pub record NextLeaves (w : P.PlainStep) (h : Held) (n k₀ k : List ℕ) (len₀ len v₀ v : ℕ) (r : ℤ) : Type 0 where
   pub result : r ≡ next_result w.answer
-  -- after a refusal the definition gives the reading as it was (ReadingsLaws, `refused-stays`)
+  -- after a refusal the definition gives the reading as it was (ReadingsLaws, `refused_stays`)
   pub reading : held_plain h n ≡ w.reading
   pub buffer : k ≡ written w.answer k₀
   pub len_is : len ≡ next_len w.answer len₀

@@ -85,7 +85,7 @@ told_by (dispatched c b r ∷ es) = told_then r c.seat (told_by es)
 
 -- seat w waits in the arrays a
 pub record DispatchTells (a : Flat) (w : ℕ) (es : List CEvent) : Type 0 where
-  -- so what is proved of a list of events holds of the arrays: `alone`, `seat-demand-3` and `dispatch-limit-after` of crate turns
+  -- so what is proved of a list of events holds of the arrays: `alone`, `seat_demand_3` and `dispatch_limit_after` of crate turns
   pub seats : flat_is (last_arrays a es) ≡ after (flat_is a) (events_is es)
   pub stays_right : SeatsRight (flat_is (last_arrays a es))
   pub fair : Fair w (ahead a.last w) (told_by es) (flat_is (last_arrays a es))

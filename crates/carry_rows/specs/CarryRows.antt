@@ -1,5 +1,5 @@
 -- Worked rows of a reading carried to another file (document 02, N8), each by computation.
---     W1, W2        a version 1 file that holds "" 0, a 2 and b 0, and its conversion (convert_rows, `vanished-W`)
+--     W1, W2        a version 1 file that holds "" 0, a 2 and b 0, and its conversion (convert_rows, `vanished_W`)
 --     D             document 01's file
 --     X             a file whose key ab has outputs 2^64 - 1 and 1
 --     started₀, after_a, at_end     readings of W1: just started, after "" and a, at its end

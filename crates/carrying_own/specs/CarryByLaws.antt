@@ -1,4 +1,4 @@
--- `carry_own` and `carry-self` of readings by pattern (document 02, N8 and N1).
+-- `carry_own` and `carry_self` of readings by pattern (document 02, N8 and N1).
 --     alike_calls_by, alike_answers_by      two files of which the one mirrors the other
 --     carry_own_by                          the claim, for every pattern of at most 255 positions
 --     carry_self_by                         to the file itself

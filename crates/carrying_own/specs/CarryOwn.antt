@@ -36,7 +36,7 @@ pub data SameCalls {s s' : List ℕ} : List (Call s) → List (Call s') → Type
   no_calls : SameCalls [] []
   and_then : {c : Call s} {c' : Call s'} {cs : List (Call s)} {cs' : List (Call s')} → Same c c' → SameCalls cs cs' → SameCalls (c ∷ cs) (c' ∷ cs')
 
--- calls with the file itself and key buffers of these sizes; on two files they are the same calls (CarryOwnLaws, `own-calls-same`)
+-- calls with the file itself and key buffers of these sizes; on two files they are the same calls (CarryOwnLaws, `own_calls_same`)
 abbrev pub own_call : (s : List ℕ) → ℕ → Call s
 own_call s n = record { file = s; space = n; which = inl refl }
 
@@ -45,7 +45,7 @@ own_calls s ns = map (own_call s) ns
 
 -- ---- the claims
 
--- a file that can be converted: of version 1, of bytes, and not too large afterwards; `conversion` refuses any other (CarryOwnLaws, `written-convertible`)
+-- a file that can be converted: of version 1, of bytes, and not too large afterwards; `conversion` refuses any other (CarryOwnLaws, `written_convertible`)
 pub record Convertible {s : List ℕ} (A : Admitted s) : Type 0 where
   pub version_is : A.meta.version ≡ 1
   pub bytes : (i : ℕ) → get_or s i 0 < 256

@@ -5,8 +5,8 @@
 --     Mirrors A            where the root does not vanish: the new file has the old one's nodes in the same order, with targets replaced
 --     Told A a             the entry of the table at a
 --     SameContents A B     the new file, admitted as B, says what the old one says
--- Proved for every admitted file that has bytes, and so for those of version 1, whose conversion is not too large: `converted-admitted`
--- and `converted-holds` in AdmittedLaws, `mirrors` and `table-tells` in MovedLaws.
+-- Proved for every admitted file that has bytes, and so for those of version 1, whose conversion is not too large: `converted_admitted`
+-- and `converted_holds` in AdmittedLaws, `mirrors` and `table_tells` in MovedLaws.
 -- Assumes nothing.
 use Rattle.std.specs.Prelude.{◌≡◌, true, false, cond, ◌⊎◌, ℕ, ◌<◌, eqb, length, get_or}
 use mathlib.Core.List.{List, [], ◌∷◌, map, Memᴰ}

@@ -1,5 +1,5 @@
 -- What a page by pattern of an admitted file is, over held keys, their order, the bounds and `Fits`. FindLaws and FindPagesLaws prove both claims
--- (`find-exact`, `find-pages`).
+-- (`find_exact`, `find_pages`).
 --     FindExact A p lo hi most w        the page w is the first keys between the bounds that fit, up to `most`
 --     PagesBy s p hi calls i lo es      page after page from the lower bound lo, by the calls from place i on, es is handed out
 --     FindPages A p lo hi calls         what page after page hands out

@@ -257,7 +257,7 @@ pub record SoundShape (s : List ℕ) (root a : ℕ) (h : Shape) (first : ℕ) : 
 abbrev pub SoundAt : List ℕ → ℕ → ℕ → ℕ → Type 0
 SoundAt s v root a = SoundShape s root a (shape_of s v a) (first_of s v a)
 
--- ---- soundness as a test that computes; NodeLaws, `decides-sound`, shows that it decides `SoundAt`
+-- ---- soundness as a test that computes; NodeLaws, `decides_sound`, shows that it decides `SoundAt`
 
 abbrev pub ascending_test : List ℕ → Bool
 ascending_test bs = all_below (λ i. ltb (get_or bs i 0) (get_or bs (i + 1) 0)) (length bs - 1)

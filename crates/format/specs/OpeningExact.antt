@@ -1,7 +1,7 @@
 -- What opening answers in each case of the papers (document 01, "An opened file"; document 02, N3; docs/FORMAT.md, "A file").
 --     RootRight v root len     the rule on roots, as facts
 --     Whole s                  at least the header and the trailer of a version from 1 to 3, and within the limit
---     OpeningCase s o          when the answer to the bytes s is o, a line for each case; `opening-exactly` in OpeningLaws says it both ways
+--     OpeningCase s o          when the answer to the bytes s is o, a line for each case; `opening_exactly` in OpeningLaws says it both ways
 -- Assumes nothing.
 use Rattle.std.specs.Prelude.{◌≡◌, ◌⊎◌, List, [], ℕ, ◌+◌, ◌≤◌, ◌<◌, length}
 use Rattle.format.specs.Limits.{first_node, max_len, SHORT, VERSION, ROOT, LARGE}

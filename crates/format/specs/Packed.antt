@@ -47,7 +47,7 @@ pub record RecordOk (first : ℕ) (b : BuilderNode) : Type 0 where
   pub targets_ok : TargetsOk first b.targets
   pub final_ok : b.final ≡ false → b.final_output ≡ 0
 
--- the same as a test that computes; PackedLaws, `decides-record`
+-- the same as a test that computes; PackedLaws, `decides_record`
 abbrev pub target_ok_test : ℕ → ℕ → Bool
 target_ok_test first t = eqb t 0 || (leb first_node t && ltb t first)
 

@@ -58,7 +58,7 @@ pub record NumberOf (P : List ℕ → Type 0) (n : ℕ) : Type 0 where
   pub all : (x : List ℕ) → P x → Memᴰ x strings
   pub number : length strings ≡ n
 
--- ---- the order as a test that computes; StringLaws, `decides-before`
+-- ---- the order as a test that computes; StringLaws, `decides_before`
 
 unfoldable pub before_test : List ℕ → List ℕ → Bool
 before_test [] [] = false

@@ -1,5 +1,5 @@
 -- Demand 3 with marks (document 02, N10). `MarkedRun A lo hi t cs ds` is the claim about an admitted file, two bounds, a table, a list of
--- calls before there are marks and a list of operations; MarksLaws proves it (`marked-run`) for every two bounds of at most 255 bytes, every table that
+-- calls before there are marks and a list of operations; MarksLaws proves it (`marked_run`) for every two bounds of at most 255 bytes, every table that
 -- fits (`TableFits`), and every two lists.
 --     Given, Did           the file that a mark or a return is handed; an operation
 --     Now, now_after        the reading and the marks after a list of operations, by the calls' definitions

@@ -1,10 +1,10 @@
 -- Demand 3 by pattern with marks (document 02, N10 with N1). `MarkedRunBy A q lo hi cs ds` is the claim about an admitted file, a pattern, two bounds, a
--- list of calls before there are marks and a list of operations; MarksByLaws proves it (`marked-run-by`) for every pattern of at most 255 positions, every
+-- list of calls before there are marks and a list of operations; MarksByLaws proves it (`marked_run_by`) for every pattern of at most 255 positions, every
 -- two bounds of at most 255 bytes, and every two lists. Operations, calls in force and what a mark answers are those of plain readings (marking
 -- `MarksDemand`). It differs from `MarkedRun` in these:
 --     a start takes a pattern, and no table                 `starts`
 --     the limit on a call is for plain readings only        no `limit`
---     a reading by pattern holds no number of keys          no `keys-to-come`; a mark's number is 0 and carries no meaning (`as_mark_by`)
+--     a reading by pattern holds no number of keys          no `keys_to_come`; a mark's number is 0 and carries no meaning (`as_mark_by`)
 --     the pattern is the reading's own                      it is the same before and after every operation
 -- Assumes nothing.
 use Rattle.std.specs.Prelude.{◌≡◌, true, false, List, [], ◌∷◌, ◌++◌, map, ℕ, length}

@@ -3,7 +3,7 @@
 --
 --     After every list of operations on the old file               bs; `MarkedRun` of it is `before`
 --     the carried reading is the one that the same calls           `carries`; cs' are the calls in force on the old file, each refused on both
---     on the new file would have left, and has no marks,           files or on neither (`SameCalls`); there are such calls (carrying_own, `twin-calls`)
+--     on the new file would have left, and has no marks,           files or on neither (`SameCalls`); there are such calls (carrying_own, `twin_calls`)
 --     and from there on marks do what they do                      `after`, with the calls cs' behind the first mark: demand 3, the number of keys
 --     on a file that was never carried to;                         to come, every return, every refusal
 --     the limit on a call holds after every return.                `limit`, by the keys that the old file holds

@@ -1,5 +1,5 @@
 -- Worked rows of a reading with marks carried to another file (document 02, N10 with N8), each by computation.
---     W1, W2        a version 1 file that holds "" 0, a 2 and b 0, and its conversion (convert_rows, `vanished-W`)
+--     W1, W2        a version 1 file that holds "" 0, a 2 and b 0, and its conversion (convert_rows, `vanished_W`)
 --     here, there   the reading of W1 after "" and a, and the same of W2; one key is to come
 --     x             the name that is marked
 -- Assumes nothing.

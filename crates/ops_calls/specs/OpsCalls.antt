@@ -1,5 +1,5 @@
 -- What is promised of an operation (document 02, N5), for every list of calls, refused ones included. `OpsExact op cs calls` is the claim about an
--- operation, one to eight admitted files with the readings that their starts gave, and a list of calls; OpsCallsLaws proves it (`ops-exact`).
+-- operation, one to eight admitted files with the readings that their starts gave, and a list of calls; OpsCallsLaws proves it (`ops_exact`).
 --
 --     every list of calls, each handed all those files and a buffer          `OpsCall`: for each file that file or one of another length
 --     of any size, or for some file one of another length

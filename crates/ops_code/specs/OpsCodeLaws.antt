@@ -1,11 +1,11 @@
--- The code's own calls are those that `ops-exact` speaks of: `begin` gives the cards of the starts, and `next_item` answers by `next_item` on the cards that
+-- The code's own calls are those that `ops_exact` speaks of: `begin` gives the cards of the starts, and `next_item` answers by `next_item` on the cards that
 -- it is given with the files that it is lent, which is the call of `call_item`.
 --     lend_is          cards handed the files of a call, whatever files they had before
 --     code_call        a call of `next_item` on one to eight cards (`held_item`, which its contract cites)
 --     begin_is         the cards of `begin`, for readings and files that are those of the sources
 --     code_one         such a call, with what it tells and the cards that it leaves
 --     CodeCalls, code_told     a list of calls by the contract of `next_item` tells what the definition answers
---     code_from_begin  so of calls from what `begin` gave, of which `ops-exact` speaks
+--     code_from_begin  so of calls from what `begin` gave, of which `ops_exact` speaks
 -- Assumes nothing.
 use Rattle.std.specs.Prelude.{◌≡◌, refl, Bool, true, cond, List, [], ◌∷◌, map, ℕ, zero, suc, ◌-◌, ◌≤◌, length, take, drop, replicate}
 use Rattle.std.proofs.Common.{sym, ap, ap₂, ◌∙◌, subst, arith}
@@ -152,7 +152,7 @@ code_told S op n few (one_call {c = c} {calls = calls} {ts = ts} call fs buf₀ 
     let w = code_one S op n few c o e gs ds is call fs buf₀ buf r long files space merged in
     ap₂ ◌∷◌ w.same (code_told S op n few more w.op_same w.count_same w.files (call_item op ds call).cards w.cards)
 
--- from what `begin` gave, for readings that are those of the starts: `ops-exact` says what these answers are
+-- from what `begin` gave, for readings that are those of the starts: `ops_exact` says what these answers are
 pub code_from_begin : (S : List Source) (o : Op) (fs : List (List ℕ)) (ps : List Plain) (b : Begun) → count_test (length S) ≡ true → BegunBy o (length S) ps b
     → take (length S) fs ≡ files_of S → map plain_is (take (length S) ps) ≡ readings_of S → {calls : List (OpsCall S)} {ts : List Told} → CodeCalls S b.cards calls ts
     → ts ≡ answers_of (op_is o) (cards_of S) calls

@@ -1,4 +1,4 @@
--- What a page of items of admitted files is, over held keys, their order and the bounds. ItemsLaws proves the claim (`items-exact`).
+-- What a page of items of admitted files is, over held keys, their order and the bounds. ItemsLaws proves the claim (`items_exact`).
 --     SameBounds lo hi cs           all sources have these two bounds
 --     files_of cs                    their files
 --     ItemsExact op cs most p       the page p is the first items of the operation, up to `most`

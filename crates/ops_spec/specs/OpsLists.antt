@@ -135,7 +135,7 @@ by_judged L more (this k ps M) = item k ps M
 by_judged L more no_more = ending L
 by_judged L more (another M) = more M
 
--- rounds, with so much fuel; `total` and one more is enough (OpsRunLaws, `call-right`)
+-- rounds, with so much fuel; `total` and one more is enough (OpsRunLaws, `call_right`)
 abbrev pub call_to : ℕ → Op → Lanes → Outcome
 call_to zero op L = ending L
 call_to (suc n) op L = by_judged L (call_to n op) (judge op L)

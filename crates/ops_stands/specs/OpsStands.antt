@@ -1,5 +1,5 @@
 -- Where the readings of an operation stand (document 02, N5), over calls of next on each file alone, keys and their order. `OpsStands op cs pre c` is the
--- claim about an operation, its files with the readings that their starts gave, the calls before and one call more; OpsStandsLaws proves it (`ops-stands`).
+-- claim about an operation, its files with the readings that their starts gave, the calls before and one call more; OpsStandsLaws proves it (`ops_stands`).
 --
 --     after an item with key k the reading of each file is the one that      `after_item`, by `StandsAt`: `calls`, each allowed, and `left`
 --     calls of next, on its own, leave

@@ -2,7 +2,7 @@
 --     last_cards run                     the cards after a list of calls
 --     CodeRun S o pre call r buf        `begin` was given the readings of the starts; calls of `next_item` followed, and one call more gave r and left buf
 --     left_readings n c                  the readings of the first n cards
---     CodeStands op S r buf             where they stand, by what r answers; CodeStandsLaws proves it (`code-stands`)
+--     CodeStands op S r buf             where they stand, by what r answers; CodeStandsLaws proves it (`code_stands`)
 -- Assumes nothing.
 use Rattle.std.specs.Prelude.{◌≡◌, true, List, map, ℕ, ◌≤◌, length, take}
 use Rattle.format.specs.Strings.{Before}

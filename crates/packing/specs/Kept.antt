@@ -3,7 +3,7 @@
 --     close_keeps, insert_keeps, insert_all_keeps, root_keeps      the same of all records that `close`, `insert`, `insert_all`, `close_root` intern
 --     pack_keeps ps n           the same of the whole run
 --     KeptSeen y cells l       y says exactly whether every address of l stands in some cell
--- Proved of the run, with two cells or more, and the addresses of the result's nodes: `pack-kept` in PackLaws.
+-- Proved of the run, with two cells or more, and the addresses of the result's nodes: `pack_kept` in PackLaws.
 -- Assumes nothing.
 use Rattle.std.specs.Prelude.{◌≡◌, Bool, true, cond, ◌&&◌, ℕ, ◌+◌, eqb, replicate}
 use mathlib.Core.List.{List, [], ◌∷◌, Memᴰ}

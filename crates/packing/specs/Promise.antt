@@ -4,7 +4,7 @@
 --     SameNodes f a b      the nodes at a and b say the same
 --     InCell, CellOf       an address stands in some cell; a cell has the address of a node and its hash
 --     PackRight ps n A     the file of the pairs ps, admitted as A, says what it is and holds exactly the pairs; its cells; that it is minimal
--- Proved for every list whose file is not too large: `pack-right` in PackLaws, `list-listed` in ListLaws.
+-- Proved for every list whose file is not too large: `pack_right` in PackLaws, `list_listed` in ListLaws.
 -- Assumes nothing.
 use Prim.{Unit}
 use Rattle.std.specs.Prelude.{◌≡◌, ◌⊎◌, ℕ, ◌≤◌, ◌<◌, length}

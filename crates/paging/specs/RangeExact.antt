@@ -1,4 +1,4 @@
--- What a range of an admitted file is, over held keys, their order and the bounds. RangeLaws and PagesLaws prove both claims (`range-exact`, `pages`).
+-- What a range of an admitted file is, over held keys, their order and the bounds. RangeLaws and PagesLaws prove both claims (`range_exact`, `pages`).
 --     RangeExact A lo hi most p     the page p is the first keys between the bounds, up to `most`
 --     PageCall                      a call with room for at least one key
 --     Pages s hi calls i lo es      page after page from the lower bound lo, by the calls from place i on, es is handed out

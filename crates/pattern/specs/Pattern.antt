@@ -2,7 +2,7 @@
 -- bound and reading, admitted or made.
 --     Pattern                    positions, each a byte or any byte (none), and whether any rest may follow
 --     FitsStart, Fits            a string fits the pattern's start; it fits the pattern
---     start_test, fits_test        the same as tests that compute (FitLaws, `start-decides` and `fits-decides`)
+--     start_test, fits_test        the same as tests that compute (FitLaws, `start_decides` and `fits_decides`)
 --     turn_by, walk_by             a turn of the walk; the walk, which may follow any number of transitions
 --     next_by s p r space         a call of next by the pattern p, with the reading r and a key buffer of space bytes
 --     start_by s p lo hi          a start
@@ -88,7 +88,7 @@ turn_by f p hi again (l ∷ s) t =
     (again s t))
     (halted NODE)
 
--- with so much fuel; `left` and one more is enough, so that the walk is a turn and the walk from there (WalkLaws, `walk-by`)
+-- with so much fuel; `left` and one more is enough, so that the walk is a turn and the walk from there (WalkLaws, `walk_by_lem`)
 unfoldable pub walk_to : ℕ → Fst → Pattern → Bound → List Level → ℕ → WentBy
 walk_to zero f p hi s t = halted NODE
 walk_to (suc n) f p hi s t = turn_by f p hi (walk_to n f p hi) s t

@@ -1,6 +1,6 @@
 -- Demand 3 for readings by pattern (document 02, N1), in the words of the request. `DemandBy A p lo hi cs` is the claim about an admitted file, a
 -- pattern, two bounds and a list of calls; DemandByLaws proves it for every admitted file, every pattern of at most 255 positions, every two
--- bounds of at most 255 bytes, and every list of calls (`demand-3-by`). It is `Demand3` of `reading` with these differences:
+-- bounds of at most 255 bytes, and every list of calls (`demand_3_by`). It is `Demand3` of `reading` with these differences:
 --     hands out the keys between its bounds that fit                  `wanted`, `none_left_out`, `end_exactly`: with `Fits`
 --     follows the non-empty strings that begin a held key, lie        `Followed`: less their last byte they fit the pattern's start
 --     between the bounds and, less their last byte, fit the

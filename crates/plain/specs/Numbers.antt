@@ -61,7 +61,7 @@ pub data Crosses (lo hi : Bound) : Type 0 where
   greater : Given lo → Given hi → Before (bound_bytes hi) (bound_bytes lo) → Crosses lo hi
   equal : Given lo → Given hi → bound_bytes lo ≡ bound_bytes hi → (Excludes lo) ⊎ (Excludes hi) → Crosses lo hi
 
--- NumberLaws, `decides-crosses`
+-- NumberLaws, `decides_crosses`
 abbrev pub crosses : Bound → Bound → Bool
 crosses unbounded hi = false
 crosses (included x) unbounded = false

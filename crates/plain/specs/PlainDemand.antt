@@ -1,6 +1,6 @@
 -- Demand 3 of plain readings, and the number of keys to come (document 02, N11). `DemandPlain A lo hi c cs` is the claim about an admitted file,
 -- two bounds, a table and a list of calls; PlainLaws proves it for every admitted file, every two bounds of at most 255 bytes, every table that has
--- an entry for each byte of the file and fits (`TableFits`), and every list of calls (`demand-3-plain`).
+-- an entry for each byte of the file and fits (`TableFits`), and every list of calls (`demand_3_plain`).
 --
 --     It equals the number of held keys between the bounds                  `keys_to_come`, `StillToCome`: the held keys between the bounds that were
 --     that next calls from there will hand out.                             not handed out, which demand 3 says will come

@@ -1,5 +1,5 @@
 -- Demand 3, in its own words. `Demand3 A lo hi cs` is the claim about an admitted file, two bounds and a list of calls; DemandLaws
--- proves it for every admitted file, every two bounds of at most 255 bytes, and every list of calls (`demand-3`).
+-- proves it for every admitted file, every two bounds of at most 255 bytes, and every list of calls (`demand_3`).
 --
 --     For every admitted file, every two bounds a start takes,              A, lo, hi; `reading`, `starts`: the start is not refused
 --     and every list of next calls on the reading it gives,                 cs, folded by `answers` and `reading_after`; a call is handed the

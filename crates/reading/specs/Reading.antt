@@ -18,7 +18,7 @@ use Rattle.format.specs.Opening as Opening
 use Rattle.format.specs.Paths.{Fst, fst_of, node_in}
 use Rattle.format.specs.Strings.{Bound, unbounded, included, excluded, before_test}
 
--- ---- bounds, as tests that compute; BoundLaws, `decides-meets` and `decides-passes`
+-- ---- bounds, as tests that compute; BoundLaws, `decides_meets` and `decides_passes`
 
 abbrev pub meets_test : Bound → List ℕ → Bool
 meets_test unbounded k = true
@@ -194,7 +194,7 @@ pub data Went : Type 0 where
 
 -- down from the level l, whose node m is judged, with room for so many levels more: 6, 7 for the running sum, 5 for the target, the upper
 -- bound, 7 with the final output. A target that is not final has a transition, since no target is the root
--- (RunLaws, `target-live`), so every turn follows one.
+-- (RunLaws, `target_live`), so every turn follows one.
 unfoldable pub descend : ℕ → Fst → Bound → Level → Node → List Level → ℕ → Went
 descend zero f hi l m s t = Went.halted DEEP
 descend (suc room) f hi l m s t =

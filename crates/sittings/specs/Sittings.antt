@@ -4,7 +4,7 @@
 --     InTwo f c ..             the keys and the totals of the whole and of the two sittings
 --     Ends p cs, total_after p cs     "end" is among the answers; the total after the calls
 --     AllEnd ..                each of the three lists of calls has an "end" among its answers
---     TwoSittings A lo hi c t t₁ t₂ cs cs₁ cs₂     the claim, of lists of calls; SittingsLaws proves it (`two-sittings`)
+--     TwoSittings A lo hi c t t₁ t₂ cs cs₁ cs₂     the claim, of lists of calls; SittingsLaws proves it (`two_sittings`)
 --
 --     For an admitted file and a string of at most 255 bytes              A; c, with `length c ≤ max_path`
 --     that lies between the bounds of a plain reading,                    `Between lo hi c`; held or not

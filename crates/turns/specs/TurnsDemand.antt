@@ -2,13 +2,13 @@
 --
 --     A waiting seat is served within eight unrefused dispatches            `Fairness`, for every list of events: raising or seating anywhere, and
 --     whatever others raise,                                                dispatches with any file and buffer, refused or not (FairLaws, `fairness`)
---     Each dispatch serves one waiting seat with one call of its            `OneServed`, `Serves` (TurnsLaws, `one-served`, `serves`)
+--     Each dispatch serves one waiting seat with one call of its            `OneServed`, `Serves` (TurnsLaws, `one_served`, `serves`)
 --     reading, in turn after the seat served last, and clears its request.
---     Serving one seat changes no other seat's answers.                     `Alone` (AloneLaws, `alone`, `alone-same`); `SeatDemand`: demand 3 for a
---                                                                           seat by itself (`seat-demand-3`)
---     One dispatch follows no more transitions than the longest             `FollowsAtMost` (DispatchLimitLaws, `dispatch-limit`,
---     held key has bytes.                                                   `dispatch-limit-after`)
---     With nobody waiting, only SEAT is judged, it says so and              TurnsLaws, `dispatch-nobody`: any file and any buffer; the seats are not
+--     Serving one seat changes no other seat's answers.                     `Alone` (AloneLaws, `alone`, `alone_same`); `SeatDemand`: demand 3 for a
+--                                                                           seat by itself (`seat_demand_3`)
+--     One dispatch follows no more transitions than the longest             `FollowsAtMost` (DispatchLimitLaws, `dispatch_limit`,
+--     held key has bytes.                                                   `dispatch_limit_after`)
+--     With nobody waiting, only SEAT is judged, it says so and              TurnsLaws, `dispatch_nobody`: any file and any buffer; the seats are not
 --     nothing changes.                                                      in the answer
 --
 --     SeatsRight                  eight seats, `last` at most 7, and every waiting seat has a reading
@@ -32,7 +32,7 @@ use Rattle.turns.specs.Turns.{Seats, seat_at, taken, right_test, turn, Done, don
 
 -- ---- right seats
 
--- right_test decides it of eight seats (TurnsLaws, `right-test`, `test-right`)
+-- right_test decides it of eight seats (TurnsLaws, `right_test_lem`, `test_right`)
 pub record SeatsRight (s : Seats) : Type 0 where
   pub eight : length s.seats ≡ 8
   pub last_within : s.last ≤ 7

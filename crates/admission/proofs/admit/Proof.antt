@@ -8,29 +8,29 @@ use Rattle.admission.proofs.admit.Tie as tie
 open-requires : tie.Need-open-requires
 open-requires c κs = search rules
 
-enum-known-why : tie.Need-enum-known-why
+enum-known-why : tie.Need-enum_known-why
 enum-known-why c = search rules
 
-enum-known-m : tie.Need-enum-known-m
+enum-known-m : tie.Need-enum_known-m
 enum-known-m c = search rules
 
 -- the file opens
-admit-opened-requires : tie.Need-admit-opened-requires
-admit-opened-requires c κs = opening_opens c.before.before.before.before.before.«open».ensures c.before.before.before.m.given.0.0 c.before.before.before.m.given.1
+admit-opened-requires : tie.Need-admit_opened-requires
+admit-opened-requires c κs = opening_opens c.before.before.before.open.ensures c.before.before.in-Meta.m c.before.before.in-Meta.is
 
 -- refused by opening
-returns : tie.Need-returns
-returns c = opening_refused c.before.before.before.«open».ensures _ _ c.before.why.given.0.0 c.before.why.given.1
+returns : tie.Need-returns-in-Refused
+returns c = opening_refused c.before.open.ensures _ _ c.in-Refused.why c.in-Refused.is
 
-same_length : tie.Need-same-length
+same_length : tie.Need-shape_of-depths
 same_length c = search rules
 
-same-length-2 : tie.Need-same-length-2
+same-length-2 : tie.Need-shape_of-sums
 same-length-2 c = search rules
 
 -- the answer of a file that opens
-returns-2 : tie.Need-returns-2
-returns-2 c = c.before.before.before.before.admit-opened.ensures
+returns-2 : tie.Need-returns-in-Meta
+returns-2 c = c.before.before.before.before.admit_opened.ensures
 
 pub admit_spec : {M : Type 1} → statement M
 admit_spec =

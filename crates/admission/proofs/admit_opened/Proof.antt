@@ -14,37 +14,37 @@ abbrev start : tie.After-clear64 → tie.Start
 start q = q.before.before.before.before.before.before.before.before.before.before.before
 
 room_depths : (q : tie.After-clear64) → length (start q).args.file.now ≤ length (start q).args.depths.now
-room_depths q = q.before.before.before.before.before.before.before.if1.false
+room_depths q = q.before.before.before.before.before.before.before.if-depths-n.false
 
 room_sums : (q : tie.After-clear64) → length (start q).args.file.now ≤ length (start q).args.sums.now
-room_sums q = q.before.before.before.before.before.before.if2.false
+room_sums q = q.before.before.before.before.before.before.if-sums-n.false
 
 -- ---- the nodes judged
 
-abbrev cleared : tie.After-judge → tie.After-clear64
+abbrev cleared : tie.After-judge-v → tie.After-clear64
 cleared c = c.before.before.before.before.before
 
-judging : (c : tie.After-judge) → AllJudged (start (cleared c)).args.file.now (start (cleared c)).args.version (start (cleared c)).args.root
-    (start (cleared c)).args.depths.now (start (cleared c)).args.sums.now (cleared c).before.before.before.before.clear16.new.0 (cleared c).clear64.new.0
-    c.judge.new.1.1.1.0 c.judge.new.1.1.1.1.0 c.judge.result
+judging : (c : tie.After-judge-v) → AllJudged (start (cleared c)).args.file.now (start (cleared c)).args.version (start (cleared c)).args.root
+    (start (cleared c)).args.depths.now (start (cleared c)).args.sums.now (cleared c).before.before.before.before.clear16.new.t (cleared c).clear64.new.t
+    c.judge-v.new.depths c.judge-v.new.sums c.judge-v.result
 judging c =
     let q = cleared c in
     record {
-      open_file = (start q).pre;
+      open_file = (start q).requires;
       room_depths = room_depths q;
       room_sums = room_sums q;
       depths_wiped = q.before.before.before.before.clear16.ensures;
       sums_wiped = q.clear64.ensures;
-      judged = c.judge.ensures;
+      judged = c.judge-v.ensures;
     }
 
 -- no room in the depths
-returns : tie.Need-returns
-returns c = space_refused _ _ c.before.before.before.before.requires (inl c.if1.true)
+returns : tie.Need-returns-then-depths-n
+returns c = space_refused _ _ c.before.before.before.before.requires (inl c.if-depths-n.true)
 
 -- no room in the sums
-returns-2 : tie.Need-returns-2
-returns-2 c = space_refused _ _ c.before.before.before.before.before.requires (inr c.if2.true)
+returns-2 : tie.Need-returns-then-sums-n
+returns-2 c = space_refused _ _ c.before.before.before.before.before.requires (inr c.if-sums-n.true)
 
 clear16-requires : tie.Need-clear16-requires
 clear16-requires c κs = search rules
@@ -53,81 +53,81 @@ clear64-requires : tie.Need-clear64-requires
 clear64-requires c κs = search rules
 
 -- both tables are zeros over the file
-judge-requires : tie.Need-judge-requires
+judge-requires : tie.Need-judge-v-requires
 judge-requires c κs =
     let q = c.before.before.before.before in
     wiped_cleared (start q).args.depths.now (start q).args.sums.now (start q).requires (room_depths q) (room_sums q) q.before.before.before.before.clear16.ensures
     q.clear64.ensures
 
-enum_told : tie.Need-enum-told
+enum_told : tie.Need-enum_told-1
 enum_told c = search rules
 
-enum-told-2 : tie.Need-enum-told-2
+enum-told-2 : tie.Need-enum_told-in-Lost
 enum-told-2 c = search rules
 
 refused-requires : tie.Need-refused-requires
 refused-requires c κs = search rules
 
-enum-told-3 : tie.Need-enum-told-3
+enum-told-3 : tie.Need-enum_told-in-Deep
 enum-told-3 c = search rules
 
-refused-requires-2 : tie.Need-refused-requires-2
+refused-requires-2 : tie.Need-refused-requires-in-Deep
 refused-requires-2 c κs = search rules
 
-enum-told-4 : tie.Need-enum-told-4
+enum-told-4 : tie.Need-enum_told-in-Heavy
 enum-told-4 c = search rules
 
-refused-requires-3 : tie.Need-refused-requires-3
+refused-requires-3 : tie.Need-refused-requires-in-Heavy
 refused-requires-3 c κs = search rules
 
-same_length : tie.Need-same-length
+same_length : tie.Need-shape_of-depths-in-Good
 same_length c = search rules
 
-same-length-2 : tie.Need-same-length-2
+same-length-2 : tie.Need-shape_of-sums-in-Good
 same-length-2 c = search rules
 
 -- admitted
-returns-3 : tie.Need-returns-3
-returns-3 c = good_admits (judging c.before.before.before.before.before.before) c.enum_told.given.1
+returns-3 : tie.Need-returns-in-Good
+returns-3 c = good_admits (judging c.before.before.before.before.before) c.in-Good.is
 
-same-length-3 : tie.Need-same-length-3
+same-length-3 : tie.Need-shape_of-depths-in-Lost
 same-length-3 c = search rules
 
-same-length-4 : tie.Need-same-length-4
+same-length-4 : tie.Need-shape_of-sums-in-Lost
 same-length-4 c = search rules
 
 -- NODE
-returns-4 : tie.Need-returns-4
+returns-4 : tie.Need-returns-in-Lost
 returns-4 c =
     let call = c.before.before.before.before in
     let told = call.before.before.before in
-    lost_refused (judging told.before.before.before.before.before.before) call.refused.ensures told.enum-told2.given.1
+    lost_refused (judging told.before.before.before.before.before) call.refused.ensures told.in-Lost.is
 
-same-length-5 : tie.Need-same-length-5
+same-length-5 : tie.Need-shape_of-depths-in-Deep
 same-length-5 c = search rules
 
-same-length-6 : tie.Need-same-length-6
+same-length-6 : tie.Need-shape_of-sums-in-Deep
 same-length-6 c = search rules
 
 -- DEEP
-returns-5 : tie.Need-returns-5
+returns-5 : tie.Need-returns-in-Deep
 returns-5 c =
     let call = c.before.before.before.before in
     let told = call.before.before.before in
-    deep_refused (judging told.before.before.before.before.before.before) call.refused2.ensures told.enum-told3.given.1
+    deep_refused (judging told.before.before.before.before.before) call.refused-in-Deep.ensures told.in-Deep.is
 
-same-length-7 : tie.Need-same-length-7
+same-length-7 : tie.Need-shape_of-depths-in-Heavy
 same-length-7 c = search rules
 
-same-length-8 : tie.Need-same-length-8
+same-length-8 : tie.Need-shape_of-sums-in-Heavy
 same-length-8 c = search rules
 
 -- SUM
-returns-6 : tie.Need-returns-6
+returns-6 : tie.Need-returns-in-Heavy
 returns-6 c =
     let call = c.before.before.before.before in
     let told = call.before.before.before in
-    heavy_refused (judging told.before.before.before.before.before.before) call.refused3.ensures told.enum-told4.given.1
+    heavy_refused (judging told.before.before.before.before.before) call.refused-in-Heavy.ensures told.in-Heavy.is
 
 pub admit_opened_spec : {M : Type 1} → statement M
 admit_opened_spec =

@@ -25,55 +25,55 @@ abbrev file : tie.After-walk → Fst
 file w = fst_with (start w).args.file.now (start w).args.version (start w).args.root
 
 abbrev depths : tie.After-walk → List ℕ
-depths w = w.walk.new.1.1.1.0
+depths w = w.walk.new.depths
 
 walked : (w : tie.After-walk) (b : Bool) → w.walk.result ≡ b → Walked (file w) (depths w) b
 walked w b e = subst (λ r. Walked (file w) (depths w) r) e w.walk.ensures.1
 
 root_inside : (w : tie.After-walk) → (start w).args.root < length (start w).args.file.now
-root_inside w = (start w).requires.root_inside w.before.before.if1.false
+root_inside w = (start w).requires.root_inside w.before.before.if-root-eq0.false
 
 room : (w : tie.After-walk) → length (start w).args.file.now ≤ length (depths w)
 room w = omega (arith, (start w).requires.room_depths, w.walk.ensures.0.long)
 
-abbrev called : tie.Then2 → tie.After-walk
+abbrev called : tie.Then-walk → tie.After-walk
 called q = q.before.before.before
 
 -- the chain is whole
-marks : (q : tie.Then2) → (l : List ℕ) × Marks (file (called q)) (set (depths (called q)) 0 0) l
+marks : (q : tie.Then-walk) → (l : List ℕ) × Marks (file (called q)) (set (depths (called q)) 0 0) l
 marks q =
     let w = called q in
-    let r = walked w true q.if2.true in
-    (r.0, marks_of w.before.before.if1.left r.1 (omega (arith, root_inside w, room w)))
+    let r = walked w true q.if-walk.true in
+    (r.0, marks_of w.before.before.if-root-eq0.false r.1 (omega (arith, root_inside w, room w)))
 
-kept_zero : (q : tie.Then2) → Kept (length (start (called q)).args.file.now) (start (called q)).args.depths.now (set (depths (called q)) 0 0)
+kept_zero : (q : tie.Then-walk) → Kept (length (start (called q)).args.file.now) (start (called q)).args.depths.now (set (depths (called q)) 0 0)
 kept_zero q = let r = root_inside (called q) in kept_set 0 0 (omega arith) (called q).walk.ensures.0
 
 -- root 0
-returns : tie.Need-returns
-returns c = root_zero_judges c.if1.true c.before.before.before.before.requires
+returns : tie.Need-returns-then-root-eq0
+returns c = root_zero_judges c.if-root-eq0.true c.before.before.before.before.requires
 
 -- the root is not 0, so it lies within the file
 walk-requires : tie.Need-walk-requires
 walk-requires c κs =
     let pre = c.before.before.before.before.before.requires in
-    record { room = pre.room_depths; not_zero = c.before.if1.false; inside = pre.root_inside c.before.if1.false; zeros = pre.depths }
+    record { room = pre.room_depths; not_zero = c.before.if-root-eq0.false; inside = pre.root_inside c.before.if-root-eq0.false; zeros = pre.depths }
 
-same_length : tie.Need-same-length
+same_length : tie.Need-shape_of-depths-else-walk
 same_length c = search rules
 
 -- a broken chain
-returns-2 : tie.Need-returns-2
+returns-2 : tie.Need-returns-else-walk
 returns-2 c =
     let w = c.before.before.before in
     record {
       depths_kept = w.walk.ensures.0;
       sums_kept = kept_none _ _;
-      found = broken_nodes w.before.before.if1.false (walked w false c.if2.false);
+      found = broken_nodes w.before.before.if-root-eq0.false (walked w false c.if-walk.false);
     }
 
 -- the file has a first byte
-slice-write-depths : tie.Need-slice-write-depths
+slice-write-depths : tie.Need-bounds-depths-0
 slice-write-depths c = let w = called c in omega (arith, root_inside w, room w)
 
 -- the marks are those of the chain
@@ -81,19 +81,19 @@ fill-requires : tie.Need-fill-requires
 fill-requires c κs =
     let q = c.before.before in
     let w = called q in
-    marks_fillable (marks q).1 (omega (arith, (start w).pre.room_depths, (kept_zero q).long)) (start w).pre.room_sums (start w).pre.sums
+    marks_fillable (marks q).1 (omega (arith, (start w).requires.room_depths, (kept_zero q).long)) (start w).requires.room_sums (start w).requires.sums
 
 -- the depths keep their length
-same-length-2 : tie.Need-same-length-2
+same-length-2 : tie.Need-shape_of-depths
 same-length-2 c =
     let filled = c.before.before.before.before in
     filled.fill.ensures.depths_kept.long ∙ (kept_zero filled.before.before.before).long
 
-same-length-3 : tie.Need-same-length-3
+same-length-3 : tie.Need-shape_of-sums
 same-length-3 c = search rules
 
 -- what the pass up the file found
-returns-3 : tie.Need-returns-3
+returns-3 : tie.Need-returns
 returns-3 c =
     let filled = c.before.before.before.before in
     let q = filled.before.before.before in

@@ -12,6 +12,7 @@ use borrow.Author.Rules.{rules}
 use native.Mathlib.Omega.{arith}
 use Rattle.admission_fill.proofs.fill.Statement.{statement}
 use Rattle.admission_fill.proofs.fill.Tie as tie
+use Rattle.admission_fill.proofs.fill.Lts as lts
 
 abbrev invariant-loop-a : tie.invariant-loop-a
 invariant-loop-a file version root depths₀ sums₀ deep₀ heavy₀ a₀ depths sums deep heavy a =
@@ -55,26 +56,25 @@ slice-read-mark c = room_depths c.before
 
 -- the depths keep their length
 same_length : tie.Need-shape_of-depths-then-mark-lt-UNUSED invariant-loop-a decreases-loop-a
-same_length c = (filling c.before.before.before).depths_kept.long
+same_length c = (filling c.before.before.before.before).depths_kept.long
 
 -- the sums keep their length
 same-length-2 : tie.Need-shape_of-sums-then-mark-lt-UNUSED invariant-loop-a decreases-loop-a
-same-length-2 c = (filling c.before.before.before).sums_kept.long
+same-length-2 c = (filling c.before.before.before.before).sums_kept.long
 
 -- a node leads to an address that is none of the chain
 returns : tie.Need-returns-then-mark-lt-UNUSED invariant-loop-a decreases-loop-a
 returns c =
-    let turn = c.before.before in
+    let turn = c.before.before.before in
     let h = filling turn.before in
     filling_ends h Lost (filling_lost h turn.loop-a-test.true c.before.if-mark-ne0.true (omega (arith, c.if-mark-lt-UNUSED.true)))
 
 -- the targets lie below the node, where entries are small
 survey-at-requires : tie.Need-survey_at-s-requires invariant-loop-a decreases-loop-a
 survey-at-requires c κs =
-    let marked = c.before in
-    let turn = marked.before.before in
+    let turn = c.before.before.before in
     let at = turn.before in
-    surveyable_at (filling at) (start at).requires turn.loop-a-test.true marked.if-mark-lt-UNUSED.false (λ i. (at.before.before.before.shared_slice_known-1.given i).fits)
+    surveyable_at (filling at) (start at).requires turn.loop-a-test.true c.if-mark-lt-UNUSED.false (λ i. (at.before.before.before.shared_slice_known-1.given i).fits)
     (room_depths turn) (room_sums turn)
 
 or-deep-requires : tie.Need-or_deep-deep-requires invariant-loop-a decreases-loop-a
@@ -123,16 +123,16 @@ loop-again c =
     let h = filling at in
     let l = turn.loop-a-test.true in (
       omega arith,
-      ⊎_elim {0, 0, 0}
-          (λ w.
+      elim c.if-mark-ne0.branch [
+        lts.then-mark-ne0+else-mark-lt-UNUSED w ↦
           filling_as
-          (w.9 ∙ ap (λ x. set at.loop-a.depths at.loop-a.a x) w.7.ensures)
-          (w.10 ∙ ap (λ x. set at.loop-a.sums at.loop-a.a x) w.8.ensures)
-          (w.11 ∙ w.5.ensures)
-          (w.12 ∙ w.6.ensures)
-          (filling_store h (start at).requires l w.1.left w.4.result w.4.ensures))
-          (λ w. filling_as w.1 w.2 w.3 w.4 (filling_skip h w.0.left ((start at).requires.zeros _ l)))
-          c.if-mark-ne0.branch,
+          (w.depths-is ∙ ap (λ x. set at.loop-a.depths at.loop-a.a x) w.clamped.ensures)
+          (w.sums-is ∙ ap (λ x. set at.loop-a.sums at.loop-a.a x) w.entry_of.ensures)
+          (w.deep-is ∙ w.or_deep-deep.ensures)
+          (w.heavy-is ∙ w.or_over-heavy.ensures)
+          (filling_store h (start at).requires l w.if-mark-lt-UNUSED.false w.survey_at-s.result w.survey_at-s.ensures)
+        | lts.else-mark-ne0 w ↦ filling_as w.depths-is w.sums-is w.deep-is w.heavy-is (filling_skip h w.if-mark-ne0.false ((start at).requires.zeros _ l))
+      ],
     )
 
 -- the depths keep their length

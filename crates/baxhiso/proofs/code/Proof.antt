@@ -7,7 +7,7 @@ use mir.Facts.{to_z-of_z}
 use Rattle.baxhiso.proofs.code.Statement.{statement}
 use Rattle.baxhiso.proofs.code.Tie as tie
 
-cast-result : tie.Need-overflow-cast-result
+cast-result : tie.Need-overflow_cast-result
 cast-result c = search rules
 
 -- a number of 8 bits fits in 32 bits with a sign
@@ -15,4 +15,6 @@ returns : tie.Need-returns
 returns c = to_z-of_z {w = w32} {z = pos c.args.why} (cast-result c)
 
 pub code_spec : {M : Type 1} → statement M
-code_spec = tie.close (tie.spec cast-result returns)
+code_spec = tie.close (tie.spec
+    cast-result
+    returns)

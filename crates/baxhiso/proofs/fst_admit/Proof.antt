@@ -6,39 +6,39 @@ use Rattle.baxhiso.proofs.Results.{admit_admitted, admit_refused}
 use Rattle.baxhiso.proofs.fst_admit.Statement.{statement}
 use Rattle.baxhiso.proofs.fst_admit.Tie as tie
 
-admit-requires : tie.Need-admit-requires
+admit-requires : tie.Need-admit-answer-requires
 admit-requires c κs = search rules
 
-enum_told : tie.Need-enum-told
+enum_told : tie.Need-enum_told-1
 enum_told c = search rules
 
-enum-known-answer : tie.Need-enum-known-answer
+enum-known-answer : tie.Need-enum_known-answer
 enum-known-answer c = search rules
 
 code-requires : tie.Need-code-requires
 code-requires c κs = search rules
 
-same_length : tie.Need-same-length
+same_length : tie.Need-shape_of-depths-in-Admitted
 same_length c = search rules
 
-same-length-2 : tie.Need-same-length-2
+same-length-2 : tie.Need-shape_of-sums-in-Admitted
 same-length-2 c = search rules
 
 -- the file is admitted
-returns : tie.Need-returns
-returns c = let call = c.before.before.before.before.before.before in
-    admit_admitted _ _ _ _ _ call.admit.ensures c.enum_told.given.1
+returns : tie.Need-returns-in-Admitted
+returns c = let call = c.before.before.before.before.before in
+    admit_admitted _ _ _ _ _ call.admit-answer.ensures c.in-Admitted.is
 
-same-length-3 : tie.Need-same-length-3
+same-length-3 : tie.Need-shape_of-depths-in-Refused
 same-length-3 c = search rules
 
-same-length-4 : tie.Need-same-length-4
+same-length-4 : tie.Need-shape_of-sums-in-Refused
 same-length-4 c = search rules
 
 -- the file is refused
-returns-2 : tie.Need-returns-2
-returns-2 c = let call = c.before.before.before.before.before.before.before.before in
-    admit_refused _ _ _ _ _ call.admit.ensures _ _ c.before.before.answer.given.1 (code_is c.code.result c.code.type-inv c.code.ensures)
+returns-2 : tie.Need-returns-in-Refused
+returns-2 c = let call = c.before.before.before.before.before.before in
+    admit_refused _ _ _ _ _ call.admit-answer.ensures _ _ c.before.in-Refused.is (code_is c.code.result c.code.type_inv c.code.ensures)
 
 pub fst_admit_spec : {M : Type 1} → statement M
 fst_admit_spec =

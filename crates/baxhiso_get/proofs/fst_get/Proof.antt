@@ -6,35 +6,35 @@ use Rattle.baxhiso_get.proofs.GetResults.{get_value, get_none, get_refused}
 use Rattle.baxhiso_get.proofs.fst_get.Statement.{statement}
 use Rattle.baxhiso_get.proofs.fst_get.Tie as tie
 
-get-requires : tie.Need-get-requires
+get-requires : tie.Need-get-answer-requires
 get-requires c κs = search rules
 
-enum-known-answer : tie.Need-enum-known-answer
+enum-known-answer : tie.Need-enum_known-answer
 enum-known-answer c = search rules
 
-enum_told : tie.Need-enum-told
+enum_told : tie.Need-enum_told-1
 enum_told c = search rules
 
-enum-known-answer-2 : tie.Need-enum-known-answer-2
+enum-known-answer-2 : tie.Need-enum_known-answer-in-Refused-1
 enum-known-answer-2 c = search rules
 
 code-requires : tie.Need-code-requires
 code-requires c κs = search rules
 
 -- the key has a value
-returns : tie.Need-returns
-returns c = let call = c.before.before.before in
-    get_value call.get.ensures call.before.before.before.args.value.now _ c.before.answer.given.1
+returns : tie.Need-returns-in-Value
+returns c = let call = c.before in
+    get_value call.get-answer.ensures call.before.before.before.args.value.now _ c.in-Value.is
 
 -- the key is not held
-returns-2 : tie.Need-returns-2
-returns-2 c = let call = c.before.before in
-    get_none call.get.ensures call.before.before.before.args.value.now c.enum_told.given.1
+returns-2 : tie.Need-returns-in-None
+returns-2 c = let call = c.before in
+    get_none call.get-answer.ensures call.before.before.before.args.value.now c.in-None.is
 
 -- the lookup is refused
-returns-3 : tie.Need-returns-3
-returns-3 c = let call = c.before.before.before.before in
-    get_refused call.get.ensures call.before.before.before.args.value.now _ _ c.before.before.answer2.given.1 (code_is c.code.result c.code.type-inv c.code.ensures)
+returns-3 : tie.Need-returns-in-Refused
+returns-3 c = let call = c.before.before in
+    get_refused call.get-answer.ensures call.before.before.before.args.value.now _ _ c.before.in-Refused.is (code_is c.code.result c.code.type_inv c.code.ensures)
 
 pub fst_get_spec : {M : Type 1} → statement M
 fst_get_spec =

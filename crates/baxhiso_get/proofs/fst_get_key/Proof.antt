@@ -6,44 +6,44 @@ use Rattle.baxhiso_get.proofs.GetResults.{key_found, key_none, key_refused}
 use Rattle.baxhiso_get.proofs.fst_get_key.Statement.{statement}
 use Rattle.baxhiso_get.proofs.fst_get_key.Tie as tie
 
-get-key-requires : tie.Need-get-key-requires
+get-key-requires : tie.Need-get_key-answer-requires
 get-key-requires c κs = search rules
 
-enum-known-answer : tie.Need-enum-known-answer
+enum-known-answer : tie.Need-enum_known-answer
 enum-known-answer c = search rules
 
-enum_told : tie.Need-enum-told
+enum_told : tie.Need-enum_told-1
 enum_told c = search rules
 
-enum-known-answer-2 : tie.Need-enum-known-answer-2
+enum-known-answer-2 : tie.Need-enum_known-answer-in-Refused-1
 enum-known-answer-2 c = search rules
 
 code-requires : tie.Need-code-requires
 code-requires c κs = search rules
 
-same_length : tie.Need-same-length
+same_length : tie.Need-shape_of-key-in-Key
 same_length c = search rules
 
 -- a key is found
-returns : tie.Need-returns
-returns c = let call = c.before.before.before.before.before in
-    key_found _ call.get_key.ensures call.before.before.before.before.args.len.now _ c.before.answer.given.1
+returns : tie.Need-returns-in-Key
+returns c = let call = c.before.before.before in
+    key_found _ call.get_key-answer.ensures call.before.before.before.before.args.len.now _ c.in-Key.is
 
-same-length-2 : tie.Need-same-length-2
+same-length-2 : tie.Need-shape_of-key-in-None
 same-length-2 c = search rules
 
 -- no key is found
-returns-2 : tie.Need-returns-2
-returns-2 c = let call = c.before.before.before.before in
-    key_none _ call.get_key.ensures call.before.before.before.before.args.len.now c.enum_told.given.1
+returns-2 : tie.Need-returns-in-None
+returns-2 c = let call = c.before.before.before in
+    key_none _ call.get_key-answer.ensures call.before.before.before.before.args.len.now c.in-None.is
 
-same-length-3 : tie.Need-same-length-3
+same-length-3 : tie.Need-shape_of-key-in-Refused
 same-length-3 c = search rules
 
 -- the search is refused
-returns-3 : tie.Need-returns-3
-returns-3 c = let call = c.before.before.before.before.before.before in
-    key_refused _ call.get_key.ensures call.before.before.before.before.args.len.now _ _ c.before.before.answer2.given.1 (code_is c.code.result c.code.type-inv c.code.ensures)
+returns-3 : tie.Need-returns-in-Refused
+returns-3 c = let call = c.before.before.before.before in
+    key_refused _ call.get_key-answer.ensures call.before.before.before.before.args.len.now _ _ c.before.in-Refused.is (code_is c.code.result c.code.type_inv c.code.ensures)
 
 pub fst_get_key_spec : {M : Type 1} → statement M
 fst_get_key_spec =

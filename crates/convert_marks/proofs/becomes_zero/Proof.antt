@@ -13,33 +13,39 @@ use native.Mathlib.Omega.{arith}
 use Rattle.convert_marks.proofs.becomes_zero.Statement.{statement}
 use Rattle.convert_marks.proofs.becomes_zero.Tie as tie
 
-node-at-requires : tie.Need-node-at-requires
+node-at-requires : tie.Need-node_at-judged-requires
 node-at-requires c κs = search rules
 
-enum-known-judged : tie.Need-enum-known-judged
+enum-known-judged : tie.Need-enum_known-judged
 enum-known-judged c = search rules
 
 nothing-requires : tie.Need-nothing-requires
 nothing-requires c κs = search rules
 
-enum_told : tie.Need-enum-told
+enum_told : tie.Need-enum_told-1
 enum_told c = search rules
 
-returns : tie.Need-returns
+returns : tie.Need-returns-in-Sound
 returns c =
-    let told = c.before.before in
-    let at = told.before.before in
-    let node = told.judged.given.0.0 in
+    let told = c.before in
+    let at = told.before in
+    let node = told.in-Sound.m in
     let s = at.before.before.args.file.now in
-    let count = length_node_transitions s node (at.node_at.ensures.readable node told.judged.given.1) in
+    let count = length_node_transitions s node (at.node_at-judged.ensures.readable node told.in-Sound.is) in
     c.nothing.ensures
     ∙ ap (λ (n : ℕ). node.is_final && (eqb n 0 && eqb node.final_output 0)) (sym count)
-    ∙ sym (ap vanishes (answer_sound at.node_at.ensures node told.judged.given.1))
+    ∙ sym (ap vanishes (answer_sound at.node_at-judged.ensures node told.in-Sound.is))
 
-returns-2 : tie.Need-returns-2
-returns-2 c = sym (ap vanishes (answer_unsound c.before.before.node_at.ensures c.enum_told.given.1))
+returns-2 : tie.Need-returns-in-Unsound
+returns-2 c = sym (ap vanishes (answer_unsound c.before.node_at-judged.ensures c.in-Unsound.is))
 
 pub becomes_zero_spec : {M : Type 1} → statement M
 becomes_zero_spec =
     tie.close
-    (tie.spec node-at-requires enum-known-judged nothing-requires enum_told returns returns-2)
+    (tie.spec
+    node-at-requires
+    enum-known-judged
+    nothing-requires
+    enum_told
+    returns
+    returns-2)

@@ -24,36 +24,36 @@ first_is {s} r j =
           ap (λ (n : F.Node). n.first) is;
     }
 
-abbrev start : tie.After-small → tie.Start
+abbrev start : tie.After-small-state → tie.Start
 start q = q.before.before.before
 
 -- the state of a sound node lies within the file
-shared-slice-read-small : tie.Need-shared-slice-read-small
+shared-slice-read-small : tie.Need-bounds-file-a
 shared-slice-read-small c = c.before.before.requires.inside
 
-small-requires : tie.Need-small-requires
+small-requires : tie.Need-small-state-requires
 small-requires c κs = search rules
 
 -- the node is sound, and has any number of transitions
-any-node-requires : tie.Need-any-node-requires
-any-node-requires c κs = let q = c.before in ((start q).requires, omega (arith, q.small.ensures))
+any-node-requires : tie.Need-any_node-node-requires
+any-node-requires c κs = let q = c.before in ((start q).requires, omega (arith, q.small-state.ensures))
 
-returns : tie.Need-returns
-returns c = first_is c.any-node.result c.any-node.ensures.0
+returns : tie.Need-returns-then-state-lt128
+returns c = first_is c.any_node-node.result c.any_node-node.ensures.0
 
 -- the node is sound, and has one transition
-one-node-requires : tie.Need-one-node-requires
-one-node-requires c κs = let q = c.before.before in ((start q).requires, omega (arith, q.small.ensures), omega (arith, q.small.ensures))
+one-node-requires : tie.Need-one_node-node-requires
+one-node-requires c κs = let q = c.before.before in ((start q).requires, omega (arith, q.small-state.ensures), omega (arith, q.small-state.ensures))
 
-returns-2 : tie.Need-returns-2
-returns-2 c = first_is c.one-node.result c.one-node.ensures.0
+returns-2 : tie.Need-returns-then-state-lt192
+returns-2 c = first_is c.one_node-node.result c.one_node-node.ensures.0
 
 -- the node is sound, and leads to the node just below it
-next-node-requires : tie.Need-next-node-requires
-next-node-requires c κs = let q = c.before.before in ((start q).requires, omega (arith, q.small.ensures))
+next-node-requires : tie.Need-next_node-node-requires
+next-node-requires c κs = let q = c.before.before in ((start q).requires, omega (arith, q.small-state.ensures))
 
-returns-3 : tie.Need-returns-3
-returns-3 c = first_is c.next-node.result c.next-node.ensures.0
+returns-3 : tie.Need-returns
+returns-3 c = first_is c.next_node-node.result c.next_node-node.ensures.0
 
 pub first_of_spec : {M : Type 1} → statement M
 first_of_spec =

@@ -7,35 +7,35 @@ use native.Mathlib.Omega.{arith}
 use Rattle.convert_marks.proofs.mark.Statement.{statement}
 use Rattle.convert_marks.proofs.mark.Tie as tie
 
-becomes-zero-requires : tie.Need-becomes-zero-requires
+becomes-zero-requires : tie.Need-becomes_zero-requires
 becomes-zero-requires c κs = search rules
 
 clear16-requires : tie.Need-clear16-requires
 clear16-requires c κs = search rules
 
-same_length : tie.Need-same-length
+same_length : tie.Need-shape_of-depths-then-becomes_zero
 same_length c = search rules
 
-returns : tie.Need-returns
+returns : tie.Need-returns-then-becomes_zero
 returns c =
     let call = c.before.before in
     let test = call.before.before in
-    cleared_marks test.before.before.before.before.requires (sym test.before.becomes-zero.ensures ∙ test.if1.true) call.clear16.ensures
+    cleared_marks test.before.before.before.before.requires (sym test.before.becomes_zero.ensures ∙ test.if-becomes_zero.true) call.clear16.ensures
 
-mark-chain-requires : tie.Need-mark-chain-requires
+mark-chain-requires : tie.Need-mark_chain-requires
 mark-chain-requires c κs =
     let test = c.before in
     let ok = test.before.before.before.before.requires in
-    record { nodes = ok.nodes; chain = root_some ok (sym test.before.becomes-zero.ensures ∙ test.if1.false); room = ok.room }
+    record { nodes = ok.nodes; chain = root_some ok (sym test.before.becomes_zero.ensures ∙ test.if-becomes_zero.false); room = ok.room }
 
-same-length-2 : tie.Need-same-length-2
+same-length-2 : tie.Need-shape_of-depths
 same-length-2 c = search rules
 
-returns-2 : tie.Need-returns-2
+returns-2 : tie.Need-returns
 returns-2 c =
     let call = c.before.before in
     let test = call.before.before in
-    chain_marks test.before.before.before.before.requires (sym test.before.becomes-zero.ensures ∙ test.if1.false) call.mark-chain.ensures
+    chain_marks test.before.before.before.before.requires (sym test.before.becomes_zero.ensures ∙ test.if-becomes_zero.false) call.mark_chain.ensures
 
 pub mark_spec : {M : Type 1} → statement M
 mark_spec =

@@ -28,13 +28,13 @@ few : (s : tie.Start) → s.args.node.ntrans ≤ 256
 few s = omega (arith, count s, s.requires.1.sizable.fits.few, length-map (transitions s) (λ (t : Transition). t.inp))
 
 abbrev gathered_inputs : tie.After-gather → List ℕ
-gathered_inputs q = q.gather.new.1.1.1.0
+gathered_inputs q = q.gather.new.inputs
 
 abbrev gathered_outputs : tie.After-gather → List ℕ
-gathered_outputs q = q.gather.new.1.1.1.1.0
+gathered_outputs q = q.gather.new.outputs
 
 abbrev gathered_targets : tie.After-gather → List ℕ
-gathered_targets q = q.gather.new.1.1.1.1.1.0
+gathered_targets q = q.gather.new.targets
 
 gather-requires : tie.Need-gather-requires
 gather-requires c κs =
@@ -48,82 +48,82 @@ gather-requires c κs =
       },
     )
 
-slice-reshare-prefix-compile-record : tie.Need-slice-reshare-prefix-compile-record
-slice-reshare-prefix-compile-record c = let s = start c.before.before.before.before.before.before in omega (arith, few s, s.pre.2.in_inputs)
+slice-reshare-prefix-compile-record : tie.Need-slice_bounds-compile_record-end
+slice-reshare-prefix-compile-record c = let s = start c.before.before.before.before.before.before in omega (arith, few s, s.requires.2.in_inputs)
 
-slice-aggregate-compile-record : tie.Need-slice-aggregate-compile-record
+slice-aggregate-compile-record : tie.Need-slice_bounds-compile_record-end-2
 slice-aggregate-compile-record c =
+    let q = c.before.before.before.before.before.before in
+    let s = start q in
+    prefix_count s.args.node.ntrans (gathered_inputs q) (omega (arith, few s, s.requires.2.in_inputs))
+
+slice-reshare-prefix-compile-record-2 : tie.Need-slice_bounds-compile_record-end-3
+slice-reshare-prefix-compile-record-2 c = let s = start c.before.before.before.before.before.before in omega (arith, few s, s.requires.2.in_outputs)
+
+slice-aggregate-compile-record-2 : tie.Need-slice_bounds-compile_record-end-4
+slice-aggregate-compile-record-2 c =
+    let q = c.before.before.before.before.before.before in
+    let s = start q in
+    prefix_count s.args.node.ntrans (gathered_outputs q) (omega (arith, few s, s.requires.2.in_outputs))
+
+slice-reshare-prefix-compile-record-3 : tie.Need-slice_bounds-compile_record-end-5
+slice-reshare-prefix-compile-record-3 c = let s = start c.before.before.before.before.before.before in omega (arith, few s, s.requires.2.in_targets)
+
+slice-aggregate-compile-record-3 : tie.Need-slice_bounds-compile_record-end-6
+slice-aggregate-compile-record-3 c =
+    let q = c.before.before.before.before.before.before in
+    let s = start q in
+    prefix_count s.args.node.ntrans (gathered_targets q) (omega (arith, few s, s.requires.2.in_targets))
+
+compile-record-requires : tie.Need-compile_record-done-requires
+compile-record-requires c κs =
     let q = c.before.before.before.before.before.before.before in
     let s = start q in
-    prefix_count s.args.node.ntrans (gathered_inputs q) (omega (arith, few s, s.pre.2.in_inputs))
+    pack_fits (meaning s.args.file.now s.args.node) s.args.node.ntrans (sym (count s)) q.gather.ensures s.requires.1
 
-slice-reshare-prefix-compile-record-2 : tie.Need-slice-reshare-prefix-compile-record-2
-slice-reshare-prefix-compile-record-2 c = let s = start c.before.before.before.before.before.before.before in omega (arith, few s, s.pre.2.in_outputs)
-
-slice-aggregate-compile-record-2 : tie.Need-slice-aggregate-compile-record-2
-slice-aggregate-compile-record-2 c =
-    let q = c.before.before.before.before.before.before.before.before in
-    let s = start q in
-    prefix_count s.args.node.ntrans (gathered_outputs q) (omega (arith, few s, s.pre.2.in_outputs))
-
-slice-reshare-prefix-compile-record-3 : tie.Need-slice-reshare-prefix-compile-record-3
-slice-reshare-prefix-compile-record-3 c = let s = start c.before.before.before.before.before.before.before.before in omega (arith, few s, s.pre.2.in_targets)
-
-slice-aggregate-compile-record-3 : tie.Need-slice-aggregate-compile-record-3
-slice-aggregate-compile-record-3 c =
-    let q = c.before.before.before.before.before.before.before.before.before in
-    let s = start q in
-    prefix_count s.args.node.ntrans (gathered_targets q) (omega (arith, few s, s.pre.2.in_targets))
-
-compile-record-requires : tie.Need-compile-record-requires
-compile-record-requires c κs =
-    let q = c.before.before.before.before.before.before.before.before.before.before in
-    let s = start q in
-    pack_fits (meaning s.args.file.now s.args.node) s.args.node.ntrans (sym (count s)) q.gather.ensures s.pre.1
-
-enum-known-done : tie.Need-enum-known-done
+enum-known-done : tie.Need-enum_known-done
 enum-known-done c = search rules
 
-enum_told : tie.Need-enum-told
+enum_told : tie.Need-enum_told-1
 enum_told c = search rules
 
-same_length : tie.Need-same-length
+same_length : tie.Need-shape_of-inputs-in-Len
 same_length c = search rules
 
-same-length-2 : tie.Need-same-length-2
+same-length-2 : tie.Need-shape_of-outputs-in-Len
 same-length-2 c = search rules
 
-same-length-3 : tie.Need-same-length-3
+same-length-3 : tie.Need-shape_of-targets-in-Len
 same-length-3 c = search rules
 
-same-length-4 : tie.Need-same-length-4
+same-length-4 : tie.Need-shape_of-out-in-Len
 same-length-4 c = search rules
 
-returns : tie.Need-returns
+returns : tie.Need-returns-in-Len
 returns c =
-    let packed = c.before.before.before.before.before in
-    let q = packed.before.before.before.before.before.before.before.before.before.before.before in
+    let packed = c.before.before.before in
+    let q = packed.before.before.before.before.before.before.before.before in
     let s = start q in
-    pack_done (meaning s.args.file.now s.args.node) s.args.node.ntrans (sym (count s)) q.gather.ensures s.pre.1 packed.compile-record.ensures _ c.before.done.given.1
+    pack_done (meaning s.args.file.now s.args.node) s.args.node.ntrans (sym (count s)) q.gather.ensures s.requires.1 packed.compile_record-done.ensures _ c.in-Len.is
 
-same-length-5 : tie.Need-same-length-5
+same-length-5 : tie.Need-shape_of-inputs-in-Refused
 same-length-5 c = search rules
 
-same-length-6 : tie.Need-same-length-6
+same-length-6 : tie.Need-shape_of-outputs-in-Refused
 same-length-6 c = search rules
 
-same-length-7 : tie.Need-same-length-7
+same-length-7 : tie.Need-shape_of-targets-in-Refused
 same-length-7 c = search rules
 
-same-length-8 : tie.Need-same-length-8
+same-length-8 : tie.Need-shape_of-out-in-Refused
 same-length-8 c = search rules
 
-returns-2 : tie.Need-returns-2
+returns-2 : tie.Need-returns-in-Refused
 returns-2 c =
-    let packed = c.before.before.before.before in
-    let q = packed.before.before.before.before.before.before.before.before.before.before.before in
+    let packed = c.before.before.before in
+    let q = packed.before.before.before.before.before.before.before.before in
     let s = start q in
-    absurd (pack_never (meaning s.args.file.now s.args.node) s.args.node.ntrans (sym (count s)) q.gather.ensures s.pre.1 packed.compile-record.ensures _ c.enum_told.given.1)
+    absurd (pack_never (meaning s.args.file.now s.args.node) s.args.node.ntrans (sym (count s)) q.gather.ensures s.requires.1 packed.compile_record-done.ensures _ c.in-Refused.is)
 
 pub pack_spec : {M : Type 1} → statement M
 pack_spec =

@@ -12,75 +12,75 @@ use native.Mathlib.Omega.{arith}
 use Rattle.convert_node.proofs.pack_at.Statement.{statement}
 use Rattle.convert_node.proofs.pack_at.Tie as tie
 
-abbrev start : tie.After-small → tie.Start
+abbrev start : tie.After-small-state → tie.Start
 start q = q.before.before.before.before.before.before.before.before
 
 -- the state of a sound node lies within the file
-shared-slice-read-small : tie.Need-shared-slice-read-small
+shared-slice-read-small : tie.Need-bounds-file-a
 shared-slice-read-small c = c.before.before.before.before.before.before.before.requires.0.inside
 
-small-requires : tie.Need-small-requires
+small-requires : tie.Need-small-state-requires
 small-requires c κs = search rules
 
 -- the node is sound, and has any number of transitions
-any-node-requires : tie.Need-any-node-requires
-any-node-requires c κs = let q = c.before in ((start q).requires.0, omega (arith, q.small.ensures))
+any-node-requires : tie.Need-any_node-node-requires
+any-node-requires c κs = let q = c.before in ((start q).requires.0, omega (arith, q.small-state.ensures))
 
 pack-requires : tie.Need-pack-requires
 pack-requires c κs =
     let q = c.before.before.before.before in
     let s = start q.before.before in
-    (q.any-node.ensures.0.readable _ refl, s.pre.1.each _ (judged_at q.any-node.ensures.0), s.pre.2)
+    (q.any_node-node.ensures.0.readable _ refl, s.requires.1.each _ (judged_at q.any_node-node.ensures.0), s.requires.2)
 
-same_length : tie.Need-same-length
+same_length : tie.Need-shape_of-inputs-then-state-lt128
 same_length c = search rules
 
-same-length-2 : tie.Need-same-length-2
+same-length-2 : tie.Need-shape_of-outputs-then-state-lt128
 same-length-2 c = search rules
 
-same-length-3 : tie.Need-same-length-3
+same-length-3 : tie.Need-shape_of-targets-then-state-lt128
 same-length-3 c = search rules
 
-same-length-4 : tie.Need-same-length-4
+same-length-4 : tie.Need-shape_of-out-then-state-lt128
 same-length-4 c = search rules
 
 -- a node with any number of transitions
-returns : tie.Need-returns
+returns : tie.Need-returns-then-state-lt128
 returns c =
     let call = c.before.before.before.before.before.before.before.before in
     let q = call.before.before.before.before.before in
     let a = (start q.before.before).args in
     record {
       each = λ m e.
-          subst (λ (n : Node). PackedFront (packed a.first (record_by (entry_in a.moved.now) n)) a.out.now call.pack.new.1.1.1.1.1.1.1.0 call.pack.result)
-          (judged_same q.any-node.ensures.0 m e) call.pack.ensures;
+          subst (λ (n : Node). PackedFront (packed a.first (record_by (entry_in a.moved.now) n)) a.out.now call.pack.new.out call.pack.result)
+          (judged_same q.any_node-node.ensures.0 m e) call.pack.ensures;
     }
 
 -- the node is sound, and has one transition
-pack-single-requires : tie.Need-pack-single-requires
+pack-single-requires : tie.Need-pack_single-requires
 pack-single-requires c κs =
     let q = c.before.before.before in
-    ((start q).requires.0, omega (arith, q.small.ensures), omega (arith, q.small.ensures), (start q).requires.1)
+    ((start q).requires.0, omega (arith, q.small-state.ensures), omega (arith, q.small-state.ensures), (start q).requires.1)
 
-same-length-5 : tie.Need-same-length-5
+same-length-5 : tie.Need-shape_of-out-then-state-lt192
 same-length-5 c = search rules
 
 -- a node with one transition
-returns-2 : tie.Need-returns-2
-returns-2 c = c.before.before.pack-single.ensures
+returns-2 : tie.Need-returns-then-state-lt192
+returns-2 c = c.before.before.pack_single.ensures
 
 -- the node is sound, and leads to the node just below it
-pack-next-requires : tie.Need-pack-next-requires
+pack-next-requires : tie.Need-pack_next-requires
 pack-next-requires c κs =
     let q = c.before.before.before in
-    ((start q).requires.0, omega (arith, q.small.ensures), (start q).requires.1)
+    ((start q).requires.0, omega (arith, q.small-state.ensures), (start q).requires.1)
 
-same-length-6 : tie.Need-same-length-6
+same-length-6 : tie.Need-shape_of-out
 same-length-6 c = search rules
 
 -- a node with one transition to the node just below it
-returns-3 : tie.Need-returns-3
-returns-3 c = c.before.before.pack-next.ensures
+returns-3 : tie.Need-returns
+returns-3 c = c.before.before.pack_next.ensures
 
 pub pack_at_spec : {M : Type 1} → statement M
 pack_at_spec =

@@ -17,7 +17,7 @@ abbrev start : tie.After-fill → tie.Start
 start q = q.before.before.before.before.before
 
 abbrev counts : tie.After-fill → List ℕ
-counts q = q.fill.new.1.1.1.1.0
+counts q = q.fill.new.counts
 
 passed : (q : tie.After-fill) (b : Bool) → q.fill.result ≡ b
     → Passed (fst_with (start q).args.file.now (start q).args.version (start q).args.root) (start q).args.depths.now (start q).args.counts.now (counts q) b
@@ -29,26 +29,32 @@ passed q b e =
 fill-requires : tie.Need-fill-requires
 fill-requires c κs = search rules
 
-same_length : tie.Need-same-length
+same_length : tie.Need-shape_of-counts-then-fill
 same_length c = search rules
 
 -- every number fits
-returns : tie.Need-returns
-returns c = passed c.before.before.before true c.if1.true
+returns : tie.Need-returns-then-fill
+returns c = passed c.before.before.before true c.if-fill.true
 
 clear64-requires : tie.Need-clear64-requires
 clear64-requires c κs = search rules
 
-same-length-2 : tie.Need-same-length-2
+same-length-2 : tie.Need-shape_of-counts
 same-length-2 c = search rules
 
 -- a number does not fit
-returns-2 : tie.Need-returns-2
+returns-2 : tie.Need-returns
 returns-2 c =
     let cleared = c.before.before in
     let over = cleared.before.before in
-    over_leaves (passed over.before.before.before false over.if1.false) cleared.clear64.ensures
+    over_leaves (passed over.before.before.before false over.if-fill.false) cleared.clear64.ensures
 
 pub count_nodes_spec : {M : Type 1} → statement M
 count_nodes_spec =
-    tie.close (tie.spec fill-requires same_length returns clear64-requires same-length-2 returns-2)
+    tie.close (tie.spec
+    fill-requires
+    same_length
+    returns
+    clear64-requires
+    same-length-2
+    returns-2)

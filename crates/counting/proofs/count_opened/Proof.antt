@@ -12,71 +12,71 @@ use Rattle.counting.proofs.count_opened.Tie as tie
 
 -- ---- admission called
 
-abbrev roomy : tie.After-admit → tie.Else1
+abbrev roomy : tie.After-admit → tie.Else-counts-file
 roomy q = q.before.before.before
 
 abbrev start : tie.After-admit → tie.Start
 start q = (roomy q).before.before.before.before.before
 
 room : (q : tie.After-admit) → length (start q).args.file.now ≤ length (start q).args.counts.now
-room q = (roomy q).if1.false
+room q = (roomy q).if-counts-file.false
 
 answered : (q : tie.After-admit) (a : Admission) → q.admit.result ≡ a
-    → Outcome (start q).args.file.now (start q).args.depths.now (start q).args.sums.now q.admit.new.1.0 q.admit.new.1.1.0 a
+    → Outcome (start q).args.file.now (start q).args.depths.now (start q).args.sums.now q.admit.new.depths q.admit.new.sums a
 answered q a e =
-    subst (λ x. Outcome (start q).args.file.now (start q).args.depths.now (start q).args.sums.now q.admit.new.1.0 q.admit.new.1.1.0 x)
+    subst (λ x. Outcome (start q).args.file.now (start q).args.depths.now (start q).args.sums.now q.admit.new.depths q.admit.new.sums x)
     e q.admit.ensures
 
 -- no room in the third table
-returns : tie.Need-returns
-returns c = space_refused _ _ _ c.before.before.before.before.before.requires c.if1.true
+returns : tie.Need-returns-then-counts-file
+returns c = space_refused _ _ _ c.before.before.before.before.before.requires c.if-counts-file.true
 
 admit-requires : tie.Need-admit-requires
 admit-requires c κs = search rules
 
-enum-known-why : tie.Need-enum-known-why
+enum-known-why : tie.Need-enum_known-why
 enum-known-why c = search rules
 
-enum_told : tie.Need-enum-told
+enum_told : tie.Need-enum_told-1
 enum_told c = search rules
 
 -- the depths have entries at the reached nodes
-count-nodes-requires : tie.Need-count-nodes-requires
+count-nodes-requires : tie.Need-count_nodes-requires
 count-nodes-requires c κs =
-    let told = c.before.before in
-    let q = told.before.before.before.before.before.before in
-    admitted_countable (start q).args.counts.now (start q).requires (room q) (answered q _ told.enum_told.given.1)
+    let told = c.before in
+    let q = told.before.before.before.before.before in
+    admitted_countable (start q).args.counts.now (start q).requires (room q) (answered q _ told.in-Admitted.is)
 
-same_length : tie.Need-same-length
+same_length : tie.Need-shape_of-depths-in-Refused
 same_length c = search rules
 
-same-length-2 : tie.Need-same-length-2
+same-length-2 : tie.Need-shape_of-sums-in-Refused
 same-length-2 c = search rules
 
 -- refused by admission
-returns-2 : tie.Need-returns-2
+returns-2 : tie.Need-returns-in-Refused
 returns-2 c =
-    let why = c.before in
-    let q = why.before.before.before.before.before.before in
-    admission_refused (start q).args.counts.now (start q).requires (room q) (answered q _ why.why.given.1)
+    let why = c in
+    let q = why.before.before.before.before.before in
+    admission_refused (start q).args.counts.now (start q).requires (room q) (answered q _ why.in-Refused.is)
 
-same-length-3 : tie.Need-same-length-3
+same-length-3 : tie.Need-shape_of-depths-in-Admitted
 same-length-3 c = search rules
 
-same-length-4 : tie.Need-same-length-4
+same-length-4 : tie.Need-shape_of-sums-in-Admitted
 same-length-4 c = search rules
 
-same-length-5 : tie.Need-same-length-5
+same-length-5 : tie.Need-shape_of-counts
 same-length-5 c = search rules
 
 -- admitted, and what the pass answers
-returns-3 : tie.Need-returns-3
+returns-3 : tie.Need-returns-in-Admitted
 returns-3 c =
     let passed = c.before.before in
-    let told = passed.before.before.before in
-    let q = told.before.before.before.before.before.before in
-    admitted_counted (start q).args.counts.now (start q).requires (room q) passed.count-nodes.new.1.1.1.1.0 passed.count-nodes.result
-    (answered q _ told.enum_told.given.1) passed.count-nodes.ensures
+    let told = passed.before.before in
+    let q = told.before.before.before.before.before in
+    admitted_counted (start q).args.counts.now (start q).requires (room q) passed.count_nodes.new.counts passed.count_nodes.result
+    (answered q _ told.in-Admitted.is) passed.count_nodes.ensures
 
 pub count_opened_spec : {M : Type 1} → statement M
 count_opened_spec =

@@ -5,48 +5,48 @@ use Rattle.oracle_fst.proofs.FstTold.{counted_told, not_counted_told}
 use Rattle.oracle_fst.proofs.oracle_count_keys.Statement.{statement}
 use Rattle.oracle_fst.proofs.oracle_count_keys.Tie as tie
 
-count-keys-requires : tie.Need-count-keys-requires
+count-keys-requires : tie.Need-count_keys-requires
 count-keys-requires c κs = search rules
 
-enum_told : tie.Need-enum-told
+enum_told : tie.Need-enum_told-1
 enum_told c = search rules
 
-enum-known-why : tie.Need-enum-known-why
+enum-known-why : tie.Need-enum_known-why
 enum-known-why c = search rules
 
-cast-result : tie.Need-overflow-cast-result
+cast-result : tie.Need-overflow_cast-result
 cast-result c = search rules
 
-same_length : tie.Need-same-length
+same_length : tie.Need-shape_of-depths-in-Counted
 same_length c = search rules
 
-same-length-2 : tie.Need-same-length-2
+same-length-2 : tie.Need-shape_of-sums-in-Counted
 same-length-2 c = search rules
 
-same-length-3 : tie.Need-same-length-3
+same-length-3 : tie.Need-shape_of-counts-in-Counted
 same-length-3 c = search rules
 
 -- the table is filled
-returns : tie.Need-returns
+returns : tie.Need-returns-in-Counted
 returns c =
-    let called = c.before.before.before.before.before.before.before.before in
-    counted_told _ _ _ _ _ _ _ _ called.count-keys.ensures c.enum_told.given.1
+    let called = c.before.before.before.before.before.before.before in
+    counted_told _ _ _ _ _ _ _ _ called.count_keys.ensures c.in-Counted.is
 
-same-length-4 : tie.Need-same-length-4
+same-length-4 : tie.Need-shape_of-depths-in-Refused
 same-length-4 c = search rules
 
-same-length-5 : tie.Need-same-length-5
+same-length-5 : tie.Need-shape_of-sums-in-Refused
 same-length-5 c = search rules
 
-same-length-6 : tie.Need-same-length-6
+same-length-6 : tie.Need-shape_of-counts-in-Refused
 same-length-6 c = search rules
 
 -- it is refused
-returns-2 : tie.Need-returns-2
+returns-2 : tie.Need-returns-in-Refused
 returns-2 c =
-    let bound = c.before in
-    let called = bound.before.before.before.before.before.before.before.before in
-    not_counted_told _ _ _ _ _ _ _ _ called.count-keys.ensures bound.why.given.0.0 bound.why.given.1
+    let bound = c in
+    let called = bound.before.before.before.before.before.before.before in
+    not_counted_told _ _ _ _ _ _ _ _ called.count_keys.ensures bound.in-Refused.why bound.in-Refused.is
 
 pub oracle_count_keys_spec : {M : Type 1} → statement M
 oracle_count_keys_spec =

@@ -6,50 +6,50 @@ use Rattle.oracle_fst.proofs.FstTold.{key_told}
 use Rattle.oracle_fst.proofs.oracle_get_key.Statement.{statement}
 use Rattle.oracle_fst.proofs.oracle_get_key.Tie as tie
 
-get-key-requires : tie.Need-get-key-requires
+get-key-requires : tie.Need-get_key-requires
 get-key-requires c κs = search rules
 
-enum-known-n : tie.Need-enum-known-n
+enum-known-n : tie.Need-enum_known-n
 enum-known-n c = search rules
 
-enum_told : tie.Need-enum-told
+enum_told : tie.Need-enum_told-1
 enum_told c = search rules
 
-enum-known-why : tie.Need-enum-known-why
+enum-known-why : tie.Need-enum_known-why
 enum-known-why c = search rules
 
-cast-result : tie.Need-overflow-cast-result
+cast-result : tie.Need-overflow_cast-result
 cast-result c = search rules
 
-add-result : tie.Need-overflow-add-result
+add-result : tie.Need-overflow_add-result
 add-result c = search rules
 
-same_length : tie.Need-same-length
+same_length : tie.Need-shape_of-key-in-Key
 same_length c = search rules
 
 -- a key is found
-returns : tie.Need-returns
+returns : tie.Need-returns-in-Key
 returns c =
-    let bound = c.before in
-    let called = bound.before.before.before.before in
-    key_told called.get_key.ensures (Key bound.n.given.0.0) bound.n.given.1
+    let bound = c in
+    let called = bound.before.before.before in
+    key_told called.get_key.ensures (Key bound.in-Key.n) bound.in-Key.is
 
-same-length-2 : tie.Need-same-length-2
+same-length-2 : tie.Need-shape_of-key-in-None
 same-length-2 c = search rules
 
 -- no key is found
-returns-2 : tie.Need-returns-2
-returns-2 c = let called = c.before.before.before.before in key_told called.get_key.ensures None c.enum_told.given.1
+returns-2 : tie.Need-returns-in-None
+returns-2 c = let called = c.before.before.before in key_told called.get_key.ensures None c.in-None.is
 
-same-length-3 : tie.Need-same-length-3
+same-length-3 : tie.Need-shape_of-key-in-Refused
 same-length-3 c = search rules
 
 -- the search is refused
-returns-3 : tie.Need-returns-3
+returns-3 : tie.Need-returns-in-Refused
 returns-3 c =
-    let bound = c.before in
-    let called = bound.before.before.before.before in
-    key_told called.get_key.ensures (Refused bound.why.given.0.0) bound.why.given.1
+    let bound = c in
+    let called = bound.before.before.before in
+    key_told called.get_key.ensures (Refused bound.in-Refused.why) bound.in-Refused.is
 
 pub oracle_get_key_spec : {M : Type 1} → statement M
 oracle_get_key_spec =

@@ -8,42 +8,42 @@ use Rattle.oracle_fst.proofs.oracle_open.Tie as tie
 open-requires : tie.Need-open-requires
 open-requires c κs = search rules
 
-enum-known-why : tie.Need-enum-known-why
+enum-known-why : tie.Need-enum_known-why
 enum-known-why c = search rules
 
-cast-result : tie.Need-overflow-cast-result
+cast-result : tie.Need-overflow_cast-result
 cast-result c = search rules
 
-enum-known-m : tie.Need-enum-known-m
+enum-known-m : tie.Need-enum_known-m
 enum-known-m c = search rules
 
-checksum-number-requires : tie.Need-checksum-number-requires
+checksum-number-requires : tie.Need-checksum_number-checksum-requires
 checksum-number-requires c κs = search rules
 
-put-five-requires : tie.Need-put-five-requires
+put-five-requires : tie.Need-put_five-requires
 put-five-requires c κs = search rules
 
 -- the file does not open
-returns : tie.Need-returns
+returns : tie.Need-returns-in-Refused
 returns c =
-    let bound = c.before in
-    let called = bound.before.before in
+    let bound = c in
+    let called = bound.before in
     let start = called.before.before.before in
-    open_refused called.«open».ensures bound.why.given.0.0 start.args.out.now bound.why.given.1
+    open_refused called.open.ensures bound.in-Refused.why start.args.out.now bound.in-Refused.is
 
-same_length : tie.Need-same-length
+same_length : tie.Need-shape_of-out
 same_length c = search rules
 
 -- the file opens
-returns-2 : tie.Need-returns-2
+returns-2 : tie.Need-returns-in-Meta
 returns-2 c =
     let put = c.before.before in
     let summed = put.before.before in
-    let bound = summed.before.before in
-    let called = bound.before.before in
+    let bound = summed.before in
+    let called = bound.before in
     let start = called.before.before.before in
-    open_told called.«open».ensures bound.m.given.0.0 summed.checksum-number.result start.args.out.now _ bound.m.given.1
-    summed.checksum-number.ensures put.put_five.ensures
+    open_told called.open.ensures bound.in-Meta.m summed.checksum_number-checksum.result start.args.out.now _ bound.in-Meta.is
+    summed.checksum_number-checksum.ensures put.put_five.ensures
 
 pub oracle_open_spec : {M : Type 1} → statement M
 oracle_open_spec =

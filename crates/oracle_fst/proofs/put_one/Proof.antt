@@ -7,18 +7,22 @@ use Rattle.oracle_fst.proofs.put_one.Statement.{statement}
 use Rattle.oracle_fst.proofs.put_one.Tie as tie
 
 -- no room
-returns : tie.Need-returns
-returns c = let x = c.before.args in front_short (x.a ∷ []) x.out.now c.if1.true
+returns : tie.Need-returns-then-out-lt1
+returns c = let x = c.before.args in front_short (x.a ∷ []) x.out.now c.if-out-lt1.true
 
-slice-write-out : tie.Need-slice-write-out
+slice-write-out : tie.Need-bounds-out-0
 slice-write-out c = search rules
 
-same_length : tie.Need-same-length
+same_length : tie.Need-shape_of-out
 same_length c = search rules
 
 -- the number is written
-returns-2 : tie.Need-returns-2
-returns-2 c = let x = c.before.args in front_one x.out.now x.a c.if1.false
+returns-2 : tie.Need-returns
+returns-2 c = let x = c.before.args in front_one x.out.now x.a c.if-out-lt1.false
 
 pub put_one_spec : {M : Type 1} → statement M
-put_one_spec = tie.close (tie.spec returns slice-write-out same_length returns-2)
+put_one_spec = tie.close (tie.spec
+    returns
+    slice-write-out
+    same_length
+    returns-2)

@@ -10,47 +10,47 @@ use native.Mathlib.Omega.{arith}
 use Rattle.pack_finish.proofs.least_from.Statement.{statement}
 use Rattle.pack_finish.proofs.least_from.Tie as tie
 
-abbrev invariant-loop : tie.invariant-loop
-invariant-loop leasts from v least₀ i₀ least i = least_num (drop from leasts) v ≡ least_num (drop i leasts) least
+abbrev invariant-loop-i : tie.invariant-loop-i
+invariant-loop-i leasts from v least₀ i₀ least i = least_num (drop from leasts) v ≡ least_num (drop i leasts) least
 
-abbrev decreases-loop : tie.decreases-loop
-decreases-loop leasts from v least₀ i₀ least i = length leasts - i
+abbrev decreases-loop-i : tie.decreases-loop-i
+decreases-loop-i leasts from v least₀ i₀ least i = length leasts - i
 
-loop-holds : tie.Need-loop-init invariant-loop decreases-loop
+loop-holds : tie.Need-loop-i-init invariant-loop-i decreases-loop-i
 loop-holds c = refl
 
-mul-smaller : tie.Need-overflow-mul-smaller invariant-loop decreases-loop
+mul-smaller : tie.Need-offset_bounds-leasts-i invariant-loop-i decreases-loop-i
 mul-smaller c = search rules
 
-shared-slice-read-smaller : tie.Need-shared-slice-read-smaller invariant-loop decreases-loop
+shared-slice-read-smaller : tie.Need-bounds-leasts-i invariant-loop-i decreases-loop-i
 shared-slice-read-smaller c = search rules
 
-smaller-requires : tie.Need-smaller-requires invariant-loop decreases-loop
+smaller-requires : tie.Need-smaller-least-requires invariant-loop-i decreases-loop-i
 smaller-requires c κs = search rules
 
-add-i : tie.Need-overflow-add-i invariant-loop decreases-loop
+add-i : tie.Need-overflow_add-i invariant-loop-i decreases-loop-i
 add-i c = search rules
 
-loop-less : tie.Need-loop-smaller invariant-loop decreases-loop
+loop-less : tie.Need-loop-i-smaller invariant-loop-i decreases-loop-i
 loop-less c = search rules
 
-loop-again : tie.Need-loop-preserved invariant-loop decreases-loop
+loop-again : tie.Need-loop-i-preserved invariant-loop-i decreases-loop-i
 loop-again c =
     let turn = c.before.before.before in
-    turn.loop.invariant ∙ num_step turn.before.before.args.leasts.now turn.loop.i turn.loop.least c.before.before.loop-test.true
-    ∙ ap (least_num (drop (turn.loop.i + 1) turn.before.before.args.leasts.now)) (sym c.smaller.ensures)
+    turn.loop-i.invariant ∙ num_step turn.before.before.args.leasts.now turn.loop-i.i turn.loop-i.least c.before.before.loop-i-test.true
+    ∙ ap (least_num (drop (turn.loop-i.i + 1) turn.before.before.args.leasts.now)) (sym c.smaller-least.ensures)
 
-returns : tie.Need-returns invariant-loop decreases-loop
+returns : tie.Need-returns invariant-loop-i decreases-loop-i
 returns c =
-    let l = c.before.loop in
+    let l = c.before.loop-i in
     sym (l.invariant ∙ num_end c.before.before.before.args.leasts.now l.i l.least (search rules))
 
 pub least_from_spec : {M : Type 1} → statement M
 least_from_spec =
     tie.close
     (tie.spec
-    invariant-loop
-    decreases-loop
+    invariant-loop-i
+    decreases-loop-i
     loop-holds
     mul-smaller
     shared-slice-read-smaller

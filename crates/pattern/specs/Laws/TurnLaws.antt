@@ -1,5 +1,5 @@
 -- One turn of the walk by pattern, a law for each way out: the walk from here is the answer of the whole call. For every file and every levels.
--- `left-pop` and `left-follow` (LeftLaws of `reading`) are the measure of a loop.
+-- `left_pop` and `left_follow` (LeftLaws of `reading`) are the measure of a loop.
 --     turn_end, turn_bad, turn_popped             no level; an unsound node; a level that is used up or can fit no more
 --     turn_deep, turn_sum, turn_target            the refusals of a follow
 --     turn_past, turn_key, turn_final, turn_on    past the upper bound; a key that fits; its sum; further down

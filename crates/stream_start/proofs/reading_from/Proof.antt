@@ -10,32 +10,32 @@ use Rattle.stream_start.proofs.reading_from.Statement.{statement}
 use Rattle.stream_start.proofs.reading_from.Tie as tie
 
 -- the root fits, the bound has at most 255 bytes, and each array has 256 entries
-start-levels-requires : tie.Need-start-levels-requires
+start-levels-requires : tie.Need-start_levels-sought-requires
 start-levels-requires c κs = let start = c.before.before.before.before.before.before in
     (start.requires.0, start.requires.1, start.requires.2, record { addrs_len = refl; inps_len = refl; trans_len = refl; outs_len = refl })
 
-enum-known-sought : tie.Need-enum-known-sought
+enum-known-sought : tie.Need-enum_known-sought
 enum-known-sought c = search rules
 
 refused-requires : tie.Need-refused-requires
 refused-requires c κs = search rules
 
-enum-known-sought-2 : tie.Need-enum-known-sought-2
+enum-known-sought-2 : tie.Need-enum_known-sought-in-Levels-1
 enum-known-sought-2 c = search rules
 
 -- the walk is refused
-returns : tie.Need-returns
-returns c = let given = c.before.before in
-    let w = given.before.before in
+returns : tie.Need-returns-in-Halted
+returns c = let given = c.before in
+    let w = given.before in
     let a = w.before.before.before.before.before.before.before.args in
-    rw c.refused.ensures (reading_halted (length a.file.now) (bound_is a.kind (take a.bound-len a.bound)) a.bound-len (empty_is a.empty-output) _ (rw given.sought.given.1 at w.start-levels.ensures.found))
+    rw c.refused.ensures (reading_halted (length a.file.now) (bound_is a.kind (take a.bound_len a.bound)) a.bound_len (empty_is a.empty_output) _ (rw given.in-Halted.is at w.start_levels-sought.ensures.found))
 
 -- the walk gives levels
-returns-2 : tie.Need-returns-2
-returns-2 c = let given = c.before in
-    let w = given.before.before in
+returns-2 : tie.Need-returns-in-Levels
+returns-2 c = let given = c in
+    let w = given.before in
     let a = w.before.before.before.before.before.before.before.args in
-    reading_levels (length a.file.now) (bound_is a.kind (take a.bound-len a.bound)) a.bound-len (empty_is a.empty-output) _ (rw given.sought2.given.1 at w.start-levels.ensures.found)
+    reading_levels (length a.file.now) (bound_is a.kind (take a.bound_len a.bound)) a.bound_len (empty_is a.empty_output) _ (rw given.in-Levels.is at w.start_levels-sought.ensures.found)
 
 pub reading_from_spec : {M : Type 1} → statement M
 reading_from_spec =

@@ -13,4 +13,6 @@ returns : tie.Need-returns
 returns c = let a = c.before.args in ended_is a.reading c.placed.result a.total c.placed.ensures
 
 pub ended_spec : {M : Type 1} → statement M
-ended_spec = tie.close (tie.spec placed-requires returns)
+ended_spec = tie.close (tie.spec
+    placed-requires
+    returns)
