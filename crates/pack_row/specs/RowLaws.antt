@@ -58,7 +58,7 @@ module _ (nodes : List ℕ) (cells : List Cell) (i : ℕ) where
 -- a table of one row
 one_row : (c d : Cell) (b : BuilderNode) → row_of (c ∷ d ∷ []) b ≡ 0
 unfolding row_of
-one_row c d b = ap (λ (k : ℕ). 2 * k) (nat.mod_one (hash_of b))
+one_row c d b = ap (λ (k : ℕ). 2 * k) (nat.mod-one (hash_of b))
 
 pub intern_in_row : (nodes : List ℕ) (cells : List Cell) (b : BuilderNode) → intern (record { nodes = nodes; cells = cells }) b
     ≡ back_in cells (row_of cells b) (intern (record { nodes = nodes; cells = pair_at cells (row_of cells b) }) b)

@@ -124,13 +124,13 @@ loop-again c =
     let l = turn.loop-a-test.true in (
       omega arith,
       elim c.if-mark-ne0.branch [
-        lts.then-mark-ne0+else-mark-lt-UNUSED w ↦
-          filling_as
-          (w.depths-is ∙ ap (λ x. set at.loop-a.depths at.loop-a.a x) w.clamped.ensures)
-          (w.sums-is ∙ ap (λ x. set at.loop-a.sums at.loop-a.a x) w.entry_of.ensures)
-          (w.deep-is ∙ w.or_deep-deep.ensures)
-          (w.heavy-is ∙ w.or_over-heavy.ensures)
-          (filling_store h (start at).requires l w.if-mark-lt-UNUSED.false w.survey_at-s.result w.survey_at-s.ensures)
+        | lts.then-mark-ne0+else-mark-lt-UNUSED w ↦
+            filling_as
+            (w.depths-is ∙ ap (λ x. set at.loop-a.depths at.loop-a.a x) w.clamped.ensures)
+            (w.sums-is ∙ ap (λ x. set at.loop-a.sums at.loop-a.a x) w.entry_of.ensures)
+            (w.deep-is ∙ w.or_deep-deep.ensures)
+            (w.heavy-is ∙ w.or_over-heavy.ensures)
+            (filling_store h (start at).requires l w.if-mark-lt-UNUSED.false w.survey_at-s.result w.survey_at-s.ensures)
         | lts.else-mark-ne0 w ↦ filling_as w.depths-is w.sums-is w.deep-is w.heavy-is (filling_skip h w.if-mark-ne0.false ((start at).requires.zeros _ l))
       ],
     )

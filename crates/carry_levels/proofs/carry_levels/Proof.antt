@@ -16,67 +16,67 @@ use Rattle.carry_levels.proofs.carry_levels.Tie as tie
 -- ---- what is known where the first level was carried
 
 abbrev At : Type 0
-At = tie.After-first-level
+At = tie.After-first_level-settled
 
 abbrev start : At → tie.Start
-start q = q.before.before.before.before.before.before.before
+start q = q.before.before.before.before.before.before.before.before.before
 
 abbrev old : At → Fst
-old q = fst_with (start q).args.old.now (start q).args.old-version (start q).args.old-root
+old q = fst_with (start q).args.old.now (start q).args.old_version (start q).args.old_root
 
 positive : (q : At) → 0 < (start q).args.levels
-positive q = omega (arith, q.before.before.before.before.if1.false)
+positive q = omega (arith, q.before.before.before.before.before.before.if-levels-eq0.false)
 
 carried : (q : At) → FirstCarried (old q) (start q).args.new.now (start q).args.version (start q).args.root (get_or (start q).args.addrs.now 0 0)
-    (get_or (start q).args.outs.now 0 0) q.first-level.result
-carried q = rw q.before.before.wide-addr.ensures at q.first-level.ensures
+    (get_or (start q).args.outs.now 0 0) q.first_level-settled.result
+carried q = rw q.before.before.before.wide_addr-addr.ensures at q.first_level-settled.ensures
 
 -- a reading at its end
-returns : tie.Need-returns
+returns : tie.Need-returns-then-levels-eq0
 returns c = let a = c.before.before.before.args in
     subst
-    (λ (n : ℕ). LevelsCarried (fst_with a.old.now a.old-version a.old-root) (fst_with a.new.now a.version a.root) n a.addrs.now a.inps.now a.outs.now a.moved.now Levels.All)
-    (sym c.if1.true)
-    (walked_none (fst_with a.old.now a.old-version a.old-root) a.new.now a.version a.root a.addrs.now a.inps.now a.outs.now a.moved.now)
+    (λ (n : ℕ). LevelsCarried (fst_with a.old.now a.old_version a.old_root) (fst_with a.new.now a.version a.root) n a.addrs.now a.inps.now a.outs.now a.moved.now Levels.All)
+    (sym c.if-levels-eq0.true)
+    (walked_none (fst_with a.old.now a.old_version a.old_root) a.new.now a.version a.root a.addrs.now a.inps.now a.outs.now a.moved.now)
 
-element-copy-out-wide-addr : tie.Need-element-copy-out-wide-addr
+element-copy-out-wide-addr : tie.Need-bounds-addrs-0
 element-copy-out-wide-addr c = search rules
 
-wide-addr-requires : tie.Need-wide-addr-requires
+wide-addr-requires : tie.Need-wide_addr-addr-requires
 wide-addr-requires c κs = search rules
 
-element-copy-out-first-level : tie.Need-element-copy-out-first-level
+element-copy-out-first-level : tie.Need-bounds-outs-0
 element-copy-out-first-level c = search rules
 
-first-level-requires : tie.Need-first-level-requires
+first-level-requires : tie.Need-first_level-settled-requires
 first-level-requires c κs = search rules
 
-enum-known-settled : tie.Need-enum-known-settled
+enum-known-settled : tie.Need-enum_known-settled
 enum-known-settled c = search rules
 
-enum-known-settled-2 : tie.Need-enum-known-settled-2
+enum-known-settled-2 : tie.Need-enum_known-settled-in-Stands-1
 enum-known-settled-2 c = search rules
 
-element-write-moved : tie.Need-element-write-moved
+element-write-moved : tie.Need-bounds-moved-0
 element-write-moved c = search rules
 
-other-levels-requires : tie.Need-other-levels-requires
+other-levels-requires : tie.Need-other_levels-requires
 other-levels-requires c κs = let known = c.before.before in
-    let q = known.before.before in
+    let q = known.before in
     let a = (start q).args in
     let len = (start q).requires.5 in (
       ((start q).requires.0, positive q, (start q).requires.1, (start q).requires.2, (start q).requires.3, (start q).requires.4, length-set a.moved.now 0 _ ∙ len),
-      walked_first (old q) a.new.now a.version a.root a.addrs.now a.inps.now a.outs.now a.moved.now _ _ (omega (arith, len)) (carried q) known.settled2.given.1,
+      walked_first (old q) a.new.now a.version a.root a.addrs.now a.inps.now a.outs.now a.moved.now _ _ (omega (arith, len)) (carried q) known.in-Stands.is,
     )
 
 -- the first level is refused
-returns-2 : tie.Need-returns-2
-returns-2 c = let q = c.before.before.before in
+returns-2 : tie.Need-returns-in-Halted
+returns-2 c = let q = c.before in
     let a = (start q).args in
     first_halted (old q) a.new.now a.version a.root a.addrs.now a.inps.now a.outs.now a.levels a.moved.now (positive q) (carried q) _
-    c.before.settled.given.1
+    c.in-Halted.is
 
-returns-3 : tie.Need-returns-3
+returns-3 : tie.Need-returns-in-Stands
 returns-3 c = search rules
 
 pub carry_levels_spec : {M : Type 1} → statement M

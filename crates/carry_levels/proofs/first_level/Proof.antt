@@ -7,32 +7,38 @@ use native.Mathlib.Omega.{arith}
 use Rattle.carry_levels.proofs.first_level.Statement.{statement}
 use Rattle.carry_levels.proofs.first_level.Tie as tie
 
-node-at-requires : tie.Need-node-at-requires
+node-at-requires : tie.Need-node_at-requires
 node-at-requires c κs = search rules
 
-enum-known-m : tie.Need-enum-known-m
+enum-known-m : tie.Need-enum_known-m
 enum-known-m c = search rules
 
-enum_told : tie.Need-enum-told
+enum_told : tie.Need-enum_told-1
 enum_told c = search rules
 
 -- the old node is not sound
-returns : tie.Need-returns
-returns c = let call = c.before.before in
+returns : tie.Need-returns-in_default
+returns c = let call = c.before in
     let a = call.before.before.before.args in
-    first_unsound a.old.now a.old-version a.old-root a.new.now a.version a.root a.addr a.out (answer_unsound call.node_at.ensures c.enum_told.given.1)
+    first_unsound a.old.now a.old_version a.old_root a.new.now a.version a.root a.addr a.out (answer_unsound call.node_at.ensures c.in_default.is)
 
 settle-requires : tie.Need-settle-requires
 settle-requires c κs = search rules
 
-returns-2 : tie.Need-returns-2
-returns-2 c = let known = c.before.before in
-    let call = known.before.before in
+returns-2 : tie.Need-returns
+returns-2 c = let known = c.before in
+    let call = known.before in
     let a = call.before.before.before.args in
-    let m = known.m.given.0.0 in
-    first_settles a.old.now a.old-version a.old-root a.new.now a.version a.root a.addr a.out m (answer_sound call.node_at.ensures m known.m.given.1)
-    (call.node_at.ensures.readable m known.m.given.1) c.settle.ensures
+    let m = known.in-Sound.m in
+    first_settles a.old.now a.old_version a.old_root a.new.now a.version a.root a.addr a.out m (answer_sound call.node_at.ensures m known.in-Sound.is)
+    (call.node_at.ensures.readable m known.in-Sound.is) c.settle.ensures
 
 pub first_level_spec : {M : Type 1} → statement M
 first_level_spec =
-    tie.close (tie.spec node-at-requires enum-known-m enum_told returns settle-requires returns-2)
+    tie.close (tie.spec
+    node-at-requires
+    enum-known-m
+    enum_told
+    returns
+    settle-requires
+    returns-2)

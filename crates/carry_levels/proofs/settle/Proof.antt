@@ -20,39 +20,39 @@ use Rattle.carry_levels.proofs.settle.Tie as tie
 -- ---- what is known where the node is sound
 
 abbrev At : Type 0
-At = tie.After-struct-known
+At = tie.After-struct_known-1
 
 abbrev start : At → tie.Start
-start q = q.before.before.before.before.before.before
+start q = q.before.before.before.before
 
 abbrev file : At → List ℕ
 file q = (start q).args.new.now
 
 abbrev m : At → Node
-m q = q.before.before.m.given.0.0
+m q = q.before.in-Sound.m
 
 node_is : (q : At) → node_at (file q) (start q).args.version (start q).args.root (start q).args.addr ≡ sound (meaning (file q) (m q))
-node_is q = answer_sound q.before.before.before.before.node_at.ensures (m q) q.before.before.m.given.1
+node_is q = answer_sound q.before.before.node_at.ensures (m q) q.before.in-Sound.is
 
 readable : (q : At) → Readable (file q) (m q)
-readable q = q.before.before.before.before.node_at.ensures.readable (m q) q.before.before.m.given.1
+readable q = q.before.before.node_at.ensures.readable (m q) q.before.in-Sound.is
 
-node-at-requires : tie.Need-node-at-requires
+node-at-requires : tie.Need-node_at-requires
 node-at-requires c κs = search rules
 
-enum-known-m : tie.Need-enum-known-m
+enum-known-m : tie.Need-enum_known-m
 enum-known-m c = search rules
 
-enum_told : tie.Need-enum-told
+enum_told : tie.Need-enum_told-1
 enum_told c = search rules
 
 -- the node is not sound
-returns : tie.Need-returns
-returns c = let call = c.before.before in
+returns : tie.Need-returns-in_default
+returns c = let call = c.before in
     let a = call.before.before.args in
-    settle_unsound a.new.now a.version a.root a.addr a.ntrans a.same (answer_unsound call.node_at.ensures c.enum_told.given.1)
+    settle_unsound a.new.now a.version a.root a.addr a.ntrans a.same (answer_unsound call.node_at.ensures c.in_default.is)
 
-cast-to : tie.Need-overflow-cast-to
+cast-to : tie.Need-overflow_cast-to
 cast-to c = let q = c.before.before in
     let a = (start q).args in
     elim (ℕ_discrete a.addr 0) [
@@ -60,20 +60,20 @@ cast-to c = let q = c.before.before in
       | no ne ↦ omega (arith, node_below (fst_with (file q) a.version a.root) a.addr (meaning (file q) (m q)) (node_is q) ne, (start q).requires)
     ]
 
-returns-2 : tie.Need-returns-2
+returns-2 : tie.Need-returns-then-same
 returns-2 c = let q = c.before.before in
     let a = (start q).args in
-    settle_stands (file q) a.version a.root a.addr a.ntrans a.same (m q) (node_is q) (readable q) c.before.if1.true c.if2.true
+    settle_stands (file q) a.version a.root a.addr a.ntrans a.same (m q) (node_is q) (readable q) c.before.if-m-ntrans.true c.if-same.true
 
-returns-3 : tie.Need-returns-3
+returns-3 : tie.Need-returns-else-same
 returns-3 c = let q = c.before.before in
     let a = (start q).args in
-    settle_value (file q) a.version a.root a.addr a.ntrans a.same (m q) (node_is q) (readable q) c.before.if1.true c.if2.false
+    settle_value (file q) a.version a.root a.addr a.ntrans a.same (m q) (node_is q) (readable q) c.before.if-m-ntrans.true c.if-same.false
 
-returns-4 : tie.Need-returns-4
+returns-4 : tie.Need-returns-else-m-ntrans
 returns-4 c = let q = c.before in
     let a = (start q).args in
-    settle_count (file q) a.version a.root a.addr a.ntrans a.same (m q) (node_is q) (readable q) c.if1.false
+    settle_count (file q) a.version a.root a.addr a.ntrans a.same (m q) (node_is q) (readable q) c.if-m-ntrans.false
 
 pub settle_spec : {M : Type 1} → statement M
 settle_spec =

@@ -14,7 +14,7 @@ start q = q.before.before.before.before.before
 clear64-requires : tie.Need-clear64-requires
 clear64-requires c κs = search rules
 
-lay-marked-requires : tie.Need-lay-marked-requires
+lay-marked-requires : tie.Need-lay_marked-requires
 lay-marked-requires c κs =
     let q = c.before.before.before in
     let pre = (start q).requires in
@@ -25,14 +25,18 @@ lay-marked-requires c κs =
       cleared_zeros (length file) sums pre.room_sums q.clear64.ensures,
     )
 
-same_length : tie.Need-same-length
+same_length : tie.Need-shape_of-sums
 same_length c = search rules
 
 returns : tie.Need-returns
 returns c =
     let call = c.before.before in
     let q = call.before.before.before.before in
-    (kept_then (cleared_kept (length (start q).args.file.now) (start q).args.sums.now (start q).requires.room_sums q.clear64.ensures) call.lay-marked.ensures.0, call.lay-marked.ensures.1)
+    (kept_then (cleared_kept (length (start q).args.file.now) (start q).args.sums.now (start q).requires.room_sums q.clear64.ensures) call.lay_marked.ensures.0, call.lay_marked.ensures.1)
 
 pub lay_out_spec : {M : Type 1} → statement M
-lay_out_spec = tie.close (tie.spec clear64-requires lay-marked-requires same_length returns)
+lay_out_spec = tie.close (tie.spec
+    clear64-requires
+    lay-marked-requires
+    same_length
+    returns)

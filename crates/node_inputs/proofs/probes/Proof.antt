@@ -84,8 +84,11 @@ loop-again c =
       omega arith,
       omega arith,
       rw (← next)
-          ((elim c.if-file-index.branch [ lts.then-file-index w ↦ rw w.good-is (placed_lost a.file.now a.at a.n a.index (a.n - i) byte.small-b.result _ is_b refl (λ z. w.if-file-index.true (omega arith))) | lts.else-file-index w ↦ rw w.good-is
-          (placed_kept a.file.now a.at a.n a.index (a.n - i) byte.small-b.result _ is_b refl (omega (arith, w.if-file-index.false)) at_loop.loop-i.invariant.2) ])),
+          ((elim c.if-file-index.branch [
+            | lts.then-file-index w ↦ rw w.good-is (placed_lost a.file.now a.at a.n a.index (a.n - i) byte.small-b.result _ is_b refl (λ z. w.if-file-index.true (omega arith)))
+            | lts.else-file-index w ↦ rw w.good-is
+                (placed_kept a.file.now a.at a.n a.index (a.n - i) byte.small-b.result _ is_b refl (omega (arith, w.if-file-index.false)) at_loop.loop-i.invariant.2)
+          ])),
     )
 
 -- all inputs are probed

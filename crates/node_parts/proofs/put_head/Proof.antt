@@ -17,7 +17,6 @@ not_short : (c : tie.After-count_byte) → ¬ ((0 < c.before.before.before.befor
 not_short c h =
     elim c.before.else-n-gt0.branch [ lts.else-n-gt0-via-then-n-gt0+else-n-lt64 w ↦ not-le_of_lt h.1 w.if-n-lt64.false | lts.else-n-gt0-via-else-n-gt0 w ↦ not-le_of_lt h.0 w.if-n-gt0.false ]
 
-
 flag-of-requires : tie.Need-flag_of-flag-requires
 flag-of-requires c κs = search rules
 

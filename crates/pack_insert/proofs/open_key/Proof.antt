@@ -10,64 +10,64 @@ use native.Mathlib.Omega.{arith}
 use Rattle.pack_insert.proofs.open_key.Statement.{statement}
 use Rattle.pack_insert.proofs.open_key.Tie as tie
 
-abbrev invariant-loop : tie.invariant-loop
-invariant-loop key m value counts₀ led₀ finals₀ values n d₀ counts led finals d = OpenedTo key m d counts₀ led₀ finals₀ counts led finals
+abbrev invariant-loop-d : tie.invariant-loop-d
+invariant-loop-d key m value counts₀ led₀ finals₀ values n d₀ counts led finals d = OpenedTo key m d counts₀ led₀ finals₀ counts led finals
 
-abbrev decreases-loop : tie.decreases-loop
-decreases-loop key m value counts₀ led₀ finals₀ values n d₀ counts led finals d = n - d
+abbrev decreases-loop-d : tie.decreases-loop-d
+decreases-loop-d key m value counts₀ led₀ finals₀ values n d₀ counts led finals d = n - d
 
-loop-holds : tie.Need-loop-init invariant-loop decreases-loop
+loop-holds : tie.Need-loop-d-init invariant-loop-d decreases-loop-d
 loop-holds c =
     opened_none c.args.key.now c.args.m c.args.counts.now c.args.led.now c.args.finals.now c.requires.0 c.requires.2 c.requires.3 c.requires.4
 
-shared-slice-read-led : tie.Need-shared-slice-read-led invariant-loop decreases-loop
+shared-slice-read-led : tie.Need-bounds-key-d invariant-loop-d decreases-loop-d
 shared-slice-read-led c = search rules
 
-add-led : tie.Need-overflow-add-led invariant-loop decreases-loop
+add-led : tie.Need-overflow_add-led invariant-loop-d decreases-loop-d
 add-led c = search rules
 
-element-write-led : tie.Need-element-write-led invariant-loop decreases-loop
+element-write-led : tie.Need-bounds-led-d invariant-loop-d decreases-loop-d
 element-write-led c = search rules
 
-add-counts : tie.Need-overflow-add-counts invariant-loop decreases-loop
+add-counts : tie.Need-overflow_add-counts invariant-loop-d decreases-loop-d
 add-counts c = search rules
 
-mul-counts : tie.Need-overflow-mul-counts invariant-loop decreases-loop
+mul-counts : tie.Need-offset_bounds-counts-d invariant-loop-d decreases-loop-d
 mul-counts c = search rules
 
-element-write-counts : tie.Need-element-write-counts invariant-loop decreases-loop
+element-write-counts : tie.Need-bounds-counts-d invariant-loop-d decreases-loop-d
 element-write-counts c = search rules
 
-add-finals : tie.Need-overflow-add-finals invariant-loop decreases-loop
+add-finals : tie.Need-overflow_add-finals invariant-loop-d decreases-loop-d
 add-finals c = search rules
 
-element-write-finals : tie.Need-element-write-finals invariant-loop decreases-loop
+element-write-finals : tie.Need-bounds-finals-d invariant-loop-d decreases-loop-d
 element-write-finals c = search rules
 
-add-d : tie.Need-overflow-add-d invariant-loop decreases-loop
+add-d : tie.Need-overflow_add-d invariant-loop-d decreases-loop-d
 add-d c = search rules
 
-loop-less : tie.Need-loop-smaller invariant-loop decreases-loop
+loop-less : tie.Need-loop-d-smaller invariant-loop-d decreases-loop-d
 loop-less c = search rules
 
-loop-again : tie.Need-loop-preserved invariant-loop decreases-loop
+loop-again : tie.Need-loop-d-preserved invariant-loop-d decreases-loop-d
 loop-again c =
-    let turn = c.before.before in
-    opened_step turn.loop.invariant c.before.loop-test.true turn.before.requires.1
+    let turn = c.before.before.before.before.before in
+    opened_step turn.loop-d.invariant c.before.before.before.before.loop-d-test.true turn.before.requires.1
 
-element-write-finals-2 : tie.Need-element-write-finals-2 invariant-loop decreases-loop
+element-write-finals-2 : tie.Need-bounds-finals-n invariant-loop-d decreases-loop-d
 element-write-finals-2 c = search rules
 
-mul-values : tie.Need-overflow-mul-values invariant-loop decreases-loop
+mul-values : tie.Need-offset_bounds-values-n invariant-loop-d decreases-loop-d
 mul-values c = search rules
 
-element-write-values : tie.Need-element-write-values invariant-loop decreases-loop
+element-write-values : tie.Need-bounds-values-n invariant-loop-d decreases-loop-d
 element-write-values c = search rules
 
-returns : tie.Need-returns invariant-loop decreases-loop
+returns : tie.Need-returns invariant-loop-d decreases-loop-d
 returns c inputs leasts targets =
-    let l = c.before.loop in
-    let t = c.before.before in
+    let l = c.before.before.before.loop-d in
+    let t = c.before.before.before.before in
     opened_all t.args.key.now t.args.m t.args.value inputs leasts targets t.args.counts.now t.args.led.now t.args.finals.now t.args.values.now
     l.counts l.led l.finals l.d l.invariant (omega arith) t.requires.1 t.requires.5
 
@@ -75,8 +75,8 @@ pub open_key_spec : {M : Type 1} → statement M
 open_key_spec =
     tie.close
     (tie.spec
-    invariant-loop
-    decreases-loop
+    invariant-loop-d
+    decreases-loop-d
     loop-holds
     shared-slice-read-led
     add-led

@@ -14,87 +14,87 @@ use Rattle.pack_row.proofs.row_at.Tie as tie
 abbrev len : tie.Start → ℕ
 len t = 256 * t.args.d + t.args.n - 256 * t.args.d
 
-mul_at : tie.Need-overflow-mul-at
+mul_at : tie.Need-overflow_mul-at
 mul_at c = search rules
 
-add-end : tie.Need-overflow-add-end
+add-end : tie.Need-overflow_add-end
 add-end c = search rules
 
-mul-less-into : tie.Need-overflow-mul-less-into
+mul-less-into : tie.Need-offset_bounds-leasts-at
 mul-less-into c = search rules
 
-sub-less-into : tie.Need-overflow-sub-less-into
+sub-less-into : tie.Need-slice_bounds-less_into-count
 sub-less-into c = search rules
 
-part-less-into-start : tie.Need-slice-bounds-less-into-start
+part-less-into-start : tie.Need-slice_bounds-less_into-start
 part-less-into-start c = search rules
 
-part-less-into-end : tie.Need-slice-bounds-less-into-end
+part-less-into-end : tie.Need-slice_bounds-less_into-end
 part-less-into-end c = search rules
 
-less-into-requires : tie.Need-less-into-requires
+less-into-requires : tie.Need-less_into-requires
 less-into-requires c κs =
     let t = c.before.before.before.before.before in
     let few = t.requires.few in
     let e : len t ≡ t.args.n = omega arith in
     (omega (arith, part_length t.args.d t.args.n (len t) e t.args.leasts.now t.requires.high.within, few), part_high t.args.d t.args.n (len t) e t.args.leasts.now t.requires.high, refl)
 
-final-less-requires : tie.Need-final-less-requires
+final-less-requires : tie.Need-final_less-final_output-requires
 final-less-requires c κs = search rules
 
-sub-hash : tie.Need-overflow-sub-hash
+sub-hash : tie.Need-slice_bounds-hash-count
 sub-hash c = search rules
 
-part-hash-start : tie.Need-slice-bounds-hash-start
+part-hash-start : tie.Need-slice_bounds-hash-start
 part-hash-start c = search rules
 
-part-hash-end : tie.Need-slice-bounds-hash-end
+part-hash-end : tie.Need-slice_bounds-hash-end
 part-hash-end c = search rules
 
-array-share-prefix-outs : tie.Need-array-share-prefix-outs
-array-share-prefix-outs c = omega (arith, c.before.before.less-into.ensures.1, c.before.before.before.before.before.before.before.before.requires.few)
+array-share-prefix-outs : tie.Need-slice_bounds-outs-end
+array-share-prefix-outs c = omega (arith, c.before.before.less_into.ensures.1, c.before.before.before.before.before.before.before.before.requires.few)
 
-slice-aggregate-hash : tie.Need-slice-aggregate-hash
+slice-aggregate-hash : tie.Need-slice_bounds-hash-end-2
 slice-aggregate-hash c =
     let t = c.before.before.before.before.before.before.before.before.before in
-    let l = c.before.before.before.less-into.ensures.1 in
-    sym (length-take-le t.args.n c.before.before.before.less-into.new.0 (omega (arith, l, t.requires.few)))
+    let l = c.before.before.before.less_into.ensures.1 in
+    sym (length-take-le t.args.n c.before.before.before.less_into.new.outs (omega (arith, l, t.requires.few)))
 
-mul-hash : tie.Need-overflow-mul-hash
+mul-hash : tie.Need-offset_bounds-targets-at
 mul-hash c = search rules
 
-sub-hash-2 : tie.Need-overflow-sub-hash-2
+sub-hash-2 : tie.Need-slice_bounds-hash-count-2
 sub-hash-2 c = search rules
 
-part-hash-start-2 : tie.Need-slice-bounds-hash-start-2
+part-hash-start-2 : tie.Need-slice_bounds-hash-start-2
 part-hash-start-2 c = search rules
 
-part-hash-end-2 : tie.Need-slice-bounds-hash-end-2
+part-hash-end-2 : tie.Need-slice_bounds-hash-end-3
 part-hash-end-2 c = search rules
 
-hash-requires : tie.Need-hash-requires
+hash-requires : tie.Need-hash-own_hash-requires
 hash-requires c κs =
     let t = c.before.before.before.before.before.before.before.before.before.before in
-    let l = c.before.before.before.before.less-into.ensures.1 in
+    let l = c.before.before.before.before.less_into.ensures.1 in
     let few = t.requires.few in
     let low = t.requires.low in
     let e : len t ≡ t.args.n = omega arith in
     let i = part_length t.args.d t.args.n (len t) e t.args.inputs.now (omega (arith, t.requires.inputs_long)) in
-    let o = length-take-le t.args.n c.before.before.before.before.less-into.new.0 (omega (arith, l, few)) in
+    let o = length-take-le t.args.n c.before.before.before.before.less_into.new.outs (omega (arith, l, few)) in
     let a = part_length t.args.d t.args.n (len t) e t.args.targets.now (omega (arith, t.requires.targets_long)) in
     (o ∙ sym i, a ∙ sym i)
 
-row-of-requires : tie.Need-row-of-requires
+row-of-requires : tie.Need-row_of-requires
 row-of-requires c κs = search rules
 
 returns : tie.Need-returns
 returns c =
     let t = c.before.before.before.before.before.before.before.before.before.before.before.before in
     let e : len t ≡ t.args.n = omega arith in
-    let h = c.before.hash.ensures in
+    let h = c.before.hash-own_hash.ensures in
     let n =
-    row_node_lem t.args.d t.args.n (len t) e t.args.is_final_lem t.args.value t.args.base c.before.before.before.before.before.final-less.result t.args.inputs.now t.args.leasts.now t.args.targets.now
-    c.before.before.before.before.before.before.less-into.new.0 c.before.before.before.before.before.final-less.ensures t.requires.high.within c.before.before.before.before.before.before.less-into.ensures.0 in
+    row_node_lem t.args.d t.args.n (len t) e t.args.is_final t.args.value t.args.base c.before.before.before.before.before.final_less-final_output.result t.args.inputs.now t.args.leasts.now t.args.targets.now
+    c.before.before.before.before.before.before.less_into.new.outs c.before.before.before.before.before.final_less-final_output.ensures t.requires.high.within c.before.before.before.before.before.before.less_into.ensures.0 in
     (c.row_of.ensures.0 ∙ ap (λ (k : ℕ). 2 * (k % (t.args.cells / 2))) (h ∙ ap hash_of n), c.row_of.ensures.1)
 
 pub row_at_spec : {M : Type 1} → statement M

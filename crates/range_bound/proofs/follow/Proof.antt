@@ -8,59 +8,59 @@ use Rattle.range_bound.proofs.follow.Statement.{statement}
 use Rattle.range_bound.proofs.follow.Tie as tie
 
 -- a byte before it is past the bound
-returns : tie.Need-returns
+returns : tie.Need-returns-then-over
 returns c =
     let test = c.before in
     let a = test.before.args in
-    λ is room g. followed_past (beside_over (longer_set is a.k a.x room) g test.if1.true ∙ c.if2.true)
+    λ is room g. followed_past (beside_over (longer_set is a.k a.x room) g test.if-same-k.true ∙ c.if-over.true)
 
 -- a byte before it is below the bound
-returns-2 : tie.Need-returns-2
+returns-2 : tie.Need-returns-then-same-k
 returns-2 c =
     let test = c.before in
     let a = test.before.args in
     λ is room g.
     followed_within a.same
-    (beside_over (longer_set is a.k a.x room) g test.if1.true ∙ c.if2.false, beside_keep (longer_set is a.k a.x room) g test.if1.true)
+    (beside_over (longer_set is a.k a.x room) g test.if-same-k.true ∙ c.if-over.false, beside_keep (longer_set is a.k a.x room) g test.if-same-k.true)
 
-side-of-requires : tie.Need-side-of-requires
+side-of-requires : tie.Need-side_of-requires
 side-of-requires c κs = search rules
 
-enum_told : tie.Need-enum-told
+enum_told : tie.Need-enum_told-1
 enum_told c = search rules
 
-enum-told-2 : tie.Need-enum-told-2
+enum-told-2 : tie.Need-enum_told-in-Along
 enum-told-2 c = search rules
 
-add-t12 : tie.Need-overflow-add-t12
+add-t12 : tie.Need-overflow_add-result
 add-t12 c = search rules
 
-enum-told-3 : tie.Need-enum-told-3
+enum-told-3 : tie.Need-enum_told-in-Past
 enum-told-3 c = search rules
 
 -- it is the first that does not agree, and below
-returns-3 : tie.Need-returns-3
+returns-3 : tie.Need-returns-in-Below
 returns-3 c =
-    let call = c.before.before in
+    let call = c.before in
     let test = call.before in
     let a = test.before.args in
-    λ is room g. followed_within a.same (beside_below (longer_set is a.k a.x room) g test.if1.false call.side-of.ensures c.enum_told.given.1)
+    λ is room g. followed_within a.same (beside_below (longer_set is a.k a.x room) g test.if-same-k.false call.side_of.ensures c.in-Below.is)
 
 -- it agrees too
-returns-4 : tie.Need-returns-4
+returns-4 : tie.Need-returns-in-Along
 returns-4 c =
-    let call = c.before.before in
+    let call = c.before in
     let test = call.before in
     let a = test.before.args in
-    λ is room g. followed_within _ (beside_along (longer_set is a.k a.x room) g test.if1.false call.side-of.ensures c.enum-told2.given.1)
+    λ is room g. followed_within _ (beside_along (longer_set is a.k a.x room) g test.if-same-k.false call.side_of.ensures c.in-Along.is)
 
 -- it is past the bound
-returns-5 : tie.Need-returns-5
+returns-5 : tie.Need-returns-in-Past
 returns-5 c =
-    let call = c.before.before in
+    let call = c.before in
     let test = call.before in
     let a = test.before.args in
-    λ is room g. followed_past (beside_past (longer_set is a.k a.x room) g test.if1.false call.side-of.ensures c.enum-told3.given.1)
+    λ is room g. followed_past (beside_past (longer_set is a.k a.x room) g test.if-same-k.false call.side_of.ensures c.in-Past.is)
 
 pub follow_spec : {M : Type 1} → statement M
 follow_spec =

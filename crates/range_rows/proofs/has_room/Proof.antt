@@ -20,16 +20,18 @@ both_true true = refl
 both_true false = refl
 
 -- the values are too few
-returns : tie.Need-returns
+returns : tie.Need-returns-then-values-most
 returns c =
     let a = c.before.args in
-    sym (ap (λ (b : Bool). leb (256 * a.most) a.rows && b) (lt-leb a.most a.values c.if1.true) ∙ both_false (leb (256 * a.most) a.rows))
+    sym (ap (λ (b : Bool). leb (256 * a.most) a.rows && b) (lt-leb a.most a.values c.if-values-most.true) ∙ both_false (leb (256 * a.most) a.rows))
 
-returns-2 : tie.Need-returns-2
+returns-2 : tie.Need-returns
 returns-2 c =
     let a = c.before.args in
     quotient a.most a.rows
-    ∙ sym (ap (λ (b : Bool). leb (256 * a.most) a.rows && b) (le-leb a.most a.values c.if1.false) ∙ both_true (leb (256 * a.most) a.rows))
+    ∙ sym (ap (λ (b : Bool). leb (256 * a.most) a.rows && b) (le-leb a.most a.values c.if-values-most.false) ∙ both_true (leb (256 * a.most) a.rows))
 
 pub has_room_spec : {M : Type 1} → statement M
-has_room_spec = tie.close (tie.spec returns returns-2)
+has_room_spec = tie.close (tie.spec
+    returns
+    returns-2)

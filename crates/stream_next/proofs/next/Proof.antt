@@ -26,21 +26,21 @@ use Rattle.stream_next.proofs.next.Tie as tie
 
 -- ---- what is known where the file opens, and where the state is right
 
-abbrev start : tie.After-opened2 → tie.Start
-start q = q.before.before.before.before.before
+abbrev start : tie.In-Meta → tie.Start
+start q = q.before.before.before.before
 
-abbrev meta : tie.After-opened2 → Meta
-meta q = q.opened2.given.0.0
+abbrev meta : tie.In-Meta → Meta
+meta q = q.in-Meta.m
 
-opens : (q : tie.After-opened2) → O.opening (start q).args.file.now ≡ O.opened (meta_is (meta q))
-opens q = sym q.before.before.«open».ensures ∙ ap opening_is q.opened2.given.1
+opens : (q : tie.In-Meta) → O.opening (start q).args.file.now ≡ O.opened (meta_is (meta q))
+opens q = sym q.before.open-opened.ensures ∙ ap opening_is q.in-Meta.is
 
-abbrev q_of : tie.After-state-right → tie.After-opened2
-q_of w = w.before.before
+abbrev q_of : tie.After-state_right → tie.In-Meta
+q_of w = w.before
 
-right : (v : tie.Then1)
+right : (v : tie.Then-state_right)
     → (let a = (start (q_of v.before)).args in state_right a.reading.levels a.reading.bound_len a.reading.len (length a.file.now)) ≡ true
-right v = sym v.before.state_right_lem.ensures ∙ v.if1.true
+right v = sym v.before.state_right.ensures ∙ v.if-state_right.true
 
 -- the reading's arrays, and its bound
 arrays : (q : tie.Start) → Arrays q.args.reading.addrs q.args.reading.inps q.args.reading.trans q.args.reading.outs
@@ -51,11 +51,11 @@ bound_held q = search rules
 
 -- ---- what is known after the walk
 
-abbrev told_of : tie.After-walk-arg → tie.After-enum-told
+abbrev told_of : tie.After-walk-arg-1 → tie.In-Absent
 told_of c = c.before.before.before.before.before.before.before.before.before.before.before
 
-abbrev then_of : tie.After-walk → tie.Then1
-then_of call = (told_of call.before).before.before.before
+abbrev then_of : tie.After-walk → tie.Then-state_right
+then_of call = (told_of call.before).before.before
 
 abbrev start_of : tie.After-walk → tie.Start
 start_of call = start (q_of (then_of call).before)
@@ -70,120 +70,120 @@ by_walk call =
     let v = then_of call in
     let q = q_of v.before in
     let a = (start q).args in
-    next_walk a.file.now a.reading a.key.now (meta_is (meta q)) (opens q) (right v) told.before.before.if2.left (ap empty_is told.enum_told.given.1)
+    next_walk a.file.now a.reading a.key.now (meta_is (meta q)) (opens q) (right v) told.before.if-key-lt-MAX_KEY.false (ap empty_is told.in-Absent.is)
 
-open-requires : tie.Need-open-requires
+open-requires : tie.Need-open-opened-requires
 open-requires c κs = search rules
 
-enum-known-opened : tie.Need-enum-known-opened
+enum-known-opened : tie.Need-enum_known-opened
 enum-known-opened c = search rules
 
-enum-known-opened-2 : tie.Need-enum-known-opened-2
+enum-known-opened-2 : tie.Need-enum_known-opened-in-Meta-1
 enum-known-opened-2 c = search rules
 
-state-right-requires : tie.Need-state-right-requires
+state-right-requires : tie.Need-state_right-requires
 state-right-requires c κs = search rules
 
 -- the reading cannot go on with this file: STATE
-returns : tie.Need-returns
+returns : tie.Need-returns-else-state_right
 returns c = let w = c.before in
     let a = (start (q_of w)).args in
-    next_state a.file.now a.reading a.key.now (meta_is (meta (q_of w))) (opens (q_of w)) (sym w.state_right_lem.ensures ∙ c.if1.false)
+    next_state a.file.now a.reading a.key.now (meta_is (meta (q_of w))) (opens (q_of w)) (sym w.state_right.ensures ∙ c.if-state_right.false)
 
 -- the buffer is under 255 bytes: SPACE
-returns-2 : tie.Need-returns-2
+returns-2 : tie.Need-returns-then-key-lt-MAX_KEY
 returns-2 c = let v = c.before in
     let w = v.before in
     let a = (start (q_of w)).args in
-    next_space a.file.now a.reading a.key.now (meta_is (meta (q_of w))) (opens (q_of w)) (right v) c.if2.true
+    next_space a.file.now a.reading a.key.now (meta_is (meta (q_of w))) (opens (q_of w)) (right v) c.if-key-lt-MAX_KEY.true
 
-enum-known-empty : tie.Need-enum-known-empty
+enum-known-empty : tie.Need-enum_known-empty
 enum-known-empty c = search rules
 
 -- the held bound has at most 255 bytes
 pending-requires : tie.Need-pending-requires
-pending-requires c κs = let v = c.before.before.before.before in (state_facts (start (q_of v.before)).args.reading
+pending-requires c κs = let v = c.before.before in (state_facts (start (q_of v.before)).args.reading
     (length (start (q_of v.before)).args.file.now) (right v)).1
 
-enum_told : tie.Need-enum-told
+enum_told : tie.Need-enum_told-1
 enum_told c = search rules
 
 -- the state is right, the root fits, and the buffer has room for a key
 walk-requires : tie.Need-walk-requires
 walk-requires c κs = let told = told_of c in
-    let v = told.before.before.before in
+    let v = told.before.before in
     let q = q_of v.before in
     let e = state_facts (start q).args.reading (length (start q).args.file.now) (right v) in (
       (arrays (start q), bound_held (start q), e.1),
-      (e.0, root_fits (start q).args.file.now (meta_is (meta q)) (opens q), told.before.before.if2.left),
+      (e.0, root_fits (start q).args.file.now (meta_is (meta q)) (opens q), told.before.if-key-lt-MAX_KEY.false),
     )
 
-enum-known-why : tie.Need-enum-known-why
+enum-known-why : tie.Need-enum_known-why
 enum-known-why c = search rules
 
-enum-known-total : tie.Need-enum-known-total
+enum-known-total : tie.Need-enum_known-total
 enum-known-total c = search rules
 
 ended-requires : tie.Need-ended-requires
 ended-requires c κs = search rules
 
-enum-known-k : tie.Need-enum-known-k
+enum-known-k : tie.Need-enum_known-k
 enum-known-k c = search rules
 
 -- level k is one of 256
-add-t41 : tie.Need-overflow-add-t41
-add-t41 c = let call = c.before.before.before.before.before in
+add-t41 : tie.Need-overflow_add-after
+add-t41 c = let call = c.before.before.before in
     let r = (start_of call).args.reading in
-    omega (arith, gone_low r (call.walk.ensures r.len r.bound_len (empty_is r.empty_output)) c.before.k.given.0.0 c.before.k.given.0.1.0 c.before.k.given.0.1.1.0 c.before.k.given.1)
+    omega (arith, gone_low r (call.walk.ensures r.len r.bound_len (empty_is r.empty_output)) c.in-Key.k c.in-Key.value c.in-Key.total c.in-Key.is)
 
 -- the file does not open
-returns-4 : tie.Need-returns-4
-returns-4 c = let call = c.before.before.before in
+returns-4 : tie.Need-returns-in-Refused
+returns-4 c = let call = c.before in
     let a = call.before.before.before.args in
-    next_refused a.file.now a.reading a.key.now c.before.opened.given.0.0 (sym call.«open».ensures ∙ ap opening_is c.before.opened.given.1)
+    next_refused a.file.now a.reading a.key.now c.in-Refused.why (sym call.open-opened.ensures ∙ ap opening_is c.in-Refused.is)
 
 -- the empty key is pending
-returns-5 : tie.Need-returns-5
-returns-5 c = let told = c.before.before in
-    let v = told.before.before.before in
+returns-5 : tie.Need-returns-in-Pending
+returns-5 c = let told = c.before in
+    let v = told.before.before in
     let q = q_of v.before in
     let a = (start q).args in
-    next_walk a.file.now a.reading a.key.now (meta_is (meta q)) (opens q) (right v) told.before.before.if2.false
-    (ap empty_is told.empty.given.1) a.key.now c.pending.result
+    next_walk a.file.now a.reading a.key.now (meta_is (meta q)) (opens q) (right v) told.before.if-key-lt-MAX_KEY.false
+    (ap empty_is told.in-Pending.is) a.key.now c.pending.result
     (c.pending.ensures (fst_of a.file.now (meta_is (meta q))) a.key.now)
 
-same_length : tie.Need-same-length
+same_length : tie.Need-shape_of-key-in-Key
 same_length c = search rules
 
 -- the walk is refused
-returns-6 : tie.Need-returns-6
-returns-6 c = let call = c.before.before.before.before.before in
+returns-6 : tie.Need-returns-in-Refused-walk
+returns-6 c = let call = c.before.before.before in
     let a = (start_of call).args in
     let r = a.reading in
-    by_walk call _ (record { answer = Refused c.before.why.given.0.0; reading = r })
-    (walk_refused r (call.walk.ensures r.len r.bound_len (empty_is r.empty_output)) c.before.why.given.0.0 c.before.why.given.1)
+    by_walk call _ (record { answer = Refused c.in-Refused-walk.why; reading = r })
+    (walk_refused r (call.walk.ensures r.len r.bound_len (empty_is r.empty_output)) c.in-Refused-walk.why c.in-Refused-walk.is)
 
-same-length-2 : tie.Need-same-length-2
+same-length-2 : tie.Need-shape_of-key-in-Refused-walk
 same-length-2 c = search rules
 
 -- no key is left
-returns-7 : tie.Need-returns-7
-returns-7 c = let call = c.before.before.before.before.before.before in
+returns-7 : tie.Need-returns-in-End
+returns-7 c = let call = c.before.before.before.before in
     let a = (start_of call).args in
     let r = a.reading in
     by_walk call _ c.ended.result
-    (walk_ended r (call.walk.ensures r.len r.bound_len (empty_is r.empty_output)) c.before.before.total.given.0.0 c.before.before.total.given.1 c.ended.result (c.ended.ensures a.key.now))
+    (walk_ended r (call.walk.ensures r.len r.bound_len (empty_is r.empty_output)) c.before.in-End.total c.before.in-End.is c.ended.result (c.ended.ensures a.key.now))
 
-same-length-3 : tie.Need-same-length-3
+same-length-3 : tie.Need-shape_of-key-in-End
 same-length-3 c = search rules
 
 -- a key is found
-returns-3 : tie.Need-returns-3
-returns-3 c = let call = c.before.before.before.before.before in
+returns-3 : tie.Need-returns-in-Key
+returns-3 c = let call = c.before.before.before in
     let a = (start_of call).args in
     let r = a.reading in
     by_walk call _ _
-    (walk_key r (call.walk.ensures r.len r.bound_len (empty_is r.empty_output)) c.before.k.given.0.0 c.before.k.given.0.1.0 c.before.k.given.0.1.1.0 c.before.k.given.1)
+    (walk_key r (call.walk.ensures r.len r.bound_len (empty_is r.empty_output)) c.in-Key.k c.in-Key.value c.in-Key.total c.in-Key.is)
 
 pub next_spec : {M : Type 1} → statement M
 next_spec =

@@ -8,43 +8,43 @@ use borrow.Author.Rules.{rules}
 use Rattle.stream_number.proofs.less.Statement.{statement}
 use Rattle.stream_number.proofs.less.Tie as tie
 
-enum-known-within : tie.Need-enum-known-within
+enum-known-within : tie.Need-enum_known-within
 enum-known-within c = search rules
 
-enum-known-within-2 : tie.Need-enum-known-within-2
+enum-known-within-2 : tie.Need-enum_known-within-in-Came-1
 enum-known-within-2 c = search rules
 
-enum-known-before : tie.Need-enum-known-before
+enum-known-before : tie.Need-enum_known-before
 enum-known-before c = search rules
 
-enum-known-before-2 : tie.Need-enum-known-before-2
+enum-known-before-2 : tie.Need-enum_known-before-in-Came
 enum-known-before-2 c = search rules
 
 difference-requires : tie.Need-difference-requires
 difference-requires c κs = search rules
 
 -- the walk along the upper bound is refused
-returns : tie.Need-returns
+returns : tie.Need-returns-in-Halted
 returns c = λ s t e d.
-    let w = c.before.within.given in
-    sym (ap (λ u. N.less u t) (walked_halted s w.0.0 (sym w.1 ∙ e)))
+    let w = c.in-Halted in
+    sym (ap (λ u. N.less u t) (walked_halted s w.why (sym w.is ∙ e)))
 
 -- the walk along the lower bound is refused
-returns-2 : tie.Need-returns-2
+returns-2 : tie.Need-returns-in-Halted-before
 returns-2 c = λ s t e d.
-    let b = c.before.before2.given in
-    let w = c.before.before.before.before.within2.given in
-    let x = walked_came s w.0.0 (sym w.1 ∙ e) in
-    let y = walked_halted t b.0.0 (sym b.1 ∙ d) in
+    let b = c.in-Halted-before in
+    let w = c.before.in-Came in
+    let x = walked_came s w.w (sym w.is ∙ e) in
+    let y = walked_halted t b.why (sym b.is ∙ d) in
     sym (ap (λ u. N.less u t) x.tally ∙ ap (N.less (comes_to x.number)) y)
 
 -- both come to a number
-returns-3 : tie.Need-returns-3
+returns-3 : tie.Need-returns-in-Came-before
 returns-3 c = λ s t e d.
-    let b = c.before.before.before3.given in
-    let w = c.before.before.before.before.before.within2.given in
-    let x = walked_came s w.0.0 (sym w.1 ∙ e) in
-    let y = walked_came t b.0.0 (sym b.1 ∙ d) in
+    let b = c.before.in-Came-before in
+    let w = c.before.before.in-Came in
+    let x = walked_came s w.w (sym w.is ∙ e) in
+    let y = walked_came t b.b (sym b.is ∙ d) in
     c.difference.ensures x.number y.number x.total y.total
     ∙ sym (ap (λ u. N.less u t) x.tally ∙ ap (N.less (comes_to x.number)) y.tally)
 
