@@ -1,9 +1,8 @@
 -- Laws of the records of a replay list, for the programs that read one.
 -- Assumes nothing.
 use Rattle.std.specs.Prelude.{◌≡◌, refl, Bool, true, false, cond, List, ℕ, ◌+◌, ◌≤◌, eqb, leb, length}
-use Rattle.std.proofs.Common.{sym, ◌∙◌, arith, leb-true}
+use Rattle.std.proofs.Common.{arith, leb-true}
 use Rattle.replay_list.specs.declared.Entry.{Entry}
-use Rattle.replay_list.specs.declared.Parsed.{Parsed}
 use Rattle.replay_list.specs.declared.Parsed.TheVariants.{Good, Malformed}
 use Rattle.replay_list.specs.declared.Place.{Place}
 use Rattle.replay_list.specs.Records.{field_at, entry_at, parsed_at, asked_place, Within, Inside}
