@@ -6,32 +6,33 @@ ghost use Rattle.std.specs.Prelude.{◌≤◌, length};
 ghost use Rattle.stream.specs.Plains.{plain_is};
 ghost use Rattle.list.specs.Stands.{Stands};
 
-use libc::{STDIN_FILENO, STDOUT_FILENO};
 use listing::{LINE, Line};
+use std::io;
+use std::io::Read;
 use stream::Plain;
 use stream_start::Begins;
 
 // The longest file that is listed, and one byte more by which a longer one is seen.
-const ROOM: usize = 4_097;
+const ROOM: u64 = 4_097;
 // One entry for each byte of the longest file that is listed.
 const CELLS: usize = 4_096;
 
 // Writes the first n bytes of a line; false where that fails.
-fn put(line: &[u8], n: usize) -> bool
+fn put(rt: &impl Print, line: &[u8], n: usize) -> bool
     requires { n ≤ length line.now }
 {
-    io::write_all(STDOUT_FILENO, &line[..n])
+    rt.write_all(&line[..n]).is_ok()
 }
 
 // Writes the one line of a file that is not listed.
-fn refuse(why: u8) {
+fn refuse(rt: &impl Print, why: u8) {
     let mut line = [0u8; LINE];
     let n = listing_lines::refused_line(why, &mut line);
-    put(&line, n);
+    put(rt, &line, n);
 }
 
 // Writes the lines of an admitted file, from its unbounded reading on. Each key that is handed out leaves fewer visits to come.
-fn lines(file: &[u8], first: Plain)
+fn lines(rt: &impl Print, file: &[u8], first: Plain)
     requires { Stands file.now (plain_is first).view }
 {
     let mut line = [0u8; LINE];
@@ -42,12 +43,12 @@ fn lines(file: &[u8], first: Plain)
         let got = listed.line;
         match got {
             Line::Key(n) => {
-                if put(&line, n) {} else {
+                if put(rt, &line, n) {} else {
                     return;
                 }
             }
             Line::Last(n) => {
-                put(&line, n);
+                put(rt, &line, n);
                 return;
             }
             Line::Short => {
@@ -60,20 +61,21 @@ fn lines(file: &[u8], first: Plain)
 }
 
 // Lists a file, or says why not.
-fn list(file: &[u8]) {
+fn list(rt: &impl Print, file: &[u8]) {
     let mut depths = [0u16; CELLS];
     let mut sums = [0u64; CELLS];
     let mut counts = [0u64; CELLS];
     let begun = listing_start::begin(file, &mut depths, &mut sums, &mut counts);
     let answer = begun.answer;
     match answer {
-        Begins::Refused(why) => refuse(why),
-        Begins::Began => lines(file, begun.plain),
+        Begins::Refused(why) => refuse(rt, why),
+        Begins::Began => lines(rt, file, begun.plain),
     }
 }
 
-fn main() {
-    let mut card = [0u8; ROOM];
-    let n = io::read_full(STDIN_FILENO, &mut card);
-    list(&card[..n]);
+fn main(rt: HostRuntime) -> io::Result<()> {
+    let mut card = Vec::new(rt.alloc());
+    rt.stdin().take(ROOM).read_to_end(&mut card)?;
+    list(&rt, &card);
+    Ok(())
 }

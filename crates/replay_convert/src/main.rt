@@ -9,11 +9,12 @@ ghost use Rattle.replay_list.specs.Records.{Within};
 
 use convert::Converted;
 use format::MAX_LEN;
-use libc::STDIN_FILENO;
 use replay_list::{Entry, FILE, KEPT, Parsed, Place, at_most, number};
+use std::io;
+use std::io::Read;
 
 // The list's length, and one byte more by which a longer list is seen.
-const LIST: usize = 69_587;
+const LIST: u64 = 69_587;
 // The entries of each table: more than the longest file of the list has bytes.
 const CELLS: usize = 1_024;
 // What an entry holds before it is lent.
@@ -238,14 +239,14 @@ fn replay(list: &[u8], counts: &mut [u64; 16]) {
     }
 }
 
-fn main() {
-    let mut list = [0u8; LIST];
-    let len = io::read_full(STDIN_FILENO, &mut list);
+fn main(rt: HostRuntime) -> io::Result<()> {
+    let mut list = Vec::new(rt.alloc());
+    rt.stdin().take(LIST).read_to_end(&mut list)?;
     let mut counts = [0u64; 16];
-    replay(&list[..len], &mut counts);
-    replay_list::line(&counts, 1, b"files");
-    replay_list::line(&counts, 2, b"new files");
-    replay_list::line(&counts, 3, b"tables of new addresses");
-    replay_list::line(&counts, 4, b"work tables restored");
-    replay_list::line(&counts, 0, b"malformed");
+    replay(&list, &mut counts);
+    replay_list::line(&rt, &counts, 1, b"files")?;
+    replay_list::line(&rt, &counts, 2, b"new files")?;
+    replay_list::line(&rt, &counts, 3, b"tables of new addresses")?;
+    replay_list::line(&rt, &counts, 4, b"work tables restored")?;
+    replay_list::line(&rt, &counts, 0, b"malformed")
 }

@@ -9,13 +9,14 @@ ghost use Rattle.replay_list.specs.Records.{Within};
 
 use admission::Admission;
 use fst::{Checksum, Meta, Opened};
-use libc::STDIN_FILENO;
 use lookup::Answer;
 use lookup_search::KeyAnswer;
 use replay_list::{Entry, FILE, KEPT, Parsed, Place, at_most, number};
+use std::io;
+use std::io::Read;
 
 // The list's length, and one byte more by which a longer list is seen.
-const LIST: usize = 198_022;
+const LIST: u64 = 198_022;
 // The entries of each table: more than the longest file of the list has bytes.
 const CELLS: usize = 1_024;
 // What an entry holds before it is lent: no entry of an admitted file.
@@ -251,15 +252,15 @@ fn replay(list: &[u8], counts: &mut [u64; 16]) {
     }
 }
 
-fn main() {
-    let mut list = [0u8; LIST];
-    let len = io::read_full(STDIN_FILENO, &mut list);
+fn main(rt: HostRuntime) -> io::Result<()> {
+    let mut list = Vec::new(rt.alloc());
+    rt.stdin().take(LIST).read_to_end(&mut list)?;
     let mut counts = [0u64; 16];
-    replay(&list[..len], &mut counts);
-    replay_list::line(&counts, 1, b"files");
-    replay_list::line(&counts, 2, b"opened");
-    replay_list::line(&counts, 3, b"admitted or refused");
-    replay_list::line(&counts, 4, b"lookups by key");
-    replay_list::line(&counts, 5, b"lookups by value");
-    replay_list::line(&counts, 0, b"malformed");
+    replay(&list, &mut counts);
+    replay_list::line(&rt, &counts, 1, b"files")?;
+    replay_list::line(&rt, &counts, 2, b"opened")?;
+    replay_list::line(&rt, &counts, 3, b"admitted or refused")?;
+    replay_list::line(&rt, &counts, 4, b"lookups by key")?;
+    replay_list::line(&rt, &counts, 5, b"lookups by value")?;
+    replay_list::line(&rt, &counts, 0, b"malformed")
 }

@@ -1,14 +1,12 @@
 -- What a buffer holds and what is counted, by the ways of the code.
 -- Assumes nothing.
-use mathlib.Core.Path.{◌≡◌, refl, sym, ◌∙◌}
-use mathlib.Core.Bool.{Bool, true, false, cond}
+use mathlib.Core.Path.{◌≡◌, sym}
+use mathlib.Core.Bool.{Bool, true, false}
 use mathlib.Core.List.{List}
 use Prim.Native.Nat.{ℕ, ◌+◌, ◌*◌, ◌≤◌, ◌<◌}
-use native.Mathlib.Omega.{arith}
-use lib.Dec.{ltb}
 use lib.ListN.{get_or, set}
 use borrow.Author.Tests.{lt-ltb, le-ltb}
-use Rattle.replay_list.specs.Tallies.{wanted_at, Holds, more_at, tallied}
+use Rattle.replay_list.specs.Tallies.{wanted_at, more_at, tallied}
 
 pub wanted_part : (s : List ℕ) (at n i : ℕ) → i < n → get_or s (at + i) 0 ≡ wanted_at s at n i
 unfolding wanted_at

@@ -1,12 +1,11 @@
 -- The two ways in which parsing a record ends, and those in which its file is found.
 -- Assumes nothing.
-use mathlib.Core.Path.{◌≡◌, sym, ◌∙◌}
+use mathlib.Core.Path.{◌≡◌, sym}
 use mathlib.Core.List.{List}
 use Prim.Native.Nat.{ℕ, ◌+◌, ◌≤◌, ◌<◌}
 use lib.ListN.{length}
 use borrow.Author.Tests.{le-leb, lt-leb, eq-eqb, ne_eqb}
 use Rattle.replay_list.specs.declared.Entry.{Entry}
-use Rattle.replay_list.specs.declared.Parsed.{Parsed}
 use Rattle.replay_list.specs.declared.Parsed.TheVariants.{Good, Malformed}
 use Rattle.replay_list.specs.declared.Place.{Place}
 use Rattle.replay_list.specs.Records.{field_at, entry_at, parsed_at, asked_place}

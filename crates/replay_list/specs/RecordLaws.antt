@@ -1,9 +1,8 @@
 -- Laws of the records of a replay list, for the programs that read one.
 -- Assumes nothing.
 use Rattle.std.specs.Prelude.{◌≡◌, refl, Bool, true, false, cond, List, ℕ, ◌+◌, ◌≤◌, eqb, leb, length}
-use Rattle.std.proofs.Common.{sym, ◌∙◌, arith, leb-true}
+use Rattle.std.proofs.Common.{arith, leb-true}
 use Rattle.replay_list.specs.declared.Entry.{Entry}
-use Rattle.replay_list.specs.declared.Parsed.{Parsed}
 use Rattle.replay_list.specs.declared.Parsed.TheVariants.{Good, Malformed}
 use Rattle.replay_list.specs.declared.Place.{Place}
 use Rattle.replay_list.specs.Records.{field_at, entry_at, parsed_at, asked_place, Within, Inside}
@@ -32,3 +31,7 @@ place_inside {s} {e} {p} w i = go (eqb e.kind 1)
     go : (t : Bool) → Inside s (cond t (record { from = e.part; to = e.part + e.len }) p)
     go true = record { ordered = omega arith; ends = w.part_end }
     go false = i
+
+-- what a record that was parsed is asked of
+pub asked_inside : {s : List ℕ} (at : ℕ) (e : Entry) {p q : Place} → parsed_at s at ≡ Good e → Inside s p → q ≡ asked_place e p → Inside s q
+asked_inside at e is i same = rw same (place_inside (parsed_found is).within i)

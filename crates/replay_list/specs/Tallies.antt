@@ -5,7 +5,7 @@
 --     more_at c k           the counts with one more at place k, up to 2^64 - 1
 --     tallied c kind t     the counts after a record of this kind: one more at 2 * kind, and if alike at 2 * kind + 1
 -- Assumes nothing.
-use Rattle.std.specs.Prelude.{◌≡◌, Bool, cond, List, ℕ, ◌+◌, ◌*◌, ◌≤◌, ◌<◌, ltb, length, get_or, set}
+use Rattle.std.specs.Prelude.{◌≡◌, Bool, cond, List, ℕ, ◌+◌, ◌*◌, ◌≤◌, ◌<◌, ltb, get_or, set}
 
 -- 170 is what every buffer holds before it is lent
 unfoldable pub wanted_at : List ℕ → ℕ → ℕ → ℕ → ℕ

@@ -9,7 +9,7 @@ ghost use Rattle.format.specs.Bytes.{le};
 ghost use Rattle.replay_list.specs.Records.{Within, parsed_at, asked_place};
 ghost use Rattle.replay_list.specs.Tallies.{wanted_at, Holds, smaller, more_at, tallied};
 
-use libc::STDOUT_FILENO;
+use std::io;
 
 // The kind of a record that those after it are about, as a file: its part is what they ask of.
 pub const FILE: u64 = 1;
@@ -172,13 +172,9 @@ pub fn tally(counts: &mut [u64; 16], kind: u64, alike: bool)
 }
 
 // Writes how many records there were of a kind, and how many were answered alike.
-pub fn line(counts: &[u64; 16], kind: usize, name: &[u8])
+pub fn line(rt: &impl Print, counts: &[u64; 16], kind: usize, name: &[u8]) -> io::Result<()>
     requires { kind < 8 }
 {
-    io::write_all(STDOUT_FILENO, name);
-    io::write_all(STDOUT_FILENO, b": ");
-    io::print_decimal(STDOUT_FILENO, counts[2 * kind]);
-    io::write_all(STDOUT_FILENO, b", alike ");
-    io::print_decimal(STDOUT_FILENO, counts[2 * kind + 1]);
-    io::write_all(STDOUT_FILENO, b"\n");
+    rt.write_all(name)?;
+    println!(rt; ": {}, alike {}", counts[2 * kind], counts[2 * kind + 1])
 }

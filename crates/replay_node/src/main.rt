@@ -8,13 +8,14 @@ ghost use Rattle.std.specs.Prelude.{◌≡◌, ◌+◌, ◌*◌, ◌≤◌, ◌<
 ghost use Rattle.node.specs.Read.{Readable};
 ghost use Rattle.replay_list.specs.Records.{Within};
 
-use libc::{STDIN_FILENO, STDOUT_FILENO};
 use node::{Found, Judged, Node};
 use node_compile::Compiled;
 use replay_list::{Entry, FILE, KEPT, Parsed, Place, at_most, number};
+use std::io;
+use std::io::Read;
 
 // The list's length, and one byte more by which a longer list is seen.
-const LIST: usize = 341_273;
+const LIST: u64 = 341_273;
 // The file that a node is read in: room for the largest node at F 65,553, where deltas first take 3
 // bytes.
 const SPACE: usize = 69_632;
@@ -301,45 +302,46 @@ fn alike(list: &[u8], node: &[u8], entry: Entry) -> bool
 }
 
 // The same, with the node's name written where it is not.
-fn asked(list: &[u8], node: &[u8], entry: Entry) -> bool
+fn asked(rt: &impl Print, list: &[u8], node: &[u8], entry: Entry) -> io::Result<bool>
     requires { Within list.now entry }
 {
     if alike(list, node, entry) {
-        return true;
+        return Ok(true);
     }
     if COUNT <= node.len() {
-        io::write_all(STDOUT_FILENO, b"differs: ");
-        io::write_all(STDOUT_FILENO, &node[..COUNT]);
-        io::write_all(STDOUT_FILENO, b"\n");
+        rt.write_all(b"differs: ")?;
+        rt.write_all(&node[..COUNT])?;
+        rt.write_all(b"\n")?;
     }
-    false
+    Ok(false)
 }
 
 // Every record of the list, which ends with the last of them.
-fn replay(list: &[u8], counts: &mut [u64; 16]) {
+fn replay(rt: &impl Print, list: &[u8], counts: &mut [u64; 16]) -> io::Result<()> {
     let mut place = Place { from: 0, to: 0 };
     let mut at = 0;
     while at < list.len() {
         let Parsed::Good(entry) = replay_list::parse(list, at) else {
             replay_list::tally(counts, 0, false);
-            return;
+            return Ok(());
         };
         place = replay_list::place_of(list, entry, place);
         let from = place.from;
         let to = place.to;
-        let same = asked(list, &list[from..to], entry);
+        let same = asked(rt, list, &list[from..to], entry)?;
         replay_list::tally(counts, entry.kind, same);
         at = replay_list::end_of(list, entry);
     }
+    Ok(())
 }
 
-fn main() {
-    let mut list = [0u8; LIST];
-    let len = io::read_full(STDIN_FILENO, &mut list);
+fn main(rt: HostRuntime) -> io::Result<()> {
+    let mut list = Vec::new(rt.alloc());
+    rt.stdin().take(LIST).read_to_end(&mut list)?;
     let mut counts = [0u64; 16];
-    replay(&list[..len], &mut counts);
-    replay_list::line(&counts, 1, b"nodes");
-    replay_list::line(&counts, 2, b"packed");
-    replay_list::line(&counts, 3, b"read");
-    replay_list::line(&counts, 0, b"malformed");
+    replay(&rt, &list, &mut counts)?;
+    replay_list::line(&rt, &counts, 1, b"nodes")?;
+    replay_list::line(&rt, &counts, 2, b"packed")?;
+    replay_list::line(&rt, &counts, 3, b"read")?;
+    replay_list::line(&rt, &counts, 0, b"malformed")
 }

@@ -6,15 +6,16 @@
 ghost use Rattle.std.specs.Prelude.{◌+◌, ◌*◌, ◌≤◌, ◌<◌, length};
 ghost use Rattle.replay_list.specs.Records.{Within};
 
-use libc::STDIN_FILENO;
 use patterned::Patterned;
 use patterned_held::Pattern;
 use replay_list::{Entry, FILE, KEPT, Parsed, Place, at_most, number};
+use std::io;
+use std::io::Read;
 use stream_start::{Begins, Bound};
 use stream_step::Answer;
 
 // The list's length, and one byte more by which a longer list is seen.
-const LIST: usize = 79_790;
+const LIST: u64 = 79_790;
 
 // The kinds of record beside the file.
 const START: u64 = 2;
@@ -249,14 +250,14 @@ fn replay(list: &[u8], counts: &mut [u64; 16]) {
     }
 }
 
-fn main() {
-    let mut list = [0u8; LIST];
-    let len = io::read_full(STDIN_FILENO, &mut list);
+fn main(rt: HostRuntime) -> io::Result<()> {
+    let mut list = Vec::new(rt.alloc());
+    rt.stdin().take(LIST).read_to_end(&mut list)?;
     let mut counts = [0u64; 16];
-    replay(&list[..len], &mut counts);
-    replay_list::line(&counts, 1, b"files");
-    replay_list::line(&counts, 2, b"starts by pattern");
-    replay_list::line(&counts, 3, b"calls of next by pattern");
-    replay_list::line(&counts, 4, b"levels and positions stated");
-    replay_list::line(&counts, 0, b"malformed");
+    replay(&list, &mut counts);
+    replay_list::line(&rt, &counts, 1, b"files")?;
+    replay_list::line(&rt, &counts, 2, b"starts by pattern")?;
+    replay_list::line(&rt, &counts, 3, b"calls of next by pattern")?;
+    replay_list::line(&rt, &counts, 4, b"levels and positions stated")?;
+    replay_list::line(&rt, &counts, 0, b"malformed")
 }

@@ -1,0 +1,12 @@
+-- The reading is on its way, and the line buffer has its length. The measure is what is left to visit.
+use Rattle.std.proofs.Common.{◌≡◌, length}
+use Rattle.stream.specs.Plains.{plain_is}
+use Rattle.list.specs.Stands.{Stands}
+use Rattle.list.proofs.WayLaws.{left_in}
+use Rattle.list.proofs.lines.Given as goal
+
+abbrev pub invariant-loop-n : goal.invariant-loop-n
+invariant-loop-n g l = Stands l.file (plain_is l.plain).view × (length l.line ≡ 532)
+
+abbrev pub decreases-loop-n : goal.decreases-loop-n
+decreases-loop-n g l = left_in l.file (plain_is l.plain).view

@@ -1,0 +1,33 @@
+-- The record that was parsed lies in the list, past where it was parsed, and so does the file that it is about. Assumes nothing.
+use Rattle.std.proofs.Common.{rules, arith, sym}
+use Rattle.replay_list.specs.RecordLaws.{parsed_found, asked_inside}
+use Rattle.replay_stream.proofs.replay.Goals as goal
+
+-- the record lies in the list
+pub place_of-place-requires : goal.place_of-place-requires
+place_of-place-requires c = (parsed_found (sym c.in-Good.ensures)).within
+
+-- the file asked of ends no earlier than it starts, and within the list
+pub slice_bounds-replay_one-count : goal.slice_bounds-replay_one-count
+slice_bounds-replay_one-count c = (asked_inside _ _ (sym c.in-Good.ensures) c.loop-at.invariant c.place_of-place.ensures).ordered
+
+pub slice_bounds-replay_one-start : goal.slice_bounds-replay_one-start
+slice_bounds-replay_one-start c = let i = asked_inside _ _ (sym c.in-Good.ensures) c.loop-at.invariant c.place_of-place.ensures in search rules
+
+pub slice_bounds-replay_one-end : goal.slice_bounds-replay_one-end
+slice_bounds-replay_one-end c = let i = asked_inside _ _ (sym c.in-Good.ensures) c.loop-at.invariant c.place_of-place.ensures in search rules
+
+-- the record lies in the list
+pub replay_one-left-requires : goal.replay_one-left-requires
+replay_one-left-requires c = (parsed_found (sym c.in-Good.ensures)).within
+
+pub end_of-at-requires : goal.end_of-at-requires
+end_of-at-requires c = (parsed_found (sym c.in-Good.ensures)).within
+
+-- the record ends past where it starts
+pub loop-at-smaller : goal.loop-at-smaller
+loop-at-smaller c = let f = parsed_found (sym c.in-Good.ensures) in omega arith
+
+-- the file asked of lies in the list
+pub loop-at-preserved : goal.loop-at-preserved
+loop-at-preserved c = asked_inside _ _ (sym c.in-Good.ensures) c.loop-at.invariant c.place_of-place.ensures
