@@ -7,31 +7,31 @@ use native.Mathlib.Omega.{arith}
 use Rattle.convert_write.proofs.write_header.Statement.{statement}
 use Rattle.convert_write.proofs.write_header.Tie as tie
 
-pack-uint-in-requires : tie.Need-pack-uint-in-requires
+pack-uint-in-requires : tie.Need-pack_uint_in-requires
 pack-uint-in-requires c κs = search rules
 
-sub-copy-front : tie.Need-overflow-sub-copy-front
+sub-copy-front : tie.Need-slice_bounds-copy_front-count
 sub-copy-front c = search rules
 
-part-copy-front-start : tie.Need-slice-bounds-copy-front-start
+part-copy-front-start : tie.Need-slice_bounds-copy_front-start
 part-copy-front-start c = search rules
 
-part-copy-front-end : tie.Need-slice-bounds-copy-front-end
+part-copy-front-end : tie.Need-slice_bounds-copy_front-end
 part-copy-front-end c = search rules
 
-sub-copy-front-2 : tie.Need-overflow-sub-copy-front-2
+sub-copy-front-2 : tie.Need-slice_bounds-copy_front-count-2
 sub-copy-front-2 c = search rules
 
-part-copy-front-start-2 : tie.Need-slice-bounds-copy-front-start-2
+part-copy-front-start-2 : tie.Need-slice_bounds-copy_front-start-2
 part-copy-front-start-2 c = search rules
 
-part-copy-front-end-2 : tie.Need-slice-bounds-copy-front-end-2
+part-copy-front-end-2 : tie.Need-slice_bounds-copy_front-end-2
 part-copy-front-end-2 c = search rules
 
-copy-front-requires : tie.Need-copy-front-requires
+copy-front-requires : tie.Need-copy_front-requires
 copy-front-requires c κs = search rules
 
-same_length : tie.Need-same-length
+same_length : tie.Need-shape_of-out
 same_length c = search rules
 
 returns : tie.Need-returns
@@ -39,7 +39,7 @@ returns c =
     let copies = c.before.before in
     let packs = copies.before.before.before.before.before in
     let s = packs.before.before.before.before in
-    header_written s.args.file.now _ _ _ _ s.requires.0 s.requires.1 packs.pack-uint-in.ensures copies.copy-front.ensures refl
+    header_written s.args.file.now _ _ _ _ s.requires.0 s.requires.1 packs.pack_uint_in.ensures copies.copy_front.ensures refl
 
 pub write_header_spec : {M : Type 1} → statement M
 write_header_spec =

@@ -15,113 +15,113 @@ use native.Mathlib.Omega.{arith}
 use Rattle.patterned_walk.proofs.pop_by.Statement.{statement}
 use Rattle.patterned_walk.proofs.pop_by.Tie as tie
 
-abbrev invariant-loop : tie.invariant-loop
-invariant-loop file version root addrs trans levels fit len rest k₀ k = PoppingBy file version root len rest addrs trans levels fit k
+abbrev invariant-loop-k : tie.invariant-loop-k
+invariant-loop-k file version root addrs trans levels fit len rest k₀ k = PoppingBy file version root len rest addrs trans levels fit k
 
-abbrev decreases-loop : tie.decreases-loop
-decreases-loop file version root addrs trans levels fit len rest k₀ k = k
+abbrev decreases-loop-k : tie.decreases-loop-k
+decreases-loop-k file version root addrs trans levels fit len rest k₀ k = k
 
 -- ---- what is known where a level's node is read
 
 abbrev At : Type 0
-At = tie.After-known-told invariant-loop decreases-loop
+At = tie.In-Sound invariant-loop-k decreases-loop-k
 
-abbrev at_loop : At → tie.At-loop invariant-loop decreases-loop
-at_loop q = q.before.before.before.before.before.before.before
+abbrev at_loop : At → tie.At-loop-k invariant-loop-k decreases-loop-k
+at_loop q = q.before.before.before.before.before.before
 
 abbrev file : At → List ℕ
 file q = (at_loop q).before.before.args.file.now
 
 abbrev m : At → Node
-m q = q.before.m.given.0.0
+m q = q.in-Sound.m
 
-positive : (q : At) → 0 < (at_loop q).loop.k
-positive q = q.before.before.before.before.before.before.loop-test.true
+positive : (q : At) → 0 < (at_loop q).loop-k.k
+positive q = q.before.before.before.before.before.loop-k-test.true
 
-low : (q : tie.In-loop invariant-loop decreases-loop) → q.before.loop.k - 1 < 256
-low q = let w = q.before.loop.invariant in omega (arith, w.within, w.most, q.loop-test.true)
+low : (q : tie.In-loop-k invariant-loop-k decreases-loop-k) → q.before.loop-k.k - 1 < 256
+low q = let w = q.before.loop-k.invariant in omega (arith, w.within, w.most, q.loop-k-test.true)
 
 node_is : (q : At) → node_in (fst_with (file q) (at_loop q).before.before.args.version (at_loop q).before.before.args.root)
-    (get_or (at_loop q).before.before.args.addrs.now ((at_loop q).loop.k - 1) 0) ≡ sound (meaning (file q) (m q))
-node_is q = let call = q.before.before.before in
+    (get_or (at_loop q).before.before.args.addrs.now ((at_loop q).loop-k.k - 1) 0) ≡ sound (meaning (file q) (m q))
+node_is q = let call = q.before in
     let a = (at_loop q).before.before.args in
-    ap (node_in (fst_with a.file.now a.version a.root)) (sym call.before.wide-addr.ensures) ∙ answer_sound
-    call.node_at.ensures (m q) q.before.m.given.1
+    ap (node_in (fst_with a.file.now a.version a.root)) (sym call.before.wide_addr-addr.ensures) ∙ answer_sound
+    call.node_at.ensures (m q) q.in-Sound.is
 
 readable : (q : At) → Readable (file q) (m q)
-readable q = q.before.before.before.node_at.ensures.readable (m q) q.before.m.given.1
+readable q = q.before.node_at.ensures.readable (m q) q.in-Sound.is
 
 -- no level is popped yet
-loop-holds : tie.Need-loop-init invariant-loop decreases-loop
+loop-holds : tie.Need-loop-k-init invariant-loop-k decreases-loop-k
 loop-holds c = let q = c.before in
     let a = q.args in
     popping_none a.file.now a.version a.root a.len a.rest a.addrs.now a.trans.now a.levels a.fit q.requires
 
-sub-top : tie.Need-overflow-sub-top invariant-loop decreases-loop
+sub-top : tie.Need-overflow_sub-top invariant-loop-k decreases-loop-k
 sub-top c = search rules
 
-mul-wide-addr : tie.Need-overflow-mul-wide-addr invariant-loop decreases-loop
+mul-wide-addr : tie.Need-offset_bounds-addrs-top invariant-loop-k decreases-loop-k
 mul-wide-addr c = omega (arith, low c)
 
-element-copy-out-wide-addr : tie.Need-element-copy-out-wide-addr invariant-loop decreases-loop
+element-copy-out-wide-addr : tie.Need-bounds-addrs-top invariant-loop-k decreases-loop-k
 element-copy-out-wide-addr c = omega (arith, low c)
 
-wide-addr-requires : tie.Need-wide-addr-requires invariant-loop decreases-loop
+wide-addr-requires : tie.Need-wide_addr-addr-requires invariant-loop-k decreases-loop-k
 wide-addr-requires c κs = search rules
 
-node-at-requires : tie.Need-node-at-requires invariant-loop decreases-loop
+node-at-requires : tie.Need-node_at-requires invariant-loop-k decreases-loop-k
 node-at-requires c κs = search rules
 
-enum-known-m : tie.Need-enum-known-m invariant-loop decreases-loop
+enum-known-m : tie.Need-enum_known-m invariant-loop-k decreases-loop-k
 enum-known-m c = search rules
 
-enum_told : tie.Need-enum-told invariant-loop decreases-loop
+enum_told : tie.Need-enum_told-1 invariant-loop-k decreases-loop-k
 enum_told c = search rules
 
 -- the node of the highest level is not sound
-returns : tie.Need-returns invariant-loop decreases-loop
-returns c = let call = c.before.before in
-    let turn = call.before.before.before in
-    popping_bad turn.before.loop.invariant turn.loop-test.true
-    (rw call.before.wide-addr.ensures at (answer_unsound call.node_at.ensures c.enum_told.given.1))
+returns : tie.Need-returns-in_default invariant-loop-k decreases-loop-k
+returns c = let call = c.before in
+    let turn = call.before.before.before.before in
+    popping_bad turn.before.loop-k.invariant turn.loop-k-test.true
+    (rw call.before.wide_addr-addr.ensures at (answer_unsound call.node_at.ensures c.in_default.is))
 
-mul-wide-place : tie.Need-overflow-mul-wide-place invariant-loop decreases-loop
-mul-wide-place c = omega (arith, low c.before.before.before.before.before.before)
+mul-wide-place : tie.Need-offset_bounds-trans-top invariant-loop-k decreases-loop-k
+mul-wide-place c = omega (arith, low c.before.before.before.before.before)
 
-element-copy-out-wide-place : tie.Need-element-copy-out-wide-place invariant-loop decreases-loop
+element-copy-out-wide-place : tie.Need-bounds-trans-top invariant-loop-k decreases-loop-k
 element-copy-out-wide-place c = omega (arith, low c.before.before.before.before.before.before)
 
-wide-place-requires : tie.Need-wide-place-requires invariant-loop decreases-loop
+wide-place-requires : tie.Need-wide_place-requires invariant-loop-k decreases-loop-k
 wide-place-requires c κs = search rules
 
-live-requires : tie.Need-live-requires invariant-loop decreases-loop
+live-requires : tie.Need-live-requires invariant-loop-k decreases-loop-k
 live-requires c κs = search rules
 
 -- the highest level can go on
-returns-2 : tie.Need-returns-2 invariant-loop decreases-loop
+returns-2 : tie.Need-returns-then-live invariant-loop-k decreases-loop-k
 returns-2 c = let call = c.before.before in
-    let q = call.before.before in
-    popping_at (at_loop q).loop.invariant (positive q) (m q) (node_is q) (readable q) call.wide-place.ensures (sym c.before.live.ensures ∙ c.if1.true)
+    let q = call.before.before.before in
+    popping_at (at_loop q).loop-k.invariant (positive q) (m q) (node_is q) (readable q) call.wide_place.ensures (sym c.before.live.ensures ∙ c.if-live.true)
 
-loop-less : tie.Need-loop-smaller invariant-loop decreases-loop
-loop-less c = omega (arith, positive c.before.before.before.before)
+loop-less : tie.Need-loop-k-smaller invariant-loop-k decreases-loop-k
+loop-less c = omega (arith, positive c.before.before.before.before.before)
 
 -- it cannot: it is popped
-loop-again : tie.Need-loop-preserved invariant-loop decreases-loop
+loop-again : tie.Need-loop-k-preserved invariant-loop-k decreases-loop-k
 loop-again c = let call = c.before.before in
-    let q = call.before.before in
-    popping_on (at_loop q).loop.invariant (positive q) (m q) (node_is q) (readable q) call.wide-place.ensures (sym c.before.live.ensures ∙ c.if1.false)
+    let q = call.before.before.before in
+    popping_on (at_loop q).loop-k.invariant (positive q) (m q) (node_is q) (readable q) call.wide_place.ensures (sym c.before.live.ensures ∙ c.if-live.false)
 
 -- every level is popped
-returns-3 : tie.Need-returns-3 invariant-loop decreases-loop
-returns-3 c = popping_end c.before.loop.invariant c.loop-test.false
+returns-3 : tie.Need-returns invariant-loop-k decreases-loop-k
+returns-3 c = popping_end c.before.loop-k.invariant c.loop-k-test.false
 
 pub pop_by_spec : {M : Type 1} → statement M
 pop_by_spec =
     tie.close
     (tie.spec
-    invariant-loop
-    decreases-loop
+    invariant-loop-k
+    decreases-loop-k
     loop-holds
     sub-top
     mul-wide-addr

@@ -10,86 +10,86 @@ use native.Mathlib.Omega.{arith}
 use Rattle.range_turn.proofs.highest.Statement.{statement}
 use Rattle.range_turn.proofs.highest.Tie as tie
 
-abbrev invariant-loop : tie.invariant-loop
-invariant-loop file version root addrs trans levels k₀ k = Topping (fst_with file version root) addrs trans levels k
+abbrev invariant-loop-k : tie.invariant-loop-k
+invariant-loop-k file version root addrs trans levels k₀ k = Topping (fst_with file version root) addrs trans levels k
 
-abbrev decreases-loop : tie.decreases-loop
-decreases-loop file version root addrs trans levels k₀ k = k
+abbrev decreases-loop-k : tie.decreases-loop-k
+decreases-loop-k file version root addrs trans levels k₀ k = k
 
 -- ---- what is known where a level's transitions are counted
 
 abbrev Counted : Type 0
-Counted = tie.After-count-of invariant-loop decreases-loop
+Counted = tie.After-count_of-count invariant-loop-k decreases-loop-k
 
-abbrev at_loop : Counted → tie.At-loop invariant-loop decreases-loop
-at_loop q = q.before.before.before.before
+abbrev at_loop : Counted → tie.At-loop-k invariant-loop-k decreases-loop-k
+at_loop q = q.before.before.before.before.before
 
-positive : (q : Counted) → 0 < (at_loop q).loop.k
-positive q = q.before.before.before.loop-test.taken
+positive : (q : Counted) → 0 < (at_loop q).loop-k.k
+positive q = q.before.before.before.before.loop-k-test.true
 
-addr_is : (q : Counted) → q.before.wide-addr.result ≡ get_or (at_loop q).before.before.args.addrs.now ((at_loop q).loop.k - 1) 0
-addr_is q = q.before.wide-addr.ensures
+addr_is : (q : Counted) → q.before.wide_addr-addr.result ≡ get_or (at_loop q).before.before.args.addrs.now ((at_loop q).loop-k.k - 1) 0
+addr_is q = q.before.wide_addr-addr.ensures
 
 -- no level is popped yet
-loop-holds : tie.Need-loop-init invariant-loop decreases-loop
+loop-holds : tie.Need-loop-k-init invariant-loop-k decreases-loop-k
 loop-holds c =
     let start = c.before in
     let a = start.args in
     topping_none (fst_with a.file.now a.version a.root) a.addrs.now a.trans.now a.levels start.requires.1
 
-sub-top : tie.Need-overflow-sub-top invariant-loop decreases-loop
+sub-top : tie.Need-overflow_sub-top invariant-loop-k decreases-loop-k
 sub-top c = search rules
 
 -- the level is one of 256
-mul-wide-addr : tie.Need-overflow-mul-wide-addr invariant-loop decreases-loop
-mul-wide-addr c = omega (arith, c.before.loop.invariant.within, c.before.before.before.requires.0)
+mul-wide-addr : tie.Need-offset_bounds-addrs-top invariant-loop-k decreases-loop-k
+mul-wide-addr c = omega (arith, c.before.loop-k.invariant.within, c.before.before.before.requires.0)
 
-element-copy-out-wide-addr : tie.Need-element-copy-out-wide-addr invariant-loop decreases-loop
-element-copy-out-wide-addr c = omega (arith, c.before.loop.invariant.within, c.before.before.before.requires.0, c.loop-test.true)
+element-copy-out-wide-addr : tie.Need-bounds-addrs-top invariant-loop-k decreases-loop-k
+element-copy-out-wide-addr c = omega (arith, c.before.before.loop-k.invariant.within, c.before.before.before.before.requires.0, c.loop-k-test.true)
 
-wide-addr-requires : tie.Need-wide-addr-requires invariant-loop decreases-loop
+wide-addr-requires : tie.Need-wide_addr-addr-requires invariant-loop-k decreases-loop-k
 wide-addr-requires c κs = search rules
 
 -- the level's node was judged
-count-of-requires : tie.Need-count-of-requires invariant-loop decreases-loop
-count-of-requires c κs = let turn = c.before.before in entered turn.before.loop.invariant turn.loop-test.true c.wide-addr.ensures
+count-of-requires : tie.Need-count_of-count-requires invariant-loop-k decreases-loop-k
+count-of-requires c κs = let turn = c.before.before.before in entered turn.before.loop-k.invariant turn.loop-k-test.true c.wide_addr-addr.ensures
 
-mul-wide-place : tie.Need-overflow-mul-wide-place invariant-loop decreases-loop
-mul-wide-place c = let at = at_loop c in omega (arith, at.loop.inv.within, at.before.before.pre.0)
+mul-wide-place : tie.Need-offset_bounds-trans-top invariant-loop-k decreases-loop-k
+mul-wide-place c = let at = at_loop c in omega (arith, at.loop-k.invariant.within, at.before.before.requires.0)
 
-element-copy-out-wide-place : tie.Need-element-copy-out-wide-place invariant-loop decreases-loop
-element-copy-out-wide-place c = let at = at_loop c in omega (arith, at.loop.inv.within, at.before.before.pre.0, positive c)
+element-copy-out-wide-place : tie.Need-bounds-trans-top invariant-loop-k decreases-loop-k
+element-copy-out-wide-place c = let at = at_loop c in omega (arith, at.loop-k.invariant.within, at.before.before.requires.0, positive c)
 
-wide-place-requires : tie.Need-wide-place-requires invariant-loop decreases-loop
+wide-place-requires : tie.Need-wide_place-requires invariant-loop-k decreases-loop-k
 wide-place-requires c κs = search rules
 
 -- the highest level has a transition left
-returns : tie.Need-returns invariant-loop decreases-loop
+returns : tie.Need-returns-then-wide_place-count invariant-loop-k decreases-loop-k
 returns c =
     let call = c.before in
-    let q = call.before.before in
-    topping_at (at_loop q).loop.invariant (positive q) (addr_is q) q.count_of.ensures (omega (arith, call.wide-place.ensures, c.if1.true))
+    let q = call.before.before.before in
+    topping_at (at_loop q).loop-k.invariant (positive q) (addr_is q) q.count_of-count.ensures (omega (arith, call.wide_place.ensures, c.if-wide_place-count.true))
 
-loop-less : tie.Need-loop-smaller invariant-loop decreases-loop
-loop-less c = omega (arith, positive c.before.before.before)
+loop-less : tie.Need-loop-k-smaller invariant-loop-k decreases-loop-k
+loop-less c = omega (arith, positive c.before.before.before.before)
 
 -- the highest level has no transition left: it is popped
-loop-again : tie.Need-loop-preserved invariant-loop decreases-loop
+loop-again : tie.Need-loop-k-preserved invariant-loop-k decreases-loop-k
 loop-again c =
     let call = c.before in
-    let q = call.before.before in
-    topping_on (at_loop q).loop.invariant (positive q) (addr_is q) q.count_of.ensures (omega (arith, call.wide-place.ensures, c.if1.false))
+    let q = call.before.before.before in
+    topping_on (at_loop q).loop-k.invariant (positive q) (addr_is q) q.count_of-count.ensures (omega (arith, call.wide_place.ensures, c.if-wide_place-count.false))
 
 -- every level is popped
-returns-2 : tie.Need-returns-2 invariant-loop decreases-loop
-returns-2 c = topping_end c.before.loop.invariant c.loop-test.false
+returns-2 : tie.Need-returns invariant-loop-k decreases-loop-k
+returns-2 c = topping_end c.before.loop-k.invariant c.loop-k-test.false
 
 pub highest_spec : {M : Type 1} → statement M
 highest_spec =
     tie.close
     (tie.spec
-    invariant-loop
-    decreases-loop
+    invariant-loop-k
+    decreases-loop-k
     loop-holds
     sub-top
     mul-wide-addr

@@ -18,111 +18,111 @@ use Rattle.range_turn.proofs.step_on.Tie as tie
 -- ---- what is known after the pops, and after the descent
 
 abbrev Pop : Type 0
-Pop = tie.After-highest
+Pop = tie.After-highest-popped
 
 abbrev start : Pop → tie.Start
-start q = q.before.before.before.before
+start q = q.before.before
 
 abbrev f : Pop → Fst
 f q = let a = (start q).args in fst_with a.file.now a.version a.root
 
 abbrev hi : Pop → S.Bound
-hi q = let a = (start q).args in bound_is a.kind (take a.bound-len a.bound.now)
+hi q = let a = (start q).args in bound_is a.kind (take a.bound_len a.bound.now)
 
 abbrev b : Pop → List ℕ
-b q = let a = (start q).args in take a.bound-len a.bound.now
+b q = let a = (start q).args in take a.bound_len a.bound.now
 
 abbrev Down-at : Type 0
 Down-at = tie.After-descend
 
 abbrev q_of : Down-at → Pop
-q_of w = w.before.before.before.before.before.before.before.before.before
+q_of w = w.before.before.before.before.before.before.before
 
 abbrev top : Down-at → ℕ
-top w = w.before.before.before.before.before.before.before.popped.given.0.0
+top w = w.before.before.before.before.before.before.in-At.top
 
 top_at : (w : Down-at) → (let a = (start (q_of w)).args in TopAt (f (q_of w)) a.addrs.now a.trans.now a.levels (top w))
-top_at w = (q_of w).highest.ensures.at (top w) w.before.before.before.before.before.before.before.popped.given.1
+top_at w = (q_of w).highest-popped.ensures.at (top w) w.before.before.before.before.before.before.in-At.is
 
 -- every level is that of a judged node
-highest-requires : tie.Need-highest-requires
-highest-requires c κs = let s = c.before.before.before in (s.requires.1.0, s.requires.1.2)
+highest-requires : tie.Need-highest-popped-requires
+highest-requires c κs = let s = c.before in (s.requires.1.0, s.requires.1.2)
 
-enum_told : tie.Need-enum-told
+enum_told : tie.Need-enum_told-1
 enum_told c = search rules
 
-enum-known-popped : tie.Need-enum-known-popped
+enum-known-popped : tie.Need-enum_known-popped
 enum-known-popped c = search rules
 
 -- the arrays are those given, and the level at top has a transition left
 descend-requires : tie.Need-descend-requires
 descend-requires c κs =
     let call = c.before.before.before.before in
-    let p = call.before.before in
-    let q = p.before.before in
+    let p = call.before in
+    let q = p.before in
     let s = start q in
     let a = s.args in
-    let at = q.highest.ensures.at p.popped.given.0.0 p.popped.given.1 in (
-      s.pre.0,
+    let at = q.highest-popped.ensures.at p.in-At.top p.in-At.is in (
+      s.requires.0,
       (
-        omega (arith, at.low, s.pre.1.0),
-        s.pre.1.1,
-        sound_less (f q) a.addrs.now (p.popped.given.0.0 + 1) a.levels s.pre.1.2 (omega (arith, at.low)),
+        omega (arith, at.low, s.requires.1.0),
+        s.requires.1.1,
+        sound_less (f q) a.addrs.now (p.in-At.top + 1) a.levels s.requires.1.2 (omega (arith, at.low)),
         record { node = at.node; is = at.is; has = at.has },
-        call.cut.ensures (hi q) (b q) (drop 1 a.inps.now) (a.levels - 1) (omega (arith, at.low)) s.pre.1.3,
+        call.cut-standing.ensures (hi q) (b q) (drop 1 a.inps.now) (a.levels - 1) (omega (arith, at.low)) s.requires.1.3,
       ),
     )
 
-cut-requires : tie.Need-cut-requires
+cut-requires : tie.Need-cut-standing-requires
 cut-requires c κs = search rules
 
-enum-known-why : tie.Need-enum-known-why
+enum-known-why : tie.Need-enum_known-why
 enum-known-why c = search rules
 
-enum-told-2 : tie.Need-enum-told-2
+enum-told-2 : tie.Need-enum_told-in-Passed
 enum-told-2 c = search rules
 
-enum-known-k : tie.Need-enum-known-k
+enum-known-k : tie.Need-enum_known-k
 enum-known-k c = search rules
 
 -- no level has a transition left
-returns : tie.Need-returns
+returns : tie.Need-returns-in-Empty
 returns c =
-    let q = c.before.before in
+    let q = c.before in
     let a = (start q).args in
     λ len n t.
     turn_empty (f q) len (hi q) (b q) n t a.levels a.addrs.now a.inps.now a.trans.now a.outs.now a.addrs.now a.inps.now a.trans.now
-    a.outs.now (q.highest.ensures.none_left c.enum_told.given.1 a.inps.now a.outs.now)
+    a.outs.now (q.highest-popped.ensures.none_left c.in-Empty.is a.inps.now a.outs.now)
 
 -- the descent is refused
-returns-2 : tie.Need-returns-2
+returns-2 : tie.Need-returns-in-Halted
 returns-2 c =
-    let w = c.before.before.before in
+    let w = c.before in
     let q = q_of w in
     let a = (start q).args in
     λ len n t.
     let seen = w.descend.ensures.from t in
     turn_halted (f q) len (hi q) (b q) n t a.levels a.addrs.now a.inps.now a.trans.now a.outs.now _ _ _ _ (top_at w)
-    (went_seen _ _ _ _ seen.total w.descend.result) seen.seen _ (ap (went_seen _ _ _ _ seen.total) c.before.why.given.1)
+    (went_seen _ _ _ _ seen.total w.descend.result) seen.seen _ (ap (went_seen _ _ _ _ seen.total) c.in-Halted.is)
 
 -- the upper bound is passed
-returns-3 : tie.Need-returns-3
+returns-3 : tie.Need-returns-in-Passed
 returns-3 c =
-    let w = c.before.before in
+    let w = c.before in
     let q = q_of w in
     let a = (start q).args in
     λ len n t.
     let seen = w.descend.ensures.from t in
     turn_passed (f q) len (hi q) (b q) n t a.levels a.addrs.now a.inps.now a.trans.now a.outs.now _ _ _ _ (top_at w)
-    (went_seen _ _ _ _ seen.total w.descend.result) seen.seen _ (ap (went_seen _ _ _ _ seen.total) c.enum-told2.given.1)
+    (went_seen _ _ _ _ seen.total w.descend.result) seen.seen _ (ap (went_seen _ _ _ _ seen.total) c.in-Passed.is)
 
 -- a key ends at level k
-returns-4 : tie.Need-returns-4
+returns-4 : tie.Need-returns-in-Found
 returns-4 c =
-    let w = c.before.before.before in
+    let w = c.before in
     let q = q_of w in
     let a = (start q).args in
-    let e = c.before.k.given.1 in
+    let e = c.in-Found.is in
     λ len n t.
     let seen = w.descend.ensures.from t in
     turn_found (f q) len (hi q) (b q) n t a.levels a.addrs.now a.inps.now a.trans.now a.outs.now _ _ _ _ (top_at w)

@@ -14,66 +14,66 @@ use Rattle.stream.proofs.next_of_none.Reads as next_of_none_reads
 use Rattle.stream_next.proofs.next.Reads as next_reads
 
 -- src/lib.rt:70:13
-next-of-none-requires : tie.Need-next-of-none-requires
+next-of-none-requires : tie.Need-next_of_none-requires
 next-of-none-requires c κs = search rules
 
 -- src/lib.rt:70:13
-returns : tie.Need-returns
+returns : tie.Need-returns-then-key-ge-MAX_KEY
 returns c =
     let a = c.before.before.before.before.before.before.args in
-    none_left a.file.now (view_is a.plain.reading) a.plain.keys (length a.key.now) a.key.now _ c.before.before.if1.true c.before.if2.true c.next-of-none.ensures
+    none_left a.file.now (view_is a.plain.reading) a.plain.keys (length a.key.now) a.key.now _ c.before.before.if-keys-eq0.true c.before.if-key-ge-MAX_KEY.true c.next_of_none.ensures
 
 -- src/lib.rt:73:9
-next-requires : tie.Need-next-requires
+next-requires : tie.Need-next-step-requires
 next-requires c κs = search rules
 
 -- src/lib.rt:77:21
-enum-known-answer : tie.Need-enum-known-answer
+enum-known-answer : tie.Need-enum_known-answer
 enum-known-answer c = search rules
 
 -- src/lib.rt:81:23
-sub-t19 : tie.Need-overflow-sub-t19
+sub-t19 : tie.Need-overflow_sub-result
 sub-t19 c =
-    let q = c.before.before.before.before.before.before in
+    let q = c.before.before.before.before in
     let ne =
-    some_left _ _ _ q.next.ensures _ _ c.before.answer.given.1 _ (⊎_elim (λ x. inl (x.0.taken, x.1.left)) (λ x. inr x.left) q.before.before.if1.branch) in
+    some_left _ _ _ q.next-step.ensures _ _ c.in-Key.is _ (elim q.before.before.if-keys-eq0.branch [ lts.then-keys-eq0+else-key-ge-MAX_KEY x ↦ inl (x.if-keys-eq0.true, x.if-key-ge-MAX_KEY.false) | lts.else-keys-eq0 x ↦ inr x.if-keys-eq0.false ]) in
     omega arith
 
 -- src/lib.rt:85:21
-enum_told : tie.Need-enum-told
+enum_told : tie.Need-enum_told-1
 enum_told c = search rules
 
 -- src/lib.rt:91:25
-enum-known-answer-2 : tie.Need-enum-known-answer-2
+enum-known-answer-2 : tie.Need-enum_known-answer-in-Refused-1
 enum-known-answer-2 c = search rules
 
 -- src/lib.rt:62:1
-same_length : tie.Need-same-length
+same_length : tie.Need-shape_of-key-in-Key
 same_length c = search rules
 
 -- src/lib.rt:62:1
-returns-2 : tie.Need-returns-2
+returns-2 : tie.Need-returns-in-Key
 returns-2 c =
-    let q = c.before.before.before.before.before.before in
-    let e = c.before.answer.given.1 in
-    gave_key q.next.ensures _ _ _ _ _ e
-    (some_left _ _ _ q.next.ensures _ _ e _ (⊎_elim (λ x. inl (x.0.taken, x.1.left)) (λ x. inr x.left) q.before.before.if1.branch)) refl refl
+    let q = c.before.before.before.before in
+    let e = c.in-Key.is in
+    gave_key q.next-step.ensures _ _ _ _ _ e
+    (some_left _ _ _ q.next-step.ensures _ _ e _ (elim q.before.before.if-keys-eq0.branch [ lts.then-keys-eq0+else-key-ge-MAX_KEY x ↦ inl (x.if-keys-eq0.true, x.if-key-ge-MAX_KEY.false) | lts.else-keys-eq0 x ↦ inr x.if-keys-eq0.false ])) refl refl
 
 -- src/lib.rt:62:1
-same-length-2 : tie.Need-same-length-2
+same-length-2 : tie.Need-shape_of-key-in-End
 same-length-2 c = search rules
 
 -- src/lib.rt:62:1
-returns-3 : tie.Need-returns-3
-returns-3 c = gave_end c.before.before.before.before.before.next.ensures _ _ _ c.enum_told.given.1 refl refl
+returns-3 : tie.Need-returns-in-End
+returns-3 c = gave_end c.before.before.before.before.next-step.ensures _ _ _ c.in-End.is refl refl
 
 -- src/lib.rt:62:1
-same-length-3 : tie.Need-same-length-3
+same-length-3 : tie.Need-shape_of-key-in-Refused
 same-length-3 c = search rules
 
 -- src/lib.rt:62:1
-returns-4 : tie.Need-returns-4
-returns-4 c = gave_refused c.before.before.before.before.before.before.next.ensures _ _ _ _ c.before.answer2.given.1 refl refl
+returns-4 : tie.Need-returns-in-Refused
+returns-4 c = gave_refused c.before.before.before.before.next-step.ensures _ _ _ _ c.in-Refused.is refl refl
 
 pub next_spec : {M : Type 1} → statement M
 next_spec =

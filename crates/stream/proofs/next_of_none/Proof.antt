@@ -10,38 +10,38 @@ use Rattle.stream.proofs.next_of_none.Lts as lts
 use Rattle.stream_next.proofs.next.Reads as next_reads
 
 -- src/lib.rt:35:49
-slice-aggregate-next : tie.Need-slice-aggregate-next
+slice-aggregate-next : tie.Need-slice_bounds-next-end
 slice-aggregate-next c = search rules
 
 -- src/lib.rt:35:9
-next-requires : tie.Need-next-requires
+next-requires : tie.Need-next-step-requires
 next-requires c κs = search rules
 
 -- src/lib.rt:40:21
-enum_told : tie.Need-enum-told
+enum_told : tie.Need-enum_told-1
 enum_told c = search rules
 
 -- src/lib.rt:44:21
-enum-told-2 : tie.Need-enum-told-2
+enum-told-2 : tie.Need-enum_told-in-End
 enum-told-2 c = search rules
 
 -- src/lib.rt:50:25
-enum-known-answer : tie.Need-enum-known-answer
+enum-known-answer : tie.Need-enum_known-answer
 enum-known-answer c = search rules
 
 -- src/lib.rt:31:1
-returns : tie.Need-returns
+returns : tie.Need-returns-in-Key
 returns c =
-    let e = c.enum_told.given in
-    gave_too_many c.before.before.before.before.next.ensures _ _ 0 e.0.0 e.0.1.0 e.1 refl refl refl
+    let e = c.in-Key in
+    gave_too_many c.before.before.before.next-step.ensures _ _ 0 e.field-0 e.field-1 e.is refl refl refl
 
 -- src/lib.rt:31:1
-returns-2 : tie.Need-returns-2
-returns-2 c = (gave_end c.before.before.before.before.next.ensures _ _ 0 c.enum-told2.given.1 refl refl).gave
+returns-2 : tie.Need-returns-in-End
+returns-2 c = (gave_end c.before.before.before.next-step.ensures _ _ 0 c.in-End.is refl refl).gave
 
 -- src/lib.rt:31:1
-returns-3 : tie.Need-returns-3
-returns-3 c = (gave_refused c.before.before.before.before.before.next.ensures _ _ 0 _ c.before.answer.given.1 refl refl).gave
+returns-3 : tie.Need-returns-in-Refused
+returns-3 c = (gave_refused c.before.before.before.next-step.ensures _ _ 0 _ c.in-Refused.is refl refl).gave
 
 pub next_of_none_spec : {M : Type 1} → statement M
 next_of_none_spec =

@@ -12,46 +12,46 @@ use Rattle.stream.proofs.refused.Reads as refused_reads
 use Rattle.stream_number.proofs.number.Reads as number_reads
 use Rattle.stream_start.proofs.start.Reads as start_reads
 
-start-requires : tie.Need-start-requires
+start-requires : tie.Need-start-started-requires
 start-requires c κs = search rules
 
-enum-known-answer : tie.Need-enum-known-answer
+enum-known-answer : tie.Need-enum_known-answer
 enum-known-answer c = search rules
 
 refused-requires : tie.Need-refused-requires
 refused-requires c κs = search rules
 
-enum_told : tie.Need-enum-told
+enum_told : tie.Need-enum_told-1
 enum_told c = search rules
 
-number-requires : tie.Need-number-requires
-number-requires c κs = c.before.before.before.before.before.before.before.before.requires
+number-requires : tie.Need-number-tallied-requires
+number-requires c κs = c.before.before.before.before.before.before.before.requires
 
-enum-known-tallied : tie.Need-enum-known-tallied
+enum-known-tallied : tie.Need-enum_known-tallied
 enum-known-tallied c = search rules
 
-refused-requires-2 : tie.Need-refused-requires-2
+refused-requires-2 : tie.Need-refused-requires-in-Refused-tallied
 refused-requires-2 c κs = search rules
 
-enum-known-tallied-2 : tie.Need-enum-known-tallied-2
+enum-known-tallied-2 : tie.Need-enum_known-tallied-in-Comes-1
 enum-known-tallied-2 c = search rules
 
-returns : tie.Need-returns
+returns : tie.Need-returns-in-Refused
 returns c =
-    let q = c.before.before.before.before.before in
-    ap begun_is c.refused.ensures ∙ then_refused _ q.start.ensures _ _ c.before.before.answer.given.1
+    let q = c.before.before.before in
+    ap begun_is c.refused.ensures ∙ then_refused _ q.start-started.ensures _ _ c.before.in-Refused.is
 
-returns-2 : tie.Need-returns-2
+returns-2 : tie.Need-returns-in-Refused-tallied
 returns-2 c =
-    let n = c.before.before.before.before in
-    let q = n.before.before.before.before in
-    ap begun_is c.refused2.ensures ∙ then_halted _ q.start.ensures _ n.number.ensures n.before.enum_told.given.1 _ c.before.before.tallied.given.1
+    let n = c.before.before in
+    let q = n.before.before.before in
+    ap begun_is c.refused-in-Refused-tallied.ensures ∙ then_halted _ q.start-started.ensures _ n.number-tallied.ensures n.before.in-Began.is _ c.before.in-Refused-tallied.is
 
-returns-3 : tie.Need-returns-3
+returns-3 : tie.Need-returns-in-Comes
 returns-3 c =
-    let n = c.before.before.before in
-    let q = n.before.before.before.before in
-    then_begun _ q.start.ensures _ n.number.ensures n.before.enum_told.given.1 _ c.before.tallied2.given.1
+    let n = c.before in
+    let q = n.before.before.before in
+    then_begun _ q.start-started.ensures _ n.number-tallied.ensures n.before.in-Began.is _ c.in-Comes.is
 
 pub numbered_spec : {M : Type 1} → statement M
 numbered_spec =

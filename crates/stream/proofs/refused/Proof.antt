@@ -5,12 +5,14 @@ use borrow.Author.Rules.{rules}
 use Rattle.stream.proofs.refused.Statement.{statement}
 use Rattle.stream.proofs.refused.Tie as tie
 
-no-reading-requires : tie.Need-no-reading-requires
+no-reading-requires : tie.Need-no_reading-reading-requires
 no-reading-requires c κs = search rules
 
 -- the reading has no levels
 returns : tie.Need-returns
-returns c = rw c.no-reading.ensures
+returns c = rw c.no_reading-reading.ensures
 
 pub refused_spec : {M : Type 1} → statement M
-refused_spec = tie.close (tie.spec no-reading-requires returns)
+refused_spec = tie.close (tie.spec
+    no-reading-requires
+    returns)

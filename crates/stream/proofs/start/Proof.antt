@@ -26,102 +26,102 @@ use Rattle.stream_start.proofs.len_of.Reads as len_of_reads
 
 -- ---- what is known where the file opens
 
-abbrev first : tie.After-opened2 → tie.Start
-first q = q.before.before.before.before.before.before.before
+abbrev first : tie.In-Meta → tie.Start
+first q = q.before.before.before.before.before.before
 
-abbrev file : tie.After-opened2 → List ℕ
+abbrev file : tie.In-Meta → List ℕ
 file q = (first q).args.file.now
 
-abbrev lo : tie.After-opened2 → S.Bound
-lo q = bound_is (first q).args.lower-kind (first q).args.lower.now
+abbrev lo : tie.In-Meta → S.Bound
+lo q = bound_is (first q).args.lower_kind (first q).args.lower.now
 
-abbrev hi : tie.After-opened2 → S.Bound
-hi q = bound_is (first q).args.upper-kind (first q).args.upper.now
+abbrev hi : tie.In-Meta → S.Bound
+hi q = bound_is (first q).args.upper_kind (first q).args.upper.now
 
-abbrev table : tie.After-opened2 → List ℕ
+abbrev table : tie.In-Meta → List ℕ
 table q = (first q).args.counts.now
 
-abbrev meta : tie.After-opened2 → Meta
-meta q = q.opened2.given.0.0
+abbrev meta : tie.In-Meta → Meta
+meta q = q.in-Meta.m
 
-opens : (q : tie.After-opened2) → O.opening (file q) ≡ O.opened (meta_is (meta q))
-opens q = sym q.before.before.«open».ensures ∙ ap opening_is q.opened2.given.1
+opens : (q : tie.In-Meta) → O.opening (file q) ≡ O.opened (meta_is (meta q))
+opens q = sym q.before.open-opened.ensures ∙ ap opening_is q.in-Meta.is
 
 -- ---- the needs
 
-open-requires : tie.Need-open-requires
+open-requires : tie.Need-open-opened-requires
 open-requires c κs = search rules
 
-enum-known-opened : tie.Need-enum-known-opened
+enum-known-opened : tie.Need-enum_known-opened
 enum-known-opened c = search rules
 
 refused-requires : tie.Need-refused-requires
 refused-requires c κs = search rules
 
-enum-known-opened-2 : tie.Need-enum-known-opened-2
+enum-known-opened-2 : tie.Need-enum_known-opened-in-Meta-1
 enum-known-opened-2 c = search rules
 
-len-of-requires : tie.Need-len-of-requires
+len-of-requires : tie.Need-len_of-requires
 len-of-requires c κs = search rules
 
-refused-requires-2 : tie.Need-refused-requires-2
+refused-requires-2 : tie.Need-refused-requires-then-len_of-gt-MAX_KEY
 refused-requires-2 c κs = search rules
 
-returns : tie.Need-returns
+returns : tie.Need-returns-then-len_of-gt-MAX_KEY
 returns c =
     let l = c.before.before in
-    let q = l.before.before in
-    ap begun_is c.refused2.ensures ∙ sym (plain_lower (file q) (lo q) (hi q) (table q) (meta_is (meta q)) (opens q) (omega (arith, c.before.if1.true, l.len_of_lem.ensures.count)))
+    let q = l.before in
+    ap begun_is c.refused-then-len_of-gt-MAX_KEY.ensures ∙ sym (plain_lower (file q) (lo q) (hi q) (table q) (meta_is (meta q)) (opens q) (omega (arith, c.before.if-len_of-gt-MAX_KEY.true, l.len_of.ensures.count)))
 
-len-of-requires-2 : tie.Need-len-of-requires-2
+len-of-requires-2 : tie.Need-len_of-requires-in-Meta
 len-of-requires-2 c κs = search rules
 
-refused-requires-3 : tie.Need-refused-requires-3
+refused-requires-3 : tie.Need-refused-requires-then-len_of-gt-MAX_KEY-2
 refused-requires-3 c κs = search rules
 
-returns-2 : tie.Need-returns-2
+returns-2 : tie.Need-returns-then-len_of-gt-MAX_KEY-2
 returns-2 c =
     let u = c.before.before in
-    let q = u.before.before.before.before in
-    ap begun_is c.refused3.ensures ∙ sym (plain_upper (file q) (lo q) (hi q) (table q) (meta_is (meta q)) (opens q) (omega (arith, c.before.if2.true, u.len-of2.ensures.count)))
+    let q = u.before.before.before in
+    ap begun_is c.refused-then-len_of-gt-MAX_KEY-2.ensures ∙ sym (plain_upper (file q) (lo q) (hi q) (table q) (meta_is (meta q)) (opens q) (omega (arith, c.before.if-len_of-gt-MAX_KEY-2.true, u.len_of-in-Meta.ensures.count)))
 
-refused-requires-4 : tie.Need-refused-requires-4
+refused-requires-4 : tie.Need-refused-requires-then-counts-file
 refused-requires-4 c κs = search rules
 
-returns-3 : tie.Need-returns-3
+returns-3 : tie.Need-returns-then-counts-file
 returns-3 c =
     let u = c.before.before.before in
     let l = u.before.before in
-    let q = l.before.before in
-    ap begun_is c.refused4.ensures
+    let q = l.before in
+    ap begun_is c.refused-then-counts-file.ensures
     ∙ sym
-    (plain_table (file q) (lo q) (hi q) (table q) (meta_is (meta q)) (opens q) (omega (arith, u.before.if1.false, l.len_of_lem.ensures.count))
-    (omega (arith, c.before.before.if2.false, u.len-of2.ensures.count)) c.before.if3.true)
+    (plain_table (file q) (lo q) (hi q) (table q) (meta_is (meta q)) (opens q) (omega (arith, u.before.if-len_of-gt-MAX_KEY.false, l.len_of.ensures.count))
+    (omega (arith, c.before.before.if-len_of-gt-MAX_KEY-2.false, u.len_of-in-Meta.ensures.count)) c.before.if-counts-file.true)
 
 numbered-requires : tie.Need-numbered-requires
 numbered-requires c κs =
-    let q = c.before.before.before.before.before.before in
-    record { long = c.if3.false; root_inside = root_inside (file q) (meta_is (meta q)) (opens q) }
+    let q = c.before.before.before.before.before in
+    record { long = c.if-counts-file.false; root_inside = root_inside (file q) (meta_is (meta q)) (opens q) }
 
-returns-4 : tie.Need-returns-4
+returns-4 : tie.Need-returns-in-Refused
 returns-4 c =
-    let q = c.before.before in
-    let call = q.before.before in
+    let q = c.before in
+    let call = q.before in
     let a = call.before.before.before.before.before.args in
     ap begun_is c.refused.ensures
     ∙ sym
-    (plain_refused a.file.now (bound_is a.lower-kind a.lower.now) (bound_is a.upper-kind a.upper.now) a.counts.now _
-    (sym call.«open».ensures ∙ ap opening_is q.opened.given.1))
+    (plain_refused a.file.now (bound_is a.lower_kind a.lower.now) (bound_is a.upper_kind a.upper.now) a.counts.now _
+    (sym call.open-opened.ensures ∙ ap opening_is q.in-Refused.is))
 
-returns-5 : tie.Need-returns-5
+returns-5 : tie.Need-returns-else-counts-file
 returns-5 c =
     let u = c.before.before.before in
     let l = u.before.before in
-    let q = l.before.before in
+    let q = l.before in
     c.numbered.ensures
     ∙ sym
-    (plain_then (file q) (lo q) (hi q) (table q) (meta_is (meta q)) (opens q) (omega (arith, u.before.if1.false, l.len_of_lem.ensures.count))
-    (omega (arith, c.before.before.if2.false, u.len-of2.ensures.count)) c.before.if3.false)
+    (plain_then (file q) (lo q) (hi q) (table q) (meta_is (meta q)) (opens q) (omega (arith, u.before.if-len_of-gt-MAX_KEY.false, l.len_of.ensures.count))
+    (omega (arith, c.before.before.if-len_of-gt-MAX_KEY-2.false, u.len_of-in-Meta.ensures.count)) c.before.if-counts-file.false)
 
 pub start_spec : {M : Type 1} → statement M
 start_spec =
