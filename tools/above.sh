@@ -5,7 +5,8 @@ set -eu
 cd "$(dirname "$(readlink -f "$0")")/.."
 awk -v edited="${1:?usage: above.sh CRATE}" '
     { sub(/#.*/, "") }
-    /:/ { split($0, side, ":"); gsub(/ /, "", side[1]); name[++last] = side[1]; under[side[1]] = " " side[2] " " }
+    # of the words before the colon, the first is the name
+    /:/ { split($0, side, ":"); split(side[1], word, " "); name[++last] = word[1]; under[word[1]] = " " side[2] " " }
     END {
         if (!(edited in under)) { print "above.sh: crates.txt has no crate " edited >"/dev/stderr"; exit 2 }
         again[edited] = 1

@@ -1,4 +1,4 @@
-// Our static libraries, target/staticlib/liboracle_ops.a (crate `oracle_ops`) and libbaxhiso_ops.a (crate `baxhiso_ops`): their exported functions, and
+// Our static libraries, target/staticlib/liboracle_ops.a (crate `oracle_ops`) and libbaxhiso_c.a (crate `baxhiso_c`): their exported functions, and
 // safe functions over them. A slice is passed as its pointer and then its length, an array as its pointer.
 
 use crate::answers::{Kind, BOUND_BYTES};
@@ -36,7 +36,7 @@ extern "C" {
     ) -> u64;
 }
 
-#[link(name = "baxhiso_ops", kind = "static")]
+#[link(name = "baxhiso_c", kind = "static")]
 extern "C" {
     fn fst_items_rows(
         op: u64,

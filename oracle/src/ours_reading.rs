@@ -1,10 +1,10 @@
-// Our static libraries of readings, target/staticlib/liboracle_stream.a and liboracle_pattern.a (crates `oracle_stream` and `oracle_pattern`): their
+// Our static libraries of readings, target/staticlib/liboracle_stream_c.a and liboracle_pattern.a (crates `oracle_stream_c` and `oracle_pattern`): their
 // exported functions, and a safe function over each. A slice is passed as its pointer and then its length, an array as its pointer.
 
 use crate::answers::{Bound, Held, Pattern, ReadingAnswers, POSITIONS};
 use crate::ours::Library;
 
-#[link(name = "oracle_stream", kind = "static")]
+#[link(name = "oracle_stream_c", kind = "static")]
 extern "C" {
     fn oracle_start(
         file: *const u8,

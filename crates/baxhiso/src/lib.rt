@@ -1,4 +1,4 @@
-// The functions that open and admit a file for the C display firmware. include/baxhiso.h declares them for C.
+// The functions that open and admit a file for the C display firmware. include/baxhiso.h declares them for C, and crate `baxhiso_c` exports them.
 // A slice is passed as its pointer and then its length, an array as its pointer. Results: 0 for an answer, -1 for none, else the number of a
 // refusal. No function asks anything of its arguments' values. Lookups are in `baxhiso_get`, readings and ranges in `baxhiso_readings`.
 #![tactic(auto)]
@@ -34,8 +34,7 @@ fn checksum_number(checksum: Checksum) -> u64
 }
 
 // Opens a file. On 0 the five numbers are version, type, key count, root address and checksum; on a refusal they stay as given.
-#[unsafe(no_mangle)]
-pub extern "C" fn fst_open(file: &[u8], meta: &mut [u64; 5]) -> i32
+pub fn fst_open(file: &[u8], meta: &mut [u64; 5]) -> i32
     ensures { OpenLeaves (opening file.now) meta.old meta.new
         result }
 {
@@ -52,8 +51,7 @@ pub extern "C" fn fst_open(file: &[u8], meta: &mut [u64; 5]) -> i32
 }
 
 // Admits a file and fills the two tables, or refuses it.
-#[unsafe(no_mangle)]
-pub extern "C" fn fst_admit(file: &[u8], depths: &mut [u16], sums: &mut [u64]) -> i32
+pub fn fst_admit(file: &[u8], depths: &mut [u16], sums: &mut [u64]) -> i32
     ensures { AdmitLeaves file.now depths.old sums.old
         depths.new sums.new result }
 {

@@ -16,8 +16,7 @@ const OK: i32 = 0;
 
 // Carries the reading that the arrays hold from the old file to the new one, at the same place. On 0 the arrays hold the reading of the new file; on a
 // refusal they stay as given. The number of keys to come stays what it is.
-#[unsafe(no_mangle)]
-pub extern "C" fn fst_carry_arrays(
+pub fn fst_carry_arrays(
     old: &[u8],
     new: &[u8],
     head: &mut [u64; 7],

@@ -11,8 +11,7 @@ const OK: i32 = 0;
 
 // Converts a version 1 file to version 2. On 0 the new file stands from the output's first byte on, and its length is written; on a
 // refusal output, table and length stay as given.
-#[unsafe(no_mangle)]
-pub extern "C" fn fst_convert(
+pub fn fst_convert(
     file: &[u8],
     depths: &mut [u16],
     sums: &mut [u64],

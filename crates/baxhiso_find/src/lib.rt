@@ -15,8 +15,7 @@ use stream_arrays::kind_of;
 
 // Up to `most` keys between two bounds that fit a pattern, the least first, each in a row of 256 bytes with its value beside it, and how many. A position
 // below 256 is its byte, any other number any byte; any rest may follow unless `rest` is 0.
-#[unsafe(no_mangle)]
-pub extern "C" fn fst_find_rows(
+pub fn fst_find_rows(
     file: &[u8],
     positions: &[u16],
     rest: u64,

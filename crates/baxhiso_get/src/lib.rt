@@ -15,8 +15,7 @@ const OK: i32 = 0;
 const NONE: i32 = -1;
 
 // The value of a key. The value is written on 0 only.
-#[unsafe(no_mangle)]
-pub extern "C" fn fst_get(file: &[u8], key: &[u8], value: &mut u64) -> i32
+pub fn fst_get(file: &[u8], key: &[u8], value: &mut u64) -> i32
     ensures { GetLeaves (L.get file.now key.now) value.old
         value.new result }
 {
@@ -32,8 +31,7 @@ pub extern "C" fn fst_get(file: &[u8], key: &[u8], value: &mut u64) -> i32
 }
 
 // A key with this value. On 0 the key stands from the buffer's first byte on, and its length is written; else both stay as given.
-#[unsafe(no_mangle)]
-pub extern "C" fn fst_get_key(file: &[u8], value: u64, key: &mut [u8], len: &mut usize) -> i32
+pub fn fst_get_key(file: &[u8], value: u64, key: &mut [u8], len: &mut usize) -> i32
     ensures { KeyLeaves (L.get_key file.now value (length key.old))
         key.old key.new len.old len.new result }
 {

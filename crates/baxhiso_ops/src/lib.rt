@@ -46,8 +46,7 @@ fn op_of(n: u64) -> Op
 }
 
 // Up to `most` items of an operation over the first count of eight files, the least key first, and how many.
-#[unsafe(no_mangle)]
-pub extern "C" fn fst_items_rows<'a>(
+pub fn fst_items_rows<'a>(
     op: u64,
     count: usize,
     a: &'a [u8],

@@ -30,8 +30,7 @@ fn pack_told(answer: Packed, len: &mut usize) -> i32
 
 // Packs a list of keys and values into a file. On 0 the file stands from the output's first byte on, zeros behind it, and its length is written; on a
 // refusal output and working tables are zeros, every cell is empty, and the length stays as given.
-#[unsafe(no_mangle)]
-pub extern "C" fn fst_pack(
+pub fn fst_pack(
     list: &[u8],
     out: &mut [u8],
     cells: &mut [Cell],

@@ -22,13 +22,7 @@ use stream_start::Begins;
 const OK: i32 = 0;
 
 // Admits a file, and fills the two tables and the table of keys, or refuses it.
-#[unsafe(no_mangle)]
-pub extern "C" fn fst_count(
-    file: &[u8],
-    depths: &mut [u16],
-    sums: &mut [u64],
-    counts: &mut [u64],
-) -> i32
+pub fn fst_count(file: &[u8], depths: &mut [u16], sums: &mut [u64], counts: &mut [u64]) -> i32
     ensures { CountLeaves file.now depths.old sums.old
         counts.old depths.new sums.new counts.new result }
 {
@@ -40,8 +34,7 @@ pub extern "C" fn fst_count(
 }
 
 // Starts a reading of the keys between two bounds. On 0 the arrays hold it; on a refusal they stay as given.
-#[unsafe(no_mangle)]
-pub extern "C" fn fst_start_arrays(
+pub fn fst_start_arrays(
     file: &[u8],
     lower_kind: u64,
     lower: &[u8],
@@ -80,8 +73,7 @@ pub extern "C" fn fst_start_arrays(
 
 // The next key of the reading that the arrays hold, and the reading after it. On 0 the key stands from the buffer's first byte on, and its length
 // and its value are written; else all three stay as given.
-#[unsafe(no_mangle)]
-pub extern "C" fn fst_next_arrays(
+pub fn fst_next_arrays(
     file: &[u8],
     head: &mut [u64; 7],
     bound: &mut [u8; 255],
@@ -124,8 +116,7 @@ pub extern "C" fn fst_next_arrays(
 // ---- a range
 
 // Up to `most` keys between two bounds, the least first, each in a row of 256 bytes with its value beside it, and how many.
-#[unsafe(no_mangle)]
-pub extern "C" fn fst_range_rows(
+pub fn fst_range_rows(
     file: &[u8],
     lower_kind: u64,
     lower: &[u8],

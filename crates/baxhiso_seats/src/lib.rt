@@ -26,8 +26,7 @@ const NONE: i32 = -1;
 const END: i32 = -2;
 
 // No seat has a reading, nobody waits, and the first turn is seat 0's.
-#[unsafe(no_mangle)]
-pub extern "C" fn fst_empty_seats(last: &mut usize, taken: &mut [u8; 8], waiting: &mut [u8; 8])
+pub fn fst_empty_seats(last: &mut usize, taken: &mut [u8; 8], waiting: &mut [u8; 8])
     ensures { EmptyLeaves last.new taken.new waiting.new }
 {
     *last = LAST_SEAT;
@@ -36,13 +35,7 @@ pub extern "C" fn fst_empty_seats(last: &mut usize, taken: &mut [u8; 8], waiting
 }
 
 // The seat waits from now on.
-#[unsafe(no_mangle)]
-pub extern "C" fn fst_raise_arrays(
-    last: usize,
-    taken: &[u8; 8],
-    waiting: &mut [u8; 8],
-    number: usize,
-) -> i32
+pub fn fst_raise_arrays(last: usize, taken: &[u8; 8], waiting: &mut [u8; 8], number: usize) -> i32
     ensures { RaiseTold last taken.now waiting.old number
         waiting.new result }
 {
@@ -62,8 +55,7 @@ pub extern "C" fn fst_raise_arrays(
 }
 
 // The seat holds this reading from now on.
-#[unsafe(no_mangle)]
-pub extern "C" fn fst_seat_arrays(
+pub fn fst_seat_arrays(
     last: usize,
     taken: &mut [u8; 8],
     waiting: &[u8; 8],
@@ -175,8 +167,7 @@ fn serve(
 }
 
 // Serves the first waiting seat after the one served last with one call of its reading.
-#[unsafe(no_mangle)]
-pub extern "C" fn fst_dispatch_arrays(
+pub fn fst_dispatch_arrays(
     file: &[u8],
     last: &mut usize,
     taken: &[u8; 8],

@@ -20,8 +20,7 @@ use stream_step::Answer;
 // ---- start
 
 // 0 where a start with this table gives a reading, which stands in the arrays then; else the refusal, the arrays as they were.
-#[unsafe(no_mangle)]
-pub extern "C" fn oracle_start(
+pub fn oracle_start(
     file: &[u8],
     lower_kind: u64,
     lower: &[u8],
@@ -76,8 +75,7 @@ pub fn told(answer: Answer, value: &mut [u64; 1]) -> u64
 
 // The length of the next key, which stands at the front of key, with its value; 1000 for the end; or 2000 plus the refusal. The arrays
 // hold the reading afterwards.
-#[unsafe(no_mangle)]
-pub extern "C" fn oracle_next(
+pub fn oracle_next(
     file: &[u8],
     head: &mut [u64; 7],
     bound: &mut [u8; 255],
@@ -149,8 +147,7 @@ fn keys_from(file: &[u8], plain: Plain, most: u64, key: &mut [u8]) -> u64
 
 // How many calls after a start with this table hand out a key, up to the first that does not and at most so many; none where the start is
 // refused. The buffer holds what the last of them left there.
-#[unsafe(no_mangle)]
-pub extern "C" fn oracle_keys(
+pub fn oracle_keys(
     file: &[u8],
     lower_kind: u64,
     lower: &[u8],
@@ -198,8 +195,7 @@ fn bare_keys_from(file: &[u8], reading: Reading, most: u64, key: &mut [u8]) -> u
 }
 
 // As oracle_keys, by readings without the number, which take no table.
-#[unsafe(no_mangle)]
-pub extern "C" fn oracle_bare_keys(
+pub fn oracle_bare_keys(
     file: &[u8],
     lower_kind: u64,
     lower: &[u8],

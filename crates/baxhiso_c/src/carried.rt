@@ -1,0 +1,31 @@
+// Carrying a reading to another file.
+
+ghost use Rattle.std.specs.Prelude.{replicate};
+ghost use Rattle.carrying.specs.Carry.{carry_plain};
+ghost use Rattle.stream_arrays.specs.Arrays.{held, held_plain};
+ghost use Rattle.baxhiso_carry.specs.CarryArrays.{CarryLeaves};
+
+// Carries the reading that the arrays hold from the old file to the new one, at the same place. On 0 the arrays hold the reading of the new file; on a
+// refusal they stay as given. The number of keys to come stays what it is.
+#[unsafe(no_mangle)]
+pub extern "C" fn fst_carry_arrays(
+    old: &[u8],
+    new: &[u8],
+    head: &mut [u64; 7],
+    bound: &mut [u8; 255],
+    addrs: &mut [u32; 256],
+    inps: &mut [u8; 256],
+    trans: &mut [u16; 256],
+    outs: &mut [u64; 256],
+    keys: u64,
+) -> i32
+    ensures { CarryLeaves (carry_plain old.now new.now
+        (held_plain (held head.old bound.old addrs.old
+        inps.old trans.old outs.old) (replicate 1 keys)))
+        (held head.old bound.old addrs.old inps.old
+        trans.old outs.old)
+        (held head.new bound.new addrs.new inps.new
+        trans.new outs.new) keys result }
+{
+    baxhiso_carry::fst_carry_arrays(old, new, head, bound, addrs, inps, trans, outs, keys)
+}

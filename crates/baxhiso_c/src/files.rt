@@ -1,0 +1,21 @@
+// Conversion.
+
+ghost use Rattle.baxhiso_files.specs.Files.{ConvertLeaves};
+
+// Converts a version 1 file to version 2. On 0 the new file stands from the output's first byte on, and its length is written; on a
+// refusal output, table and length stay as given.
+#[unsafe(no_mangle)]
+pub extern "C" fn fst_convert(
+    file: &[u8],
+    depths: &mut [u16],
+    sums: &mut [u64],
+    out: &mut [u8],
+    table: &mut [u32],
+    len: &mut usize,
+) -> i32
+    ensures { ConvertLeaves file.now depths.old sums.old
+        out.old table.old depths.new sums.new
+        out.new table.new len.old len.new result }
+{
+    baxhiso_files::fst_convert(file, depths, sums, out, table, len)
+}

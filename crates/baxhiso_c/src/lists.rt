@@ -1,0 +1,31 @@
+// Packing a list.
+
+ghost use Rattle.std.specs.Prelude.{length};
+ghost use Rattle.format.specs.Limits.{max_len};
+ghost use Rattle.packing.specs.Packing.{pack_answer};
+ghost use Rattle.pack_blank.specs.PackBlank.{tables_test};
+ghost use Rattle.pack_cells.specs.Pairs.{pairs_is};
+ghost use Rattle.baxhiso_pack.specs.PackFiles.{PackLeaves};
+
+use pack_cell::Cell;
+
+// Packs a list of keys and values into a file. On 0 the file stands from the output's first byte on, zeros behind it, and its length is written; on a
+// refusal output and working tables are zeros, every cell is empty, and the length stays as given.
+#[unsafe(no_mangle)]
+pub extern "C" fn fst_pack(
+    list: &[u8],
+    out: &mut [u8],
+    cells: &mut [Cell],
+    inputs: &mut [u8],
+    leasts: &mut [u64],
+    targets: &mut [usize],
+    len: &mut usize,
+) -> i32
+    ensures { PackLeaves
+        (pack_answer max_len list.now (tables_test (length inputs.old) (length leasts.old) (length targets.old))
+        (length cells.old) (length out.old)) out.new
+        (pairs_is cells.new) inputs.new leasts.new targets.new
+        len.old len.new result }
+{
+    baxhiso_pack::fst_pack(list, out, cells, inputs, leasts, targets, len)
+}
