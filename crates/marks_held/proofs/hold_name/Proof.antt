@@ -22,17 +22,20 @@ held_front name r le e =
     let long : length r ≡ 8 = omega (arith, ap length is, length-append name (drop (length name) zeros), length-drop (length name) zeros) in
     stated_take (length name) 0 r (omega arith) ∙ ap (take (length name)) is ∙ take-append_seam name (drop (length name) zeros)
 
-slice-aggregate-copy-front : tie.Need-slice-aggregate-copy-front
+slice-aggregate-copy-front : tie.Need-slice_bounds-copy_front-end
 slice-aggregate-copy-front c = search rules
 
-copy-front-requires : tie.Need-copy-front-requires
+copy-front-requires : tie.Need-copy_front-requires
 copy-front-requires c κs = search rules
 
 returns : tie.Need-returns
 returns c =
     let name = c.before.before.before.before.args.name.now in
     let le : length name ≤ 8 = c.before.before.before.before.requires in
-    held_front name _ le c.before.copy-front.ensures
+    held_front name _ le c.before.copy_front.ensures
 
 pub hold_name_spec : {M : Type 1} → statement M
-hold_name_spec = tie.close (tie.spec slice-aggregate-copy-front copy-front-requires returns)
+hold_name_spec = tie.close (tie.spec
+    slice-aggregate-copy-front
+    copy-front-requires
+    returns)

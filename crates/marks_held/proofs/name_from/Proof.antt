@@ -21,66 +21,66 @@ further from i P before here j le lt = elim (ℕ_discrete j i) [
   | no ne ↦ before j le (omega arith)
 ]
 
-abbrev invariant-loop : tie.invariant-loop
-invariant-loop from name len marks i₀ i = (from ≤ i) × (i ≤ marks.count) × ((j : ℕ) → from ≤ j → j < i → same_name (mark_at (marks_is marks) j).name (stated len 0 name) ≡ false)
+abbrev invariant-loop-i : tie.invariant-loop-i
+invariant-loop-i from name len marks i₀ i = (from ≤ i) × (i ≤ marks.count) × ((j : ℕ) → from ≤ j → j < i → same_name (mark_at (marks_is marks) j).name (stated len 0 name) ≡ false)
 
-abbrev decreases-loop : tie.decreases-loop
-decreases-loop from name len marks i₀ i = marks.count - i
+abbrev decreases-loop-i : tie.decreases-loop-i
+decreases-loop-i from name len marks i₀ i = marks.count - i
 
-sixteen : (q : tie.Start invariant-loop decreases-loop) → length q.args.t1.marks ≡ 16
-sixteen q = sym (length-map q.args.t1.marks _) ∙ q.well-formed.0.1.1.1.0.1.0.1
+sixteen : (q : tie.Start invariant-loop-i decreases-loop-i) → length q.args.t1.marks ≡ 16
+sixteen q = sym (length-map q.args.t1.marks _) ∙ q.well_formed.0.1.1.1.0.1.0.1
 
-loop-holds : tie.Need-loop-init invariant-loop decreases-loop
+loop-holds : tie.Need-loop-i-init invariant-loop-i decreases-loop-i
 loop-holds c = (omega arith, omega arith, λ j le lt. absurd (omega arith))
 
-mul-held : tie.Need-overflow-mul-held invariant-loop decreases-loop
+mul-held : tie.Need-offset_bounds-marks-i invariant-loop-i decreases-loop-i
 mul-held c = search rules
 
-element-copy-out-held : tie.Need-element-copy-out-held invariant-loop decreases-loop
+element-copy-out-held : tie.Need-bounds-marks-i invariant-loop-i decreases-loop-i
 element-copy-out-held c = search rules
 
-same-name-requires : tie.Need-same-name-requires invariant-loop decreases-loop
+same-name-requires : tie.Need-same_name-requires invariant-loop-i decreases-loop-i
 same-name-requires c κs = search rules
 
-returns : tie.Need-returns invariant-loop decreases-loop
+returns : tie.Need-returns-then-same_name invariant-loop-i decreases-loop-i
 returns c =
     let loop = c.before.before.before.before.before in
     let q = loop.before in
     let a = q.args in
     let few = q.requires.0 in
-    let is = mark_at_lem a.t1 (sixteen q) few loop.loop.i _ c.before.before.before.before.loop-test.true in
-    at_place loop.loop.i loop.loop.invariant.0 (omega (arith, stated_length a.t1.count no_mark (map mark_is a.t1.marks)))
-    (ap (λ (m : M.Mark). same_name m.name (stated a.len 0 a.name)) is ∙ sym c.before.same_name.ensures ∙ c.if1.true) loop.loop.invariant.2
+    let is = mark_at_lem a.t1 (sixteen q) few loop.loop-i.i _ c.before.before.before.before.loop-i-test.true in
+    at_place loop.loop-i.i loop.loop-i.invariant.0 (omega (arith, stated_length a.t1.count no_mark (map mark_is a.t1.marks)))
+    (ap (λ (m : M.Mark). same_name m.name (stated a.len 0 a.name)) is ∙ sym c.before.same_name.ensures ∙ c.if-same_name.true) loop.loop-i.invariant.2
 
-add-i : tie.Need-overflow-add-i invariant-loop decreases-loop
+add-i : tie.Need-overflow_add-i invariant-loop-i decreases-loop-i
 add-i c = search rules
 
-loop-less : tie.Need-loop-smaller invariant-loop decreases-loop
+loop-less : tie.Need-loop-i-smaller invariant-loop-i decreases-loop-i
 loop-less c = search rules
 
-loop-again : tie.Need-loop-preserved invariant-loop decreases-loop
+loop-again : tie.Need-loop-i-preserved invariant-loop-i decreases-loop-i
 loop-again c =
     let loop = c.before.before.before.before.before in
     let q = loop.before in
     let a = q.args in
     let few = q.requires.0 in
-    let is = mark_at_lem a.t1 (sixteen q) few loop.loop.i _ c.before.before.before.before.loop-test.true in
-    let here : same_name (mark_at (marks_is a.t1) loop.loop.i).name (stated a.len 0 a.name) ≡ false =
-    ap (λ (m : M.Mark). same_name m.name (stated a.len 0 a.name)) is ∙ sym c.before.same_name.ensures ∙ c.if1.false in
-    (omega arith, omega arith, further a.from loop.loop.i (λ j. same_name (mark_at (marks_is a.t1) j).name (stated a.len 0 a.name) ≡ false) loop.loop.invariant.2 here)
+    let is = mark_at_lem a.t1 (sixteen q) few loop.loop-i.i _ c.before.before.before.before.loop-i-test.true in
+    let here : same_name (mark_at (marks_is a.t1) loop.loop-i.i).name (stated a.len 0 a.name) ≡ false =
+    ap (λ (m : M.Mark). same_name m.name (stated a.len 0 a.name)) is ∙ sym c.before.same_name.ensures ∙ c.if-same_name.false in
+    (omega arith, omega arith, further a.from loop.loop-i.i (λ j. same_name (mark_at (marks_is a.t1) j).name (stated a.len 0 a.name) ≡ false) loop.loop-i.invariant.2 here)
 
-returns-2 : tie.Need-returns-2 invariant-loop decreases-loop
+returns-2 : tie.Need-returns invariant-loop-i decreases-loop-i
 returns-2 c =
     let q = c.before.before in
     let a = q.args in
-    nowhere (λ j le lt. c.before.loop.invariant.2 j le (omega (arith, stated_length a.t1.count no_mark (map mark_is a.t1.marks))))
+    nowhere (λ j le lt. c.before.loop-i.invariant.2 j le (omega (arith, stated_length a.t1.count no_mark (map mark_is a.t1.marks))))
 
 pub name_from_spec : {M : Type 1} → statement M
 name_from_spec =
     tie.close
     (tie.spec
-    invariant-loop
-    decreases-loop
+    invariant-loop-i
+    decreases-loop-i
     loop-holds
     mul-held
     element-copy-out-held

@@ -11,59 +11,59 @@ use native.Mathlib.Omega.{arith}
 use Rattle.marks_held.proofs.names_of.Statement.{statement}
 use Rattle.marks_held.proofs.names_of.Tie as tie
 
-abbrev invariant-loop : tie.invariant-loop
-invariant-loop marks names₀ i₀ names i = (i ≤ marks.count) × (length names ≡ 16) × NamesTo (marks_is marks) i names
+abbrev invariant-loop-i : tie.invariant-loop-i
+invariant-loop-i marks names₀ i₀ names i = (i ≤ marks.count) × (length names ≡ 16) × NamesTo (marks_is marks) i names
 
-abbrev decreases-loop : tie.decreases-loop
-decreases-loop marks names₀ i₀ names i = marks.count - i
+abbrev decreases-loop-i : tie.decreases-loop-i
+decreases-loop-i marks names₀ i₀ names i = marks.count - i
 
-sixteen : (q : tie.Start invariant-loop decreases-loop) → length q.args.t1.marks ≡ 16
-sixteen q = sym (length-map q.args.t1.marks _) ∙ q.well-formed.0.1.1.1.0.1.0.1
+sixteen : (q : tie.Start invariant-loop-i decreases-loop-i) → length q.args.t1.marks ≡ 16
+sixteen q = sym (length-map q.args.t1.marks _) ∙ q.well_formed.0.1.1.1.0.1.0.1
 
-loop-holds : tie.Need-loop-init invariant-loop decreases-loop
+loop-holds : tie.Need-loop-i-init invariant-loop-i decreases-loop-i
 loop-holds c = (omega arith, refl, λ j d lt. absurd (omega arith))
 
-mul-held : tie.Need-overflow-mul-held invariant-loop decreases-loop
+mul-held : tie.Need-offset_bounds-marks-i invariant-loop-i decreases-loop-i
 mul-held c = search rules
 
-element-copy-out-held : tie.Need-element-copy-out-held invariant-loop decreases-loop
+element-copy-out-held : tie.Need-bounds-marks-i invariant-loop-i decreases-loop-i
 element-copy-out-held c = search rules
 
-mul-names : tie.Need-overflow-mul-names invariant-loop decreases-loop
+mul-names : tie.Need-offset_bounds-names-i invariant-loop-i decreases-loop-i
 mul-names c = search rules
 
-array-set-from-names : tie.Need-array-set-from-names invariant-loop decreases-loop
+array-set-from-names : tie.Need-bounds-names-i invariant-loop-i decreases-loop-i
 array-set-from-names c = search rules
 
-add-i : tie.Need-overflow-add-i invariant-loop decreases-loop
+add-i : tie.Need-overflow_add-i invariant-loop-i decreases-loop-i
 add-i c = search rules
 
-loop-less : tie.Need-loop-smaller invariant-loop decreases-loop
+loop-less : tie.Need-loop-i-smaller invariant-loop-i decreases-loop-i
 loop-less c = search rules
 
-loop-again : tie.Need-loop-preserved invariant-loop decreases-loop
+loop-again : tie.Need-loop-i-preserved invariant-loop-i decreases-loop-i
 loop-again c =
     let loop = c.before.before.before in
     let q = loop.before in
     let a = q.args in
-    let names = loop.loop.names in
-    let at = loop.loop.i in (
+    let names = loop.loop-i.names in
+    let at = loop.loop-i.i in (
       omega arith,
-      length-set names at _ ∙ loop.loop.invariant.1,
-      names_on (marks_is a.t1) names at _ (omega (arith, loop.loop.invariant.1)) loop.loop.invariant.2 (name_at a.t1 (sixteen q) q.requires at _ c.before.before.loop-test.true),
+      length-set names at _ ∙ loop.loop-i.invariant.1,
+      names_on (marks_is a.t1) names at _ (omega (arith, loop.loop-i.invariant.1)) loop.loop-i.invariant.2 (name_at a.t1 (sixteen q) q.requires at _ c.before.before.loop-i-test.true),
     )
 
-returns : tie.Need-returns invariant-loop decreases-loop
+returns : tie.Need-returns invariant-loop-i decreases-loop-i
 returns c =
     let a = c.before.before.args in
-    λ j d lt. c.before.loop.invariant.2 j d (omega (arith, stated_length a.t1.count no_mark (map mark_is a.t1.marks)))
+    λ j d lt. c.before.loop-i.invariant.2 j d (omega (arith, stated_length a.t1.count no_mark (map mark_is a.t1.marks)))
 
 pub names_of_spec : {M : Type 1} → statement M
 names_of_spec =
     tie.close
     (tie.spec
-    invariant-loop
-    decreases-loop
+    invariant-loop-i
+    decreases-loop-i
     loop-holds
     mul-held
     element-copy-out-held

@@ -10,68 +10,68 @@ use native.Mathlib.Omega.{arith}
 use Rattle.marks_held.proofs.same_name.Statement.{statement}
 use Rattle.marks_held.proofs.same_name.Tie as tie
 
-abbrev invariant-loop : tie.invariant-loop
-invariant-loop n m held name i₀ i = (i ≤ m) × (same_name (stated m 0 held) (stated m 0 name) ≡ same_name (drop i (take m held)) (drop i (take m name)))
+abbrev invariant-loop-i : tie.invariant-loop-i
+invariant-loop-i n m held name i₀ i = (i ≤ m) × (same_name (stated m 0 held) (stated m 0 name) ≡ same_name (drop i (take m held)) (drop i (take m name)))
 
-abbrev decreases-loop : tie.decreases-loop
-decreases-loop n m held name i₀ i = m - i
+abbrev decreases-loop-i : tie.decreases-loop-i
+decreases-loop-i n m held name i₀ i = m - i
 
-eight : (q : tie.Start invariant-loop decreases-loop) → (length q.args.t1 ≡ 8) × (length q.args.t3 ≡ 8)
+eight : (q : tie.Start invariant-loop-i decreases-loop-i) → (length q.args.t1 ≡ 8) × (length q.args.t3 ≡ 8)
 eight q = (search rules, search rules)
 
-returns : tie.Need-returns invariant-loop decreases-loop
+returns : tie.Need-returns-else-n-m invariant-loop-i decreases-loop-i
 returns c =
     let q = c.before in
-    names_differ q.args.t1 q.args.t3 q.args.n q.args.m c.if1.false
+    names_differ q.args.t1 q.args.t3 q.args.n q.args.m c.if-n-m.false
 
-loop-holds : tie.Need-loop-init invariant-loop decreases-loop
+loop-holds : tie.Need-loop-i-init invariant-loop-i decreases-loop-i
 loop-holds c =
     let q = c.before in
     (omega arith, same_none q.args.t1 q.args.t3 q.args.m (eight q).0 (eight q).1 q.requires)
 
-array-read-if2 : tie.Need-array-read-if2 invariant-loop decreases-loop
+array-read-if2 : tie.Need-bounds-held-i invariant-loop-i decreases-loop-i
 array-read-if2 c = search rules
 
-array-read-if2-2 : tie.Need-array-read-if2-2 invariant-loop decreases-loop
+array-read-if2-2 : tie.Need-bounds-name-i invariant-loop-i decreases-loop-i
 array-read-if2-2 c = search rules
 
-returns-2 : tie.Need-returns-2 invariant-loop decreases-loop
+returns-2 : tie.Need-returns-else-held-i invariant-loop-i decreases-loop-i
 returns-2 c =
     let loop = c.before.before in
     let same = loop.before in
     let q = same.before in
     let a = q.args in
-    rw same.if1.true
-    (same_off a.t1 a.t3 a.m (eight q).0 (eight q).1 q.requires loop.loop.i c.before.loop-test.true c.if2.false loop.loop.invariant.1)
+    rw same.if-n-m.true
+    (same_off a.t1 a.t3 a.m (eight q).0 (eight q).1 q.requires loop.loop-i.i c.before.loop-i-test.true c.if-held-i.false loop.loop-i.invariant.1)
 
-add-i : tie.Need-overflow-add-i invariant-loop decreases-loop
+add-i : tie.Need-overflow_add-i invariant-loop-i decreases-loop-i
 add-i c = search rules
 
-loop-less : tie.Need-loop-smaller invariant-loop decreases-loop
+loop-less : tie.Need-loop-i-smaller invariant-loop-i decreases-loop-i
 loop-less c = search rules
 
-loop-again : tie.Need-loop-preserved invariant-loop decreases-loop
+loop-again : tie.Need-loop-i-preserved invariant-loop-i decreases-loop-i
 loop-again c =
     let loop = c.before.before in
     let q = loop.before.before in
     let a = q.args in
-    (omega arith, same_on a.t1 a.t3 a.m (eight q).0 (eight q).1 q.requires loop.loop.i c.before.loop-test.true c.if2.true loop.loop.invariant.1)
+    (omega arith, same_on a.t1 a.t3 a.m (eight q).0 (eight q).1 q.requires loop.loop-i.i c.before.loop-i-test.true c.if-held-i.true loop.loop-i.invariant.1)
 
-returns-3 : tie.Need-returns-3 invariant-loop decreases-loop
+returns-3 : tie.Need-returns invariant-loop-i decreases-loop-i
 returns-3 c =
     let loop = c.before in
     let same = loop.before in
     let q = same.before in
     let a = q.args in
-    rw same.if1.true
-    (same_through a.t1 a.t3 a.m (eight q).0 (eight q).1 q.requires loop.loop.i (omega arith) loop.loop.invariant.1)
+    rw same.if-n-m.true
+    (same_through a.t1 a.t3 a.m (eight q).0 (eight q).1 q.requires loop.loop-i.i (omega arith) loop.loop-i.invariant.1)
 
 pub same_name_spec : {M : Type 1} → statement M
 same_name_spec =
     tie.close
     (tie.spec
-    invariant-loop
-    decreases-loop
+    invariant-loop-i
+    decreases-loop-i
     returns
     loop-holds
     array-read-if2

@@ -10,81 +10,81 @@ use native.Mathlib.Omega.{arith}
 use Rattle.ops_keys.proofs.compare_bytes.Statement.{statement}
 use Rattle.ops_keys.proofs.compare_bytes.Tie as tie
 
-abbrev invariant-loop : tie.invariant-loop
-invariant-loop keys x j y k i₀ i = Comparing (drop x keys) (drop y keys) j k i
+abbrev invariant-loop-i : tie.invariant-loop-i
+invariant-loop-i keys x j y k i₀ i = Comparing (drop x keys) (drop y keys) j k i
 
-abbrev decreases-loop : tie.decreases-loop
-decreases-loop keys x j y k i₀ i = j - i
+abbrev decreases-loop-i : tie.decreases-loop-i
+decreases-loop-i keys x j y k i₀ i = j - i
 
 -- nothing is compared yet
-loop-holds : tie.Need-loop-init invariant-loop decreases-loop
+loop-holds : tie.Need-loop-i-init invariant-loop-i decreases-loop-i
 loop-holds c = let a = c.args in comparing_none (drop a.x a.keys.now) (drop a.y a.keys.now) a.j a.k
 
 -- the second key ends first
-returns : tie.Need-returns invariant-loop decreases-loop
+returns : tie.Need-returns-then-k-i invariant-loop-i decreases-loop-i
 returns c = let at = c.before.before in let a = at.before.args in let p = at.before.requires in
-    comparing_long (drop a.x a.keys.now) (drop a.y a.keys.now) a.j a.k (room a.keys.now a.x a.j p.0 p.1) (room a.keys.now a.y a.k p.0 p.2) at.loop.i at.loop.invariant c.before.loop-test.true c.if1.true
+    comparing_long (drop a.x a.keys.now) (drop a.y a.keys.now) a.j a.k (room a.keys.now a.x a.j p.0 p.1) (room a.keys.now a.y a.k p.0 p.2) at.loop-i.i at.loop-i.invariant c.before.loop-i-test.true c.if-k-i.true
 
-add_a : tie.Need-overflow-add-a invariant-loop decreases-loop
+add_a : tie.Need-overflow_add-a invariant-loop-i decreases-loop-i
 add_a c = search rules
 
-add-a-2 : tie.Need-overflow-add-a-2 invariant-loop decreases-loop
+add-a-2 : tie.Need-overflow_add-a-in-loop-i invariant-loop-i decreases-loop-i
 add-a-2 c = search rules
 
-element-copy-out-a : tie.Need-element-copy-out-a invariant-loop decreases-loop
+element-copy-out-a : tie.Need-bounds-keys-x invariant-loop-i decreases-loop-i
 element-copy-out-a c = search rules
 
-add-b : tie.Need-overflow-add-b invariant-loop decreases-loop
+add-b : tie.Need-overflow_add-b invariant-loop-i decreases-loop-i
 add-b c = search rules
 
-add-b-2 : tie.Need-overflow-add-b-2 invariant-loop decreases-loop
+add-b-2 : tie.Need-overflow_add-b-in-loop-i invariant-loop-i decreases-loop-i
 add-b-2 c = search rules
 
-element-copy-out-b : tie.Need-element-copy-out-b invariant-loop decreases-loop
+element-copy-out-b : tie.Need-bounds-keys-y invariant-loop-i decreases-loop-i
 element-copy-out-b c = search rules
 
 -- a byte of the first key is below
-returns-2 : tie.Need-returns-2 invariant-loop decreases-loop
-returns-2 c = let in_both = c.before.before.before in let at = in_both.before.before in let a = at.before.args in let p = at.before.requires in
-    comparing_low (drop a.x a.keys.now) (drop a.y a.keys.now) a.j a.k (room a.keys.now a.x a.j p.0 p.1) (room a.keys.now a.y a.k p.0 p.2) at.loop.i at.loop.invariant
-    in_both.before.loop-test.true in_both.if1.false _ _ (sym (get_or-drop a.x a.keys.now (at.loop.i + 1) 0)) (sym (get_or-drop a.y a.keys.now (at.loop.i + 1) 0)) c.if2.true
+returns-2 : tie.Need-returns-then-a-b invariant-loop-i decreases-loop-i
+returns-2 c = let in_both = c.before.before.before.before in let at = in_both.before.before in let a = at.before.args in let p = at.before.requires in
+    comparing_low (drop a.x a.keys.now) (drop a.y a.keys.now) a.j a.k (room a.keys.now a.x a.j p.0 p.1) (room a.keys.now a.y a.k p.0 p.2) at.loop-i.i at.loop-i.invariant
+    in_both.before.loop-i-test.true in_both.if-k-i.false _ _ (sym (get_or-drop a.x a.keys.now (at.loop-i.i + 1) 0)) (sym (get_or-drop a.y a.keys.now (at.loop-i.i + 1) 0)) c.if-a-b.true
 
 -- a byte of the first key is above
-returns-3 : tie.Need-returns-3 invariant-loop decreases-loop
-returns-3 c = let in_both = c.before.before.before.before in let at = in_both.before.before in let a = at.before.args in let p = at.before.requires in
-    comparing_high (drop a.x a.keys.now) (drop a.y a.keys.now) a.j a.k (room a.keys.now a.x a.j p.0 p.1) (room a.keys.now a.y a.k p.0 p.2) at.loop.i at.loop.invariant
-    in_both.before.loop-test.true in_both.if1.false _ _ (sym (get_or-drop a.x a.keys.now (at.loop.i + 1) 0)) (sym (get_or-drop a.y a.keys.now (at.loop.i + 1) 0)) c.if3.true
+returns-3 : tie.Need-returns-then-b-a invariant-loop-i decreases-loop-i
+returns-3 c = let in_both = c.before.before.before.before.before in let at = in_both.before.before in let a = at.before.args in let p = at.before.requires in
+    comparing_high (drop a.x a.keys.now) (drop a.y a.keys.now) a.j a.k (room a.keys.now a.x a.j p.0 p.1) (room a.keys.now a.y a.k p.0 p.2) at.loop-i.i at.loop-i.invariant
+    in_both.before.loop-i-test.true in_both.if-k-i.false _ _ (sym (get_or-drop a.x a.keys.now (at.loop-i.i + 1) 0)) (sym (get_or-drop a.y a.keys.now (at.loop-i.i + 1) 0)) c.if-b-a.true
 
-add-i : tie.Need-overflow-add-i invariant-loop decreases-loop
+add-i : tie.Need-overflow_add-i invariant-loop-i decreases-loop-i
 add-i c = search rules
 
-loop-less : tie.Need-loop-smaller invariant-loop decreases-loop
+loop-less : tie.Need-loop-i-smaller invariant-loop-i decreases-loop-i
 loop-less c = search rules
 
 -- one byte more is the same
-loop-again : tie.Need-loop-preserved invariant-loop decreases-loop
-loop-again c = let in_both = c.before.before.before.before in let at = in_both.before.before in let a = at.before.args in let p = at.before.requires in
-    comparing_on (drop a.x a.keys.now) (drop a.y a.keys.now) a.j a.k (room a.keys.now a.x a.j p.0 p.1) (room a.keys.now a.y a.k p.0 p.2) at.loop.i at.loop.invariant
-    in_both.before.loop-test.true in_both.if1.false _ _ (sym (get_or-drop a.x a.keys.now (at.loop.i + 1) 0)) (sym (get_or-drop a.y a.keys.now (at.loop.i + 1) 0)) c.before.if2.false c.if3.false
+loop-again : tie.Need-loop-i-preserved invariant-loop-i decreases-loop-i
+loop-again c = let in_both = c.before.before.before.before.before in let at = in_both.before.before in let a = at.before.args in let p = at.before.requires in
+    comparing_on (drop a.x a.keys.now) (drop a.y a.keys.now) a.j a.k (room a.keys.now a.x a.j p.0 p.1) (room a.keys.now a.y a.k p.0 p.2) at.loop-i.i at.loop-i.invariant
+    in_both.before.loop-i-test.true in_both.if-k-i.false _ _ (sym (get_or-drop a.x a.keys.now (at.loop-i.i + 1) 0)) (sym (get_or-drop a.y a.keys.now (at.loop-i.i + 1) 0)) c.before.if-a-b.false c.if-b-a.false
 
 -- the first key ends first
-returns-4 : tie.Need-returns-4 invariant-loop decreases-loop
+returns-4 : tie.Need-returns-then-j-k invariant-loop-i decreases-loop-i
 returns-4 c = let at = c.before.before in let a = at.before.args in let p = at.before.requires in
-    comparing_short (drop a.x a.keys.now) (drop a.y a.keys.now) a.j a.k (room a.keys.now a.x a.j p.0 p.1) (room a.keys.now a.y a.k p.0 p.2) at.loop.i at.loop.invariant
-    c.before.loop-test.false (omega (arith, at.loop.invariant.within))
+    comparing_short (drop a.x a.keys.now) (drop a.y a.keys.now) a.j a.k (room a.keys.now a.x a.j p.0 p.1) (room a.keys.now a.y a.k p.0 p.2) at.loop-i.i at.loop-i.invariant
+    c.before.loop-i-test.false (omega (arith, at.loop-i.invariant.within))
 
 -- both end here: they are the same
-returns-5 : tie.Need-returns-5 invariant-loop decreases-loop
+returns-5 : tie.Need-returns-else-j-k invariant-loop-i decreases-loop-i
 returns-5 c = let at = c.before.before in let a = at.before.args in let p = at.before.requires in
-    comparing_same (drop a.x a.keys.now) (drop a.y a.keys.now) a.j a.k (room a.keys.now a.x a.j p.0 p.1) (room a.keys.now a.y a.k p.0 p.2) at.loop.i at.loop.invariant
-    c.before.loop-test.false (omega (arith, c.before.loop-test.false))
+    comparing_same (drop a.x a.keys.now) (drop a.y a.keys.now) a.j a.k (room a.keys.now a.x a.j p.0 p.1) (room a.keys.now a.y a.k p.0 p.2) at.loop-i.i at.loop-i.invariant
+    c.before.loop-i-test.false (omega (arith, c.before.loop-i-test.false))
 
 pub compare_bytes_spec : {M : Type 1} → statement M
 compare_bytes_spec =
     tie.close
     (tie.spec
-    invariant-loop
-    decreases-loop
+    invariant-loop-i
+    decreases-loop-i
     loop-holds
     returns
     add_a

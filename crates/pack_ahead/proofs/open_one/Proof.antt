@@ -12,70 +12,70 @@ use Rattle.pack_ahead.proofs.open_one.Statement.{statement}
 use Rattle.pack_ahead.proofs.open_one.Tie as tie
 
 -- the entry, seen from the key's end
-abbrev s : tie.After-end-at → tie.Start
+abbrev s : tie.After-end_at → tie.Start
 s c = c.before.before.before
 
-low : (c : tie.After-end-at) → (s c).args.i < count_in (s c).args.list.now
+low : (c : tie.After-end_at) → (s c).args.i < count_in (s c).args.list.now
 low c = omega (arith, (s c).requires.1, (s c).requires.2)
 
-bounds : (c : tie.After-end-at) → (c.before.begin-at.result ≤ c.end_at_lem.result) × (8 + 12 * (s c).args.n + c.end_at_lem.result ≤ length (s c).args.list.now)
-bounds c = cut_bounds (s c).args.list.now (s c).requires.0 (s c).args.i (s c).args.n c.before.begin-at.result c.end_at_lem.result (low c) (s c).requires.1 c.before.begin-at.ensures.0 c.end_at_lem.ensures.0
+bounds : (c : tie.After-end_at) → (c.before.begin_at.result ≤ c.end_at.result) × (8 + 12 * (s c).args.n + c.end_at.result ≤ length (s c).args.list.now)
+bounds c = cut_bounds (s c).args.list.now (s c).requires.0 (s c).args.i (s c).args.n c.before.begin_at.result c.end_at.result (low c) (s c).requires.1 c.before.begin_at.ensures.0 c.end_at.ensures.0
 
-mul-keys : tie.Need-overflow-mul-keys
+mul-keys : tie.Need-overflow_mul-keys
 mul-keys c = search rules
 
-add-keys : tie.Need-overflow-add-keys
+add-keys : tie.Need-overflow_add-keys
 add-keys c = search rules
 
-begin-at-requires : tie.Need-begin-at-requires
+begin-at-requires : tie.Need-begin_at-requires
 begin-at-requires c κs = search rules
 
-add-from : tie.Need-overflow-add-from
+add-from : tie.Need-overflow_add-from
 add-from c = search rules
 
-end-at-requires : tie.Need-end-at-requires
+end-at-requires : tie.Need-end_at-requires
 end-at-requires c κs = search rules
 
-add-to : tie.Need-overflow-add-to
+add-to : tie.Need-overflow_add-to
 add-to c = search rules
 
-value-at-requires : tie.Need-value-at-requires
+value-at-requires : tie.Need-value_at-value-requires
 value-at-requires c κs = search rules
 
-sub-open-key : tie.Need-overflow-sub-open-key
+sub-open-key : tie.Need-slice_bounds-open_key-count
 sub-open-key c = let w = bounds c.before in search rules
 
-part-open-key-start : tie.Need-slice-bounds-open-key-start
+part-open-key-start : tie.Need-slice_bounds-open_key-start
 part-open-key-start c = let w = bounds c.before in search rules
 
-part-open-key-end : tie.Need-slice-bounds-open-key-end
+part-open-key-end : tie.Need-slice_bounds-open_key-end
 part-open-key-end c = let w = bounds c.before in search rules
 
-open-key-requires : tie.Need-open-key-requires
+open-key-requires : tie.Need-open_key-requires
 open-key-requires c κs =
     let e = c.before.before.before.before.before.before in
     let t = s e in
-    (omega (arith, t.pre.3, ap length (cut_is t.args.list.now t.pre.0 t.args.i t.args.n e.before.begin-at.result e.end_at_lem.result (low e) t.pre.1 e.before.begin-at.ensures.0 e.end_at_lem.ensures.0)), cut_short t.args.list.now t.pre.0 t.args.i t.args.n e.before.begin-at.result e.end_at_lem.result (low e) t.pre.1 e.before.begin-at.ensures.0 e.end_at_lem.ensures.0, t.pre.4, t.pre.5, t.pre.6, t.pre.7)
+    (omega (arith, t.requires.3, ap length (cut_is t.args.list.now t.requires.0 t.args.i t.args.n e.before.begin_at.result e.end_at.result (low e) t.requires.1 e.before.begin_at.ensures.0 e.end_at.ensures.0)), cut_short t.args.list.now t.requires.0 t.args.i t.args.n e.before.begin_at.result e.end_at.result (low e) t.requires.1 e.before.begin_at.ensures.0 e.end_at.ensures.0, t.requires.4, t.requires.5, t.requires.6, t.requires.7)
 
-sub-depth : tie.Need-overflow-sub-depth
+sub-depth : tie.Need-overflow_sub-depth
 sub-depth c = let w = bounds c.before.before.before.before.before.before.before in search rules
 
-add-more : tie.Need-overflow-add-more
+add-more : tie.Need-overflow_add-more
 add-more c = search rules
 
-leaves-at-requires : tie.Need-leaves-at-requires
+leaves-at-requires : tie.Need-leaves_at-leaves-requires
 leaves-at-requires c κs =
-    let e = c.before.before.before.before.before.before.before.before in
+    let e = c.before.before.before.before.before.before.before in
     let t = s e in
-    (t.pre.0, t.pre.1, omega (arith, cut_length t.args.list.now t.pre.0 t.args.i t.args.n e.before.begin-at.result e.end_at_lem.result (low e) t.pre.1 e.before.begin-at.ensures.0 e.end_at_lem.ensures.0, cut_short t.args.list.now t.pre.0 t.args.i t.args.n e.before.begin-at.result e.end_at_lem.result (low e) t.pre.1 e.before.begin-at.ensures.0 e.end_at_lem.ensures.0))
+    (t.requires.0, t.requires.1, omega (arith, cut_length t.args.list.now t.requires.0 t.args.i t.args.n e.before.begin_at.result e.end_at.result (low e) t.requires.1 e.before.begin_at.ensures.0 e.end_at.ensures.0, cut_short t.args.list.now t.requires.0 t.args.i t.args.n e.before.begin_at.result e.end_at.result (low e) t.requires.1 e.before.begin_at.ensures.0 e.end_at.ensures.0))
 
 returns : tie.Need-returns
 returns c = λ inputs leasts targets.
-    let v = c.before.before.before.before.before.before.before.before in
+    let v = c.before.before.before.before.before.before.before in
     let e = v.before in
     let t = s e in
-    opens_key t.args.list.now t.pre.0 t.args.i t.args.n e.before.begin-at.result e.end_at_lem.result (low e) t.pre.1 e.before.begin-at.ensures.0 e.end_at_lem.ensures.0 v.value_at_lem.ensures (c.before.before.open-key.ensures inputs leasts targets)
-    (λ j. omega (arith, e.before.before.shared-slice-known.given j)) refl refl c.leaves_at.ensures
+    opens_key t.args.list.now t.requires.0 t.args.i t.args.n e.before.begin_at.result e.end_at.result (low e) t.requires.1 e.before.begin_at.ensures.0 e.end_at.ensures.0 v.value_at-value.ensures (c.before.open_key.ensures inputs leasts targets)
+    (λ j. omega (arith, e.before.before.shared_slice_known-1.given j)) refl refl c.leaves_at-leaves.ensures
 
 pub open_one_spec : {M : Type 1} → statement M
 open_one_spec =

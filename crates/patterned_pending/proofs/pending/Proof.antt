@@ -24,40 +24,40 @@ ended-requires : tie.Need-ended-requires
 ended-requires c κs = search rules
 
 -- the empty key passes the upper bound
-returns : tie.Need-returns
+returns : tie.Need-returns-then-exceeded
 returns c = let x = c.before.before in
     let a = (start x).args in
-    pending_passed (f x) (held_is a.pattern) a.reading a.value a.key.now (sym x.exceeded.ensures ∙ c.before.if1.true)
+    pending_passed (f x) (held_is a.pattern) a.reading a.value a.key.now (sym x.exceeded.ensures ∙ c.before.if-exceeded.true)
     c.ended.result (c.ended.ensures a.key.now)
 
 placed-requires : tie.Need-placed-requires
 placed-requires c κs = search rules
 
 -- it fits, and is handed out
-returns-2 : tie.Need-returns-2
+returns-2 : tie.Need-returns-then-pattern-eq0
 returns-2 c = let test = c.before in
     let x = test.before.before.before in
     let a = (start x).args in
     let q = a.pattern in
-    pending_key (f x) (held_is q) a.reading a.value (sym x.exceeded.ensures ∙ test.before.before.if1.false) a.key.now
-    (fits_empty q.len q.rest q.positions test.if2.true) c.placed.result c.placed.ensures
+    pending_key (f x) (held_is q) a.reading a.value (sym x.exceeded.ensures ∙ test.before.before.if-exceeded.false) a.key.now
+    (fits_empty q.len q.rest q.positions test.if-pattern-eq0.true) c.placed.result c.placed.ensures
 
 -- what the caller showed
 walk-requires : tie.Need-walk-requires
 walk-requires c κs = (start c.before.before.before.before).requires
 
-same_length : tie.Need-same-length
+same_length : tie.Need-shape_of-key
 same_length c = search rules
 
 -- it is dropped, and the call walks on
-returns-3 : tie.Need-returns-3
+returns-3 : tie.Need-returns
 returns-3 c = let call = c.before.before in
     let test = call.before.before in
     let x = test.before.before.before in
     let a = (start x).args in
     let q = a.pattern in
-    pending_walk (f x) (held_is q) a.reading a.value (sym x.exceeded.ensures ∙ test.before.before.if1.false) a.key.now _
-    (fits_not q.len q.rest q.positions test.if2.false) call.walk.result call.walk.ensures
+    pending_walk (f x) (held_is q) a.reading a.value (sym x.exceeded.ensures ∙ test.before.before.if-exceeded.false) a.key.now _
+    (fits_not q.len q.rest q.positions test.if-pattern-eq0.false) call.walk.result call.walk.ensures
 
 pub pending_spec : {M : Type 1} → statement M
 pending_spec =

@@ -20,7 +20,7 @@ arrays q = record { addrs_len = search rules; inps_len = search rules; trans_len
 -- ---- what is known after the walk
 
 abbrev After : Type 0
-After = tie.After-walk-by
+After = tie.After-walk_by
 
 abbrev start : After → tie.Start
 start w = w.before.before.before.before.before.before.before.before.before.before.before.before.before.before.before
@@ -32,75 +32,75 @@ want w = let a = (start w).args in
 
 -- where a key is found
 abbrev Found_at : Type 0
-Found_at = tie.After-known-told3
+Found_at = tie.In-Found
 
 abbrev w_of : Found_at → After
-w_of q = q.before.before.before
+w_of q = q.before
 
 abbrev k : Found_at → ℕ
-k q = q.before.k.given.0.0
+k q = q.in-Found.k
 
 low : (q : Found_at) → k q < 256
-low q = walks_low (w_of q).walk_by_lem.ensures q.before.k.given.1
+low q = walks_low (w_of q).walk_by.ensures q.in-Found.is
 
 -- the arrays are the reading's, and the positions the pattern's
-walk-by-requires : tie.Need-walk-by-requires
+walk-by-requires : tie.Need-walk_by-requires
 walk-by-requires c κs = let q = c.before.before.before.before.before.before.before.before.before.before.before.before.before.before in
     ((arrays q, search rules, q.requires.1, search rules, q.requires.4), (q.requires.0, q.requires.2))
 
-enum-known-why : tie.Need-enum-known-why
+enum-known-why : tie.Need-enum_known-why
 enum-known-why c = search rules
 
-enum-known-total : tie.Need-enum-known-total
+enum-known-total : tie.Need-enum_known-total
 enum-known-total c = search rules
 
 ended-requires : tie.Need-ended-requires
 ended-requires c κs = search rules
 
-enum-known-k : tie.Need-enum-known-k
+enum-known-k : tie.Need-enum_known-k
 enum-known-k c = search rules
 
-sub-copy-front : tie.Need-overflow-sub-copy-front
+sub-copy-front : tie.Need-slice_bounds-copy_front-count
 sub-copy-front c = search rules
 
-part-copy-front-start : tie.Need-slice-bounds-copy-front-start
+part-copy-front-start : tie.Need-slice_bounds-copy_front-start
 part-copy-front-start c = search rules
 
-part-copy-front-end : tie.Need-slice-bounds-copy-front-end
+part-copy-front-end : tie.Need-slice_bounds-copy_front-end
 part-copy-front-end c = search rules
 
 -- the inputs hold a key of k bytes, and the buffer has room for it
-copy-front-requires : tie.Need-copy-front-requires
-copy-front-requires c κs = let q = c.before.before.before in
-    (inputs_hold (w_of q).walk_by_lem.ensures (k q) (low q), omega (arith, low q, (start (w_of q)).requires.3))
+copy-front-requires : tie.Need-copy_front-requires
+copy-front-requires c κs = let q = c.before.before in
+    (inputs_hold (w_of q).walk_by.ensures (k q) (low q), omega (arith, low q, (start (w_of q)).requires.3))
 
 -- level k is below 256
-add-t32 : tie.Need-overflow-add-t32
-add-t32 c = omega (arith, low c.before.before.before.before.before.before)
+add-t32 : tie.Need-overflow_add-after
+add-t32 c = omega (arith, low c.before.before.before.before.before)
 
 -- the walk is refused
-returns : tie.Need-returns
-returns c = let w = c.before.before.before in
-    after_halted (start w).args.reading (want w) (start w).args.key.now c.before.why.given.0.0 (walks_is w.walk_by_lem.ensures c.before.why.given.1)
+returns : tie.Need-returns-in-Halted
+returns c = let w = c.before in
+    after_halted (start w).args.reading (want w) (start w).args.key.now c.in-Halted.why (walks_is w.walk_by.ensures c.in-Halted.is)
 
 -- no key is left
-returns-2 : tie.Need-returns-2
-returns-2 c = let w = c.before.before.before.before in
-    after_ended (start w).args.reading (want w) (start w).args.key.now c.before.before.total.given.0.0
-    (walks_is w.walk_by_lem.ensures c.before.before.total.given.1) c.ended.result (c.ended.ensures (start w).args.key.now)
+returns-2 : tie.Need-returns-in-Ended
+returns-2 c = let w = c.before.before in
+    after_ended (start w).args.reading (want w) (start w).args.key.now c.before.in-Ended.total
+    (walks_is w.walk_by.ensures c.before.in-Ended.is) c.ended.result (c.ended.ensures (start w).args.key.now)
 
-same_length : tie.Need-same-length
+same_length : tie.Need-shape_of-key
 same_length c = search rules
 
 -- a key is found
-returns-3 : tie.Need-returns-3
-returns-3 c = let q = c.before.before.before.before.before.before in
+returns-3 : tie.Need-returns-in-Found
+returns-3 c = let q = c.before.before.before.before.before in
     let w = w_of q in
-    after_found (start w).args.reading (want w) (k q) q.before.k.given.0.1.0 q.before.k.given.0.1.1.0 _ _ _ _
-    (start w).args.key.now _ (walks_is w.walk_by_lem.ensures q.before.k.given.1)
-    (omega (arith, low q, w.walk_by_lem.ensures.inps_len))
-    (inputs_copied w.walk_by_lem.ensures (k q) (start w).args.key.now _ (low q) c.before.before.copy-front.ensures)
-    (placed_at (start w).args.reading (k q + 1) q.before.k.given.0.1.1.0) refl
+    after_found (start w).args.reading (want w) (k q) q.in-Found.value q.in-Found.total _ _ _ _
+    (start w).args.key.now _ (walks_is w.walk_by.ensures q.in-Found.is)
+    (omega (arith, low q, w.walk_by.ensures.inps_len))
+    (inputs_copied w.walk_by.ensures (k q) (start w).args.key.now _ (low q) c.before.before.copy_front.ensures)
+    (placed_at (start w).args.reading (k q + 1) q.in-Found.total) refl
 
 pub walk_spec : {M : Type 1} → statement M
 walk_spec =

@@ -20,124 +20,124 @@ use Rattle.patterned_step.proofs.step.Tie as tie
 
 -- ---- what is known where the file opens, where the state is right, and where the pattern and the buffer are
 
-abbrev start : tie.After-opened2 → tie.Start
-start q = q.before.before.before.before.before
+abbrev start : tie.In-Meta → tie.Start
+start q = q.before.before.before.before
 
-abbrev meta : tie.After-opened2 → Meta
-meta q = q.opened2.given.0.0
+abbrev meta : tie.In-Meta → Meta
+meta q = q.in-Meta.m
 
-opens : (q : tie.After-opened2) → O.opening (start q).args.file.now ≡ O.opened (meta_is (meta q))
-opens q = sym q.before.before.«open».ensures ∙ ap opening_is q.opened2.given.1
+opens : (q : tie.In-Meta) → O.opening (start q).args.file.now ≡ O.opened (meta_is (meta q))
+opens q = sym q.before.open-opened.ensures ∙ ap opening_is q.in-Meta.is
 
-abbrev q_of : tie.After-state-right → tie.After-opened2
-q_of w = w.before.before
+abbrev q_of : tie.After-state_right → tie.In-Meta
+q_of w = w.before
 
-right : (v : tie.Then1)
+right : (v : tie.Then-state_right)
     → (let a = (start (q_of v.before)).args in state_right a.reading.levels a.reading.bound_len a.reading.len (length a.file.now)) ≡ true
-right v = sym v.before.state_right_lem.ensures ∙ v.if1.true
+right v = sym v.before.state_right.ensures ∙ v.if-state_right.true
 
-abbrev v_of : tie.Else2 → tie.Then1
+abbrev v_of : tie.Else-pattern-gt-MAX_KEY → tie.Then-state_right
 v_of u = u.before.before
 
-abbrev at : tie.Else2 → tie.Start
+abbrev at : tie.Else-pattern-gt-MAX_KEY → tie.Start
 at u = start (q_of (v_of u).before)
 
-few : (u : tie.Else2) → length (held_is (at u).args.pattern).positions ≤ 255
-few u = let q = (at u).args.pattern in omega (arith, positions_length q.len q.positions, u.if2.false)
+few : (u : tie.Else-pattern-gt-MAX_KEY) → length (held_is (at u).args.pattern).positions ≤ 255
+few u = let q = (at u).args.pattern in omega (arith, positions_length q.len q.positions, u.if-pattern-gt-MAX_KEY.false)
 
-open-requires : tie.Need-open-requires
+open-requires : tie.Need-open-opened-requires
 open-requires c κs = search rules
 
-enum-known-opened : tie.Need-enum-known-opened
+enum-known-opened : tie.Need-enum_known-opened
 enum-known-opened c = search rules
 
-enum-known-opened-2 : tie.Need-enum-known-opened-2
+enum-known-opened-2 : tie.Need-enum_known-opened-in-Meta-1
 enum-known-opened-2 c = search rules
 
-state-right-requires : tie.Need-state-right-requires
+state-right-requires : tie.Need-state_right-requires
 state-right-requires c κs = search rules
 
 -- the reading cannot go on with this file: STATE
-returns : tie.Need-returns
+returns : tie.Need-returns-else-state_right
 returns c = let w = c.before in
     let a = (start (q_of w)).args in
-    next_state a.file.now (held_is a.pattern) a.reading a.key.now (meta_is (meta (q_of w))) (opens (q_of w)) (sym w.state_right_lem.ensures ∙ c.if1.false)
+    next_state a.file.now (held_is a.pattern) a.reading a.key.now (meta_is (meta (q_of w))) (opens (q_of w)) (sym w.state_right.ensures ∙ c.if-state_right.false)
 
 -- over 255 positions are held: PATTERN
-returns-2 : tie.Need-returns-2
+returns-2 : tie.Need-returns-then-pattern-gt-MAX_KEY
 returns-2 c = let v = c.before.before in
     let q = q_of v.before in
     let a = (start q).args in
     next_pattern a.file.now (held_is a.pattern) a.reading a.key.now (meta_is (meta q)) (opens q) (right v)
-    (omega (arith, positions_length a.pattern.len a.pattern.positions, c.if2.true))
+    (omega (arith, positions_length a.pattern.len a.pattern.positions, c.if-pattern-gt-MAX_KEY.true))
 
 -- the buffer is under 255 bytes: SPACE
-returns-3 : tie.Need-returns-3
+returns-3 : tie.Need-returns-then-key-lt-MAX_KEY
 returns-3 c = let u = c.before in
     let v = v_of u in
     let q = q_of v.before in
     let a = (start q).args in
-    next_space a.file.now (held_is a.pattern) a.reading a.key.now (meta_is (meta q)) (opens q) (right v) (few u) c.if3.true
+    next_space a.file.now (held_is a.pattern) a.reading a.key.now (meta_is (meta q)) (opens q) (right v) (few u) c.if-key-lt-MAX_KEY.true
 
-enum-known-empty : tie.Need-enum-known-empty
+enum-known-empty : tie.Need-enum_known-empty
 enum-known-empty c = search rules
 
 -- the state is right, the root fits, and the buffer has room for a key
 pending-requires : tie.Need-pending-requires
-pending-requires c κs = let told = c.before.before.before.before in
+pending-requires c κs = let told = c.before.before in
     let u = told.before in
     let v = v_of u in
     let q = q_of v.before in
     let e = state_facts (start q).args.reading (length (start q).args.file.now) (right v) in
-    (e.0, e.1, root_fits (start q).args.file.now (meta_is (meta q)) (opens q), told.if3.false, u.if2.false)
+    (e.0, e.1, root_fits (start q).args.file.now (meta_is (meta q)) (opens q), told.if-key-lt-MAX_KEY.false, u.if-pattern-gt-MAX_KEY.false)
 
-enum_told : tie.Need-enum-told
+enum_told : tie.Need-enum_told-1
 enum_told c = search rules
 
 -- the same
 walk-requires : tie.Need-walk-requires
-walk-requires c κs = let told = c.before.before.before in
+walk-requires c κs = let told = c.before.before in
     let u = told.before in
     let v = v_of u in
     let q = q_of v.before in
     let e = state_facts (start q).args.reading (length (start q).args.file.now) (right v) in
-    (e.0, e.1, root_fits (start q).args.file.now (meta_is (meta q)) (opens q), told.if3.false, u.if2.false)
+    (e.0, e.1, root_fits (start q).args.file.now (meta_is (meta q)) (opens q), told.if-key-lt-MAX_KEY.false, u.if-pattern-gt-MAX_KEY.false)
 
 -- the file does not open
-returns-4 : tie.Need-returns-4
-returns-4 c = let call = c.before.before.before in
+returns-4 : tie.Need-returns-in-Refused
+returns-4 c = let call = c.before in
     let a = call.before.before.before.args in
-    next_refused a.file.now (held_is a.pattern) a.reading a.key.now c.before.opened.given.0.0 (sym call.«open».ensures ∙ ap opening_is c.before.opened.given.1)
+    next_refused a.file.now (held_is a.pattern) a.reading a.key.now c.in-Refused.why (sym call.open-opened.ensures ∙ ap opening_is c.in-Refused.is)
 
-same_length : tie.Need-same-length
+same_length : tie.Need-shape_of-key-in-Pending
 same_length c = search rules
 
 -- the empty key is pending
-returns-5 : tie.Need-returns-5
+returns-5 : tie.Need-returns-in-Pending
 returns-5 c = let call = c.before.before in
-    let told = call.before.before.before in
-    let room = told.before.before in
+    let told = call.before.before in
+    let room = told.before in
     let u = room.before in
     let v = v_of u in
     let q = q_of v.before in
     let a = (start q).args in
-    next_walk a.file.now (held_is a.pattern) a.reading a.key.now (meta_is (meta q)) (opens q) (right v) (few u) room.if3.false
-    (ap empty_is told.empty.given.1) _ call.pending.result call.pending.ensures
+    next_walk a.file.now (held_is a.pattern) a.reading a.key.now (meta_is (meta q)) (opens q) (right v) (few u) room.if-key-lt-MAX_KEY.false
+    (ap empty_is told.in-Pending.is) _ call.pending.result call.pending.ensures
 
-same-length-2 : tie.Need-same-length-2
+same-length-2 : tie.Need-shape_of-key-in-Absent
 same-length-2 c = search rules
 
 -- no empty key is pending
-returns-6 : tie.Need-returns-6
+returns-6 : tie.Need-returns-in-Absent
 returns-6 c = let call = c.before.before in
     let told = call.before.before in
-    let room = told.before.before in
+    let room = told.before in
     let u = room.before in
     let v = v_of u in
     let q = q_of v.before in
     let a = (start q).args in
-    next_walk a.file.now (held_is a.pattern) a.reading a.key.now (meta_is (meta q)) (opens q) (right v) (few u) room.if3.false
-    (ap empty_is told.enum_told.given.1) _ call.walk.result call.walk.ensures
+    next_walk a.file.now (held_is a.pattern) a.reading a.key.now (meta_is (meta q)) (opens q) (right v) (few u) room.if-key-lt-MAX_KEY.false
+    (ap empty_is told.in-Absent.is) _ call.walk.result call.walk.ensures
 
 pub step_spec : {M : Type 1} → statement M
 step_spec =

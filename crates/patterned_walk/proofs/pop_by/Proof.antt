@@ -64,7 +64,7 @@ mul-wide-addr : tie.Need-offset_bounds-addrs-top invariant-loop-k decreases-loop
 mul-wide-addr c = omega (arith, low c)
 
 element-copy-out-wide-addr : tie.Need-bounds-addrs-top invariant-loop-k decreases-loop-k
-element-copy-out-wide-addr c = omega (arith, low c)
+element-copy-out-wide-addr c = omega (arith, low c.before)
 
 wide-addr-requires : tie.Need-wide_addr-addr-requires invariant-loop-k decreases-loop-k
 wide-addr-requires c κs = search rules

@@ -45,7 +45,7 @@ mul-wide-addr : tie.Need-offset_bounds-addrs-top invariant-loop-k decreases-loop
 mul-wide-addr c = omega (arith, c.before.loop-k.invariant.within, c.before.before.before.requires.0)
 
 element-copy-out-wide-addr : tie.Need-bounds-addrs-top invariant-loop-k decreases-loop-k
-element-copy-out-wide-addr c = omega (arith, c.before.before.loop-k.invariant.within, c.before.before.before.before.requires.0, c.loop-k-test.true)
+element-copy-out-wide-addr c = omega (arith, c.before.before.loop-k.invariant.within, c.before.before.before.before.requires.0, c.before.loop-k-test.true)
 
 wide-addr-requires : tie.Need-wide_addr-addr-requires invariant-loop-k decreases-loop-k
 wide-addr-requires c κs = search rules
@@ -58,7 +58,7 @@ mul-wide-place : tie.Need-offset_bounds-trans-top invariant-loop-k decreases-loo
 mul-wide-place c = let at = at_loop c in omega (arith, at.loop-k.invariant.within, at.before.before.requires.0)
 
 element-copy-out-wide-place : tie.Need-bounds-trans-top invariant-loop-k decreases-loop-k
-element-copy-out-wide-place c = let at = at_loop c in omega (arith, at.loop-k.invariant.within, at.before.before.requires.0, positive c)
+element-copy-out-wide-place c = let at = at_loop c.before in omega (arith, at.loop-k.invariant.within, at.before.before.requires.0, positive c.before)
 
 wide-place-requires : tie.Need-wide_place-requires invariant-loop-k decreases-loop-k
 wide-place-requires c κs = search rules

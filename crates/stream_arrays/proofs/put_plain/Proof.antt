@@ -13,4 +13,6 @@ returns : tie.Need-returns
 returns c = record { reading = c.before.put.ensures; keys = refl }
 
 pub put_plain_spec : {M : Type 1} → statement M
-put_plain_spec = tie.close (tie.spec put-requires returns)
+put_plain_spec = tie.close (tie.spec
+    put-requires
+    returns)

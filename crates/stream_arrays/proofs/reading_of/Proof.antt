@@ -4,31 +4,31 @@ use borrow.Author.Rules.{rules}
 use Rattle.stream_arrays.proofs.reading_of.Statement.{statement}
 use Rattle.stream_arrays.proofs.reading_of.Tie as tie
 
-array-read-kind-of : tie.Need-array-read-kind-of
+array-read-kind-of : tie.Need-bounds-head-1
 array-read-kind-of c = search rules
 
-kind-of-requires : tie.Need-kind-of-requires
+kind-of-requires : tie.Need-kind_of-kind-requires
 kind-of-requires c κs = search rules
 
-array-read-pending-of : tie.Need-array-read-pending-of
+array-read-pending-of : tie.Need-bounds-head-3
 array-read-pending-of c = search rules
 
-array-read-pending-of-2 : tie.Need-array-read-pending-of-2
+array-read-pending-of-2 : tie.Need-bounds-head-4
 array-read-pending-of-2 c = search rules
 
-pending-of-requires : tie.Need-pending-of-requires
+pending-of-requires : tie.Need-pending_of-empty_output-requires
 pending-of-requires c κs = search rules
 
-array-read-t12 : tie.Need-array-read-t12
+array-read-t12 : tie.Need-bounds-head-0
 array-read-t12 c = search rules
 
-array-read-t17 : tie.Need-array-read-t17
+array-read-t17 : tie.Need-bounds-head-2
 array-read-t17 c = search rules
 
-array-read-t26 : tie.Need-array-read-t26
+array-read-t26 : tie.Need-bounds-head-5
 array-read-t26 c = search rules
 
-array-read-t29 : tie.Need-array-read-t29
+array-read-t29 : tie.Need-bounds-head-6
 array-read-t29 c = search rules
 
 -- each field is read from its place
