@@ -1,6 +1,6 @@
 #!/usr/bin/env bash
-# Proves the functions for C, whose crate tools/library.txt names, and writes the library that a user links: target/staticlib/libbaxhiso.a.
-# Run from anywhere.
+# Proves the crates that C links, which tools/library.txt names, and joins their archives into the one library that a user links:
+# target/staticlib/libbaxhiso.a. Run from anywhere.
 set -u
 top=$(cd "$(dirname "$(readlink -f "$0")")/.." && pwd)
 name=library

@@ -128,7 +128,8 @@ build_over_proved() { # CRATE FILE
         --backend llvm --links "$1=" --jobs 2 -o "$2")
 }
 
-# Proves the library for C and writes it to target/staticlib/libbaxhiso.a: the archive of the crate that tools/library.txt names, or of several, joined.
+# Proves the library for C and writes it to target/staticlib/libbaxhiso.a: the archives of the crates that tools/library.txt names, joined. An archive
+# whose crate has not changed is joined again as it is.
 library() {
     local crates crate archives=()
     mapfile -t crates <"$top/tools/library.txt"
@@ -145,19 +146,15 @@ library() {
 joined() { # FILE ARCHIVE...
     local apart=$1.parts archive object
     rm -rf "$apart" "$1.new"
-    if [ "$#" -eq 2 ]; then
-        cp "$2" "$1.new" || return 1
-    else
-        for archive in "${@:2}"; do
-            mkdir -p "$apart/each" && (cd "$apart/each" && ar x "$top/$archive") || return 1
-            # an object's name stands once in the joined library
-            for object in "$apart/each"/*; do
-                mv "$object" "$apart/$(basename "$archive" .a)-${object##*/}" || return 1
-            done
-            rmdir "$apart/each" || return 1
+    for archive in "${@:2}"; do
+        mkdir -p "$apart/each" && (cd "$apart/each" && ar x "$top/$archive") || return 1
+        # an object's name stands once in the joined library
+        for object in "$apart/each"/*; do
+            mv "$object" "$apart/$(basename "$archive" .a)-${object##*/}" || return 1
         done
-        ar crsD "$1.new" "$apart"/* || return 1
-    fi
+        rmdir "$apart/each" || return 1
+    done
+    ar crsD "$1.new" "$apart"/* || return 1
     rm -rf "$apart"
     mv "$1.new" "$1"
 }

@@ -1,5 +1,5 @@
-// Our static libraries, target/staticlib/liboracle_ops.a (crate `oracle_ops`) and libbaxhiso_c.a (crate `baxhiso_c`): their exported functions, and
-// safe functions over them. A slice is passed as its pointer and then its length, an array as its pointer.
+// Our static libraries, target/staticlib/liboracle_ops.a (crate `oracle_ops`) and libbaxhiso_ops_c.a (crate `baxhiso_ops_c`): their exported functions,
+// and safe functions over them. A slice is passed as its pointer and then its length, an array as its pointer.
 
 use crate::answers::{Kind, BOUND_BYTES};
 use crate::model_file::MAX_PATH;
@@ -36,7 +36,7 @@ extern "C" {
     ) -> u64;
 }
 
-#[link(name = "baxhiso_c", kind = "static")]
+#[link(name = "baxhiso_ops_c", kind = "static")]
 extern "C" {
     fn fst_items_rows(
         op: u64,

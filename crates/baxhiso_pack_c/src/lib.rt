@@ -1,4 +1,6 @@
-// Packing a list.
+// What C links of crate `baxhiso_pack` (include/baxhiso.h): packing a list. Its function calls the one of the same name there, and states its
+// contract again. A slice is passed as its pointer and then its length. The function asks nothing of its arguments' values.
+#![tactic(auto)]
 
 ghost use Rattle.std.specs.Prelude.{length};
 ghost use Rattle.format.specs.Limits.{max_len};

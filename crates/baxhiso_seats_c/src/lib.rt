@@ -1,4 +1,7 @@
-// Eight seats on one index.
+// What C links of crate `baxhiso_seats` (include/baxhiso.h): eight seats on one index. Each function calls the one of the same name there, and states
+// its contract again. A slice is passed as its pointer and then its length, an array as its pointer. No function asks anything of its arguments'
+// values.
+#![tactic(auto)]
 
 ghost use Rattle.std.specs.Prelude.{length, replicate};
 ghost use Rattle.turns.specs.Turns as T;

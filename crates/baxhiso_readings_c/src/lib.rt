@@ -1,4 +1,7 @@
-// Counting, and readings, key by key and a page at a time.
+// What C links of crate `baxhiso_readings` (include/baxhiso.h): counting, and readings, key by key and a page at a time. Each function calls the one
+// of the same name there, and states its contract again. A slice is passed as its pointer and then its length, an array as its pointer. No function
+// asks anything of its arguments' values.
+#![tactic(auto)]
 
 ghost use Rattle.std.specs.Prelude.{length};
 ghost use Rattle.plain.specs.Plain as P;

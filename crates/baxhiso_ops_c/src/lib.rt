@@ -1,4 +1,6 @@
-// A page of items of several files.
+// What C links of crate `baxhiso_ops` (include/baxhiso.h): a page of items of several files. Its function calls the one of the same name there, and
+// states its contract again. A slice is passed as its pointer and then its length. The function asks nothing of its arguments' values.
+#![tactic(auto)]
 
 ghost use Rattle.std.specs.Prelude.{[], ◌∷◌, length};
 ghost use Rattle.ops_paging.specs.ItemPaging as P;

@@ -1,4 +1,6 @@
-// A page by pattern.
+// What C links of crate `baxhiso_find` (include/baxhiso.h): a page by pattern. Its function calls the one of the same name there, and states its
+// contract again. A slice is passed as its pointer and then its length. The function asks nothing of its arguments' values.
+#![tactic(auto)]
 
 ghost use Rattle.std.specs.Prelude.{length};
 ghost use Rattle.finding.specs.Finding as F;

@@ -1,4 +1,6 @@
-// Lookups, by key and by value.
+// What C links of crate `baxhiso_get` (include/baxhiso.h): lookups by key and by value. Each function calls the one of the same name there, and
+// states its contract again. A slice is passed as its pointer and then its length. No function asks anything of its arguments' values.
+#![tactic(auto)]
 
 ghost use Rattle.std.specs.Prelude.{length};
 ghost use Rattle.format.specs.Lookup as L;
