@@ -6,52 +6,52 @@ use Rattle.baxhiso_files.proofs.FileResults.{convert_written, convert_refused}
 use Rattle.baxhiso_files.proofs.fst_convert.Statement.{statement}
 use Rattle.baxhiso_files.proofs.fst_convert.Tie as tie
 
-convert-requires : tie.Need-convert-requires
+convert-requires : tie.Need-convert-answer-requires
 convert-requires c κs = search rules
 
-enum-known-answer : tie.Need-enum-known-answer
+enum-known-answer : tie.Need-enum_known-answer
 enum-known-answer c = search rules
 
-enum-known-answer-2 : tie.Need-enum-known-answer-2
+enum-known-answer-2 : tie.Need-enum_known-answer-in-Refused-1
 enum-known-answer-2 c = search rules
 
 code-requires : tie.Need-code-requires
 code-requires c κs = search rules
 
-same_length : tie.Need-same-length
+same_length : tie.Need-shape_of-depths-in-Len
 same_length c = search rules
 
-same-length-2 : tie.Need-same-length-2
+same-length-2 : tie.Need-shape_of-sums-in-Len
 same-length-2 c = search rules
 
-same-length-3 : tie.Need-same-length-3
+same-length-3 : tie.Need-shape_of-out-in-Len
 same-length-3 c = search rules
 
-same-length-4 : tie.Need-same-length-4
+same-length-4 : tie.Need-shape_of-table-in-Len
 same-length-4 c = search rules
 
 -- a file is written
-returns : tie.Need-returns
-returns c = let call = c.before.before.before.before.before.before.before.before.before.before.before in
-    convert_written call.convert.ensures call.before.before.before.before.before.before.before.before.before.before.args.len.now _ c.before.answer.given.1
+returns : tie.Need-returns-in-Len
+returns c = let call = c.before.before.before.before.before.before.before.before.before in
+    convert_written call.convert-answer.ensures call.before.before.before.before.before.before.before.before.before.before.args.len.now _ c.in-Len.is
 
-same-length-5 : tie.Need-same-length-5
+same-length-5 : tie.Need-shape_of-depths-in-Refused
 same-length-5 c = search rules
 
-same-length-6 : tie.Need-same-length-6
+same-length-6 : tie.Need-shape_of-sums-in-Refused
 same-length-6 c = search rules
 
-same-length-7 : tie.Need-same-length-7
+same-length-7 : tie.Need-shape_of-out-in-Refused
 same-length-7 c = search rules
 
-same-length-8 : tie.Need-same-length-8
+same-length-8 : tie.Need-shape_of-table-in-Refused
 same-length-8 c = search rules
 
 -- the conversion is refused
-returns-2 : tie.Need-returns-2
-returns-2 c = let call = c.before.before.before.before.before.before.before.before.before.before.before.before in
-    convert_refused call.convert.ensures call.before.before.before.before.before.before.before.before.before.before.args.len.now _ _ c.before.before.answer2.given.1
-    (code_is c.code.result c.code.type-inv c.code.ensures)
+returns-2 : tie.Need-returns-in-Refused
+returns-2 c = let call = c.before.before.before.before.before.before.before.before.before.before in
+    convert_refused call.convert-answer.ensures call.before.before.before.before.before.before.before.before.before.before.args.len.now _ _ c.before.in-Refused.is
+    (code_is c.code.result c.code.type_inv c.code.ensures)
 
 pub fst_convert_spec : {M : Type 1} → statement M
 fst_convert_spec =

@@ -4,12 +4,14 @@ use borrow.Author.Rules.{rules}
 use Rattle.carry.proofs.carry.Statement.{statement}
 use Rattle.carry.proofs.carry.Tie as tie
 
-carry-reading-requires : tie.Need-carry-reading-requires
+carry-reading-requires : tie.Need-carry_reading-done-requires
 carry-reading-requires c κs = search rules
 
 returns : tie.Need-returns
 returns c = let call = c.before in
-    plain_carried _ call.before.before.before.before.args.plain call.carry-reading.result call.carry-reading.ensures
+    plain_carried _ call.before.before.before.before.args.plain call.carry_reading-done.result call.carry_reading-done.ensures
 
 pub carry_spec : {M : Type 1} → statement M
-carry_spec = tie.close (tie.spec carry-reading-requires returns)
+carry_spec = tie.close (tie.spec
+    carry-reading-requires
+    returns)

@@ -13,15 +13,17 @@ use borrow.Author.Rules.{rules}
 use Rattle.carry.proofs.carry_by.Statement.{statement}
 use Rattle.carry.proofs.carry_by.Tie as tie
 
-carry-reading-requires : tie.Need-carry-reading-requires
+carry-reading-requires : tie.Need-carry_reading-done-requires
 carry-reading-requires c κs = search rules
 
 returns : tie.Need-returns
 returns c = let call = c.before in
     let a = call.before.before.before.before.before.before.args in
-    patterned_carried _ a.patterned call.carry-reading.result
-    (subst (λ (n : ℕ). ReadingCarried (carry_with (leb n max_path) a.old.now a.new.now (view_is a.patterned.reading)) a.patterned.reading call.carry-reading.result)
-    (sym (positions_length a.patterned.pattern.len a.patterned.pattern.positions)) call.carry-reading.ensures)
+    patterned_carried _ a.patterned call.carry_reading-done.result
+    (subst (λ (n : ℕ). ReadingCarried (carry_with (leb n max_path) a.old.now a.new.now (view_is a.patterned.reading)) a.patterned.reading call.carry_reading-done.result)
+    (sym (positions_length a.patterned.pattern.len a.patterned.pattern.positions)) call.carry_reading-done.ensures)
 
 pub carry_by_spec : {M : Type 1} → statement M
-carry_by_spec = tie.close (tie.spec carry-reading-requires returns)
+carry_by_spec = tie.close (tie.spec
+    carry-reading-requires
+    returns)

@@ -19,122 +19,122 @@ use Rattle.carry.proofs.carry_reading.Tie as tie
 -- ---- what is known where the old file opens, where both do, and where the state is right
 
 abbrev Old : Type 0
-Old = tie.After-opened2
+Old = tie.In-Meta
 
 abbrev start : Old → tie.Start
-start q = q.before.before.before.before.before
+start q = q.before.before.before.before
 
 abbrev old : Old → List ℕ
 old q = (start q).args.old.now
 
 abbrev meta : Old → Meta
-meta q = q.opened2.given.0.0
+meta q = q.in-Meta.m
 
 opens : (q : Old) → O.opening (old q) ≡ O.opened (meta_is (meta q))
-opens q = sym q.before.before.«open».ensures ∙ ap opening_is q.opened2.given.1
+opens q = sym q.before.open-opened.ensures ∙ ap opening_is q.in-Meta.is
 
 abbrev Both : Type 0
-Both = tie.After-opened-new2
+Both = tie.In-Meta-opened_new
 
 abbrev q_of : Both → Old
-q_of w = w.before.before.before.before
+q_of w = w.before.before
 
 abbrev new : Both → List ℕ
 new w = (start (q_of w)).args.new.now
 
 abbrev meta_new : Both → Meta
-meta_new w = w.opened-new2.given.0.0
+meta_new w = w.in-Meta-opened_new.q
 
 opens_new : (w : Both) → O.opening (new w) ≡ O.opened (meta_is (meta_new w))
-opens_new w = sym w.before.before.open2.ensures ∙ ap opening_is w.opened-new2.given.1
+opens_new w = sym w.before.open-opened_new.ensures ∙ ap opening_is w.in-Meta-opened_new.is
 
 abbrev Right : Type 0
-Right = tie.Then1
+Right = tie.Then-state_right
 
 abbrev w_of : Right → Both
-w_of v = v.before.before.before
+w_of v = v.before.before
 
 right : (v : Right)
     → (let a = (start (q_of (w_of v))).args in state_right a.reading.levels a.reading.bound_len a.reading.len (length a.old.now)) ≡ true
-right v = sym v.before.state_right_lem.ensures ∙ v.if1.true
+right v = sym v.before.state_right.ensures ∙ v.if-state_right.true
 
-open-requires : tie.Need-open-requires
+open-requires : tie.Need-open-opened-requires
 open-requires c κs = search rules
 
-enum-known-opened : tie.Need-enum-known-opened
+enum-known-opened : tie.Need-enum_known-opened
 enum-known-opened c = search rules
 
 refused-requires : tie.Need-refused-requires
 refused-requires c κs = search rules
 
-enum-known-opened-2 : tie.Need-enum-known-opened-2
+enum-known-opened-2 : tie.Need-enum_known-opened-in-Meta-1
 enum-known-opened-2 c = search rules
 
-open-requires-2 : tie.Need-open-requires-2
+open-requires-2 : tie.Need-open-opened_new-requires
 open-requires-2 c κs = search rules
 
-enum-known-opened-new : tie.Need-enum-known-opened-new
+enum-known-opened-new : tie.Need-enum_known-opened_new
 enum-known-opened-new c = search rules
 
-refused-requires-2 : tie.Need-refused-requires-2
+refused-requires-2 : tie.Need-refused-requires-in-Refused-opened_new
 refused-requires-2 c κs = search rules
 
-enum-known-opened-new-2 : tie.Need-enum-known-opened-new-2
+enum-known-opened-new-2 : tie.Need-enum_known-opened_new-in-Meta-opened_new
 enum-known-opened-new-2 c = search rules
 
-state-right-requires : tie.Need-state-right-requires
+state-right-requires : tie.Need-state_right-requires
 state-right-requires c κs = search rules
 
-refused-requires-3 : tie.Need-refused-requires-3
+refused-requires-3 : tie.Need-refused-requires-else-state_right
 refused-requires-3 c κs = search rules
 
 -- the reading cannot go on with the old file: STATE
-returns : tie.Need-returns
+returns : tie.Need-returns-else-state_right
 returns c = let at = c.before in
-    let w = at.before.before.before in
+    let w = at.before.before in
     let q = q_of w in
     let a = (start q).args in
-    state_wrong a.fits (old q) (new w) a.reading _ (meta_is (meta q)) (opens q) (meta_is (meta_new w)) (opens_new w) (sym at.before.state_right_lem.ensures ∙ at.if1.false) c.refused3.ensures
+    state_wrong a.fits (old q) (new w) a.reading _ (meta_is (meta q)) (opens q) (meta_is (meta_new w)) (opens_new w) (sym at.before.state_right.ensures ∙ at.if-state_right.false) c.refused-else-state_right.ensures
 
 -- the new root fits, and the state is right
-carry-opened-requires : tie.Need-carry-opened-requires
+carry-opened-requires : tie.Need-carry_opened-requires
 carry-opened-requires c κs = let v = c.before in
     let w = w_of v in
     let a = (start (q_of w)).args in
     (root_fits (new w) (meta_is (meta_new w)) (opens_new w), levels_right a.reading (length a.old.now) (right v))
 
-returns-2 : tie.Need-returns-2
+returns-2 : tie.Need-returns-then-fits
 returns-2 c = let v = c.before.before in
     let w = w_of v in
     let q = q_of w in
     let a = (start q).args in
-    levels_carried a.fits (old q) (new w) a.reading _ (meta_is (meta q)) (opens q) (meta_is (meta_new w)) (opens_new w) (right v) c.before.if2.true c.carry-opened.ensures
+    levels_carried a.fits (old q) (new w) a.reading _ (meta_is (meta q)) (opens q) (meta_is (meta_new w)) (opens_new w) (right v) c.before.if-fits.true c.carry_opened.ensures
 
-refused-requires-4 : tie.Need-refused-requires-4
+refused-requires-4 : tie.Need-refused-requires-in-Meta-opened_new
 refused-requires-4 c κs = search rules
 
 -- the old file does not open
-returns-3 : tie.Need-returns-3
-returns-3 c = let told = c.before.before in
-    let call = told.before.before in
+returns-3 : tie.Need-returns-in-Refused
+returns-3 c = let told = c.before in
+    let call = told.before in
     let a = call.before.before.before.args in
-    old_refused a.fits a.old.now a.new.now a.reading _ _ (sym call.«open».ensures ∙ ap opening_is told.opened.given.1) c.refused.ensures
+    old_refused a.fits a.old.now a.new.now a.reading _ _ (sym call.open-opened.ensures ∙ ap opening_is told.in-Refused.is) c.refused.ensures
 
 -- the new file does not open
-returns-4 : tie.Need-returns-4
-returns-4 c = let told = c.before.before in
-    let call = told.before.before in
-    let q = call.before.before in
+returns-4 : tie.Need-returns-in-Refused-opened_new
+returns-4 c = let told = c.before in
+    let call = told.before in
+    let q = call.before in
     let a = (start q).args in
-    new_refused a.fits (old q) a.new.now a.reading _ (meta_is (meta q)) (opens q) _ (sym call.open2.ensures ∙ ap opening_is told.opened-new.given.1) c.refused2.ensures
+    new_refused a.fits (old q) a.new.now a.reading _ (meta_is (meta q)) (opens q) _ (sym call.open-opened_new.ensures ∙ ap opening_is told.in-Refused-opened_new.is) c.refused-in-Refused-opened_new.ensures
 
 -- a pattern has too many positions: PATTERN
-returns-5 : tie.Need-returns-5
+returns-5 : tie.Need-returns-else-fits
 returns-5 c = let v = c.before.before in
     let w = w_of v in
     let q = q_of w in
     let a = (start q).args in
-    pattern_wrong a.fits (old q) (new w) a.reading _ (meta_is (meta q)) (opens q) (meta_is (meta_new w)) (opens_new w) (right v) c.before.if2.false c.refused4.ensures
+    pattern_wrong a.fits (old q) (new w) a.reading _ (meta_is (meta q)) (opens q) (meta_is (meta_new w)) (opens_new w) (right v) c.before.if-fits.false c.refused-in-Meta-opened_new.ensures
 
 pub carry_reading_spec : {M : Type 1} → statement M
 carry_reading_spec =

@@ -8,4 +8,5 @@ returns : tie.Need-returns
 returns c = carried_given _ _ _ refl
 
 pub placed_spec : {M : Type 1} → statement M
-placed_spec = tie.close (tie.spec returns)
+placed_spec = tie.close (tie.spec
+    returns)

@@ -6,36 +6,36 @@ use native.Mathlib.Omega.{arith}
 use Rattle.convert.proofs.convert_opened.Statement.{statement}
 use Rattle.convert.proofs.convert_opened.Tie as tie
 
-returns : tie.Need-returns
-returns c = let s = c.before.before.before.before.before.before in edition_again s.requires.0 s.requires.1 _ _ _ c.if1.true
+returns : tie.Need-returns-then-version-ne1
+returns c = let s = c.before.before.before.before.before.before in edition_again s.requires.0 s.requires.1 _ _ _ c.if-version-ne1.true
 
-convert-old-requires : tie.Need-convert-old-requires
+convert-old-requires : tie.Need-convert_old-done-requires
 convert-old-requires c κs =
     let test = c.before.before.before.before in
     let s = test.before.before.before.before.before.before in
-    (old_of s.requires.0 s.requires.1 test.if1.false, s.requires.2)
+    (old_of s.requires.0 s.requires.1 test.if-version-ne1.false, s.requires.2)
 
 restore-requires : tie.Need-restore-requires
 restore-requires c κs = search rules
 
-same_length : tie.Need-same-length
+same_length : tie.Need-shape_of-depths
 same_length c = search rules
 
-same-length-2 : tie.Need-same-length-2
+same-length-2 : tie.Need-shape_of-sums
 same-length-2 c = search rules
 
-same-length-3 : tie.Need-same-length-3
+same-length-3 : tie.Need-shape_of-out
 same-length-3 c = search rules
 
-same-length-4 : tie.Need-same-length-4
+same-length-4 : tie.Need-shape_of-table
 same-length-4 c = search rules
 
-returns-2 : tie.Need-returns-2
+returns-2 : tie.Need-returns
 returns-2 c =
     let again = c.before.before.before.before in
     let done = again.before.before.before.before.before.before.before.before.before.before.before in
     let s = done.before.before.before.before.before.before.before.before.before.before.before in
-    restored again.restore.result s.requires.0 done.convert-old.ensures again.restore.ensures
+    restored again.restore.result s.requires.0 done.convert_old-done.ensures again.restore.ensures
 
 pub convert_opened_spec : {M : Type 1} → statement M
 convert_opened_spec =

@@ -11,140 +11,140 @@ use native.Mathlib.Omega.{arith}
 use Rattle.find_fill.proofs.fill.Statement.{statement}
 use Rattle.find_fill.proofs.fill.Tie as tie
 
-abbrev invariant-loop : tie.invariant-loop
-invariant-loop file most rows₀ values₀ key₀ here₀ count₀ rows values key here count =
+abbrev invariant-loop-count : tie.invariant-loop-count
+invariant-loop-count file most rows₀ values₀ key₀ here₀ count₀ rows values key here count =
     Going file (held_is here₀.pattern) (fold_by file (held_is here₀.pattern) (view_is here₀.reading) most) most rows₀ values₀ rows values key here count
 
-abbrev decreases-loop : tie.decreases-loop
-decreases-loop file most rows₀ values₀ key₀ here₀ count₀ rows values key here count = most - count
+abbrev decreases-loop-count : tie.decreases-loop-count
+decreases-loop-count file most rows₀ values₀ key₀ here₀ count₀ rows values key here count = most - count
 
 -- ---- what is known at a turn, after its call, and where it found a key
 
 abbrev Loop : Type 0
-Loop = tie.At-loop invariant-loop decreases-loop
+Loop = tie.At-loop-count invariant-loop-count decreases-loop-count
 
-abbrev start : Loop → tie.Start invariant-loop decreases-loop
+abbrev start : Loop → tie.Start invariant-loop-count decreases-loop-count
 start l = l.before.before.before.before
 
 abbrev Call : Type 0
-Call = tie.After-next invariant-loop decreases-loop
+Call = tie.After-next-step invariant-loop-count decreases-loop-count
 
 abbrev loop_of : Call → Loop
 loop_of q = q.before.before.before
 
-left : (q : Call) → (loop_of q).loop.count < (start (loop_of q)).args.most
-left q = q.before.before.loop-test.taken
+left : (q : Call) → (loop_of q).loop-count.count < (start (loop_of q)).args.most
+left q = q.before.before.loop-count-test.true
 
 abbrev Key-at : Type 0
-Key-at = tie.After-known-told2 invariant-loop decreases-loop
+Key-at = tie.In-Key invariant-loop-count decreases-loop-count
 
 abbrev q_of : Key-at → Call
-q_of w = w.before.before.before.before.before
+q_of w = w.before.before.before
 
-loop-holds : tie.Need-loop-init invariant-loop decreases-loop
+loop-holds : tie.Need-loop-count-init invariant-loop-count decreases-loop-count
 loop-holds c =
     let a = c.before.before.before.args in
     going_none a.file.now a.first a.most a.rows.now a.values.now _ (search rules)
 
-slice-aggregate-next : tie.Need-slice-aggregate-next invariant-loop decreases-loop
-slice-aggregate-next c = let space = c.before.before.loop.invariant.space in search rules
+slice-aggregate-next : tie.Need-slice_bounds-next-end invariant-loop-count decreases-loop-count
+slice-aggregate-next c = let space = c.before.before.loop-count.invariant.space in search rules
 
-next-requires : tie.Need-next-requires invariant-loop decreases-loop
+next-requires : tie.Need-next-step-requires invariant-loop-count decreases-loop-count
 next-requires c κs = search rules
 
-enum_told : tie.Need-enum-told invariant-loop decreases-loop
+enum_told : tie.Need-enum_told-1 invariant-loop-count decreases-loop-count
 enum_told c = search rules
 
-same_length : tie.Need-same-length invariant-loop decreases-loop
-same_length c = (loop_of c.before.before.before.before).loop.inv.rows_len
+same_length : tie.Need-shape_of-rows-in-End invariant-loop-count decreases-loop-count
+same_length c = (loop_of c.before.before.before).loop-count.invariant.rows_len
 
-same-length-2 : tie.Need-same-length-2 invariant-loop decreases-loop
-same-length-2 c = (loop_of c.before.before.before.before).loop.inv.values_len
+same-length-2 : tie.Need-shape_of-values-in-End invariant-loop-count decreases-loop-count
+same-length-2 c = (loop_of c.before.before.before).loop-count.invariant.values_len
 
 -- no key is left
-returns : tie.Need-returns invariant-loop decreases-loop
+returns : tie.Need-returns-in-End invariant-loop-count decreases-loop-count
 returns c =
-    let q = c.before.before.before.before in
-    going_end (loop_of q).loop.invariant (left q) (search rules) q.next.ensures c.enum_told.given.1
+    let q = c.before.before.before in
+    going_end (loop_of q).loop-count.invariant (left q) (search rules) q.next-step.ensures c.in-End.is
 
-enum-known-answer : tie.Need-enum-known-answer invariant-loop decreases-loop
+enum-known-answer : tie.Need-enum_known-answer invariant-loop-count decreases-loop-count
 enum-known-answer c = search rules
 
-same-length-3 : tie.Need-same-length-3 invariant-loop decreases-loop
-same-length-3 c = (loop_of c.before.before.before.before.before).loop.inv.rows_len
+same-length-3 : tie.Need-shape_of-rows-in-Refused invariant-loop-count decreases-loop-count
+same-length-3 c = (loop_of c.before.before.before).loop-count.invariant.rows_len
 
-same-length-4 : tie.Need-same-length-4 invariant-loop decreases-loop
-same-length-4 c = (loop_of c.before.before.before.before.before).loop.inv.values_len
+same-length-4 : tie.Need-shape_of-values-in-Refused invariant-loop-count decreases-loop-count
+same-length-4 c = (loop_of c.before.before.before).loop-count.invariant.values_len
 
 -- a refusal, beside the keys before it
-returns-2 : tie.Need-returns-2 invariant-loop decreases-loop
+returns-2 : tie.Need-returns-in-Refused invariant-loop-count decreases-loop-count
 returns-2 c =
-    let q = c.before.before.before.before.before in
-    going_refused (loop_of q).loop.invariant (left q) (search rules) q.next.ensures _ c.before.answer.given.1
+    let q = c.before.before.before in
+    going_refused (loop_of q).loop-count.invariant (left q) (search rules) q.next-step.ensures _ c.in-Refused.is
 
-enum-known-answer-2 : tie.Need-enum-known-answer-2 invariant-loop decreases-loop
+enum-known-answer-2 : tie.Need-enum_known-answer-in-Key-1 invariant-loop-count decreases-loop-count
 enum-known-answer-2 c = search rules
 
-slice-aggregate-put-row : tie.Need-slice-aggregate-put-row invariant-loop decreases-loop
+slice-aggregate-put-row : tie.Need-slice_bounds-put_row-end invariant-loop-count decreases-loop-count
 slice-aggregate-put-row c = search rules
 
-mul-put-row : tie.Need-overflow-mul-put-row invariant-loop decreases-loop
+mul-put-row : tie.Need-overflow_mul-count invariant-loop-count decreases-loop-count
 mul-put-row c =
     let q = q_of c.before in
     let s = start (loop_of q) in
-    omega (arith, left q, s.pre.0, s.good.1.1.1.0.1)
+    omega (arith, left q, s.requires.0, s.well_formed.1.1.1.0.1)
 
 -- the key fits a row, and the row the rows
-put-row-requires : tie.Need-put-row-requires invariant-loop decreases-loop
+put-row-requires : tie.Need-put_row-requires invariant-loop-count decreases-loop-count
 put-row-requires c κs =
     let w = c.before.before in
     let q = q_of w in
     let s = start (loop_of q) in
-    let fits = key_fits (loop_of q).loop.inv (left q) (search rules) q.next.ensures _ _ w.before.answer2.given.1 in
-    (search rules, fits, omega (arith, left q, s.pre.0, (loop_of q).loop.inv.rows_len))
+    let fits = key_fits (loop_of q).loop-count.invariant (left q) (search rules) q.next-step.ensures _ _ w.in-Key.is in
+    (search rules, fits, omega (arith, left q, s.requires.0, (loop_of q).loop-count.invariant.rows_len))
 
-mul-values : tie.Need-overflow-mul-values invariant-loop decreases-loop
+mul-values : tie.Need-offset_bounds-values-count invariant-loop-count decreases-loop-count
 mul-values c =
     let q = q_of c.before.before.before.before.before in
     let s = start (loop_of q) in
-    omega (arith, left q, s.pre.1, s.good.1.1.1.1.0.1)
+    omega (arith, left q, s.requires.1, s.well_formed.1.1.1.1.0.1)
 
-slice-write-values : tie.Need-slice-write-values invariant-loop decreases-loop
+slice-write-values : tie.Need-bounds-values-count invariant-loop-count decreases-loop-count
 slice-write-values c =
     let q = q_of c.before.before.before.before.before in
     let s = start (loop_of q) in
-    omega (arith, (loop_of q).loop.inv.values_len, left q, s.pre.1)
+    omega (arith, (loop_of q).loop-count.invariant.values_len, left q, s.requires.1)
 
-add-count : tie.Need-overflow-add-count invariant-loop decreases-loop
+add-count : tie.Need-overflow_add-count invariant-loop-count decreases-loop-count
 add-count c = search rules
 
-loop-less : tie.Need-loop-smaller invariant-loop decreases-loop
+loop-less : tie.Need-loop-count-smaller invariant-loop-count decreases-loop-count
 loop-less c = search rules
 
-loop-again : tie.Need-loop-preserved invariant-loop decreases-loop
+loop-again : tie.Need-loop-count-preserved invariant-loop-count decreases-loop-count
 loop-again c =
     let w = c.before.before.before.before.before in
     let q = q_of w in
     let s = start (loop_of q) in
-    going_key (loop_of q).loop.inv (left q) (search rules) q.next.ensures s.pre.0 s.pre.1 _ _ w.before.answer2.given.1
-    c.before.before.put-row.ensures
+    going_key (loop_of q).loop-count.invariant (left q) (search rules) q.next-step.ensures s.requires.0 s.requires.1 _ _ w.in-Key.is
+    c.before.before.put_row.ensures
 
-same-length-5 : tie.Need-same-length-5 invariant-loop decreases-loop
-same-length-5 c = c.before.loop.invariant.rows_len
+same-length-5 : tie.Need-shape_of-rows invariant-loop-count decreases-loop-count
+same-length-5 c = c.before.loop-count.invariant.rows_len
 
-same-length-6 : tie.Need-same-length-6 invariant-loop decreases-loop
-same-length-6 c = c.before.loop.invariant.values_len
+same-length-6 : tie.Need-shape_of-values invariant-loop-count decreases-loop-count
+same-length-6 c = c.before.loop-count.invariant.values_len
 
 -- as many as asked for
-returns-3 : tie.Need-returns-3 invariant-loop decreases-loop
-returns-3 c = going_more c.before.loop.invariant c.loop-test.false
+returns-3 : tie.Need-returns invariant-loop-count decreases-loop-count
+returns-3 c = going_more c.before.loop-count.invariant c.loop-count-test.false
 
 pub fill_spec : {M : Type 1} → statement M
 fill_spec =
     tie.close
     (tie.spec
-    invariant-loop
-    decreases-loop
+    invariant-loop-count
+    decreases-loop-count
     loop-holds
     slice-aggregate-next
     next-requires

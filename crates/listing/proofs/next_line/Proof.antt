@@ -16,73 +16,73 @@ use Rattle.stream_descend.proofs.counted.Reads as counted_reads
 use Rattle.stream.proofs.next.Reads as next_reads
 
 -- the buffer is too short for the longest line
-returns : tie.Need-returns
-returns c = lined_short _ _ c.before.before.before.args.line.now _ c.if1.true refl refl
+returns : tie.Need-returns-then-line-lt-LINE
+returns c = lined_short _ _ c.before.before.before.args.line.now _ c.if-line-lt-LINE.true refl refl
 
-slice-aggregate-next : tie.Need-slice-aggregate-next
+slice-aggregate-next : tie.Need-slice_bounds-next-end
 slice-aggregate-next c = search rules
 
-next-requires : tie.Need-next-requires
+next-requires : tie.Need-next-step-requires
 next-requires c κs = search rules
 
-enum-known-answer : tie.Need-enum-known-answer
+enum-known-answer : tie.Need-enum_known-answer
 enum-known-answer c = search rules
 
-slice-aggregate-key-line : tie.Need-slice-aggregate-key-line
+slice-aggregate-key-line : tie.Need-slice_bounds-key_line-end
 slice-aggregate-key-line c = search rules
 
 -- the key has at most 255 bytes, and the buffer holds the longest line
-key-line-requires : tie.Need-key-line-requires
+key-line-requires : tie.Need-key_line-len-requires
 key-line-requires c κs =
-    let q = c.before.before.before.before.before.before.before in
-    let e = c.before.before.before.answer.given.1 in
-    let fits = step_fits (plain_told q.next.ensures) _ _ e (search rules) in
-    (search rules, search rules, q.before.before.if1.false)
+    let q = c.before.before.before.before.before in
+    let e = c.before.before.in-Key.is in
+    let fits = step_fits (plain_told q.next-step.ensures) _ _ e (search rules) in
+    (search rules, search rules, q.before.before.if-line-lt-LINE.false)
 
 counted-requires : tie.Need-counted-requires
 counted-requires c κs = search rules
 
-enum_told : tie.Need-enum-told
+enum_told : tie.Need-enum_told-1
 enum_told c = search rules
 
-end-line-requires : tie.Need-end-line-requires
+end-line-requires : tie.Need-end_line-len-requires
 end-line-requires c κs = search rules
 
-enum-known-answer-2 : tie.Need-enum-known-answer-2
+enum-known-answer-2 : tie.Need-enum_known-answer-in-Refused-1
 enum-known-answer-2 c = search rules
 
-refused-line-requires : tie.Need-refused-line-requires
+refused-line-requires : tie.Need-refused_line-len-requires
 refused-line-requires c κs = search rules
 
-same_length : tie.Need-same-length
+same_length : tie.Need-shape_of-line-in-Key
 same_length c = search rules
 
 -- a key is left: its line
-returns-2 : tie.Need-returns-2
+returns-2 : tie.Need-returns-in-Key
 returns-2 c =
-    let q = c.before.before.before.before.before.before.before.before.before.before.before in
+    let q = c.before.before.before.before.before.before.before.before.before in
     let a = q.before.before.before.before.before.args in
-    lined_key a.file.now _ a.keys _ refl q.next.ensures a.line.now _ _ _ refl q.before.before.if1.false _ _ c.before.before.before.before.before.before.before.answer.given.1 c.before.before.before.key-line.ensures refl c.counted.ensures
+    lined_key a.file.now _ a.keys _ refl q.next-step.ensures a.line.now _ _ _ refl q.before.before.if-line-lt-LINE.false _ _ c.before.before.before.before.before.before.in-Key.is c.before.before.before.key_line-len.ensures refl c.counted.ensures
 
-same-length-2 : tie.Need-same-length-2
+same-length-2 : tie.Need-shape_of-line-in-End
 same-length-2 c = search rules
 
 -- no key is left: the last line
-returns-3 : tie.Need-returns-3
+returns-3 : tie.Need-returns-in-End
 returns-3 c =
-    let q = c.before.before.before.before.before.before.before.before in
+    let q = c.before.before.before.before.before.before.before in
     let a = q.before.before.before.before.before.args in
-    lined_end a.file.now _ a.keys _ refl q.next.ensures a.line.now _ _ _ refl q.before.before.if1.false c.before.before.before.before.enum_told.given.1 c.before.before.end_line.ensures refl refl
+    lined_end a.file.now _ a.keys _ refl q.next-step.ensures a.line.now _ _ _ refl q.before.before.if-line-lt-LINE.false c.before.before.before.before.in-End.is c.before.before.end_line-len.ensures refl refl
 
-same-length-3 : tie.Need-same-length-3
+same-length-3 : tie.Need-shape_of-line-in-Refused
 same-length-3 c = search rules
 
 -- the reading is refused: its line
-returns-4 : tie.Need-returns-4
+returns-4 : tie.Need-returns-in-Refused
 returns-4 c =
-    let q = c.before.before.before.before.before.before.before.before.before in
+    let q = c.before.before.before.before.before.before.before in
     let a = q.before.before.before.before.before.args in
-    lined_refused a.file.now _ a.keys _ refl q.next.ensures a.line.now _ _ _ refl q.before.before.if1.false _ c.before.before.before.before.before.answer2.given.1 c.before.before.refused-line.ensures refl refl
+    lined_refused a.file.now _ a.keys _ refl q.next-step.ensures a.line.now _ _ _ refl q.before.before.if-line-lt-LINE.false _ c.before.before.before.before.in-Refused.is c.before.before.refused_line-len.ensures refl refl
 
 pub next_line_spec : {M : Type 1} → statement M
 next_line_spec =

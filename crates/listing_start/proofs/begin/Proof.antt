@@ -17,59 +17,59 @@ refused-requires : tie.Need-refused-requires
 refused-requires c κs = search rules
 
 -- the file is over 4,096 bytes: LARGE
-returns : tie.Need-returns
-returns c = too_large c.before.if1.true (ap (λ (r : Started). r.answer) c.refused.ensures) refl refl refl
+returns : tie.Need-returns-then-file-gt-LARGEST
+returns c = too_large c.before.if-file-gt-LARGEST.true (ap (λ (r : Started). r.answer) c.refused.ensures) refl refl refl
 
-count-keys-requires : tie.Need-count-keys-requires
+count-keys-requires : tie.Need-count_keys-counted-requires
 count-keys-requires c κs = search rules
 
-enum-known-counted : tie.Need-enum-known-counted
+enum-known-counted : tie.Need-enum_known-counted
 enum-known-counted c = search rules
 
-refused-requires-2 : tie.Need-refused-requires-2
+refused-requires-2 : tie.Need-refused-requires-in-Refused
 refused-requires-2 c κs = search rules
 
-enum_told : tie.Need-enum-told
+enum_told : tie.Need-enum_told-1
 enum_told c = search rules
 
-slice-aggregate-start : tie.Need-slice-aggregate-start
+slice-aggregate-start : tie.Need-slice_bounds-start-end
 slice-aggregate-start c = search rules
 
-slice-aggregate-start-2 : tie.Need-slice-aggregate-start-2
+slice-aggregate-start-2 : tie.Need-slice_bounds-start-end-in-Counted
 slice-aggregate-start-2 c = search rules
 
 start-requires : tie.Need-start-requires
 start-requires c κs = search rules
 
-same_length : tie.Need-same-length
+same_length : tie.Need-shape_of-depths-in-Refused
 same_length c = search rules
 
-same-length-2 : tie.Need-same-length-2
+same-length-2 : tie.Need-shape_of-sums-in-Refused
 same-length-2 c = search rules
 
-same-length-3 : tie.Need-same-length-3
+same-length-3 : tie.Need-shape_of-counts-in-Refused
 same-length-3 c = search rules
 
 -- the keys are not counted
-returns-2 : tie.Need-returns-2
+returns-2 : tie.Need-returns-in-Refused
 returns-2 c =
-    let q = c.before.before.before.before.before.before.before.before.before.before in
-    not_counted q.before.before.before.before.if1.false _ (ap (λ (r : Started). r.answer) c.refused2.ensures) (outcome_refused _ q.count-keys.ensures c.before.before.counted.given.1)
+    let q = c.before.before.before.before.before.before.before.before in
+    not_counted q.before.before.before.before.if-file-gt-LARGEST.false _ (ap (λ (r : Started). r.answer) c.refused-in-Refused.ensures) (outcome_refused _ q.count_keys-counted.ensures c.before.in-Refused.is)
 
-same-length-4 : tie.Need-same-length-4
+same-length-4 : tie.Need-shape_of-depths-in-Counted
 same-length-4 c = search rules
 
-same-length-5 : tie.Need-same-length-5
+same-length-5 : tie.Need-shape_of-sums-in-Counted
 same-length-5 c = search rules
 
-same-length-6 : tie.Need-same-length-6
+same-length-6 : tie.Need-shape_of-counts-in-Counted
 same-length-6 c = search rules
 
 -- they are: the unbounded reading begins
-returns-3 : tie.Need-returns-3
+returns-3 : tie.Need-returns-in-Counted
 returns-3 c =
-    let q = c.before.before.before.before.before.before.before.before.before.before.before.before in
-    begins_counted _ q.before.before.before.before.if1.false (outcome_counted q.count-keys.ensures c.before.before.before.before.enum_told.given.1) c.start.ensures
+    let q = c.before.before.before.before.before.before.before.before in
+    begins_counted _ q.before.before.before.before.if-file-gt-LARGEST.false (outcome_counted q.count_keys-counted.ensures c.before.in-Counted.is) c.start.ensures
 
 pub begin_spec : {M : Type 1} → statement M
 begin_spec =

@@ -10,49 +10,49 @@ use borrow.Author.Rules.{rules}
 use Rattle.marks.proofs.mark.Statement.{statement}
 use Rattle.marks.proofs.mark.Tie as tie
 
-open-requires : tie.Need-open-requires
+open-requires : tie.Need-open-opened-requires
 open-requires c κs = search rules
 
-enum-known-opened : tie.Need-enum-known-opened
+enum-known-opened : tie.Need-enum_known-opened
 enum-known-opened c = search rules
 
 refused-requires : tie.Need-refused-requires
 refused-requires c κs = search rules
 
-enum_told : tie.Need-enum-told
+enum_told : tie.Need-enum_told-1
 enum_told c = search rules
 
-state-right-requires : tie.Need-state-right-requires
+state-right-requires : tie.Need-state_right-requires
 state-right-requires c κs = search rules
 
-refused-requires-2 : tie.Need-refused-requires-2
+refused-requires-2 : tie.Need-refused-requires-else-state_right
 refused-requires-2 c κs = search rules
 
-returns : tie.Need-returns
+returns : tie.Need-returns-else-state_right
 returns c =
     let e = c.before.before.before in
-    let o = e.before.before in
+    let o = e.before in
     let a = o.before.before.before.args in
-    mark_ways a.file.now (plain_is a.reading) (marks_is a.marks) _ (sym o.«open».ensures ∙ ap opening_is e.enum_told.given.1) false (sym c.before.before.state_right_lem.ensures ∙ c.before.if1.false) a.name.now c.refused2.ensures
+    mark_ways a.file.now (plain_is a.reading) (marks_is a.marks) _ (sym o.open-opened.ensures ∙ ap opening_is e.in-Meta.is) false (sym c.before.before.state_right.ensures ∙ c.before.if-state_right.false) a.name.now c.refused-else-state_right.ensures
 
-set-mark-requires : tie.Need-set-mark-requires
+set-mark-requires : tie.Need-set_mark-requires
 set-mark-requires c κs =
-    let a = c.before.before.before.before.before.before.before.args in
-    marks_few (plain_is a.reading) a.marks (length a.file.now) (sym c.before.state_right_lem.ensures ∙ c.if1.true)
+    let a = c.before.before.before.before.before.before.args in
+    marks_few (plain_is a.reading) a.marks (length a.file.now) (sym c.before.state_right.ensures ∙ c.if-state_right.true)
 
-returns-2 : tie.Need-returns-2
+returns-2 : tie.Need-returns-in-Refused
 returns-2 c =
-    let e = c.before.before in
-    let o = e.before.before in
+    let e = c.before in
+    let o = e.before in
     let a = o.before.before.before.args in
-    mark_ways a.file.now (plain_is a.reading) (marks_is a.marks) _ (sym o.«open».ensures ∙ ap opening_is e.opened.given.1) _ refl a.name.now c.refused.ensures
+    mark_ways a.file.now (plain_is a.reading) (marks_is a.marks) _ (sym o.open-opened.ensures ∙ ap opening_is e.in-Refused.is) _ refl a.name.now c.refused.ensures
 
-returns-3 : tie.Need-returns-3
+returns-3 : tie.Need-returns-then-state_right
 returns-3 c =
     let e = c.before.before.before in
-    let o = e.before.before in
+    let o = e.before in
     let a = o.before.before.before.args in
-    mark_ways a.file.now (plain_is a.reading) (marks_is a.marks) _ (sym o.«open».ensures ∙ ap opening_is e.enum_told.given.1) true (sym c.before.before.state_right_lem.ensures ∙ c.before.if1.true) a.name.now c.set-mark.ensures
+    mark_ways a.file.now (plain_is a.reading) (marks_is a.marks) _ (sym o.open-opened.ensures ∙ ap opening_is e.in-Meta.is) true (sym c.before.before.state_right.ensures ∙ c.before.if-state_right.true) a.name.now c.set_mark.ensures
 
 pub mark_spec : {M : Type 1} → statement M
 mark_spec =

@@ -10,11 +10,13 @@ none_is : marks_is no_marks ≡ []
 unfolding stated
 none_is = refl
 
-no-marks-requires : tie.Need-no-marks-requires
+no-marks-requires : tie.Need-no_marks-requires
 no-marks-requires c κs = search rules
 
 returns : tie.Need-returns
-returns c = ap marks_is c.no_marks_lem.ensures ∙ none_is
+returns c = ap marks_is c.no_marks.ensures ∙ none_is
 
 pub none_spec : {M : Type 1} → statement M
-none_spec = tie.close (tie.spec no-marks-requires returns)
+none_spec = tie.close (tie.spec
+    no-marks-requires
+    returns)

@@ -10,80 +10,80 @@ use Rattle.marks.proofs.set_mark.Statement.{statement}
 use Rattle.marks.proofs.set_mark.Tie as tie
 
 sixteen : (q : tie.Start) → length q.args.marks.marks ≡ 16
-sixteen q = sym (length-map q.args.marks.marks _) ∙ q.well-formed.1.0.1.1.1.0.1.0.1
+sixteen q = q.well_formed.1.0.1.1.1.0.1.0.1
 
 refused-requires : tie.Need-refused-requires
 refused-requires c κs = search rules
 
-returns : tie.Need-returns
+returns : tie.Need-returns-then-len-eq0
 returns c =
     let a = c.before.before.before.args in
-    set_none (plain_is a.reading) (marks_is a.marks) a.name.now c.before.if1.true c.refused.ensures
+    set_none (plain_is a.reading) (marks_is a.marks) a.name.now c.before.if-len-eq0.true c.refused.ensures
 
-refused-requires-2 : tie.Need-refused-requires-2
+refused-requires-2 : tie.Need-refused-requires-then-len-gt-MAX_NAME
 refused-requires-2 c κs = search rules
 
-returns-2 : tie.Need-returns-2
+returns-2 : tie.Need-returns-then-len-gt-MAX_NAME
 returns-2 c =
     let a = c.before.before.before.before.args in
-    set_long (plain_is a.reading) (marks_is a.marks) a.name.now c.before.if2.true c.refused2.ensures
+    set_long (plain_is a.reading) (marks_is a.marks) a.name.now c.before.if-len-gt-MAX_NAME.true c.refused-then-len-gt-MAX_NAME.ensures
 
-hold-name-requires : tie.Need-hold-name-requires
+hold-name-requires : tie.Need-hold_name-held-requires
 hold-name-requires c κs = search rules
 
-name-from-requires : tie.Need-name-from-requires
+name-from-requires : tie.Need-name_from-place-requires
 name-from-requires c κs = search rules
 
-enum-known-place : tie.Need-enum-known-place
+enum-known-place : tie.Need-enum_known-place
 enum-known-place c = search rules
 
-put-mark-requires : tie.Need-put-mark-requires
+put-mark-requires : tie.Need-put_mark-requires
 put-mark-requires c κs =
-    let w = c.before.before.before in
+    let w = c.before in
     let q = w.before.before.before.before.before in
-    place_small q.args.marks q.requires _ _ (rw c.before.place.given.1 at w.name-from.ensures)
+    place_small q.args.marks q.requires _ _ (rw c.in-At.is at w.name_from-place.ensures)
 
-enum_told : tie.Need-enum-told
+enum_told : tie.Need-enum_told-1
 enum_told c = search rules
 
-refused-requires-3 : tie.Need-refused-requires-3
+refused-requires-3 : tie.Need-refused-requires-then-marks-ge-MARKS
 refused-requires-3 c κs = search rules
 
-returns-3 : tie.Need-returns-3
+returns-3 : tie.Need-returns-then-marks-ge-MARKS
 returns-3 c =
     let e = c.before.before.before in
-    let w = e.before.before in
+    let w = e.before in
     let h = w.before in
     let q = h.before.before.before.before in
     let a = q.args in
-    set_full a.marks (sixteen q) q.requires a.reading a.name.now h.hold-name.result h.hold-name.ensures h.before.before.if1.false h.before.if2.false _
-    (rw e.enum_told.given.1 at w.name-from.ensures) c.before.if3.true c.refused3.ensures
+    set_full a.marks (sixteen q) q.requires a.reading a.name.now h.hold_name-held.result h.hold_name-held.ensures h.before.before.if-len-eq0.false h.before.if-len-gt-MAX_NAME.false _
+    (rw e.in-Nowhere.is at w.name_from-place.ensures) c.before.if-marks-ge-MARKS.true c.refused-then-marks-ge-MARKS.ensures
 
-add-put-mark : tie.Need-overflow-add-put-mark
+add-put-mark : tie.Need-overflow_add-marks
 add-put-mark c = search rules
 
-put-mark-requires-2 : tie.Need-put-mark-requires-2
+put-mark-requires-2 : tie.Need-put_mark-requires-in-Nowhere
 put-mark-requires-2 c κs = search rules
 
-returns-4 : tie.Need-returns-4
+returns-4 : tie.Need-returns-in-At
 returns-4 c =
-    let e = c.before.before in
-    let w = e.before.before in
+    let e = c.before in
+    let w = e.before in
     let h = w.before in
     let q = h.before.before.before.before in
     let a = q.args in
-    set_told a.marks (sixteen q) q.requires a.reading a.name.now h.hold-name.result h.hold-name.ensures h.before.before.if1.false h.before.if2.false _ _
-    (rw e.place.given.1 at w.name-from.ensures) refl c.put-mark.ensures
+    set_told a.marks (sixteen q) q.requires a.reading a.name.now h.hold_name-held.result h.hold_name-held.ensures h.before.before.if-len-eq0.false h.before.if-len-gt-MAX_NAME.false _ _
+    (rw e.in-At.is at w.name_from-place.ensures) refl c.put_mark.ensures
 
-returns-5 : tie.Need-returns-5
+returns-5 : tie.Need-returns-else-marks-ge-MARKS
 returns-5 c =
     let e = c.before.before.before.before in
-    let w = e.before.before in
+    let w = e.before in
     let h = w.before in
     let q = h.before.before.before.before in
     let a = q.args in
-    set_more a.marks (sixteen q) q.requires a.reading a.name.now h.hold-name.result h.hold-name.ensures h.before.before.if1.false h.before.if2.false _
-    (rw e.enum_told.given.1 at w.name-from.ensures) (omega (arith, c.before.before.if3.false)) refl c.put-mark2.ensures
+    set_more a.marks (sixteen q) q.requires a.reading a.name.now h.hold_name-held.result h.hold_name-held.ensures h.before.before.if-len-eq0.false h.before.if-len-gt-MAX_NAME.false _
+    (rw e.in-Nowhere.is at w.name_from-place.ensures) (omega (arith, c.before.before.if-marks-ge-MARKS.false)) refl c.put_mark-in-Nowhere.ensures
 
 pub set_mark_spec : {M : Type 1} → statement M
 set_mark_spec =

@@ -19,15 +19,15 @@ invariant-loop-i len marks names i₀ i = (i ≤ marks.count) × (M.each_right l
 abbrev decreases-loop-i : tie.decreases-loop-i
 decreases-loop-i len marks names i₀ i = marks.count - i
 
-long : (q : tie.Start invariant-loop-i decreases-loop-i) → length (marks_is q.args.t1) ≡ q.args.t1.count
-long q = stated_length q.args.t1.count no_mark (map mark_is q.args.t1.marks)
+long : (q : tie.Start invariant-loop-i decreases-loop-i) → length (marks_is q.args.marks) ≡ q.args.marks.count
+long q = stated_length q.args.marks.count no_mark (map mark_is q.args.marks.marks)
 
-sixteen : (q : tie.Start invariant-loop-i decreases-loop-i) → length q.args.t1.marks ≡ 16
-sixteen q = sym (length-map q.args.t1.marks _) ∙ q.well_formed.0.1.1.1.0.1.0.1
+sixteen : (q : tie.Start invariant-loop-i decreases-loop-i) → length q.args.marks.marks ≡ 16
+sixteen q = q.well_formed.0.1.1.1.0.1.0.1
 
 returns : tie.Need-returns-then-marks-gt-MARKS invariant-loop-i decreases-loop-i
 returns c =
-    let q = c.before in each_many q.args.len (marks_is q.args.t1) (omega (arith, long q))
+    let q = c.before in each_many q.args.len (marks_is q.args.marks) (omega (arith, long q))
 
 names-of-requires : tie.Need-names_of-names-requires invariant-loop-i decreases-loop-i
 names-of-requires c κs = search rules
@@ -50,7 +50,7 @@ returns-2 c =
     let loop = test.before in
     let few = loop.before.before in
     let q = few.before in
-    let m = q.args.t1 in
+    let m = q.args.marks in
     let len = q.args.len in
     let i = loop.loop-i.i in
     let state = state_at m (sixteen q) few.if-marks-gt-MARKS.false i _ test.loop-i-test.true len false (sym c.before.state_right.ensures ∙ c.if-state_right.false) in
@@ -66,7 +66,7 @@ returns-3 c =
     let loop = test.before in
     let few = loop.before.before in
     let q = few.before in
-    let m = q.args.t1 in
+    let m = q.args.marks in
     let len = q.args.len in
     let i = loop.loop-i.i in
     let state = state_at m (sixteen q) few.if-marks-gt-MARKS.false i _ test.loop-i-test.true len true (sym judged.before.state_right.ensures ∙ judged.if-state_right.true) in
@@ -86,7 +86,7 @@ loop-again c =
     let loop = test.before in
     let few = loop.before.before in
     let q = few.before in
-    let m = q.args.t1 in
+    let m = q.args.marks in
     let len = q.args.len in
     let i = loop.loop-i.i in
     let state = state_at m (sixteen q) few.if-marks-gt-MARKS.false i _ test.loop-i-test.true len true (sym judged.before.state_right.ensures ∙ judged.if-state_right.true) in
@@ -97,7 +97,7 @@ returns-4 : tie.Need-returns invariant-loop-i decreases-loop-i
 returns-4 c =
     let loop = c.before in
     let q = loop.before.before.before in
-    each_through q.args.len (marks_is q.args.t1) loop.loop-i.i (omega (arith, long q)) (omega (arith, long q)) loop.loop-i.invariant.1
+    each_through q.args.len (marks_is q.args.marks) loop.loop-i.i (omega (arith, long q)) (omega (arith, long q)) loop.loop-i.invariant.1
 
 pub marks_right_spec : {M : Type 1} → statement M
 marks_right_spec =

@@ -27,8 +27,8 @@ invariant-loop-i from name len marks i₀ i = (from ≤ i) × (i ≤ marks.count
 abbrev decreases-loop-i : tie.decreases-loop-i
 decreases-loop-i from name len marks i₀ i = marks.count - i
 
-sixteen : (q : tie.Start invariant-loop-i decreases-loop-i) → length q.args.t1.marks ≡ 16
-sixteen q = sym (length-map q.args.t1.marks _) ∙ q.well_formed.0.1.1.1.0.1.0.1
+sixteen : (q : tie.Start invariant-loop-i decreases-loop-i) → length q.args.marks.marks ≡ 16
+sixteen q = q.well_formed.0.1.1.1.0.1.0.1
 
 loop-holds : tie.Need-loop-i-init invariant-loop-i decreases-loop-i
 loop-holds c = (omega arith, omega arith, λ j le lt. absurd (omega arith))
@@ -48,8 +48,8 @@ returns c =
     let q = loop.before in
     let a = q.args in
     let few = q.requires.0 in
-    let is = mark_at_lem a.t1 (sixteen q) few loop.loop-i.i _ c.before.before.before.before.loop-i-test.true in
-    at_place loop.loop-i.i loop.loop-i.invariant.0 (omega (arith, stated_length a.t1.count no_mark (map mark_is a.t1.marks)))
+    let is = mark_at_lem a.marks (sixteen q) few loop.loop-i.i _ c.before.before.before.before.loop-i-test.true in
+    at_place loop.loop-i.i loop.loop-i.invariant.0 (omega (arith, stated_length a.marks.count no_mark (map mark_is a.marks.marks)))
     (ap (λ (m : M.Mark). same_name m.name (stated a.len 0 a.name)) is ∙ sym c.before.same_name.ensures ∙ c.if-same_name.true) loop.loop-i.invariant.2
 
 add-i : tie.Need-overflow_add-i invariant-loop-i decreases-loop-i
@@ -64,16 +64,16 @@ loop-again c =
     let q = loop.before in
     let a = q.args in
     let few = q.requires.0 in
-    let is = mark_at_lem a.t1 (sixteen q) few loop.loop-i.i _ c.before.before.before.before.loop-i-test.true in
-    let here : same_name (mark_at (marks_is a.t1) loop.loop-i.i).name (stated a.len 0 a.name) ≡ false =
+    let is = mark_at_lem a.marks (sixteen q) few loop.loop-i.i _ c.before.before.before.before.loop-i-test.true in
+    let here : same_name (mark_at (marks_is a.marks) loop.loop-i.i).name (stated a.len 0 a.name) ≡ false =
     ap (λ (m : M.Mark). same_name m.name (stated a.len 0 a.name)) is ∙ sym c.before.same_name.ensures ∙ c.if-same_name.false in
-    (omega arith, omega arith, further a.from loop.loop-i.i (λ j. same_name (mark_at (marks_is a.t1) j).name (stated a.len 0 a.name) ≡ false) loop.loop-i.invariant.2 here)
+    (omega arith, omega arith, further a.from loop.loop-i.i (λ j. same_name (mark_at (marks_is a.marks) j).name (stated a.len 0 a.name) ≡ false) loop.loop-i.invariant.2 here)
 
 returns-2 : tie.Need-returns invariant-loop-i decreases-loop-i
 returns-2 c =
     let q = c.before.before in
     let a = q.args in
-    nowhere (λ j le lt. c.before.loop-i.invariant.2 j le (omega (arith, stated_length a.t1.count no_mark (map mark_is a.t1.marks))))
+    nowhere (λ j le lt. c.before.loop-i.invariant.2 j le (omega (arith, stated_length a.marks.count no_mark (map mark_is a.marks.marks))))
 
 pub name_from_spec : {M : Type 1} → statement M
 name_from_spec =

@@ -32,13 +32,13 @@ returns : tie.Need-returns-then-held-eq0 invariant-loop-j decreases-loop-j
 returns c =
     let q = c.before.before.before.before in
     let a = q.args in
-    λ ms e are. name_none ms a.i _ (name_long ms a.t1 are a.i _ (within q ms e)) c.if-held-eq0.true
+    λ ms e are. name_none ms a.i _ (name_long ms a.names are a.i _ (within q ms e)) c.if-held-eq0.true
 
 returns-2 : tie.Need-returns-then-held-gt-MAX_NAME invariant-loop-j decreases-loop-j
 returns-2 c =
     let q = c.before.before.before.before.before.before in
     let a = q.args in
-    λ ms e are. name_over ms a.i _ (name_long ms a.t1 are a.i _ (within q ms e)) c.if-held-gt-MAX_NAME.true
+    λ ms e are. name_over ms a.i _ (name_long ms a.names are a.i _ (within q ms e)) c.if-held-gt-MAX_NAME.true
 
 add-j : tie.Need-overflow_add-j invariant-loop-j decreases-loop-j
 add-j c = search rules
@@ -67,9 +67,9 @@ returns-3 c =
     λ ms e are.
     let below : j < length ms = let lt : j < a.count = test.loop-j-test.true in omega arith in
     let w = within q ms e in
-    name_again ms a.i _ (name_long ms a.t1 are a.i _ w) some.if-held-eq0.false short.if-held-gt-MAX_NAME.false
+    name_again ms a.i _ (name_long ms a.names are a.i _ w) some.if-held-eq0.false short.if-held-gt-MAX_NAME.false
     (there_place (mark_at ms a.i).name ms (a.i + 1) j
-    (at_place j loop.loop-j.invariant.0 below (pair_is ms a.t1 are a.i _ w j _ below ∙ sym c.before.same_name.ensures ∙ c.if-same_name.true) (loop.loop-j.invariant.2 ms e are)))
+    (at_place j loop.loop-j.invariant.0 below (pair_is ms a.names are a.i _ w j _ below ∙ sym c.before.same_name.ensures ∙ c.if-same_name.true) (loop.loop-j.invariant.2 ms e are)))
 
 add-j-2 : tie.Need-overflow_add-j-in-loop-j invariant-loop-j decreases-loop-j
 add-j-2 c = search rules
@@ -88,7 +88,7 @@ loop-again c =
       omega arith,
       λ ms e are.
           let below : j < length ms = let lt : j < a.count = test.loop-j-test.true in omega arith in
-          once_on ms a.i j (loop.loop-j.invariant.2 ms e are) (pair_is ms a.t1 are a.i _ (within q ms e) j _ below ∙ sym c.before.same_name.ensures ∙ c.if-same_name.false),
+          once_on ms a.i j (loop.loop-j.invariant.2 ms e are) (pair_is ms a.names are a.i _ (within q ms e) j _ below ∙ sym c.before.same_name.ensures ∙ c.if-same_name.false),
     )
 
 returns-4 : tie.Need-returns invariant-loop-j decreases-loop-j
@@ -100,7 +100,7 @@ returns-4 c =
     let a = q.args in
     let past : a.count ≤ loop.loop-j.j = c.loop-j-test.false in
     λ ms e are.
-    name_once ms a.i _ (name_long ms a.t1 are a.i _ (within q ms e)) some.if-held-eq0.false short.if-held-gt-MAX_NAME.false
+    name_once ms a.i _ (name_long ms a.names are a.i _ (within q ms e)) some.if-held-eq0.false short.if-held-gt-MAX_NAME.false
     (marked_nowhere (mark_at ms a.i).name ms (a.i + 1) (nowhere (λ k le lt. loop.loop-j.invariant.2 ms e are k le (omega arith))))
 
 pub name_right_spec : {M : Type 1} → statement M

@@ -17,8 +17,8 @@ invariant-loop-i marks names₀ i₀ names i = (i ≤ marks.count) × (length na
 abbrev decreases-loop-i : tie.decreases-loop-i
 decreases-loop-i marks names₀ i₀ names i = marks.count - i
 
-sixteen : (q : tie.Start invariant-loop-i decreases-loop-i) → length q.args.t1.marks ≡ 16
-sixteen q = sym (length-map q.args.t1.marks _) ∙ q.well_formed.0.1.1.1.0.1.0.1
+sixteen : (q : tie.Start invariant-loop-i decreases-loop-i) → length q.args.marks.marks ≡ 16
+sixteen q = q.well_formed.0.1.1.1.0.1.0.1
 
 loop-holds : tie.Need-loop-i-init invariant-loop-i decreases-loop-i
 loop-holds c = (omega arith, refl, λ j d lt. absurd (omega arith))
@@ -50,13 +50,13 @@ loop-again c =
     let at = loop.loop-i.i in (
       omega arith,
       length-set names at _ ∙ loop.loop-i.invariant.1,
-      names_on (marks_is a.t1) names at _ (omega (arith, loop.loop-i.invariant.1)) loop.loop-i.invariant.2 (name_at a.t1 (sixteen q) q.requires at _ c.before.before.loop-i-test.true),
+      names_on (marks_is a.marks) names at _ (omega (arith, loop.loop-i.invariant.1)) loop.loop-i.invariant.2 (name_at a.marks (sixteen q) q.requires at _ c.before.before.loop-i-test.true),
     )
 
 returns : tie.Need-returns invariant-loop-i decreases-loop-i
 returns c =
     let a = c.before.before.args in
-    λ j d lt. c.before.loop-i.invariant.2 j d (omega (arith, stated_length a.t1.count no_mark (map mark_is a.t1.marks)))
+    λ j d lt. c.before.loop-i.invariant.2 j d (omega (arith, stated_length a.marks.count no_mark (map mark_is a.marks.marks)))
 
 pub names_of_spec : {M : Type 1} → statement M
 names_of_spec =

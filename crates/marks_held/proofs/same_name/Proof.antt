@@ -16,18 +16,18 @@ invariant-loop-i n m held name i₀ i = (i ≤ m) × (same_name (stated m 0 held
 abbrev decreases-loop-i : tie.decreases-loop-i
 decreases-loop-i n m held name i₀ i = m - i
 
-eight : (q : tie.Start invariant-loop-i decreases-loop-i) → (length q.args.t1 ≡ 8) × (length q.args.t3 ≡ 8)
+eight : (q : tie.Start invariant-loop-i decreases-loop-i) → (length q.args.held ≡ 8) × (length q.args.name ≡ 8)
 eight q = (search rules, search rules)
 
 returns : tie.Need-returns-else-n-m invariant-loop-i decreases-loop-i
 returns c =
     let q = c.before in
-    names_differ q.args.t1 q.args.t3 q.args.n q.args.m c.if-n-m.false
+    names_differ q.args.held q.args.name q.args.n q.args.m c.if-n-m.false
 
 loop-holds : tie.Need-loop-i-init invariant-loop-i decreases-loop-i
 loop-holds c =
     let q = c.before in
-    (omega arith, same_none q.args.t1 q.args.t3 q.args.m (eight q).0 (eight q).1 q.requires)
+    (omega arith, same_none q.args.held q.args.name q.args.m (eight q).0 (eight q).1 q.requires)
 
 array-read-if2 : tie.Need-bounds-held-i invariant-loop-i decreases-loop-i
 array-read-if2 c = search rules
@@ -42,7 +42,7 @@ returns-2 c =
     let q = same.before in
     let a = q.args in
     rw same.if-n-m.true
-    (same_off a.t1 a.t3 a.m (eight q).0 (eight q).1 q.requires loop.loop-i.i c.before.loop-i-test.true c.if-held-i.false loop.loop-i.invariant.1)
+    (same_off a.held a.name a.m (eight q).0 (eight q).1 q.requires loop.loop-i.i c.before.loop-i-test.true c.if-held-i.false loop.loop-i.invariant.1)
 
 add-i : tie.Need-overflow_add-i invariant-loop-i decreases-loop-i
 add-i c = search rules
@@ -55,7 +55,7 @@ loop-again c =
     let loop = c.before.before in
     let q = loop.before.before in
     let a = q.args in
-    (omega arith, same_on a.t1 a.t3 a.m (eight q).0 (eight q).1 q.requires loop.loop-i.i c.before.loop-i-test.true c.if-held-i.true loop.loop-i.invariant.1)
+    (omega arith, same_on a.held a.name a.m (eight q).0 (eight q).1 q.requires loop.loop-i.i c.before.loop-i-test.true c.if-held-i.true loop.loop-i.invariant.1)
 
 returns-3 : tie.Need-returns invariant-loop-i decreases-loop-i
 returns-3 c =
@@ -64,7 +64,7 @@ returns-3 c =
     let q = same.before in
     let a = q.args in
     rw same.if-n-m.true
-    (same_through a.t1 a.t3 a.m (eight q).0 (eight q).1 q.requires loop.loop-i.i (omega arith) loop.loop-i.invariant.1)
+    (same_through a.held a.name a.m (eight q).0 (eight q).1 q.requires loop.loop-i.i (omega arith) loop.loop-i.invariant.1)
 
 pub same_name_spec : {M : Type 1} → statement M
 same_name_spec =

@@ -47,7 +47,7 @@ loop-less c = search rules
 
 -- src/lib.rt:102:5
 loop-again : tie.Need-loop-j-preserved invariant-loop-j decreases-loop-j
-loop-again c.before =
+loop-again c =
     let a = c.before.before.before.before.before.args in
     let pre = c.before.before.before.before.before.requires in
     let l = c.before.before.loop-j in

@@ -10,63 +10,63 @@ use Rattle.oracle_stream.proofs.Telling.{bare_called, Reached, reached_first, re
 use Rattle.oracle_stream.proofs.bare_keys_from.Statement.{statement}
 use Rattle.oracle_stream.proofs.bare_keys_from.Tie as tie
 
-abbrev invariant-loop : tie.invariant-loop
-invariant-loop file most key₀ here₀ n₀ key here n = (length key ≡ length key₀) × Reached (bare_calls file) most (view_is here₀) key₀ (view_is here) key n
+abbrev invariant-loop-n : tie.invariant-loop-n
+invariant-loop-n file most key₀ here₀ n₀ key here n = (length key ≡ length key₀) × Reached (bare_calls file) most (view_is here₀) key₀ (view_is here) key n
 
-abbrev decreases-loop : tie.decreases-loop
-decreases-loop file most key₀ here₀ n₀ key here n = most - n
+abbrev decreases-loop-n : tie.decreases-loop-n
+decreases-loop-n file most key₀ here₀ n₀ key here n = most - n
 
 -- no call is made yet
-loop-holds : tie.Need-loop-init invariant-loop decreases-loop
+loop-holds : tie.Need-loop-n-init invariant-loop-n decreases-loop-n
 loop-holds c = (refl, reached_first _ _ _ _)
 
-next-requires : tie.Need-next-requires invariant-loop decreases-loop
+next-requires : tie.Need-next-step-requires invariant-loop-n decreases-loop-n
 next-requires c κs = search rules
 
-is-key-requires : tie.Need-is-key-requires invariant-loop decreases-loop
+is-key-requires : tie.Need-is_key-requires invariant-loop-n decreases-loop-n
 is-key-requires c κs = search rules
 
-same_length : tie.Need-same-length invariant-loop decreases-loop
+same_length : tie.Need-shape_of-key-else-is_key invariant-loop-n decreases-loop-n
 same_length c = search rules
 
 -- a call hands out no key
-returns : tie.Need-returns invariant-loop decreases-loop
+returns : tie.Need-returns-else-is_key invariant-loop-n decreases-loop-n
 returns c =
     let asked = c.before in
     let called = asked.before.before.before in
     let looped = called.before.before in
-    let inv = looped.before.loop.invariant.1 in
-    reached_stop _ _ _ _ looped.loop-test.true inv (bare_called _ _ called.next.ensures) (sym asked.is_key.ensures ∙ c.if1.false)
+    let inv = looped.before.loop-n.invariant.1 in
+    reached_stop _ _ _ _ looped.loop-n-test.true inv (bare_called _ _ called.next-step.ensures) (sym asked.is_key.ensures ∙ c.if-is_key.false)
 
-add-n : tie.Need-overflow-add-n invariant-loop decreases-loop
+add-n : tie.Need-overflow_add-n invariant-loop-n decreases-loop-n
 add-n c = search rules
 
-loop-less : tie.Need-loop-smaller invariant-loop decreases-loop
+loop-less : tie.Need-loop-n-smaller invariant-loop-n decreases-loop-n
 loop-less c = search rules
 
 -- one key more is handed out
-loop-again : tie.Need-loop-preserved invariant-loop decreases-loop
+loop-again : tie.Need-loop-n-preserved invariant-loop-n decreases-loop-n
 loop-again c =
     let then = c.before in
     let asked = then.before in
     let called = asked.before.before.before in
     let looped = called.before.before in
-    let inv = looped.before.loop.invariant.1 in
-    (search rules, reached_next _ _ _ _ looped.loop-test.true inv (bare_called _ _ called.next.ensures) (sym asked.is_key.ensures ∙ then.if1.true))
+    let inv = looped.before.loop-n.invariant.1 in
+    (search rules, reached_next _ _ _ _ looped.loop-n-test.true inv (bare_called _ _ called.next-step.ensures) (sym asked.is_key.ensures ∙ then.if-is_key.true))
 
-same-length-2 : tie.Need-same-length-2 invariant-loop decreases-loop
+same-length-2 : tie.Need-shape_of-key invariant-loop-n decreases-loop-n
 same-length-2 c = search rules
 
 -- as many keys as were asked for
-returns-2 : tie.Need-returns-2 invariant-loop decreases-loop
-returns-2 c = reached_end _ _ _ _ c.loop-test.false c.before.loop.invariant.1
+returns-2 : tie.Need-returns invariant-loop-n decreases-loop-n
+returns-2 c = reached_end _ _ _ _ c.loop-n-test.false c.before.loop-n.invariant.1
 
 pub bare_keys_from_spec : {M : Type 1} → statement M
 bare_keys_from_spec =
     tie.close
     (tie.spec
-    invariant-loop
-    decreases-loop
+    invariant-loop-n
+    decreases-loop-n
     loop-holds
     next-requires
     is-key-requires

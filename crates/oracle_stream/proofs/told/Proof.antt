@@ -6,32 +6,32 @@ use Rattle.oracle_stream.proofs.Telling.{key_told, end_told, refused_told}
 use Rattle.oracle_stream.proofs.told.Statement.{statement}
 use Rattle.oracle_stream.proofs.told.Tie as tie
 
-enum-known-answer : tie.Need-enum-known-answer
+enum-known-answer : tie.Need-enum_known-answer
 enum-known-answer c = search rules
 
-enum_told : tie.Need-enum-told
+enum_told : tie.Need-enum_told-1
 enum_told c = search rules
 
-enum-known-answer-2 : tie.Need-enum-known-answer-2
+enum-known-answer-2 : tie.Need-enum_known-answer-in-Refused-1
 enum-known-answer-2 c = search rules
 
-cast-result : tie.Need-overflow-cast-result
+cast-result : tie.Need-overflow_cast-result
 cast-result c = search rules
 
-add-result : tie.Need-overflow-add-result
+add-result : tie.Need-overflow_add-result
 add-result c = search rules
 
 -- a key
-returns : tie.Need-returns
-returns c = let bound = c.before.before in key_told _ _ _ _ _ bound.answer.given.1 refl
+returns : tie.Need-returns-in-Key
+returns c = let bound = c.before in key_told _ _ _ _ _ bound.in-Key.is refl
 
 -- the end
-returns-2 : tie.Need-returns-2
-returns-2 c = end_told _ _ c.enum_told.given.1
+returns-2 : tie.Need-returns-in-End
+returns-2 c = end_told _ _ c.in-End.is
 
 -- a refusal
-returns-3 : tie.Need-returns-3
-returns-3 c = refused_told _ _ _ c.before.answer2.given.1
+returns-3 : tie.Need-returns-in-Refused
+returns-3 c = refused_told _ _ _ c.in-Refused.is
 
 pub told_spec : {M : Type 1} → statement M
 told_spec =

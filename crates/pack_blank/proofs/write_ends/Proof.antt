@@ -10,19 +10,19 @@ use borrow.Author.Rules.{rules}
 use Rattle.pack_blank.proofs.write_ends.Statement.{statement}
 use Rattle.pack_blank.proofs.write_ends.Tie as tie
 
-pack-uint-in-requires : tie.Need-pack-uint-in-requires
+pack-uint-in-requires : tie.Need-pack_uint_in-requires
 pack-uint-in-requires c κs = search rules
 
-pack-uint-in-requires-2 : tie.Need-pack-uint-in-requires-2
+pack-uint-in-requires-2 : tie.Need-pack_uint_in-requires-2
 pack-uint-in-requires-2 c κs = search rules
 
-add_at : tie.Need-overflow-add-at
+add_at : tie.Need-overflow_add-at
 add_at c = search rules
 
-pack-uint-in-requires-3 : tie.Need-pack-uint-in-requires-3
+pack-uint-in-requires-3 : tie.Need-pack_uint_in-requires-3
 pack-uint-in-requires-3 c κs = search rules
 
-same_length : tie.Need-same-length
+same_length : tie.Need-shape_of-output
 same_length c = search rules
 
 returns : tie.Need-returns
@@ -31,8 +31,8 @@ returns c =
     let second = third.before.before.before.before in
     let one = second.before.before.before.before in
     let t = one.before.before.before in
-    third.pack-uint-in3.ensures
-    ∙ ap (λ (o : List ℕ). put o (t.args.next + 8) (bytes_of 8 t.args.root)) (second.pack-uint-in2.ensures ∙ ap (λ (o : List ℕ). put o t.args.next (bytes_of 8 t.args.count)) one.pack-uint-in.ensures)
+    third.pack_uint_in-3.ensures
+    ∙ ap (λ (o : List ℕ). put o (t.args.next + 8) (bytes_of 8 t.args.root)) (second.pack_uint_in-2.ensures ∙ ap (λ (o : List ℕ). put o t.args.next (bytes_of 8 t.args.count)) one.pack_uint_in.ensures)
 
 pub write_ends_spec : {M : Type 1} → statement M
 write_ends_spec =

@@ -5,14 +5,14 @@ use borrow.Author.Rules.{rules}
 use Rattle.patterned.proofs.next.Statement.{statement}
 use Rattle.patterned.proofs.next.Tie as tie
 
-step-requires : tie.Need-step-requires
+step-requires : tie.Need-step-stepped-requires
 step-requires c κs = search rules
 
-same_length : tie.Need-same-length
+same_length : tie.Need-shape_of-key
 same_length c = search rules
 
 returns : tie.Need-returns
-returns c = let e = c.before.before.before.step.ensures in
+returns c = let e = c.before.before.before.step-stepped.ensures in
     record { answer = e.answer; reading = e.reading; pattern = refl; buffer = e.buffer }
 
 pub next_spec : {M : Type 1} → statement M

@@ -7,37 +7,37 @@ use borrow.Author.Rules.{rules}
 use Rattle.patterned.proofs.refuse_many.Statement.{statement}
 use Rattle.patterned.proofs.refuse_many.Tie as tie
 
-open-requires : tie.Need-open-requires
+open-requires : tie.Need-open-opened-requires
 open-requires c κs = search rules
 
-enum-known-opened : tie.Need-enum-known-opened
+enum-known-opened : tie.Need-enum_known-opened
 enum-known-opened c = search rules
 
 refused-requires : tie.Need-refused-requires
 refused-requires c κs = search rules
 
-enum_told : tie.Need-enum-told
+enum_told : tie.Need-enum_told-1
 enum_told c = search rules
 
-refused-requires-2 : tie.Need-refused-requires-2
+refused-requires-2 : tie.Need-refused-requires-in-Meta
 refused-requires-2 c κs = search rules
 
 -- the file does not open
-returns : tie.Need-returns
-returns c = let q = c.before.before in
-    let call = q.before.before in
+returns : tie.Need-returns-in-Refused
+returns c = let q = c.before in
+    let call = q.before in
     let a = call.before.before.before.args in
-    λ lo hi. refused_open a.file.now a.positions.now a.rest lo hi q.opened.given.0.0 (sym call.«open».ensures ∙ ap opening_is q.opened.given.1)
+    λ lo hi. refused_open a.file.now a.positions.now a.rest lo hi q.in-Refused.why (sym call.open-opened.ensures ∙ ap opening_is q.in-Refused.is)
     c.refused.result c.refused.ensures
 
 -- it opens: PATTERN
-returns-2 : tie.Need-returns-2
+returns-2 : tie.Need-returns-in-Meta
 returns-2 c = let q = c.before in
-    let call = q.before.before in
+    let call = q.before in
     let start = call.before.before.before in
     let a = start.args in
-    λ lo hi. refused_many a.file.now a.positions.now a.rest lo hi (meta_is q.enum_told.given.0.0)
-    (sym call.«open».ensures ∙ ap opening_is q.enum_told.given.1) start.requires c.refused2.result c.refused2.ensures
+    λ lo hi. refused_many a.file.now a.positions.now a.rest lo hi (meta_is q.in-Meta.field-0)
+    (sym call.open-opened.ensures ∙ ap opening_is q.in-Meta.is) start.requires c.refused-in-Meta.result c.refused-in-Meta.ensures
 
 pub refuse_many_spec : {M : Type 1} → statement M
 refuse_many_spec =

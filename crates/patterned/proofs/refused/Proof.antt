@@ -4,11 +4,11 @@ use borrow.Author.Rules.{rules}
 use Rattle.patterned.proofs.refused.Statement.{statement}
 use Rattle.patterned.proofs.refused.Tie as tie
 
-refused-requires : tie.Need-refused-requires
+refused-requires : tie.Need-refused-none-requires
 refused-requires c κs = search rules
 
 returns : tie.Need-returns
-returns c = rw c.before.refused.ensures
+returns c = rw c.before.refused-none.ensures
 
 pub refused_spec : {M : Type 1} → statement M
 refused_spec =

@@ -18,37 +18,37 @@ use Rattle.range.proofs.range_from.Tie as tie
 
 -- ---- what is known once the upper bound is measured, and after the walk along the lower bound
 
-abbrev begin : tie.After-len-of → tie.Start
+abbrev begin : tie.After-len_of-bound_len → tie.Start
 begin q = q.before.before.before.before.before.before
 
-abbrev lo : tie.After-len-of → S.Bound
-lo q = let a = (begin q).args in bound_is a.lower-kind a.lower.now
+abbrev lo : tie.After-len_of-bound_len → S.Bound
+lo q = let a = (begin q).args in bound_is a.lower_kind a.lower.now
 
-abbrev hi : tie.After-len-of → S.Bound
-hi q = let a = (begin q).args in bound_is a.upper-kind a.upper.now
+abbrev hi : tie.After-len_of-bound_len → S.Bound
+hi q = let a = (begin q).args in bound_is a.upper_kind a.upper.now
 
-short : (q : tie.After-len-of) → (length (bound_bytes (lo q)) ≤ max_path) × (length (bound_bytes (hi q)) ≤ max_path)
+short : (q : tie.After-len_of-bound_len) → (length (bound_bytes (lo q)) ≤ max_path) × (length (bound_bytes (hi q)) ≤ max_path)
 short q = short_both (lo q) (hi q) (begin q).requires.1.1
 
-abbrev q_of : tie.After-start-levels → tie.After-len-of
+abbrev q_of : tie.After-start_levels → tie.After-len_of-bound_len
 q_of w = w.before.before.before.before.before.before.before.before.before
 
-len-of-requires : tie.Need-len-of-requires
+len-of-requires : tie.Need-len_of-bound_len-requires
 len-of-requires c κs = search rules
 
-slice-aggregate-copy-front : tie.Need-slice-aggregate-copy-front
+slice-aggregate-copy-front : tie.Need-slice_bounds-copy_front-end
 slice-aggregate-copy-front c = search rules
 
 -- the upper bound has the bytes taken of it, 255 at most
-copy-front-requires : tie.Need-copy-front-requires
-copy-front-requires c κs = let q = c.before in (q.len_of_lem.ensures.inside, omega (arith, q.len_of_lem.ensures.count, (short q).1))
+copy-front-requires : tie.Need-copy_front-requires
+copy-front-requires c κs = let q = c.before in (q.len_of-bound_len.ensures.inside, omega (arith, q.len_of-bound_len.ensures.count, (short q).1))
 
 -- version 0 stands for no bytes
-pending-at-requires : tie.Need-pending-at-requires
+pending-at-requires : tie.Need-pending_at-empty-requires
 pending-at-requires c κs = blank_told (begin c.before.before.before).requires.1.0
 
 -- the root fits, the lower bound has at most 255 bytes, and each array has 256 entries
-start-levels-requires : tie.Need-start-levels-requires
+start-levels-requires : tie.Need-start_levels-requires
 start-levels-requires c κs =
     let q = c.before.before.before.before.before.before.before.before in
     let o = (begin q).requires.1.0 in (
@@ -58,66 +58,66 @@ start-levels-requires c κs =
       record { addrs_len = refl; inps_len = refl; trans_len = refl; outs_len = refl },
     )
 
-enum-known-why : tie.Need-enum-known-why
+enum-known-why : tie.Need-enum_known-why
 enum-known-why c = search rules
 
 refused-requires : tie.Need-refused-requires
 refused-requires c κs = search rules
 
-enum-known-levels : tie.Need-enum-known-levels
+enum-known-levels : tie.Need-enum_known-levels
 enum-known-levels c = search rules
 
 -- the levels of the start can be gone on from
-fill-all-requires : tie.Need-fill-all-requires
+fill-all-requires : tie.Need-fill_all-requires
 fill-all-requires c κs =
-    let given = c.before.before.before.before.before.before.before.before in
-    let w = given.before.before in
+    let given = c.before.before.before.before.before.before.before in
+    let w = given.before in
     let pending = w.before.before.before.before.before in
     let q = q_of w in
     let a = (begin q).args in (
-      (begin q).pre.0,
-      start_ready (begin q).pre.1.0 (lo q) (hi q) (begin q).pre.1.1 _ q.len_of_lem.result (empty_is pending.pending-at.result)
-          (bound_is_lem a.upper-kind a.upper.now q.len_of_lem.result q.len_of_lem.ensures _ _ pending.before.before.copy-front.ensures)
-          q.len_of_lem.ensures.count pending.pending-at.ensures _ _ _ _ _ _ (rw given.levels.given.1 at w.start-levels.ensures.found)
-          w.start-levels.ensures.arrays (search rules),
+      (begin q).requires.0,
+      start_ready (begin q).requires.1.0 (lo q) (hi q) (begin q).requires.1.1 _ q.len_of-bound_len.result (empty_is pending.pending_at-empty.result)
+          (bound_is_lem a.upper_kind a.upper.now q.len_of-bound_len.result q.len_of-bound_len.ensures _ _ pending.before.before.copy_front.ensures)
+          q.len_of-bound_len.ensures.count pending.pending_at-empty.ensures _ _ _ _ _ _ (rw given.in-Levels.is at w.start_levels.ensures.found)
+          w.start_levels.ensures.arrays (search rules),
     )
 
 -- the walk along the lower bound is refused
-returns : tie.Need-returns
+returns : tie.Need-returns-in-Halted
 returns c =
-    let given = c.before.before in
-    let w = given.before.before in
+    let given = c.before in
+    let w = given.before in
     let pending = w.before.before.before.before.before in
     let q = q_of w in
     let a = (begin q).args in
     refused_by _ a.rows.now a.values.now
     (ap (page_from a.file.now a.most)
-    (start_halted (begin q).pre.1.0 (lo q) (hi q) (begin q).pre.1.1 _ q.len_of_lem.result (empty_is pending.pending-at.result)
-    (bound_is_lem a.upper-kind a.upper.now q.len_of_lem.result q.len_of_lem.ensures _ _ pending.before.before.copy-front.ensures) q.len_of_lem.ensures.count
-    pending.pending-at.ensures _ (rw given.why.given.1 at w.start-levels.ensures.found)))
+    (start_halted (begin q).requires.1.0 (lo q) (hi q) (begin q).requires.1.1 _ q.len_of-bound_len.result (empty_is pending.pending_at-empty.result)
+    (bound_is_lem a.upper_kind a.upper.now q.len_of-bound_len.result q.len_of-bound_len.ensures _ _ pending.before.before.copy_front.ensures) q.len_of-bound_len.ensures.count
+    pending.pending_at-empty.ensures _ (rw given.in-Halted.is at w.start_levels.ensures.found)))
     c.refused.ensures
 
-same_length : tie.Need-same-length
+same_length : tie.Need-shape_of-rows
 same_length c = search rules
 
-same-length-2 : tie.Need-same-length-2
+same-length-2 : tie.Need-shape_of-values
 same-length-2 c = search rules
 
 -- the rows from its levels on
-returns-2 : tie.Need-returns-2
+returns-2 : tie.Need-returns-in-Levels
 returns-2 c =
     let call = c.before.before.before.before in
-    let given = call.before.before.before.before.before.before.before.before.before in
-    let w = given.before.before in
+    let given = call.before.before.before.before.before.before.before.before in
+    let w = given.before in
     let pending = w.before.before.before.before.before in
     let q = q_of w in
     let a = (begin q).args in
     ranged_as
     (ap (page_from a.file.now a.most)
-    (sym (start_began (begin q).pre.1.0 (lo q) (hi q) (begin q).pre.1.1 _ q.len_of_lem.result (empty_is pending.pending-at.result)
-    (bound_is_lem a.upper-kind a.upper.now q.len_of_lem.result q.len_of_lem.ensures _ _ pending.before.before.copy-front.ensures) q.len_of_lem.ensures.count
-    pending.pending-at.ensures _ (rw given.levels.given.1 at w.start-levels.ensures.found))))
-    call.fill-all.ensures
+    (sym (start_began (begin q).requires.1.0 (lo q) (hi q) (begin q).requires.1.1 _ q.len_of-bound_len.result (empty_is pending.pending_at-empty.result)
+    (bound_is_lem a.upper_kind a.upper.now q.len_of-bound_len.result q.len_of-bound_len.ensures _ _ pending.before.before.copy_front.ensures) q.len_of-bound_len.ensures.count
+    pending.pending_at-empty.ensures _ (rw given.in-Levels.is at w.start_levels.ensures.found))))
+    call.fill_all.ensures
 
 pub range_from_spec : {M : Type 1} → statement M
 range_from_spec =

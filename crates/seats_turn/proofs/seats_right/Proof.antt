@@ -12,6 +12,7 @@ use borrow.Author.Rules.{rules}
 use native.Mathlib.Omega.{arith}
 use Rattle.seats_turn.proofs.seats_right.Statement.{statement}
 use Rattle.seats_turn.proofs.seats_right.Tie as tie
+use Rattle.seats_turn.proofs.seats_right.Lts as lts
 
 abbrev invariant-loop-i : tie.invariant-loop-i
 invariant-loop-i seats i₀ i = (i ≤ 8) × (T.all_seats (map seat_is seats.seats) ≡ T.all_seats (drop i (map seat_is seats.seats)))
@@ -19,11 +20,11 @@ invariant-loop-i seats i₀ i = (i ≤ 8) × (T.all_seats (map seat_is seats.sea
 abbrev decreases-loop-i : tie.decreases-loop-i
 decreases-loop-i seats i₀ i = 8 - i
 
-eight : (q : tie.Start invariant-loop-i decreases-loop-i) → length q.args.t1.seats ≡ 8
-eight q = length_mapped _ _ _ q.args.t1.seats 8 q.well_formed.0.1.1.1.0.1.0.1
+eight : (q : tie.Start invariant-loop-i decreases-loop-i) → length q.args.seats.seats ≡ 8
+eight q = q.well_formed.0.1.1.1.0.1.0.1
 
 returns : tie.Need-returns-then-seats-gt-LAST_SEAT invariant-loop-i decreases-loop-i
-returns c = right_over c.before.args.t1 (eight c.before) c.if-seats-gt-LAST_SEAT.true
+returns c = right_over c.before.args.seats (eight c.before) c.if-seats-gt-LAST_SEAT.true
 
 loop-holds : tie.Need-loop-i-init invariant-loop-i decreases-loop-i
 loop-holds c = search rules
@@ -43,7 +44,7 @@ element-copy-out-if3 c = search rules
 returns-2 : tie.Need-returns-else-seats-i-2 invariant-loop-i decreases-loop-i
 returns-2 c =
     let loop = c.before.before.before in
-    let s = loop.before.before.args.t1 in
+    let s = loop.before.before.args.seats in
     right_wrong s (eight loop.before.before) loop.loop-i.i _ c.before.before.loop-i-test.true c.before.if-seats-i.true c.if-seats-i-2.false loop.loop-i.invariant.1 (omega arith)
 
 add-i : tie.Need-overflow_add-i invariant-loop-i decreases-loop-i
@@ -55,11 +56,11 @@ loop-less c = search rules
 loop-again : tie.Need-loop-i-preserved invariant-loop-i decreases-loop-i
 loop-again c =
     let loop = c.before.before in
-    let s = loop.before.before.args.t1 in
-    (omega arith, right_on s (eight loop.before.before) loop.loop-i.i _ c.before.loop-i-test.true (seat_passes _ (⊎_elim (λ x. inl (x.0.taken, x.1.taken)) (λ x. inr x.left) c.if-seats-i.branch)) loop.loop-i.invariant.1)
+    let s = loop.before.before.args.seats in
+    (omega arith, right_on s (eight loop.before.before) loop.loop-i.i _ c.before.loop-i-test.true (seat_passes _ (elim c.if-seats-i.branch [ lts.then-seats-i+then-seats-i-2 x ↦ inl (x.if-seats-i.true, x.if-seats-i-2.true) | lts.else-seats-i x ↦ inr x.if-seats-i.false ])) loop.loop-i.invariant.1)
 
 returns-3 : tie.Need-returns invariant-loop-i decreases-loop-i
-returns-3 c = right_through c.before.before.before.args.t1 (eight c.before.before.before) c.before.loop-i.i (omega arith) c.before.loop-i.invariant.1 (omega arith)
+returns-3 c = right_through c.before.before.before.args.seats (eight c.before.before.before) c.before.loop-i.i (omega arith) c.before.loop-i.invariant.1 (omega arith)
 
 pub seats_right_spec : {M : Type 1} → statement M
 seats_right_spec =

@@ -17,8 +17,8 @@ invariant-loop-looked seats i₀ looked₀ i looked = (i ≤ 7) × (looked ≤ 8
 abbrev decreases-loop-looked : tie.decreases-loop-looked
 decreases-loop-looked seats i₀ looked₀ i looked = 8 - looked
 
-eight : (q : tie.Start invariant-loop-looked decreases-loop-looked) → length q.args.t1.seats ≡ 8
-eight q = length_mapped _ _ _ q.args.t1.seats 8 q.well_formed.0.1.1.1.0.1.0.1
+eight : (q : tie.Start invariant-loop-looked decreases-loop-looked) → length q.args.seats.seats ≡ 8
+eight q = q.well_formed.0.1.1.1.0.1.0.1
 
 loop-holds : tie.Need-loop-looked-init invariant-loop-looked decreases-loop-looked
 unfolding T.turn
@@ -36,7 +36,7 @@ element-copy-out-if1 c = search rules
 returns : tie.Need-returns-then-seats-i invariant-loop-looked decreases-loop-looked
 returns c =
     let loop = c.before.before in
-    turn_here loop.before.args.t1 (eight loop.before) loop.loop-looked.i loop.loop-looked.looked _ c.before.loop-looked-test.true loop.loop-looked.invariant.2 c.if-seats-i.true
+    turn_here loop.before.args.seats (eight loop.before) loop.loop-looked.i loop.loop-looked.looked _ c.before.loop-looked-test.true loop.loop-looked.invariant.2 c.if-seats-i.true
 
 add-looked : tie.Need-overflow_add-looked invariant-loop-looked decreases-loop-looked
 add-looked c = search rules
@@ -47,10 +47,10 @@ loop-less c = search rules
 loop-again : tie.Need-loop-looked-preserved invariant-loop-looked decreases-loop-looked
 loop-again c =
     let loop = c.before.before in
-    (omega arith, omega arith, turn_on loop.before.args.t1 (eight loop.before) loop.loop-looked.i loop.loop-looked.looked _ c.before.loop-looked-test.true loop.loop-looked.invariant.2 c.if-seats-i.false)
+    (omega arith, omega arith, turn_on loop.before.args.seats (eight loop.before) loop.loop-looked.i loop.loop-looked.looked _ c.before.loop-looked-test.true loop.loop-looked.invariant.2 c.if-seats-i.false)
 
 returns-2 : tie.Need-returns invariant-loop-looked decreases-loop-looked
-returns-2 c = turn_none c.before.before.args.t1 (eight c.before.before) c.before.loop-looked.i c.before.loop-looked.looked (omega arith) c.before.loop-looked.invariant.2
+returns-2 c = turn_none c.before.before.args.seats (eight c.before.before) c.before.loop-looked.i c.before.loop-looked.looked (omega arith) c.before.loop-looked.invariant.2
 
 pub turn_of_spec : {M : Type 1} → statement M
 turn_of_spec =
