@@ -10,11 +10,11 @@ use Rattle.reading.specs.Reading.{bound_bytes}
 use Rattle.pattern.specs.Pattern.{Pattern}
 use Rattle.paging.specs.Paging as G
 use Rattle.paging.specs.Paging.{Page, ended, more, row_len, values_after}
-use Rattle.paging.specs.RangeLaws.{held_short}
-use Rattle.paging.specs.RowLaws.{RowsHold, rows_hold}
+use Rattle.paging.proofs.RangeLaws.{held_short}
+use Rattle.paging.proofs.RowLaws.{RowsHold, rows_hold}
 use Rattle.finding.specs.Finding.{find}
 use Rattle.finding.specs.FindExact.{FindExact}
-use Rattle.finding.specs.FindLaws.{find_exact}
+use Rattle.finding.proofs.FindLaws.{find_exact}
 use Rattle.baxhiso_readings.specs.Readings.{END, MORE, range_result, RangeLeaves}
 
 -- the result, and the page: its keys are the first held ones between the bounds that fit, each stands in its row, byte by byte, and its value in its place

@@ -12,13 +12,13 @@ use Rattle.format.specs.Limits.{max_path}
 use Rattle.format.specs.Admitted.{Admitted}
 use Rattle.format.specs.Strings.{Bound, excluded}
 use Rattle.reading.specs.Reading.{bound_bytes}
-use Rattle.reading.specs.CutLaws.{snoc_mem}
+use Rattle.reading.proofs.CutLaws.{snoc_mem}
 use Rattle.reading.specs.Demand.{Entry, entry}
 use Rattle.paging.specs.Paging.{Page, page, ended, more, row_len, values_after, range}
-use Rattle.paging.specs.RowLaws.{key_at, RowsHold}
+use Rattle.paging.proofs.RowLaws.{key_at, RowsHold}
 use Rattle.paging.specs.RangeExact.{PageCall, asked, Pages, last_page, page_then}
-use Rattle.paging.specs.RangeLaws.{held_short}
-use Rattle.paging.specs.PagesLaws.{pages}
+use Rattle.paging.proofs.RangeLaws.{held_short}
+use Rattle.paging.proofs.PagesLaws.{pages}
 use Rattle.baxhiso_readings.specs.Readings.{END, MORE}
 use Rattle.baxhiso_readings.specs.ReadingsLaws.{RangeTells, range_tells}
 use Rattle.baxhiso_pages.specs.CPages.{bytes_from, row_key, read_rows, PageMade, read_of, CPages, ends, goes_on, PagesTell}

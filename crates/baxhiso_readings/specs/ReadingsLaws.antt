@@ -21,8 +21,8 @@ use Rattle.reading.specs.Reading.{View, Level, key, end, on_node, on_search, on_
 use Rattle.paging.specs.Paging as G
 use Rattle.paging.specs.Paging.{Page, page, ended, more, refused_page, answered, fold, page_from, room_test, row_len, rows_after, values_after}
 use Rattle.paging.specs.RangeExact.{RangeExact}
-use Rattle.paging.specs.RangeLaws.{range_exact, held_short}
-use Rattle.paging.specs.RowLaws.{RowsHold, rows_hold}
+use Rattle.paging.proofs.RangeLaws.{range_exact, held_short}
+use Rattle.paging.proofs.RowLaws.{RowsHold, rows_hold}
 use Rattle.plain.specs.Numbers as N
 use Rattle.plain.specs.Numbers.{Tally, comes_to, plus, less, up_to, within, below_lower, number, none_read}
 use Rattle.plain.specs.Plain as P

@@ -15,7 +15,7 @@ use Rattle.plain.specs.Plain as P
 use Rattle.plain.specs.Plain.{next_plain}
 use Rattle.turns.specs.Turns as T
 use Rattle.turns.specs.Turns.{seat_at, right_test, turn, by_answer}
-use Rattle.turns.specs.TurnsLaws.{turn_some, turn_le, turn_held, dispatch_wrong, dispatch_turn}
+use Rattle.turns.proofs.TurnsLaws.{turn_some, turn_le, turn_held, dispatch_wrong, dispatch_turn}
 use Rattle.stream_step.specs.declared.Answer.{Answer}
 use Rattle.stream.specs.declared.Plain.{Plain}
 use Rattle.stream.specs.declared.Step.{Step}

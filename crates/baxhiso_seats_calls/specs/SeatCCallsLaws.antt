@@ -13,8 +13,8 @@ use Rattle.plain.specs.Plain.{next_plain}
 use Rattle.turns.specs.Turns as T
 use Rattle.turns.specs.Turns.{Seats, seat_at, right_test, turn, served, nobody, after_step, serve, by_turn, after, after_event}
 use Rattle.turns.specs.TurnsDemand.{SeatsRight, unrefused_then, unrefused_in}
-use Rattle.turns.specs.FairLaws.{fairness}
-use Rattle.turns.specs.AloneLaws.{new_right}
+use Rattle.turns.proofs.FairLaws.{fairness}
+use Rattle.turns.proofs.AloneLaws.{new_right}
 use Rattle.seats_arrays.specs.SeatArrays.{Rows, Flat, flat, flat_is}
 use Rattle.baxhiso_readings.specs.ReadingsLaws.{NextTells, hands_out, comes_to_end, leaves, next_nonzero}
 use Rattle.baxhiso_seats.specs.Seats.{EmptyLeaves, DispatchLeaves}

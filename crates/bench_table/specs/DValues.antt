@@ -18,7 +18,7 @@ use Rattle.format.specs.Laws.NumberedLaws.{get_key_exact}
 use Rattle.reading.specs.Reading.{View, started, start, Answer, end, Step, next}
 use Rattle.reading.specs.Demand.{Entry, entry, hand_out}
 use Rattle.reading.specs.WholeRun.{Runs, run_end, run_key, Whole}
-use Rattle.reading.specs.WholeLaws.{whole, between_all}
+use Rattle.reading.proofs.WholeLaws.{whole, between_all}
 use Rattle.bench_table.specs.BenchTable.{D, Reads, bench_table}
 use Rattle.bench_table.specs.DAdmitted.{meta_d, admitted_D, numbered_D, meta_D, numbered_meta_D}
 

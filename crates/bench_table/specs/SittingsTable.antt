@@ -21,13 +21,13 @@ use Rattle.format.specs.Laws.ReachedLaws.{reached_stays}
 use Rattle.reading.specs.Reading.{bound_bytes, Level, level_with, View, path_of, seek, start, pop, descend, next}
 use Rattle.reading.specs.Demand.{Entry, entry}
 use Rattle.reading.specs.WholeRun.{run_end, run_key}
-use Rattle.reading.specs.WholeLaws.{between_all}
+use Rattle.reading.proofs.WholeLaws.{between_all}
 use Rattle.plain.specs.Numbers.{up_to, within, below_lower, number}
 use Rattle.plain.specs.Plain.{plain_with, begun, start_plain}
 use Rattle.plain.specs.PlainRun.{RunsPlain}
-use Rattle.plain.specs.PlainRunLaws.{runs_plain}
+use Rattle.plain.proofs.PlainRunLaws.{runs_plain}
 use Rattle.sittings.specs.Sittings.{up_to_cut, from_cut, InTwo}
-use Rattle.sittings.specs.SittingsLaws.{two_sittings_runs}
+use Rattle.sittings.proofs.SittingsLaws.{two_sittings_runs}
 use Rattle.bench_table.specs.BenchTable.{D}
 use Rattle.bench_table.specs.DAdmitted.{addrs, in_two, nodes_two, meta_d, root_D, t_D, admitted_D, meta_D}
 use Rattle.bench_table.specs.DKeys.{keys_t, keys_root}

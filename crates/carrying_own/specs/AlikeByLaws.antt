@@ -23,12 +23,12 @@ use Rattle.format.specs.Paths.{Fst, fst_of, node_in}
 use Rattle.format.specs.Strings.{Bound}
 use Rattle.reading.specs.Reading.{passes_test, Level, View, key_of, on_node, start, Answer, key, end, Step, refuse, moved, counted, next_trans, child, stepped, state_test}
 use Rattle.reading.specs.Visits.{left}
-use Rattle.reading.specs.LeftLaws.{left_pop, left_follow}
-use Rattle.reading.specs.RunLaws.{lt_or}
+use Rattle.reading.proofs.LeftLaws.{left_pop, left_follow}
+use Rattle.reading.proofs.RunLaws.{lt_or}
 use Rattle.reading.specs.Demand.{Call, Allowed}
 use Rattle.pattern.specs.Pattern.{Pattern, start_test, fits_test, WentBy, found, ended, halted, turn_by, walk_by, after_walk, pending_by, next_by, start_by}
 use Rattle.pattern.specs.PatternDemand.{call_by, reading_after_by}
-use Rattle.pattern.specs.Laws.WalkLaws.{walk_by_lem}
+use Rattle.pattern.proofs.WalkLaws.{walk_by_lem}
 use Rattle.converting.specs.Mirror.{renamed, Mirror}
 use Rattle.carrying_own.specs.LevelsPath.{LevelsPath, Own}
 use Rattle.carrying_own.specs.LevelsPathLaws.{on_node_lem, on_cond, both_left, step_path, file_same, allowed_or, state_own, state_other, moved_own}

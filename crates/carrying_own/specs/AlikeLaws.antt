@@ -21,7 +21,7 @@ use Rattle.format.specs.Opening.{Meta, opened, opening}
 use Rattle.format.specs.Paths.{Fst, fst_of, node_in}
 use Rattle.format.specs.Strings.{Bound}
 use Rattle.reading.specs.Reading.{passes_test, bound_bytes, is_inclusive, Level, level_with, View, path_of, key_of, on_node, on_search, Sought, got, last_levels, seek, pending_at, Started, started, started_at, start, Answer, Step, refuse, moved, counted, Popped, top, used_up, bad, pop, next_trans, child, stepped, Went, found, passed, descend, after_descend, after_pop, walk}
-use Rattle.reading.specs.RunLaws.{target_live}
+use Rattle.reading.proofs.RunLaws.{target_live}
 use Rattle.converting.specs.Mirror.{renamed, mirrored, Image, Mirror}
 use Rattle.converting.specs.Laws.LayLaws.{get_d_map_lt}
 use Rattle.carrying.specs.Carry.{carried_to}

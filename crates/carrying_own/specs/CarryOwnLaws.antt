@@ -16,8 +16,8 @@ use Rattle.format.specs.Admitted.{Admitted}
 use Rattle.format.specs.Strings.{Bound}
 use Rattle.reading.specs.Reading.{bound_bytes, is_inclusive, View, Sought, got, seek, pending_at, Started, started, started_at, bounds_test, start, Answer, key, end, Step, refuse, walk}
 use Rattle.reading.specs.Demand.{Call, Allowed, call, reading_after, answers, unrefused_then, unrefused, followed, Demand3}
-use Rattle.reading.specs.DemandLaws.{reading₀, start_given, demand_3}
-use Rattle.reading.specs.RunLaws.{lt_or}
+use Rattle.reading.proofs.DemandLaws.{reading₀, start_given, demand_3}
+use Rattle.reading.proofs.RunLaws.{lt_or}
 use Rattle.converting.specs.Mirror.{Mirror}
 use Rattle.converting.specs.Converting.{vanishes, moved_to, converted, table_of, Conversion, written, placing, conversion}
 use Rattle.converting.specs.Converted.{old_fst, new_fst, OnChain, SameContents}

@@ -15,12 +15,12 @@ use Rattle.format.specs.Strings.{Bound, Between, NumberOf}
 use Rattle.format.specs.Laws.NumberOfLaws.{number_iff, number_unique}
 use Rattle.reading.specs.Reading.{bound_bytes, View, start, started, Answer, key, end}
 use Rattle.reading.specs.Demand.{Call, call, reading_after, answers, unrefused, followed, Entry, entry, handed_in, Demand3}
-use Rattle.reading.specs.DemandLaws.{reading₀, start_given}
+use Rattle.reading.proofs.DemandLaws.{reading₀, start_given}
 use Rattle.plain.specs.Numbers.{TableFits}
 use Rattle.plain.specs.Plain.{Plain, plain_with, start_plain, begun, PlainStep, counting, call_plain, plain_after, answers_plain}
 use Rattle.plain.specs.PlainDemand.{keys_out, StillToCome, DemandPlain}
-use Rattle.plain.specs.PlainLaws.{right, start_numbered, demand_3_plain}
-use Rattle.plain.specs.PlainRunLaws.{plain_started}
+use Rattle.plain.proofs.PlainLaws.{right, start_numbered, demand_3_plain}
+use Rattle.plain.proofs.PlainRunLaws.{plain_started}
 use Rattle.converting.specs.Converting.{converted}
 use Rattle.converting.specs.Converted.{old_fst, new_fst}
 use Rattle.carrying.specs.Carry.{Carried, carried, carry, CarriedPlain, with_keys, carry_plain}

@@ -24,7 +24,7 @@ use Rattle.format.specs.Opening as Opening
 use Rattle.format.specs.Paths.{Fst, fst_of, node_in}
 use Rattle.format.specs.Strings.{Bound}
 use Rattle.reading.specs.Reading.{passes_test, bound_bytes, is_inclusive, Level, level_with, View, key_of, on_node, on_search, on_opened, Sought, got, last_levels, seek, pending_at, Started, started, started_at, bounds_test, start, Step, refuse, moved, counted, Popped, top, used_up, bad, pop, next_trans, child, stepped, Went, found, passed, descend, after_descend, after_pop, walk, state_test, next}
-use Rattle.reading.specs.RunLaws.{lt_or, target_live}
+use Rattle.reading.proofs.RunLaws.{lt_or, target_live}
 use Rattle.reading.specs.Demand.{Call, Allowed, call, reading_after}
 use Rattle.carrying_own.specs.LevelsPath.{LedTo, from_root, by_byte, OnPath, LevelsPath, Own}
 

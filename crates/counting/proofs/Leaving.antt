@@ -32,7 +32,7 @@ use Rattle.counting.specs.declared.Counting.{Counting}
 use Rattle.counting.specs.declared.Counting.TheVariants.{Counted, Refused}
 use Rattle.counting.specs.CountOutcomes.{FewKeys, ManyKeys, CountRefusedFor, not_opened, no_space, not_admitted, too_many, Counts, CountOutcome}
 use Rattle.counting.specs.CountPasses.{HasEntry, Countable, OverOne, Passed, NotCounted, Leaves}
-use Rattle.counting.specs.CountLaws.{root_many}
+use Rattle.counting.proofs.CountLaws.{root_many}
 
 -- ---- the pass with its refusal
 

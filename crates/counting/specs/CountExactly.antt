@@ -21,7 +21,7 @@ use Rattle.admission.specs.Exactly.{not_refused}
 use Rattle.counting.specs.declared.Counting.{Counting}
 use Rattle.counting.specs.declared.Counting.TheVariants.{Counted, Refused}
 use Rattle.counting.specs.CountOutcomes.{FewKeys, ManyKeys, CountRefusedFor, not_opened, no_space, not_admitted, too_many, Counts, CountOutcome}
-use Rattle.counting.specs.CountLaws.{many_root, root_many, few_not_many}
+use Rattle.counting.proofs.CountLaws.{many_root, root_many, few_not_many}
 
 -- an admitted file, as it opens, in which no reached node has more than 2^64 - 1 keys
 pub record FewAdmitted (s : List ℕ) : Type 0 where

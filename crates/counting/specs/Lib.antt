@@ -1,4 +1,3 @@
 pub mod CountOutcomes
 pub mod CountPasses
-pub mod CountLaws
 pub mod CountExactly

@@ -19,9 +19,9 @@ use Rattle.pattern.specs.Pattern as P
 use Rattle.pattern.specs.Pattern.{next_by}
 use Rattle.paging.specs.Paging as G
 use Rattle.paging.specs.Paging.{Page, page, ended, more, row_len, row_of, rows_after, values_after}
-use Rattle.paging.specs.FoldLaws.{rows_none, rows_snoc, values_none, values_snoc}
+use Rattle.paging.proofs.FoldLaws.{rows_none, rows_snoc, values_none, values_snoc}
 use Rattle.finding.specs.Finding.{fold_by}
-use Rattle.finding.specs.FoldByLaws.{FoldedBy, by_none, by_key, by_more, by_end, by_refused}
+use Rattle.finding.proofs.FoldByLaws.{FoldedBy, by_none, by_key, by_more, by_end, by_refused}
 use Rattle.stream_start.specs.Views.{view_is}
 use Rattle.stream_step.specs.declared.Answer.TheVariants.{Key, End, Refused}
 use Rattle.stream_step.specs.SteppedLaws.{Told, step_end, step_refused, step_text, step_fits}

@@ -1,5 +1,2 @@
 pub mod Finding
 pub mod FindExact
-pub mod FoldByLaws
-pub mod FindLaws
-pub mod FindPagesLaws

@@ -15,9 +15,9 @@ use Rattle.format.specs.Admitted.{Admitted}
 use Rattle.reading.specs.Reading as R
 use Rattle.reading.specs.Reading.{View, Answer, key, end, counted, next}
 use Rattle.plain.specs.Plain.{Plain, next_plain}
-use Rattle.plain.specs.PlainRunLaws.{plain_key, plain_started}
-use Rattle.reading.specs.ProgressLaws.{left}
-use Rattle.reading.specs.WholeLaws.{OnWay, OnWayNext, goes_on, comes_to_end, on_way_start, on_way_next}
+use Rattle.plain.proofs.PlainRunLaws.{plain_key, plain_started}
+use Rattle.reading.proofs.ProgressLaws.{left}
+use Rattle.reading.proofs.WholeLaws.{OnWay, OnWayNext, goes_on, comes_to_end, on_way_start, on_way_next}
 use Rattle.stream.specs.Plains.{plain_is}
 use Rattle.stream.specs.declared.Started.{Started}
 use Rattle.stream_start.specs.declared.Begins.TheVariants.{Began}

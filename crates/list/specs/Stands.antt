@@ -4,7 +4,7 @@ use Rattle.std.specs.Prelude.{List, ℕ}
 use Rattle.format.specs.Admitted.{Admitted}
 use Rattle.format.specs.Strings.{unbounded}
 use Rattle.reading.specs.Reading.{View}
-use Rattle.reading.specs.WholeLaws.{OnWay}
+use Rattle.reading.proofs.WholeLaws.{OnWay}
 
 pub record Stands (s : List ℕ) (r : View) : Type 0 where
   pub admitted : Admitted s

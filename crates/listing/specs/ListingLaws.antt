@@ -10,14 +10,14 @@ use Rattle.format.specs.Paths.{Fst, fst_of, Held}
 use Rattle.format.specs.Admitted.{Admitted}
 use Rattle.format.specs.Strings.{unbounded}
 use Rattle.reading.specs.Reading.{counted}
-use Rattle.reading.specs.RunLaws.{counted_capped}
+use Rattle.reading.proofs.RunLaws.{counted_capped}
 use Rattle.reading.specs.Demand.{Extra, one_more, no_more, Entry, capped}
 use Rattle.reading.specs.WholeRun.{Whole}
-use Rattle.reading.specs.WholeLaws.{between_all}
+use Rattle.reading.proofs.WholeLaws.{between_all}
 use Rattle.plain.specs.Numbers.{TableFits}
 use Rattle.plain.specs.Plain.{Plain, plain_with}
 use Rattle.plain.specs.PlainRun.{RunsPlain, run_end, run_key, WholePlain}
-use Rattle.plain.specs.PlainRunLaws.{whole_plain}
+use Rattle.plain.proofs.PlainRunLaws.{whole_plain}
 use Rattle.listing.specs.HeldLines.{line_for, HeldLines}
 use Rattle.listing_lines.specs.Lines.{end_line}
 use Rattle.listing.specs.Listing.{State, state, Line, more, last, line_of, Lists, last_line, line_more}

@@ -15,7 +15,7 @@ use Rattle.counting.specs.CountExactly.{counted_filled}
 use Rattle.counting.specs.declared.Counting.{Counting}
 use Rattle.counting.specs.declared.Counting.TheVariants.{Counted as Yes, Refused as NotCounted}
 use Rattle.plain.specs.Plain.{Plain, begun, start_plain}
-use Rattle.plain.specs.PlainLaws.{start_plain_only}
+use Rattle.plain.proofs.PlainLaws.{start_plain_only}
 use Rattle.stream.specs.Plains.{began_is, begun_is}
 use Rattle.stream.specs.declared.Started.{Started}
 use Rattle.stream_start.specs.declared.Begins.{Begins}

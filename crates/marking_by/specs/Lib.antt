@@ -1,2 +1,1 @@
 pub mod MarksByDemand
-pub mod MarksByLaws

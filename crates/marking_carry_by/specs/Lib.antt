@@ -1,2 +1,1 @@
 pub mod CarriedRunBy
-pub mod CarriedRunByLaws

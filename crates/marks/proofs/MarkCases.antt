@@ -23,7 +23,7 @@ use Rattle.plain.specs.Plain as P
 use Rattle.plain.specs.Plain.{next_plain}
 use Rattle.marking.specs.MarkCalls as M
 use Rattle.marking.specs.MarkCalls.{named, name_test, is_there, marked, put, marks_test, each_right, refuse_with}
-use Rattle.marking.specs.NamedLaws.{put_added, both_left, both_right}
+use Rattle.marking.proofs.NamedLaws.{put_added, both_left, both_right}
 use Rattle.stream_start.specs.declared.Reading.{Reading}
 use Rattle.stream_start.specs.Views.{view_is}
 use Rattle.stream_start.specs.StackLaws.{stack_length}

@@ -22,8 +22,8 @@ use Rattle.pattern.specs.Pattern as Q
 use Rattle.pattern.specs.Pattern.{next_by}
 use Rattle.marking.specs.MarkCalls as M
 use Rattle.marking.specs.MarkCalls.{marks_test}
-use Rattle.marking.specs.NamedLaws.{both_right}
-use Rattle.marking.specs.MarksRightLaws.{test_right}
+use Rattle.marking.proofs.NamedLaws.{both_right}
+use Rattle.marking.proofs.MarksRightLaws.{test_right}
 use Rattle.marking.specs.MarksDemand.{reading_at}
 use Rattle.stream_start.specs.Views.{view_is}
 use Rattle.stream_step.specs.declared.Answer.TheVariants as A

@@ -14,16 +14,16 @@ use Rattle.reading.specs.Reading.{bound_bytes}
 use Rattle.reading.specs.Demand.{Call}
 use Rattle.plain.specs.Numbers.{TableFits}
 use Rattle.plain.specs.Plain.{Plain, Begun, begun, start_plain, plain_after}
-use Rattle.plain.specs.PlainLaws.{start_numbered}
+use Rattle.plain.proofs.PlainLaws.{start_numbered}
 use Rattle.converting.specs.Converting.{converted}
 use Rattle.carrying.specs.Carry.{CarriedPlain, with_keys, carry_plain}
 use Rattle.carrying_own.specs.CarryOwn.{SameCalls, Convertible}
 use Rattle.carrying_own.specs.CarryOwnLaws.{new_admitted, same_contents, held_old}
 use Rattle.carrying_own.specs.CarryPlainLaws.{carry_own_plain}
 use Rattle.marking.specs.MarkCalls.{Named, Mark, each_right, marks_test}
-use Rattle.marking.specs.NamedLaws.{both_true}
+use Rattle.marking.proofs.NamedLaws.{both_true}
 use Rattle.marking.specs.MarksDemand.{Did, reads, now_from, history_is, recorded_all, history_of}
-use Rattle.marking.specs.MarksLaws.{r₀, kept, marked_run}
+use Rattle.marking.proofs.MarksLaws.{r₀, kept, marked_run}
 use Rattle.marks_carry.specs.MarksCarry.{carry_marked}
 use Rattle.marks_carry.specs.MarksCarryLaws.{marked_carries}
 use Rattle.marks_carry.specs.CarriedRun.{CarriedMarkedRun}

@@ -24,7 +24,7 @@ use Rattle.stream_start.specs.StackLaws.{stack_length}
 use Rattle.stream_bounds.specs.State.{state_right}
 use Rattle.marking.specs.MarkCalls as M
 use Rattle.marking.specs.MarkCalls.{same_name, name_test, marked, is_there, each_right, marks_test}
-use Rattle.marking.specs.NamedLaws.{same_not}
+use Rattle.marking.proofs.NamedLaws.{same_not}
 use Rattle.marks_held.specs.declared.Mark.{Mark}
 use Rattle.marks_held.specs.declared.Marks.{Marks}
 use Rattle.marks_held.specs.declared.Name.{Name}

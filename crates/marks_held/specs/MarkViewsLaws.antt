@@ -12,7 +12,7 @@ use Rattle.std.proofs.lemmas.List.{length-map}
 use Rattle.plain.specs.Plain as P
 use Rattle.marking.specs.MarkCalls as M
 use Rattle.marking.specs.MarkCalls.{named, same_name, marked, is_there, put}
-use Rattle.marking.specs.NamedLaws.{same_is}
+use Rattle.marking.proofs.NamedLaws.{same_is}
 use Rattle.marks_held.specs.declared.Mark.{Mark}
 use Rattle.marks_held.specs.declared.Marks.{Marks}
 use Rattle.marks_held.specs.declared.Place.TheVariants.{At, Nowhere}

@@ -11,7 +11,7 @@ use mathlib.Core.List.{List, [], ◌∷◌, ◌++◌, map, Memᴰ}
 use Rattle.std.proofs.Math.Seq.{take-nil}
 use Rattle.format.specs.Limits.{max_path}
 use Rattle.reading.specs.Reading.{Answer, key, end}
-use Rattle.reading.specs.RunLaws.{lt_or}
+use Rattle.reading.proofs.RunLaws.{lt_or}
 use Rattle.reading.specs.Demand.{Entry, hand_out}
 use Rattle.plain.specs.Plain.{Plain, PlainStep, next_plain}
 use Rattle.ops_spec.specs.Ops as O

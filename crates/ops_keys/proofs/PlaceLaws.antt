@@ -9,7 +9,7 @@ use Prim.Native.Nat.{ℕ, ◌+◌, ◌-◌, ◌*◌, ◌<◌, ◌≤◌}
 use native.Mathlib.Omega.{arith}
 use lib.ListN.{length, get_or, take, drop, set, replicate, length-drop, length-set, length-replicate}
 use lib.Seq.{get_or-take, get_or-drop, get_or-set_same, get_or-set_other, length-take-le, ext_get_or}
-use Rattle.reading.specs.RunLaws.{lt_or}
+use Rattle.reading.proofs.RunLaws.{lt_or}
 use Rattle.stream.specs.declared.Plain.{Plain}
 use Rattle.ops_keys.specs.declared.Place.{Place}
 use Rattle.ops_keys.specs.Heads.{place_key, Within, KeyAt, BytesPut}

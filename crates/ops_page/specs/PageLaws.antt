@@ -17,13 +17,13 @@ use Rattle.format.specs.Limits.{max_path, CARDS, STATE}
 use Rattle.reading.specs.Demand.{Entry, entry}
 use Rattle.paging.specs.Paging as G
 use Rattle.paging.specs.Paging.{ended, more, row_len, row_of, rows_after, values_after}
-use Rattle.paging.specs.FoldLaws.{rows_none, rows_snoc, values_none, values_snoc}
+use Rattle.paging.proofs.FoldLaws.{rows_none, rows_snoc, values_none, values_snoc}
 use Rattle.ops_spec.specs.Ops as O
 use Rattle.ops_spec.specs.Ops.{Indexed, indexed, next_item, after_steps, step_all, by_verdict, decide}
 use Rattle.ops_spec.specs.OpsLists.{Item, item_is}
 use Rattle.ops_spec.specs.OpsFuelLaws.{rounds_by, rounds_by_lem, next_item_by}
 use Rattle.ops_paging.specs.ItemPaging.{ItemPage, item_page, refused_items, Starts, fold, room_test, page_from, lines_of, eight_of, eights_after, index_of, value_of}
-use Rattle.ops_paging.specs.ItemFoldLaws.{Folded, folded_none, folded_item, folded_more, folded_end, folded_refused, lines_snoc, eights_none, eights_snoc}
+use Rattle.ops_paging.proofs.ItemFoldLaws.{Folded, folded_none, folded_item, folded_more, folded_end, folded_refused, lines_snoc, eights_none, eights_snoc}
 use Rattle.ops_keys.specs.declared.Head.{Head}
 use Rattle.ops_keys.specs.Heads.{head_key, place_key, Within}
 use Rattle.ops_pairs.specs.declared.Pairs.{Pairs}

@@ -1,2 +1,1 @@
 pub mod ItemPages
-pub mod ItemPagesLaws

@@ -8,7 +8,7 @@
 use Rattle.std.specs.Prelude.{◌≡◌, refl, ◌⊎◌, List, [], ◌∷◌, ◌++◌, ℕ, zero, suc, ◌+◌, ◌≤◌, ◌<◌, length, take, drop, get_or, set}
 use Rattle.std.proofs.Common.{sym, ap, ap₂, ◌∙◌, subst, ⊎_elim, inl, inr, arith, add-one, length-take-le, drop-cons, get_or-take, take-suc-set, drop-set-lt, get_or-set_same, get_or-set_other}
 use Rattle.std.proofs.Math.Seq.{take-set-lt}
-use Rattle.reading.specs.RunLaws.{lt_or}
+use Rattle.reading.proofs.RunLaws.{lt_or}
 use Rattle.ops_spec.specs.Ops as O
 use Rattle.ops_round.specs.declared.Card.{Card}
 use Rattle.ops_round.specs.Cards.{card_is, with_files, cards_is, Few}

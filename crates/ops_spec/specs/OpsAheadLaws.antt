@@ -19,13 +19,13 @@ use Rattle.format.specs.Paths.{Fst, fst_of, node_in, Held}
 use Rattle.format.specs.Admitted.{Admitted}
 use Rattle.format.specs.Strings.{Bound, unbounded, included, excluded, Between, before_test, Rising}
 use Rattle.reading.specs.Reading.{meets_test, passes_test, bound_bytes, is_inclusive, Level, level_with, View, path_of, key_of, on_node, on_opened, Sought, got, halted, seek, last_levels, pending_at, Started, started, started_at, bounds_test, start, Answer, key, end, Step, refuse, moved, counted, Popped, top, used_up, bad, pop, next_trans, child, stepped, Went, found, passed, descend, after_descend, after_pop, walk, state_test, next}
-use Rattle.reading.specs.RunLaws.{lt_or}
+use Rattle.reading.proofs.RunLaws.{lt_or}
 use Rattle.reading.specs.Demand.{Entry, entry, hand_out, NoneLeft}
-use Rattle.reading.specs.CutLaws.{keys_out}
+use Rattle.reading.proofs.CutLaws.{keys_out}
 use Rattle.plain.specs.Numbers.{TableFits}
 use Rattle.plain.specs.Plain.{Plain, plain_with, begun, start_plain, PlainStep, counted_step, next_plain}
 use Rattle.plain.specs.PlainRun.{RunsPlain, run_end, run_key, WholePlain}
-use Rattle.plain.specs.PlainRunLaws.{plain_key, plain_started, whole_plain}
+use Rattle.plain.proofs.PlainRunLaws.{plain_key, plain_started, whole_plain}
 use Rattle.ops_spec.specs.OpsFuelLaws.{cond_way, node_way}
 
 -- ---- the key of the levels

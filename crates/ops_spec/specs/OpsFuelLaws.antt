@@ -18,10 +18,10 @@ use Rattle.format.specs.Opening as Opening
 use Rattle.format.specs.Paths.{Fst, fst_with, fst_of, node_in}
 use Rattle.format.specs.Strings.{Bound, before_test}
 use Rattle.reading.specs.Reading.{passes_test, Level, View, key_of, on_node, on_opened, Answer, key, end, Step, refuse, moved, counted, Popped, top, used_up, bad, pop, next_trans, child, stepped, Went, found, passed, descend, after_descend, after_pop, walk, state_test, next}
-use Rattle.reading.specs.RunLaws.{lt_or, target_live}
+use Rattle.reading.proofs.RunLaws.{lt_or, target_live}
 use Rattle.reading.specs.Visits.{left}
 use Rattle.plain.specs.Plain.{Plain, plain_with, PlainStep, counting, next_plain}
-use Rattle.reading.specs.LeftLaws.{left_pop, left_follow}
+use Rattle.reading.proofs.LeftLaws.{left_pop, left_follow}
 use Rattle.ops_spec.specs.Ops.{Op, union, intersection, difference, symmetric, Slot, used, holds, ended, Card, card_is, card_key, Stepped, cards, halted, with_card, by_answer, step_one, step_all, Indexed, if_holds, lesser, least_key, same_test, pairs_from, use_up, takes_test, Verdict, this, no_more, another, at_key, at_least, at_first, decide, Merged, file_of, pendings, slot_left, all_left, by_verdict, after_steps, rounds, next_item}
 use Rattle.ops_spec.specs.OpsListsLaws.{same_true}
 

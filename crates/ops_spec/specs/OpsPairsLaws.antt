@@ -13,7 +13,7 @@ use Rattle.buffers.specs.Decide.{Decides}
 use Rattle.buffers.specs.DecideLaws.{decides_and, decides_or, decides_lt, decides_eq}
 use Rattle.format.specs.Strings.{Before, AllAfter, Rising}
 use Rattle.format.specs.Laws.StringLaws.{before_irrefl}
-use Rattle.reading.specs.RunLaws.{lt_or}
+use Rattle.reading.proofs.RunLaws.{lt_or}
 use Rattle.reading.specs.Demand.{Entry, entry}
 use Rattle.ops_spec.specs.Ops.{Slot, used, holds, ended, Card, card_key, Indexed, indexed, if_holds, same_test, insert, sooner, pairs_from}
 use Rattle.ops_spec.specs.OpsDemand.{Sooner, SoonerThanAll, InOrder}

@@ -15,8 +15,8 @@ use Rattle.format.specs.Paths.{fst_of, Held}
 use Rattle.format.specs.Admitted.{Admitted}
 use Rattle.format.specs.Strings.{Between, Rising}
 use Rattle.reading.specs.Reading.{bound_bytes}
-use Rattle.reading.specs.RunLaws.{lt_or}
-use Rattle.plain.specs.PlainLaws.{plain_long_bound, plain_short}
+use Rattle.reading.proofs.RunLaws.{lt_or}
+use Rattle.plain.proofs.PlainLaws.{plain_long_bound, plain_short}
 use Rattle.reading.specs.Demand.{Entry, entry}
 use Rattle.ops_spec.specs.Ops.{Op, used, Card, card_is, Stepped, cards, step_all, Indexed, indexed, Verdict, decide, Merged, by_verdict, after_steps, next_item}
 use Rattle.ops_spec.specs.OpsDemand as D

@@ -1,4 +1,1 @@
 pub mod OpsStands
-pub mod StandingLaws
-pub mod CardsStandLaws
-pub mod OpsStandsLaws

@@ -22,7 +22,7 @@ use Rattle.ops.specs.declared.Step.{Step}
 use Rattle.ops.specs.Merges.{count_test, BegunAs}
 use Rattle.ops_code.specs.OpsCodeLaws.{begin_is, told_of, CodeCalls, no_call, one_call, code_one}
 use Rattle.ops_stands.specs.OpsStands.{AllAt, EndsAt, readings_in}
-use Rattle.ops_stands.specs.OpsStandsLaws.{ops_stands}
+use Rattle.ops_stands.proofs.OpsStandsLaws.{ops_stands}
 use Rattle.ops_stands_code.specs.CodeStands.{last_cards, CodeRun, left_readings, CodeStands}
 
 -- ---- a list of calls

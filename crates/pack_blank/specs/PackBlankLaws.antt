@@ -20,9 +20,9 @@ use Rattle.format.specs.Laws.BytesLaws.{length_bytes_of}
 use Rattle.packing.specs.Lists.{count_in, IsList, list_test, pairs_of}
 use Rattle.packing.specs.Registry.{Cell, empty_cell, Interned}
 use Rattle.packing.specs.Packing.{pack_nodes, file_of, pack_file, pack_cells, Answer, written, refused, pack_answer, output_after, cells_after}
-use Rattle.packing.specs.Laws.ListLaws.{decides_list, length_pairs}
-use Rattle.packing.specs.Laws.ListedLaws.{answer_room, answer_over}
-use Rattle.packing.specs.Laws.TrailerLaws.{length_file}
+use Rattle.packing.proofs.ListLaws.{decides_list, length_pairs}
+use Rattle.packing.proofs.ListedLaws.{answer_room, answer_over}
+use Rattle.packing.proofs.TrailerLaws.{length_file}
 use Rattle.pack_intern.specs.Interning.{nodes_in, cell_of, cells_is, build_is, Laid, interned_with}
 use Rattle.pack_intern.specs.InterningLaws.{nodes_length, laid_is}
 use Rattle.pack_intern.specs.declared.Placed.{Placed}

@@ -10,7 +10,7 @@ use Rattle.format.specs.Packed.{BuilderNode}
 use Rattle.node_compile.specs.Parts.{RecordFits}
 use Rattle.packing.specs.Registry.{Build, Interned, intern}
 use Rattle.packing.specs.Packing.{Arc, Open, least_at, record_of, with_arc, finish, closed_as}
-use Rattle.packing.specs.Laws.CloseLaws.{Grows}
+use Rattle.packing.proofs.CloseLaws.{Grows}
 use Rattle.packing_rows.specs.WorkTables.{Tables, tables_with, row_in, arc_with, count_at, open_at, levels, least_from, Joined, joined, close_into, Sized, Orderly, SameAbove}
 use Rattle.packing_rows.specs.OpenLaws.{closed_with, close_deepest, close_into_grows, finish_into_grows}
 use Rattle.packing_rows.specs.WorkTableLaws.{length_row, open_least, record_row, open_same, with_entry, open_more, same_more, sized_more, room_for_one, orderly_more}

@@ -18,8 +18,8 @@ use Rattle.format.specs.Packed.{TargetsOk}
 use Rattle.format.specs.Strings.{Before}
 use Rattle.packing.specs.Registry.{Build}
 use Rattle.packing.specs.Packing.{Arc, Open, with_arc, with_value, close, State, state_with, insert}
-use Rattle.packing.specs.Laws.CloseLaws.{Grows}
-use Rattle.packing.specs.Laws.InsertLaws.{insert_grows}
+use Rattle.packing.proofs.CloseLaws.{Grows}
+use Rattle.packing.proofs.InsertLaws.{insert_grows}
 use Rattle.packing_rows.specs.WorkTables.{Tables, row_in, zip_arcs, count_at, open_at, levels, Joined, joined, join, close_into, Sized, Orderly, SameAbove}
 use Rattle.packing_rows.specs.OpenLaws.{new_open, levels_new, insert_levels, insert_build}
 use Rattle.packing_rows.specs.WorkTableLaws.{length_row, open_inputs, open_same, row_above}

@@ -20,8 +20,8 @@ use Rattle.node_compile.specs.declared.Compiled.TheVariants.{Len, Refused}
 use Rattle.node_compile.specs.Compile.{answer_as, buffer_after}
 use Rattle.node_compile.specs.Parts.{Fitted}
 use Rattle.packing.specs.Registry.{hash_of, Cell, empty_cell, Build, cell_at, row_of, same_node, matches, Interned, row_set, write_node, promote, intern}
-use Rattle.packing.specs.Laws.FileLaws.{packed_some}
-use Rattle.packing.specs.Laws.BuildLaws.{row_set_lem, length_row_set}
+use Rattle.packing.proofs.FileLaws.{packed_some}
+use Rattle.packing.proofs.BuildLaws.{row_set_lem, length_row_set}
 use Rattle.registry.specs.Matching.{cell_with, matches_in, matches_in_lem, chosen, intern_by, intern_chosen}
 use Rattle.registry.specs.declared.Choice.{Choice}
 use Rattle.registry.specs.declared.Choice.TheVariants.{First, Second, Write}

@@ -9,9 +9,9 @@ use Rattle.format.specs.Admitted.{Admitted}
 use Rattle.packing.specs.Lists.{IsList, list_test, pairs_of}
 use Rattle.packing.specs.Packing.{pack_file, pack_cells, Answer, written, refused, pack_answer}
 use Rattle.packing.specs.Promise.{PackRight}
-use Rattle.packing.specs.Laws.ListLaws.{decides_list, list_listed, count_lt}
+use Rattle.packing.proofs.ListLaws.{decides_list, list_listed, count_lt}
 use Rattle.packing.specs.Kept.{pack_keeps, KeptSeen}
-use Rattle.packing.specs.Laws.PackLaws.{pack_admitted, pack_right, pack_kept}
+use Rattle.packing.proofs.PackLaws.{pack_admitted, pack_right, pack_kept}
 use Rattle.pack_intern.specs.Interning.{cells_is}
 use Rattle.pack_blank.specs.PackBlank.{answer_as}
 use Rattle.pack.specs.PackList.{PacksBy}

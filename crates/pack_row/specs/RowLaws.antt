@@ -14,7 +14,7 @@ use Rattle.std.proofs.lemmas.List.{set-get_or}
 use Rattle.format.specs.Packed.{BuilderNode, packed, packs_to_nothing}
 use Rattle.packing.specs.Registry.{hash_of, Cell, empty_cell, Build, cell_at, row_of, matches, Interned, row_set, promote, intern}
 use Rattle.packing.specs.Packing.{Arc, Open, least_at, record_of, close, finish, closed_as}
-use Rattle.packing.specs.Laws.CloseLaws.{Grows, intern_grows}
+use Rattle.packing.proofs.CloseLaws.{Grows, intern_grows}
 use Rattle.packing_rows.specs.WorkTables.{Tables, open_at, levels, Joined, joined, join, close_into}
 use Rattle.packing_rows.specs.OpenLaws.{closed_with, close_deepest, finish_into_grows}
 use Rattle.pack_intern.specs.Interning.{nodes_in, cells_is, build_is, Laid, CellFit, CellsFit, Ready, interned_with, InternIs}

@@ -15,9 +15,9 @@ use Rattle.format.specs.Strings.{Before, shorter}
 use Rattle.packing.specs.Lists.{Pair, count_in, total_in, end_at, begin_at, key_at, value_at, IsList, pair_at, pairs_from, pairs_of}
 use Rattle.packing.specs.Registry.{Cell, empty_cell, Build, cell_at, Interned, intern}
 use Rattle.packing.specs.Packing.{Open, record_of, State, state_with, insert, insert_pair, insert_all, close_all, start, pack_nodes}
-use Rattle.packing.specs.Laws.CloseLaws.{Grows, grows_trans, intern_grows}
-use Rattle.packing.specs.Laws.InsertLaws.{insert_all_grows}
-use Rattle.packing.specs.Laws.RootLaws.{cell_empty}
+use Rattle.packing.proofs.CloseLaws.{Grows, grows_trans, intern_grows}
+use Rattle.packing.proofs.InsertLaws.{insert_all_grows}
+use Rattle.packing.proofs.RootLaws.{cell_empty}
 use Rattle.packing_rows.specs.WorkTables.{Tables, tables_with, row_in, zip_arcs, count_at, open_at, levels, Joined, joined, close_into, Sized, Orderly}
 use Rattle.packing_rows.specs.OpenLaws.{close_into_grows}
 use Rattle.packing_rows.specs.WorkTableLaws.{length_row, record_row}

@@ -14,8 +14,8 @@ use Rattle.format.specs.Limits.{LIST, SPACE}
 use Rattle.packing.specs.Lists.{IsList, count_in, pairs_of}
 use Rattle.packing.specs.Registry.{hash_of, row_of, intern}
 use Rattle.packing.specs.Packing.{pack_nodes, refused, pack_answer}
-use Rattle.packing.specs.Laws.ListedLaws.{answer_list, answer_tables, answer_cells, answer_room}
-use Rattle.packing.specs.Laws.TrailerLaws.{length_file}
+use Rattle.packing.proofs.ListedLaws.{answer_list, answer_tables, answer_cells, answer_room}
+use Rattle.packing.proofs.TrailerLaws.{length_file}
 use Rattle.packing_rows.specs.WorkTables.{Tables, tables_with, count_at}
 use Rattle.pack_intern.specs.Interning.{cells_is, build_is, InternIs}
 use Rattle.pack_intern.specs.declared.Placed.{Placed}

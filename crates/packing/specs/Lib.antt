@@ -3,4 +3,3 @@ pub mod Registry
 pub mod Packing
 pub mod Promise
 pub mod Kept
-pub mod Laws

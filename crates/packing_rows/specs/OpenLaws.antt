@@ -16,7 +16,7 @@ use Rattle.std.proofs.Math.ListN.{length, get_or}
 use Rattle.std.proofs.Math.Seq.{drop-length}
 use Rattle.packing.specs.Registry.{Build, Interned, intern}
 use Rattle.packing.specs.Packing.{Arc, Open, least_at, record_of, with_arc, Closed, finish, finish_with, close, State, state_with, open_key, under, branch, insert}
-use Rattle.packing.specs.Laws.CloseLaws.{Grows, grows_trans, grows_none, close_grows}
+use Rattle.packing.proofs.CloseLaws.{Grows, grows_trans, grows_none, close_grows}
 use Rattle.packing_rows.specs.WorkTables.{levels, Joined, joined, join, close_into}
 
 -- ---- levels

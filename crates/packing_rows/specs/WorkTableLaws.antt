@@ -18,7 +18,7 @@ use Rattle.std.proofs.lemmas.List.{drop-set-add, take-set-le}
 use Rattle.format.specs.Node.{Ascending}
 use Rattle.format.specs.Packed.{BuilderNode, TargetOk, TargetsOk}
 use Rattle.packing.specs.Packing.{Arc, Open, least_of, least_in, least_at, is_some, final_out, record_of, with_arc}
-use Rattle.packing.specs.Laws.CloseLaws.{few_bytes}
+use Rattle.packing.proofs.CloseLaws.{few_bytes}
 use Rattle.packing_rows.specs.WorkTables.{Tables, tables_with, row_in, arc_with, zip_arcs, count_at, value_in, arcs_at, open_at, least_num, least_from, Sized, Orderly, SameAbove}
 
 -- ---- transitions from three lists

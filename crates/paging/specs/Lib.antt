@@ -1,6 +1,2 @@
 pub mod Paging
 pub mod RangeExact
-pub mod FoldLaws
-pub mod RangeLaws
-pub mod PagesLaws
-pub mod RowLaws

@@ -14,7 +14,7 @@ use Rattle.reading.specs.Reading.{View, bound_bytes}
 use Rattle.pattern.specs.Pattern as P
 use Rattle.pattern.specs.Pattern.{start_by, next_by}
 use Rattle.pattern.specs.PatternDemand.{DemandBy, call_by, reading_after_by, answers_by}
-use Rattle.pattern.specs.Laws.DemandByLaws.{demand_3_by}
+use Rattle.pattern.proofs.DemandByLaws.{demand_3_by}
 use Rattle.stream_start.specs.declared.Begins.{Begins}
 use Rattle.stream_start.specs.declared.Begins.TheVariants.{Began, Refused}
 use Rattle.stream_start.specs.declared.Reading.{Reading}

@@ -22,7 +22,7 @@ use Rattle.stream_start.specs.StackLaws.{stack_length, pushed_top, pushed_below}
 use Rattle.stream_pop.specs.Pops.{Ready}
 use Rattle.stream_pop.specs.ReadyLaws.{ready_length, ready_place, ready_target}
 use Rattle.pattern.specs.Pattern.{Pattern, start_test}
-use Rattle.pattern.specs.Laws.TurnLaws.{live_test, turn_sum, turn_target}
+use Rattle.pattern.proofs.TurnLaws.{live_test, turn_sum, turn_target}
 use Rattle.patterned_descend.specs.declared.Followed.TheVariants.{To, Halted}
 use Rattle.patterned_descend.specs.Descents.{Pushed, Follows}
 

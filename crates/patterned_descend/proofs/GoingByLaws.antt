@@ -23,16 +23,16 @@ use Rattle.node.specs.Read.{meaning, Readable, transitions_in}
 use Rattle.node.specs.ReadLaws.{length_node_transitions}
 use Rattle.reading.specs.Reading.{Level, passes_test, key_of, path_of, counted, next_trans, child, stepped}
 use Rattle.reading.specs.Visits.{left}
-use Rattle.reading.specs.RunLaws.{first_key}
-use Rattle.reading.specs.LeftLaws.{left_pop, left_follow}
+use Rattle.reading.proofs.RunLaws.{first_key}
+use Rattle.reading.proofs.LeftLaws.{left_pop, left_follow}
 use Rattle.stream_start.specs.Views.{Arrays, level_at, stack_is}
 use Rattle.stream_start.specs.StackLaws.{stack_length, stack_more, key_stack}
 use Rattle.stream_pop.specs.Pops.{Ready}
 use Rattle.stream_pop.specs.ReadyLaws.{ready_length}
 use Rattle.pattern.specs.Pattern.{Pattern, start_test, fits_test, WentBy, found, ended, halted, walk_by}
 use Rattle.pattern.specs.FitCount.{fit_count, place_test, goes_on, key_fits}
-use Rattle.pattern.specs.Laws.CountLaws.{fits_by_count, tells_count, tells_last, count_on}
-use Rattle.pattern.specs.Laws.TurnLaws.{live_test, turn_popped, turn_deep, turn_past, turn_on, turn_key, turn_final}
+use Rattle.pattern.proofs.CountLaws.{fits_by_count, tells_count, tells_last, count_on}
+use Rattle.pattern.proofs.TurnLaws.{live_test, turn_popped, turn_deep, turn_past, turn_on, turn_key, turn_final}
 use Rattle.patterned_descend.specs.declared.Followed.{Followed}
 use Rattle.patterned_descend.specs.declared.Followed.TheVariants as Follow
 use Rattle.patterned_descend.specs.declared.Down.{Down}

@@ -13,7 +13,7 @@ use lib.Dec.{leb}
 use lib.ListN.{length, take, drop, get_or, length-drop}
 use lib.Seq.{length-take-le, take-suc, take-take, get_or-drop, get_or-take, take_all}
 use Rattle.pattern.specs.FitCount.{fit_count, place_test}
-use Rattle.pattern.specs.Laws.CountLaws.{count_le, count_snoc_on, count_take}
+use Rattle.pattern.proofs.CountLaws.{count_le, count_snoc_on, count_take}
 
 pub record Fitted (ps : List (Option ℕ)) (key : List ℕ) (i : ℕ) : Type 0 where
   pub within : i ≤ length key

@@ -21,13 +21,13 @@ use Rattle.node.specs.Read.{meaning, Readable}
 use Rattle.node.specs.ReadLaws.{length_node_transitions}
 use Rattle.reading.specs.Reading.{Level, key_of}
 use Rattle.reading.specs.Visits.{left}
-use Rattle.reading.specs.LeftLaws.{left_pop}
+use Rattle.reading.proofs.LeftLaws.{left_pop}
 use Rattle.stream_start.specs.Views.{level_at, stack_is}
 use Rattle.stream_start.specs.StackLaws.{stack_none, stack_suc, key_stack}
 use Rattle.stream_pop.specs.declared.Popped.TheVariants.{At, Empty, Bad}
 use Rattle.pattern.specs.Pattern.{Pattern, start_test, ended, halted, walk_by}
 use Rattle.pattern.specs.FitCount.{goes_on}
-use Rattle.pattern.specs.Laws.TurnLaws.{live_test, turn_end, turn_bad, turn_popped}
+use Rattle.pattern.proofs.TurnLaws.{live_test, turn_end, turn_bad, turn_popped}
 use Rattle.patterned_walk.specs.Walks.{Told, PopsBy}
 
 pub told_key : {n : ℕ} {rest : Bool} {levels fit : ℕ} {is : List ℕ} {p : Pattern} → Told n rest levels fit is p → (i : ℕ) → i < levels → levels ≤ 256

@@ -21,8 +21,8 @@ use Rattle.stream_pop.specs.declared.Popped.{Popped}
 use Rattle.stream_pop.specs.declared.Popped.TheVariants.{At, Empty, Bad}
 use Rattle.pattern.specs.Pattern.{Pattern, start_test, WentBy, ended, halted, walk_by}
 use Rattle.pattern.specs.FitCount.{fit_count, goes_on, Tells}
-use Rattle.pattern.specs.Laws.CountLaws.{tells_count, tells_all}
-use Rattle.pattern.specs.Laws.TurnLaws.{turn_end}
+use Rattle.pattern.proofs.CountLaws.{tells_count, tells_all}
+use Rattle.pattern.proofs.TurnLaws.{turn_end}
 use Rattle.patterned_descend.specs.declared.Down.{Down}
 use Rattle.patterned_descend.specs.declared.Down.TheVariants as Down
 use Rattle.patterned_descend.specs.Descents.{down_seen, down_at, DescendsBy}

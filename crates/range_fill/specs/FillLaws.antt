@@ -14,7 +14,7 @@ use Rattle.reading.specs.Reading.{View, Answer, key, end, next}
 use Rattle.reading.specs.Demand.{Entry, entry}
 use Rattle.paging.specs.Paging as P
 use Rattle.paging.specs.Paging.{Page, page, refused_page, ended, more, fold, row_len, row_of, rows_after, values_after}
-use Rattle.paging.specs.FoldLaws.{Folded, folded_none, folded_key, folded_more, folded_end, folded_refused, rows_none, rows_snoc, values_none, values_snoc}
+use Rattle.paging.proofs.FoldLaws.{Folded, folded_none, folded_key, folded_more, folded_end, folded_refused, rows_none, rows_snoc, values_none, values_snoc}
 use Rattle.range_fill.specs.declared.Stop.TheVariants.{End, More, Refused}
 use Rattle.range_fill.specs.declared.Ranged.{Ranged}
 use Rattle.range_fill.specs.RangedRows.{stop_as, refused_range, RangedBy}

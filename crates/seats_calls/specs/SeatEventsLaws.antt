@@ -9,8 +9,8 @@ use Rattle.reading.specs.Reading as R
 use Rattle.turns.specs.Turns as T
 use Rattle.turns.specs.Turns.{after, after_event}
 use Rattle.turns.specs.TurnsDemand.{SeatsRight, unrefused_then, unrefused_in, Fairness}
-use Rattle.turns.specs.TurnsLaws.{Ways, way_served, way_nobody, way_refused, dispatch_ways}
-use Rattle.turns.specs.FairLaws.{fairness}
+use Rattle.turns.proofs.TurnsLaws.{Ways, way_served, way_nobody, way_refused, dispatch_ways}
+use Rattle.turns.proofs.FairLaws.{fairness}
 use Rattle.seats_turn.specs.declared.Seats.{Seats}
 use Rattle.seats_turn.specs.SeatViews.{seats_is}
 use Rattle.seats.specs.declared.Served.{Served}

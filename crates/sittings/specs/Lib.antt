@@ -1,4 +1,1 @@
 pub mod Sittings
-pub mod RisingLaws
-pub mod TwoPartsLaws
-pub mod SittingsLaws

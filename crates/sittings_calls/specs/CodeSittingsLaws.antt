@@ -17,8 +17,8 @@ use Rattle.reading.specs.Demand.{handed_in}
 use Rattle.plain.specs.Numbers.{TableFits}
 use Rattle.plain.specs.Plain as P
 use Rattle.sittings.specs.Sittings.{up_to_cut, from_cut, InTwo, total_after}
-use Rattle.sittings.specs.TwoPartsLaws.{KeysBetween, keys_cut, Full, in_two}
-use Rattle.sittings.specs.SittingsLaws.{full_plain, keys_started}
+use Rattle.sittings.proofs.TwoPartsLaws.{KeysBetween, keys_cut, Full, in_two}
+use Rattle.sittings.proofs.SittingsLaws.{full_plain, keys_started}
 use Rattle.stream.specs.declared.Started.{Started}
 use Rattle.stream_calls.specs.Calls.{CodeCall, code_answers, calls_is, StartMade}
 use Rattle.stream_calls.specs.CallsLaws.{code_as_defined}

@@ -17,7 +17,7 @@ use Rattle.format.specs.Paths.{fst_of}
 use Rattle.format.specs.Strings as S
 use Rattle.reading.specs.Reading as R
 use Rattle.reading.specs.Reading.{bound_bytes}
-use Rattle.reading.specs.WholeLaws.{both_false}
+use Rattle.reading.proofs.WholeLaws.{both_false}
 use Rattle.plain.specs.Numbers as N
 use Rattle.plain.specs.Numbers.{Tally, comes_to, number}
 use Rattle.plain.specs.Plain as P

@@ -16,15 +16,15 @@ use Rattle.format.specs.Strings as S
 use Rattle.format.specs.Strings.{NumberOf}
 use Rattle.reading.specs.Reading as R
 use Rattle.reading.specs.Reading.{View, key, end, written, bound_bytes}
-use Rattle.reading.specs.RunLaws.{lt_or}
+use Rattle.reading.proofs.RunLaws.{lt_or}
 use Rattle.reading.specs.Demand.{Call, Allowed, call, answers, reading_after, unrefused, followed, handed_in, NoneLeft, Demand3}
-use Rattle.reading.specs.FollowedLaws.{followed_at_most}
-use Rattle.reading.specs.DemandLaws.{demand_3}
+use Rattle.reading.proofs.FollowedLaws.{followed_at_most}
+use Rattle.reading.proofs.DemandLaws.{demand_3}
 use Rattle.plain.specs.Numbers.{TableFits}
 use Rattle.plain.specs.Plain as P
 use Rattle.plain.specs.Plain.{Begun, begun, start_plain, next_plain, counting, call_plain, plain_after, answers_plain}
 use Rattle.plain.specs.PlainDemand.{keys_out, StillToCome, DemandPlain}
-use Rattle.plain.specs.PlainLaws.{handed_of, plain_long_bound, plain_short, demand_3_plain}
+use Rattle.plain.proofs.PlainLaws.{handed_of, plain_long_bound, plain_short, demand_3_plain}
 use Rattle.stream_start.specs.declared.Begins.{Begins}
 use Rattle.stream_step.specs.declared.Answer.{Answer}
 use Rattle.stream_step.specs.declared.Answer.TheVariants.{End, Refused}

@@ -18,7 +18,7 @@ use Rattle.format.specs.Laws.KeysLaws.{sum_take_step}
 use Rattle.format.specs.Laws.NodeFacts.{node_ascending, node_inside, node_target_lt, node_zero_none, find_member}
 use Rattle.format.specs.Laws.TransitionLaws.{search_absent, at_member}
 use Rattle.plain.specs.Numbers.{keys_below}
-use Rattle.plain.specs.UpToLaws.{below_take}
+use Rattle.plain.proofs.UpToLaws.{below_take}
 use Rattle.stream_upto.specs.declared.Total.{Total}
 use Rattle.stream_upto.specs.Counts.{HasEntry, HasEntries, total_as, added_to}
 use Rattle.stream_upto.proofs.TotalLaws.{added_total}

@@ -16,7 +16,7 @@ use Rattle.format.specs.Node.{Node, Judgement, sound, unsound, Search, find_inpu
 use Rattle.format.specs.Paths.{Fst, node_in}
 use Rattle.format.specs.Tables.{one}
 use Rattle.plain.specs.Numbers.{Tally, comes_to, refused, plus, keys_below, up_to}
-use Rattle.plain.specs.UpToLaws.{up_to_unsound, up_to_end, up_to_absent, up_to_at}
+use Rattle.plain.proofs.UpToLaws.{up_to_unsound, up_to_end, up_to_absent, up_to_at}
 use Rattle.stream_upto.specs.declared.Total.{Total}
 use Rattle.stream_upto.specs.declared.Turned.TheVariants.{On, Gone, Unsound}
 use Rattle.stream_upto.specs.declared.Walked.{Walked}

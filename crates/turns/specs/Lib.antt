@@ -1,6 +1,2 @@
 pub mod Turns
 pub mod TurnsDemand
-pub mod TurnsLaws
-pub mod FairLaws
-pub mod AloneLaws
-pub mod DispatchLimitLaws

@@ -3,7 +3,7 @@
 use mathlib.Core.Path.{◌≡◌, sym, ap, ◌∙◌}
 use mathlib.Core.Bool.{true}
 use Rattle.turns.specs.Turns as T
-use Rattle.turns.specs.TurnsLaws.{right_last}
+use Rattle.turns.proofs.TurnsLaws.{right_last}
 use Rattle.seats_turn.specs.SeatViews.{turn_is}
 use Rattle.seats_arrays.specs.SeatArrays.{Rows, rows, plain_at, flat, flat_is}
 use Rattle.baxhiso.specs.ResultLaws.{code_is, result_back}

@@ -6,7 +6,7 @@ use mathlib.Core.List.{map}
 use Prim.Native.Nat.{◌<◌, ◌≤◌}
 use lib.ListN.{length}
 use Rattle.ops_paging.specs.ItemPaging.{room_test}
-use Rattle.ops_paging.specs.ItemsLaws.{items_no_cards, items_no_room, items_from}
+use Rattle.ops_paging.proofs.ItemsLaws.{items_no_cards, items_no_room, items_from}
 use Rattle.stream_start.specs.Views.{bound_is}
 use Rattle.ops_decide.specs.Verdicts.{op_is}
 use Rattle.ops_page.specs.PageLaws.{paged_as, refused_by, room_of}

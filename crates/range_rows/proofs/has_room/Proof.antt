@@ -6,7 +6,7 @@ use Prim.Native.Nat.{ℕ, ◌*◌, ◌/◌, ◌≤◌, ◌<◌}
 use native.Mathlib.Omega.{arith}
 use lib.Dec.{leb}
 use Rattle.buffers.specs.DecideLaws.{decides_le, decides_iff, decides_same}
-use Rattle.reading.specs.WholeLaws.{both_false}
+use Rattle.reading.proofs.WholeLaws.{both_false}
 use borrow.Author.Tests.{lt-leb, le-leb}
 use Rattle.range_rows.proofs.has_room.Statement.{statement}
 use Rattle.range_rows.proofs.has_room.Tie as tie

@@ -1,6 +1,6 @@
 -- `seats::dispatch` meets its contract: seats that are not right, nobody waiting, or the seat whose turn it is. Assumes nothing.
 use mathlib.Core.Path.{refl, sym, ap, ◌∙◌}
-use Rattle.turns.specs.TurnsLaws.{right_last}
+use Rattle.turns.proofs.TurnsLaws.{right_last}
 use Rattle.seats_turn.specs.SeatViews.{seats_is, turn_is}
 use Rattle.seats.proofs.SeatCases.{told_wrong, told_nobody}
 use borrow.Author.Rules.{rules}

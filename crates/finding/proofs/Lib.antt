@@ -1,0 +1,3 @@
+pub mod FindLaws
+pub mod FindPagesLaws
+pub mod FoldByLaws

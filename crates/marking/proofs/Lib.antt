@@ -1,0 +1,3 @@
+pub mod MarksLaws
+pub mod MarksRightLaws
+pub mod NamedLaws

@@ -1,0 +1,4 @@
+pub mod EightLaws
+pub mod ItemFoldLaws
+pub mod ItemsLaws
+pub mod WideLaws

@@ -1,0 +1,3 @@
+pub mod CardsStandLaws
+pub mod OpsStandsLaws
+pub mod StandingLaws

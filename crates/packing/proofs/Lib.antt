@@ -1,0 +1,15 @@
+pub mod AnswerLaws
+pub mod BuildLaws
+pub mod CloseLaws
+pub mod FileLaws
+pub mod HoldingLaws
+pub mod InsertLaws
+pub mod InternLaws
+pub mod KeptLaws
+pub mod ListLaws
+pub mod ListedLaws
+pub mod PackLaws
+pub mod PackRowLaws
+pub mod RootLaws
+pub mod TrailerLaws
+pub mod WholeFileLaws

@@ -1,0 +1,4 @@
+pub mod FoldLaws
+pub mod RangeLaws
+pub mod PagesLaws
+pub mod RowLaws

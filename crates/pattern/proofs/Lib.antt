@@ -1,0 +1,12 @@
+pub mod AnyRestDemand
+pub mod AnyRestLaws
+pub mod CountLaws
+pub mod DemandByLaws
+pub mod FactsByLaws
+pub mod FitLaws
+pub mod NextByLaws
+pub mod ProgressByLaws
+pub mod RunByLaws
+pub mod TurnLaws
+pub mod ViableLaws
+pub mod WalkLaws

@@ -1,0 +1,4 @@
+pub mod NumberLaws
+pub mod PlainLaws
+pub mod PlainRunLaws
+pub mod UpToLaws

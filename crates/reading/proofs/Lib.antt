@@ -1,0 +1,13 @@
+pub mod BlankLaws
+pub mod BoundLaws
+pub mod CutLaws
+pub mod DemandLaws
+pub mod EndLaws
+pub mod FollowedLaws
+pub mod LeftLaws
+pub mod NextLaws
+pub mod ProgressLaws
+pub mod RunLaws
+pub mod SeekLaws
+pub mod VisitLaws
+pub mod WholeLaws

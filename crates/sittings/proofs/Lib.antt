@@ -1,0 +1,3 @@
+pub mod RisingLaws
+pub mod SittingsLaws
+pub mod TwoPartsLaws

@@ -1,0 +1,4 @@
+pub mod AloneLaws
+pub mod DispatchLimitLaws
+pub mod FairLaws
+pub mod TurnsLaws
