@@ -11,12 +11,12 @@ use Rattle.format.specs.Lookup.{last_fitting}
 use Rattle.node_choice.specs.declared.Fit.{Fit}
 use Rattle.node_choice.specs.declared.Fit.TheVariants.{Sound as Fitted, Unsound as Unfit}
 use Rattle.node_choice.specs.declared.Choice.{Choice}
-use Rattle.node_choice.specs.declared.Choice.TheVariants.{Ends, To as Along, Absent as None}
+use Rattle.node_choice.specs.declared.Choice.TheVariants.{Ends, To as Along, Absent as Missing}
 
 -- the transition at this place
 abbrev pub choice_as : List Transition → Place → Choice
 choice_as ts (at i) = Along (F.transition_at ts i).inp (F.transition_at ts i).out (F.transition_at ts i).addr
-choice_as ts absent = None
+choice_as ts absent = Missing
 
 abbrev pub fitting_in : List Transition → ℕ → Choice
 fitting_in ts v = choice_as ts (last_fitting ts v)

@@ -7,7 +7,7 @@ use Rattle.format.specs.Node.{transition_at, Place, at, absent, Judgement, sound
 use Rattle.format.specs.Lookup.{last_fitting}
 use Rattle.node_choice.specs.declared.Fit.TheVariants.{Sound as Fitted, Unsound as Unfit}
 use Rattle.node_choice.specs.declared.Choice.{Choice}
-use Rattle.node_choice.specs.declared.Choice.TheVariants.{Ends, To as Along, Absent as None}
+use Rattle.node_choice.specs.declared.Choice.TheVariants.{Ends, To as Along, Absent as Missing}
 use Rattle.node_choice.specs.Choices.{choice_as, choice_in, fit_of}
 
 pub fit_sound : (j : Judgement) (v : ℕ) (c : Choice) → Fitted c ≡ fit_of j v → (m : F.Node) × ((j ≡ sound m) × (c ≡ choice_in m v))
@@ -27,10 +27,10 @@ module _ (m : F.Node) (v : ℕ) where
       go false is_t (at i) e = absurd (let z : ◌≡◌ {A = ℕ} 0 1 = cc in omega arith)
       go false is_t absent e = absurd (let z : ◌≡◌ {A = ℕ} 0 1 = cc in omega arith)
 
-  pub choice_stuck : None ≡ choice_in m v → ((eqb v 0 && m.final) ≡ false) × (last_fitting m.transitions v ≡ absent)
+  pub choice_stuck : Missing ≡ choice_in m v → ((eqb v 0 && m.final) ≡ false) × (last_fitting m.transitions v ≡ absent)
   choice_stuck e = go (eqb v 0 && m.final) refl (last_fitting m.transitions v) refl e
     where
-      go : (t : Bool) → (eqb v 0 && m.final) ≡ t → (p : Place) → last_fitting m.transitions v ≡ p → None ≡ cond t Ends (choice_as m.transitions p)
+      go : (t : Bool) → (eqb v 0 && m.final) ≡ t → (p : Place) → last_fitting m.transitions v ≡ p → Missing ≡ cond t Ends (choice_as m.transitions p)
           → ((eqb v 0 && m.final) ≡ false) × (last_fitting m.transitions v ≡ absent)
       go true is_t p is_p e = absurd (let z : ◌≡◌ {A = ℕ} 0 1 = cc in omega arith)
       go false is_t (at i) is_p e = absurd (let z : ◌≡◌ {A = ℕ} 0 1 = cc in omega arith)

@@ -15,7 +15,7 @@ use Rattle.node.specs.ReadLaws.{node_transition, length_node_transitions}
 use Rattle.node.specs.AccessorLaws.{output_is}
 use Rattle.node.specs.JudgedLaws.{judged_empty}
 use Rattle.node_choice.specs.declared.Choice.{Choice}
-use Rattle.node_choice.specs.declared.Choice.TheVariants.{Ends, To as Along, Absent as None}
+use Rattle.node_choice.specs.declared.Choice.TheVariants.{Ends, To as Along, Absent as Missing}
 use Rattle.node_choice.specs.declared.Fit.TheVariants.{Sound as Fitted, Unsound as Unfit}
 use Rattle.node_choice.specs.Choices.{Leading, fitting_in, choice_in, fit_of}
 
@@ -75,7 +75,7 @@ module _ (s : List ℕ) (m : Node) (r : Readable s m) (v : ℕ) where
       go (inr l) (inr over) = inr (rw (← output_is s m r k (omega (arith, outs_len))) over)
 
   -- no transition fits
-  pub choice_none : (k : ℕ) → k ≡ 0 → Leading outs v k → None ≡ fitting_in ts v
+  pub choice_none : (k : ℕ) → k ≡ 0 → Leading outs v k → Missing ≡ fitting_in ts v
   choice_none k z h = rw (fitting_none (scanned k h) (stops k h) z)
 
   pub count_lt : (k : ℕ) → ¬ (k ≡ 0) → Leading outs v k → k - 1 < m.ntrans
@@ -114,10 +114,10 @@ fit_blank s v root a left z = rw (node_at_blank s v root a z)
 pub fit_empty_ends : (s : List ℕ) (v root left : ℕ) → ¬ (length s ≡ 0) → left ≡ 0 → Fitted Ends ≡ fit_of (node_at s v root 0) left
 fit_empty_ends s v root left some z = fit_yes s v root 0 left empty_node Ends (judged_empty s v root (omega arith)) (rw z)
 
-pub fit_empty_none : (s : List ℕ) (v root left : ℕ) → ¬ (length s ≡ 0) → ¬ (left ≡ 0) → Fitted None ≡ fit_of (node_at s v root 0) left
+pub fit_empty_none : (s : List ℕ) (v root left : ℕ) → ¬ (length s ≡ 0) → ¬ (left ≡ 0) → Fitted Missing ≡ fit_of (node_at s v root 0) left
 fit_empty_none s v root left some ne =
     let j = judged_empty s v root (omega arith) in
     let os : List ℕ = numbers_down s 0 0 0 in
-    fit_yes s v root 0 left empty_node None j
-    (choice_on (meaning s empty_node) left None (key_goes_on_value left true ne)
+    fit_yes s v root 0 left empty_node Missing j
+    (choice_on (meaning s empty_node) left Missing (key_goes_on_value left true ne)
     (choice_none s empty_node (j.readable empty_node refl) left 0 refl (leading_all 0 (length_numbers_down s 0 0 0) (omega arith) (passed_none os left))))

@@ -8,22 +8,22 @@ use Rattle.baxhiso_readings.proofs.ReadingResults.{range_bounds}
 use Rattle.baxhiso_readings.proofs.fst_range_rows.Statement.{statement}
 use Rattle.baxhiso_readings.proofs.fst_range_rows.Tie as tie
 
-kind-of-requires : tie.Need-kind-of-requires
+kind-of-requires : tie.Need-kind_of-from-requires
 kind-of-requires c κs = search rules
 
-kind-of-requires-2 : tie.Need-kind-of-requires-2
+kind-of-requires-2 : tie.Need-kind_of-to-requires
 kind-of-requires-2 c κs = search rules
 
-range-requires : tie.Need-range-requires
+range-requires : tie.Need-range-ranged-requires
 range-requires c κs = search rules
 
 stopped-requires : tie.Need-stopped-requires
 stopped-requires c κs = search rules
 
-same_length : tie.Need-same-length
+same_length : tie.Need-shape_of-rows
 same_length c = search rules
 
-same-length-2 : tie.Need-same-length-2
+same-length-2 : tie.Need-shape_of-values
 same-length-2 c = search rules
 
 -- the rows and values are as range left them
@@ -33,8 +33,8 @@ returns c =
     let kinds = called.before.before.before in
     let x = kinds.before.before.before.before.before.before.before.args in
     range_leaves
-    (range_bounds x.file.now x.lower.now x.upper.now x.lower-kind x.upper-kind x.most (length x.rows.now) (length x.values.now) kinds.before.kind-of.ensures kinds.kind-of2.ensures called.range.ensures)
-    _ _ (result_back c.stopped.result c.stopped.type-inv) c.stopped.ensures
+    (range_bounds x.file.now x.lower.now x.upper.now x.lower_kind x.upper_kind x.most (length x.rows.now) (length x.values.now) kinds.before.kind_of-from.ensures kinds.kind_of-to.ensures called.range-ranged.ensures)
+    _ _ (result_back c.stopped.result c.stopped.type_inv) c.stopped.ensures
 
 pub fst_range_rows_spec : {M : Type 1} → statement M
 fst_range_rows_spec =

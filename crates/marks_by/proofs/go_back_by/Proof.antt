@@ -11,20 +11,22 @@ use borrow.Author.Rules.{rules}
 use Rattle.marks_by.proofs.go_back_by.Statement.{statement}
 use Rattle.marks_by.proofs.go_back_by.Tie as tie
 
-back-by-requires : tie.Need-back-by-requires
+back-by-requires : tie.Need-back_by-back-requires
 back-by-requires c κs = search rules
 
 returns : tie.Need-returns
 returns c =
     let b = c.before.before in
     let a = b.before.before.before.before.before.args in
-    let h = b.back_by.ensures in
+    let h = b.back_by-back.ensures in
     let p = plain_with (view_is a.patterned.reading) 0 in
     record {
       answer = h.answer;
-      reading = told_view (back_by a.file.now (held_is a.patterned.pattern) p (marks_is a.marks) a.name.now) p (plain_is b.back_by.result.reading) h.reading;
+      reading = told_view (back_by a.file.now (held_is a.patterned.pattern) p (marks_is a.marks) a.name.now) p (plain_is b.back_by-back.result.reading) h.reading;
       pattern = refl;
     }
 
 pub go_back_by_spec : {M : Type 1} → statement M
-go_back_by_spec = tie.close (tie.spec back-by-requires returns)
+go_back_by_spec = tie.close (tie.spec
+    back-by-requires
+    returns)

@@ -11,46 +11,46 @@ use borrow.Author.Rules.{rules}
 use Rattle.marks_by.proofs.next_marked_by.Statement.{statement}
 use Rattle.marks_by.proofs.next_marked_by.Tie as tie
 
-open-requires : tie.Need-open-requires
+open-requires : tie.Need-open-opened-requires
 open-requires c κs = search rules
 
-enum-known-opened : tie.Need-enum-known-opened
+enum-known-opened : tie.Need-enum_known-opened
 enum-known-opened c = search rules
 
-enum_told : tie.Need-enum-told
+enum_told : tie.Need-enum_told-1
 enum_told c = search rules
 
-marks-right-requires : tie.Need-marks-right-requires
+marks-right-requires : tie.Need-marks_right-requires
 marks-right-requires c κs = search rules
 
-returns : tie.Need-returns
+returns : tie.Need-returns-else-marks_right
 returns c =
     let e = c.before.before in
-    let o = e.before.before in
+    let o = e.before in
     let a = o.before.before.before.args in
-    next_by_ways a.file.now (held_is a.patterned.pattern) (marks_is a.marks) _ (sym o.«open».ensures ∙ ap opening_is e.enum_told.given.1) (view_is a.patterned.reading) (length a.key.now) false (sym c.before.marks_right.ensures ∙ c.if1.false) (next_by_refused a.patterned 11 a.key.now)
+    next_by_ways a.file.now (held_is a.patterned.pattern) (marks_is a.marks) _ (sym o.open-opened.ensures ∙ ap opening_is e.in-Meta.is) (view_is a.patterned.reading) (length a.key.now) false (sym c.before.marks_right.ensures ∙ c.if-marks_right.false) (next_by_refused a.patterned 11 a.key.now)
 
 next-requires : tie.Need-next-requires
 next-requires c κs = search rules
 
-returns-2 : tie.Need-returns-2
+returns-2 : tie.Need-returns-in-Refused
 returns-2 c =
-    let e = c.before in
-    let o = e.before.before in
+    let e = c in
+    let o = e.before in
     let a = o.before.before.before.args in
-    next_by_ways a.file.now (held_is a.patterned.pattern) (marks_is a.marks) _ (sym o.«open».ensures ∙ ap opening_is e.opened.given.1) (view_is a.patterned.reading) (length a.key.now) _ refl (next_by_refused a.patterned _ a.key.now)
+    next_by_ways a.file.now (held_is a.patterned.pattern) (marks_is a.marks) _ (sym o.open-opened.ensures ∙ ap opening_is e.in-Refused.is) (view_is a.patterned.reading) (length a.key.now) _ refl (next_by_refused a.patterned _ a.key.now)
 
-same_length : tie.Need-same-length
+same_length : tie.Need-shape_of-key
 same_length c = search rules
 
-returns-3 : tie.Need-returns-3
+returns-3 : tie.Need-returns-then-marks_right
 returns-3 c =
     let n = c.before.before in
     let i = n.before.before in
     let e = i.before.before in
-    let o = e.before.before in
+    let o = e.before in
     let a = o.before.before.before.args in
-    next_by_ways a.file.now (held_is a.patterned.pattern) (marks_is a.marks) _ (sym o.«open».ensures ∙ ap opening_is e.enum_told.given.1) (view_is a.patterned.reading) (length a.key.now) true (sym i.before.marks_right.ensures ∙ i.if1.true) n.next.ensures
+    next_by_ways a.file.now (held_is a.patterned.pattern) (marks_is a.marks) _ (sym o.open-opened.ensures ∙ ap opening_is e.in-Meta.is) (view_is a.patterned.reading) (length a.key.now) true (sym i.before.marks_right.ensures ∙ i.if-marks_right.true) n.next.ensures
 
 pub next_marked_by_spec : {M : Type 1} → statement M
 next_marked_by_spec =

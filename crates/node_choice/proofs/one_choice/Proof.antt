@@ -17,7 +17,7 @@ use Rattle.node_choice.specs.FitOfLaws.{single_over, single_fits, choice_none, c
 use Rattle.node.specs.declared.Node.{Node}
 use Rattle.node.specs.declared.Judged.TheVariants.{Sound}
 use Rattle.node_choice.specs.declared.Choice.{Choice}
-use Rattle.node_choice.specs.declared.Choice.TheVariants.{To as Along, Absent as None}
+use Rattle.node_choice.specs.declared.Choice.TheVariants.{To as Along, Absent as Missing}
 use Rattle.node_choice.specs.declared.Fit.TheVariants.{Sound as Fitted}
 use Rattle.node.specs.Read.{Readable, Judges, meaning, transitions_in, node_deltas}
 use Rattle.node_choice.specs.Choices.{fitting_in, fit_of}
@@ -134,7 +134,7 @@ returns : tie.Need-returns-then-left-out
 returns c =
     let out = c.before in
     let w = out.before in
-    fit_at w None
+    fit_at w Missing
     (choice_none (file w.before) (m w) (readable w) (start w.before).args.left 0 refl (single_over out.number_of-out.result out.number_of-out.ensures c.if-left-out.true))
 
 -- the delta starts within the node

@@ -13,49 +13,49 @@ use Rattle.ops_decide.proofs.decide.Lts as lts
 use Rattle.ops_decide.proofs.at_least.Reads as at_least_reads
 use Rattle.ops_decide.proofs.difference.Reads as difference_reads
 
-enum_told : tie.Need-enum-told
+enum_told : tie.Need-enum_told-1
 enum_told c = search rules
 
-at-least-requires : tie.Need-at-least-requires
+at-least-requires : tie.Need-at_least-requires
 at-least-requires c κs = search rules
 
-enum-told-2 : tie.Need-enum-told-2
+enum-told-2 : tie.Need-enum_told-in-Intersection
 enum-told-2 c = search rules
 
-at-least-requires-2 : tie.Need-at-least-requires-2
+at-least-requires-2 : tie.Need-at_least-requires-in-Intersection
 at-least-requires-2 c κs = search rules
 
-enum-told-3 : tie.Need-enum-told-3
+enum-told-3 : tie.Need-enum_told-in-Difference
 enum-told-3 c = search rules
 
 difference-requires : tie.Need-difference-requires
 difference-requires c κs = search rules
 
-enum-told-4 : tie.Need-enum-told-4
+enum-told-4 : tie.Need-enum_told-in-SymmetricDifference
 enum-told-4 c = search rules
 
-at-least-requires-3 : tie.Need-at-least-requires-3
+at-least-requires-3 : tie.Need-at_least-requires-in-SymmetricDifference
 at-least-requires-3 c κs = search rules
 
-returns : tie.Need-returns
+returns : tie.Need-returns-in-Union
 returns c = λ X S.
-    let a = c.before.before.before.args in
-    least_op a.keys.now a.cards a.op Union a.count X c.at_least_lem.result c.before.enum_told.given.1 (inl refl) (c.at_least_lem.ensures X S)
+    let a = c.before.before.args in
+    least_op a.keys.now a.cards a.op Union a.count X c.at_least.result c.before.in-Union.is (inl refl) (c.at_least.ensures X S)
 
-returns-2 : tie.Need-returns-2
+returns-2 : tie.Need-returns-in-Intersection
 returns-2 c = λ X S.
-    let a = c.before.before.before.args in
-    least_op a.keys.now a.cards a.op Intersection a.count X c.at-least2.result c.before.enum-told2.given.1 (inr (inl refl)) (c.at-least2.ensures X S)
+    let a = c.before.before.args in
+    least_op a.keys.now a.cards a.op Intersection a.count X c.at_least-in-Intersection.result c.before.in-Intersection.is (inr (inl refl)) (c.at_least-in-Intersection.ensures X S)
 
-returns-3 : tie.Need-returns-3
+returns-3 : tie.Need-returns-in-Difference
 returns-3 c = λ X S.
-    let a = c.before.before.before.args in
-    difference_op a.keys.now a.cards a.op a.count X c.difference.result c.before.enum-told3.given.1 (c.difference.ensures X S)
+    let a = c.before.before.args in
+    difference_op a.keys.now a.cards a.op a.count X c.difference.result c.before.in-Difference.is (c.difference.ensures X S)
 
-returns-4 : tie.Need-returns-4
+returns-4 : tie.Need-returns-in-SymmetricDifference
 returns-4 c = λ X S.
-    let a = c.before.before.before.args in
-    least_op a.keys.now a.cards a.op SymmetricDifference a.count X c.at-least3.result c.before.enum-told4.given.1 (inr (inr refl)) (c.at-least3.ensures X S)
+    let a = c.before.before.args in
+    least_op a.keys.now a.cards a.op SymmetricDifference a.count X c.at_least-in-SymmetricDifference.result c.before.in-SymmetricDifference.is (inr (inr refl)) (c.at_least-in-SymmetricDifference.ensures X S)
 
 pub decide_spec : {M : Type 1} → statement M
 decide_spec =

@@ -9,54 +9,54 @@ use Rattle.ops_item.proofs.least_key.Reads as reads
 use Rattle.ops_item.proofs.least_key.Lts as lts
 use Rattle.ops_item.proofs.lesser.Reads as lesser_reads
 
-abbrev invariant-loop : tie.invariant-loop
-invariant-loop keys count cards least₀ i₀ least i = Leasting keys count cards least i
+abbrev invariant-loop-i : tie.invariant-loop-i
+invariant-loop-i keys count cards least₀ i₀ least i = Leasting keys count cards least i
 
-abbrev decreases-loop : tie.decreases-loop
-decreases-loop keys count cards least₀ i₀ least i = i
+abbrev decreases-loop-i : tie.decreases-loop-i
+decreases-loop-i keys count cards least₀ i₀ least i = i
 
-loop-holds : tie.Need-loop-init invariant-loop decreases-loop
+loop-holds : tie.Need-loop-i-init invariant-loop-i decreases-loop-i
 loop-holds c =
     let a = c.args in
-    leasting_none a.keys.now a.count a.t3 (record { at = 0; levels = 0 }) (record { eight = omega arith; few = omega arith })
+    leasting_none a.keys.now a.count a.cards (record { at = 0; levels = 0 }) (record { eight = omega arith; few = omega arith })
 
-sub-i : tie.Need-overflow-sub-i invariant-loop decreases-loop
+sub-i : tie.Need-overflow_sub-i invariant-loop-i decreases-loop-i
 sub-i c = search rules
 
-mul-card : tie.Need-overflow-mul-card invariant-loop decreases-loop
+mul-card : tie.Need-offset_bounds-cards-i invariant-loop-i decreases-loop-i
 mul-card c = search rules
 
-array-copy-out-card : tie.Need-array-copy-out-card invariant-loop decreases-loop
+array-copy-out-card : tie.Need-bounds-cards-i invariant-loop-i decreases-loop-i
 array-copy-out-card c = search rules
 
-lesser-requires : tie.Need-lesser-requires invariant-loop decreases-loop
+lesser-requires : tie.Need-lesser-least-requires invariant-loop-i decreases-loop-i
 lesser-requires c κs =
-    let l = c.before.before.loop in
+    let l = c.before.before.loop-i in
     let pre = c.before.before.before.requires in
     let within = l.invariant.within in
     (pre.1.long, l.invariant.few, pre.1.few _ _ (omega arith))
 
-loop-less : tie.Need-loop-smaller invariant-loop decreases-loop
+loop-less : tie.Need-loop-i-smaller invariant-loop-i decreases-loop-i
 loop-less c = search rules
 
-loop-again : tie.Need-loop-preserved invariant-loop decreases-loop
+loop-again : tie.Need-loop-i-preserved invariant-loop-i decreases-loop-i
 loop-again c =
-    let l = c.before.before.before.loop in
+    let l = c.before.before.before.loop-i in
     let a = c.before.before.before.before.args in
-    leasting_on a.keys.now a.count a.t3 l.least l.i _ c.lesser.result c.before.before.loop-test.true l.invariant c.lesser.ensures
+    leasting_on a.keys.now a.count a.cards l.least l.i _ c.lesser-least.result c.before.before.loop-i-test.true l.invariant c.lesser-least.ensures
 
-returns : tie.Need-returns invariant-loop decreases-loop
+returns : tie.Need-returns invariant-loop-i decreases-loop-i
 returns c =
-    let l = c.before.loop in
+    let l = c.before.loop-i in
     let a = c.before.before.args in
-    leasting_all a.keys.now a.count a.t3 l.least l.i (omega (arith, c.loop-test.false)) l.invariant
+    leasting_all a.keys.now a.count a.cards l.least l.i (omega (arith, c.loop-i-test.false)) l.invariant
 
 pub least_key_spec : {M : Type 1} → statement M
 least_key_spec =
     tie.close
     (tie.spec
-    invariant-loop
-    decreases-loop
+    invariant-loop-i
+    decreases-loop-i
     loop-holds
     sub-i
     mul-card

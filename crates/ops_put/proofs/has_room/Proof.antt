@@ -15,36 +15,40 @@ quotient most a =
     decides_same (leb most (a / 8)) (leb (8 * most) a) (decides_le most (a / 8)) (decides_iff (λ h. omega arith) (λ h. omega arith) (decides_le (8 * most) a))
 
 -- the rows are too short
-returns : tie.Need-returns
+returns : tie.Need-returns-then-rows-most
 returns c =
     let a = c.before.args in
-    let x : leb (256 * a.most) a.rows ≡ false = lt-leb (256 * a.most) a.rows (omega (arith, c.if1.true)) in
+    let x : leb (256 * a.most) a.rows ≡ false = lt-leb (256 * a.most) a.rows (omega (arith, c.if-rows-most.true)) in
     sym (ap (λ (b : Bool). b && (leb a.most a.counts && (leb (8 * a.most) a.numbers && leb (8 * a.most) a.values))) x)
 
 -- the counts are too few
-returns-2 : tie.Need-returns-2
+returns-2 : tie.Need-returns-then-counts-most
 returns-2 c =
     let a = c.before.before.args in
-    let x : leb (256 * a.most) a.rows ≡ true = le-leb (256 * a.most) a.rows (omega (arith, c.before.if1.false)) in
-    let y : leb a.most a.counts ≡ false = lt-leb a.most a.counts c.if2.true in
+    let x : leb (256 * a.most) a.rows ≡ true = le-leb (256 * a.most) a.rows (omega (arith, c.before.if-rows-most.false)) in
+    let y : leb a.most a.counts ≡ false = lt-leb a.most a.counts c.if-counts-most.true in
     sym (rw (x, y))
 
 -- the file numbers have no room
-returns-3 : tie.Need-returns-3
+returns-3 : tie.Need-returns-then-numbers-most
 returns-3 c =
     let a = c.before.before.before.args in
-    let x : leb (256 * a.most) a.rows ≡ true = le-leb (256 * a.most) a.rows (omega (arith, c.before.before.if1.false)) in
-    let y : leb a.most a.counts ≡ true = le-leb a.most a.counts c.before.if2.false in
-    let z : leb (8 * a.most) a.numbers ≡ false = lt-leb (8 * a.most) a.numbers (omega (arith, c.if3.true)) in
+    let x : leb (256 * a.most) a.rows ≡ true = le-leb (256 * a.most) a.rows (omega (arith, c.before.before.if-rows-most.false)) in
+    let y : leb a.most a.counts ≡ true = le-leb a.most a.counts c.before.if-counts-most.false in
+    let z : leb (8 * a.most) a.numbers ≡ false = lt-leb (8 * a.most) a.numbers (omega (arith, c.if-numbers-most.true)) in
     sym (rw (x, y, z))
 
-returns-4 : tie.Need-returns-4
+returns-4 : tie.Need-returns
 returns-4 c =
     let a = c.before.before.before.args in
-    let x : leb (256 * a.most) a.rows ≡ true = le-leb (256 * a.most) a.rows (omega (arith, c.before.before.if1.false)) in
-    let y : leb a.most a.counts ≡ true = le-leb a.most a.counts c.before.if2.false in
-    let z : leb (8 * a.most) a.numbers ≡ true = le-leb (8 * a.most) a.numbers (omega (arith, c.if3.false)) in
+    let x : leb (256 * a.most) a.rows ≡ true = le-leb (256 * a.most) a.rows (omega (arith, c.before.before.if-rows-most.false)) in
+    let y : leb a.most a.counts ≡ true = le-leb a.most a.counts c.before.if-counts-most.false in
+    let z : leb (8 * a.most) a.numbers ≡ true = le-leb (8 * a.most) a.numbers (omega (arith, c.if-numbers-most.false)) in
     quotient a.most a.values ∙ sym (rw (x, y, z))
 
 pub has_room_spec : {M : Type 1} → statement M
-has_room_spec = tie.close (tie.spec returns returns-2 returns-3 returns-4)
+has_room_spec = tie.close (tie.spec
+    returns
+    returns-2
+    returns-3
+    returns-4)

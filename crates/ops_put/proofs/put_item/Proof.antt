@@ -20,64 +20,64 @@ use Rattle.range_rows.proofs.put_row.Reads as put_row_reads
 long : (s : tie.Start) → length s.args.head.inps ≡ 256
 long s = search rules
 
-key-len-requires : tie.Need-key-len-requires
+key-len-requires : tie.Need-key_len-n-requires
 key-len-requires c κs = search rules
 
-sub-put-row : tie.Need-overflow-sub-put-row
+sub-put-row : tie.Need-slice_bounds-put_row-count
 sub-put-row c = search rules
 
-part-put-row-start : tie.Need-slice-bounds-put-row-start
+part-put-row-start : tie.Need-slice_bounds-put_row-start
 part-put-row-start c = search rules
 
-part-put-row-end : tie.Need-slice-bounds-put-row-end
-part-put-row-end c = omega (arith, long c.before.before.before.before.before.before.before)
+part-put-row-end : tie.Need-slice_bounds-put_row-end
+part-put-row-end c = omega (arith, long c.before.before.before.before.before.before)
 
-mul-put-row : tie.Need-overflow-mul-put-row
+mul-put-row : tie.Need-overflow_mul-place
 mul-put-row c = search rules
 
-put-row-requires : tie.Need-put-row-requires
+put-row-requires : tie.Need-put_row-requires
 put-row-requires c κs = search rules
 
-cast-counts : tie.Need-overflow-cast-counts
+cast-counts : tie.Need-overflow_cast-counts
 cast-counts c = search rules
 
-slice-write-counts : tie.Need-slice-write-counts
+slice-write-counts : tie.Need-bounds-counts-place
 slice-write-counts c = search rules
 
-mul-put-numbers : tie.Need-overflow-mul-put-numbers
+mul-put-numbers : tie.Need-overflow_mul-place-2
 mul-put-numbers c = search rules
 
-put-numbers-requires : tie.Need-put-numbers-requires
+put-numbers-requires : tie.Need-put_numbers-requires
 put-numbers-requires c κs = search rules
 
-mul-put-values : tie.Need-overflow-mul-put-values
+mul-put-values : tie.Need-overflow_mul-place-3
 mul-put-values c = search rules
 
-put-values-requires : tie.Need-put-values-requires
+put-values-requires : tie.Need-put_values-requires
 put-values-requires c κs = search rules
 
-same_length : tie.Need-same-length
+same_length : tie.Need-shape_of-rows
 same_length c = search rules
 
-same-length-2 : tie.Need-same-length-2
+same-length-2 : tie.Need-shape_of-counts
 same-length-2 c = search rules
 
-same-length-3 : tie.Need-same-length-3
+same-length-3 : tie.Need-shape_of-numbers
 same-length-3 c = search rules
 
-same-length-4 : tie.Need-same-length-4
+same-length-4 : tie.Need-shape_of-values
 same-length-4 c = search rules
 
 returns : tie.Need-returns
 returns c =
-    let s = c.before.before.before.before.before.before.before.before.before.before.before.before.before.before.before.before.before.before.before.before.before.before.before in
+    let s = c.before.before.before.before.before.before.before.before.before.before.before.before.before.before.before.before.before.before.before.before.before.before in
     let a = s.args in
     record {
-      row = c.before.before.before.before.before.before.before.before.before.before.before.before.before.put-row.ensures
-          ∙ ap (put a.rows.now (a.place * 256)) (key_row a.head c.before.before.before.before.before.before.before.before.before.before.before.before.before.before.before.before.before.before.key-len.result (long s) s.requires.0 c.before.before.before.before.before.before.before.before.before.before.before.before.before.before.before.before.before.before.key-len.ensures);
+      row = c.before.before.before.before.before.before.before.before.before.before.before.before.before.put_row.ensures
+          ∙ ap (put a.rows.now (a.place * 256)) (key_row a.head c.before.before.before.before.before.before.before.before.before.before.before.before.before.before.before.before.before.key_len-n.result (long s) s.requires.0 c.before.before.before.before.before.before.before.before.before.before.before.before.before.before.before.before.before.key_len-n.ensures);
       count = search rules;
-      number = c.before.before.before.before.before.before.before.put-numbers.ensures;
-      value = c.before.before.put-values.ensures;
+      number = c.before.before.before.before.before.before.before.put_numbers.ensures;
+      value = c.before.before.put_values.ensures;
     }
 
 pub put_item_spec : {M : Type 1} → statement M

@@ -9,50 +9,50 @@ use native.Mathlib.Omega.{arith}
 use Rattle.ops_put.proofs.put_numbers.Statement.{statement}
 use Rattle.ops_put.proofs.put_numbers.Tie as tie
 
-abbrev invariant-loop : tie.invariant-loop
-invariant-loop at out₀ from i₀ out i = Copied out₀ at from out i
+abbrev invariant-loop-i : tie.invariant-loop-i
+invariant-loop-i at out₀ from i₀ out i = Copied out₀ at from out i
 
-abbrev decreases-loop : tie.decreases-loop
-decreases-loop at out₀ from i₀ out i = 8 - i
+abbrev decreases-loop-i : tie.decreases-loop-i
+decreases-loop-i at out₀ from i₀ out i = 8 - i
 
-eight : (s : tie.Start invariant-loop decreases-loop) → length s.args.t1 ≡ 8
+eight : (s : tie.Start invariant-loop-i decreases-loop-i) → length s.args.from ≡ 8
 eight s = search rules
 
-loop-holds : tie.Need-loop-init invariant-loop decreases-loop
+loop-holds : tie.Need-loop-i-init invariant-loop-i decreases-loop-i
 loop-holds c = copied_none _ _ _
 
-array-read-out : tie.Need-array-read-out invariant-loop decreases-loop
+array-read-out : tie.Need-bounds-from-i invariant-loop-i decreases-loop-i
 array-read-out c = search rules
 
-add-out : tie.Need-overflow-add-out invariant-loop decreases-loop
+add-out : tie.Need-overflow_add-out invariant-loop-i decreases-loop-i
 add-out c = search rules
 
-slice-write-out : tie.Need-slice-write-out invariant-loop decreases-loop
+slice-write-out : tie.Need-bounds-out-at invariant-loop-i decreases-loop-i
 slice-write-out c = search rules
 
-add-i : tie.Need-overflow-add-i invariant-loop decreases-loop
+add-i : tie.Need-overflow_add-i invariant-loop-i decreases-loop-i
 add-i c = search rules
 
-loop-less : tie.Need-loop-smaller invariant-loop decreases-loop
+loop-less : tie.Need-loop-i-smaller invariant-loop-i decreases-loop-i
 loop-less c = search rules
 
-loop-again : tie.Need-loop-preserved invariant-loop decreases-loop
+loop-again : tie.Need-loop-i-preserved invariant-loop-i decreases-loop-i
 loop-again c =
     let s = c.before.before in
-    copied_step s.requires (eight s) c.loop-test.true c.before.loop.invariant
+    copied_step s.requires (eight s) c.loop-i-test.true c.before.loop-i.invariant
 
-same_length : tie.Need-same-length invariant-loop decreases-loop
-same_length c = c.before.loop.invariant.len
+same_length : tie.Need-shape_of-out invariant-loop-i decreases-loop-i
+same_length c = c.before.loop-i.invariant.len
 
-returns : tie.Need-returns invariant-loop decreases-loop
-returns c = copied_all (eight c.before.before) c.loop-test.false c.before.loop.invariant
+returns : tie.Need-returns invariant-loop-i decreases-loop-i
+returns c = copied_all (eight c.before.before) c.loop-i-test.false c.before.loop-i.invariant
 
 pub put_numbers_spec : {M : Type 1} → statement M
 put_numbers_spec =
     tie.close
     (tie.spec
-    invariant-loop
-    decreases-loop
+    invariant-loop-i
+    decreases-loop-i
     loop-holds
     array-read-out
     add-out

@@ -11,12 +11,14 @@ use Rattle.ops_rounds.proofs.has_room.Reads as reads
 use Rattle.ops_rounds.proofs.has_room.Lts as lts
 
 -- src/lib.rt:68:9
-returns : tie.Need-returns
-returns c = sym (ap (λ (b : Bool). b || leb 255 c.before.args.space) c.if1.true)
+returns : tie.Need-returns-then-moved
+returns c = sym (ap (λ (b : Bool). b || leb 255 c.before.args.space) c.if-moved.true)
 
 -- src/lib.rt:64:1
-returns-2 : tie.Need-returns-2
-returns-2 c = sym (ap (λ (b : Bool). b || leb 255 c.before.args.space) c.if1.false)
+returns-2 : tie.Need-returns
+returns-2 c = sym (ap (λ (b : Bool). b || leb 255 c.before.args.space) c.if-moved.false)
 
 pub has_room_spec : {M : Type 1} → statement M
-has_room_spec = tie.close (tie.spec returns returns-2)
+has_room_spec = tie.close (tie.spec
+    returns
+    returns-2)

@@ -23,249 +23,249 @@ use Rattle.ops_seen.proofs.is_used.Reads as is_used_reads
 use Rattle.ops_seen.proofs.see.Reads as see_reads
 use Rattle.ops_turn.proofs.step_seen.Reads as step_seen_reads
 
-abbrev invariant-loop : tie.invariant-loop
-invariant-loop t1 op count space files all₀ keys₀ seen₀ moved₀ i₀ all keys seen moved i = Rounds (map (λ f. f.now) t1) (op_is op) count space all₀ all keys seen i moved
+abbrev invariant-loop-i : tie.invariant-loop-i
+invariant-loop-i t1 op count space files all₀ keys₀ seen₀ moved₀ i₀ all keys seen moved i = Rounds (map (λ f. f.now) t1) (op_is op) count space all₀ all keys seen i moved
 
-abbrev decreases-loop : tie.decreases-loop
-decreases-loop t1 op count space files all₀ keys₀ seen₀ moved₀ i₀ all keys seen moved i = to_do (map (λ f. f.now) t1) count all seen i
+abbrev decreases-loop-i : tie.decreases-loop-i
+decreases-loop-i t1 op count space files all₀ keys₀ seen₀ moved₀ i₀ all keys seen moved i = to_do (map (λ f. f.now) t1) count all seen i
 
 -- src/lib.rt:82:20
-see-requires : tie.Need-see-requires invariant-loop decreases-loop
+see-requires : tie.Need-see-seen-requires invariant-loop-i decreases-loop-i
 see-requires c κs = search rules
 
 -- src/lib.rt:85:5
-loop-holds : tie.Need-loop-init invariant-loop decreases-loop
+loop-holds : tie.Need-loop-i-init invariant-loop-i decreases-loop-i
 loop-holds c =
     let a = c.before.before.args in
-    rounds_none (map (λ f. f.now) a.t1) (op_is a.op) a.count a.space a.cards _ c.see.result c.before.before.requires.1 c.see.ensures
+    rounds_none (map (λ f. f.now) a.files) (op_is a.op) a.count a.space a.cards _ c.see-seen.result c.before.before.requires.1 c.see-seen.ensures
 
 -- src/lib.rt:87:23
-mul-one : tie.Need-overflow-mul-one invariant-loop decreases-loop
+mul-one : tie.Need-offset_bounds-seen-i invariant-loop-i decreases-loop-i
 mul-one c = search rules
 
 -- src/lib.rt:87:23
-array-copy-out-one : tie.Need-array-copy-out-one invariant-loop decreases-loop
+array-copy-out-one : tie.Need-bounds-seen-i invariant-loop-i decreases-loop-i
 array-copy-out-one c = search rules
 
 -- src/lib.rt:88:16
-is-used-requires : tie.Need-is-used-requires invariant-loop decreases-loop
+is-used-requires : tie.Need-is_used-requires invariant-loop-i decreases-loop-i
 is-used-requires c κs = search rules
 
 -- src/lib.rt:89:28
-mul-file : tie.Need-overflow-mul-file invariant-loop decreases-loop
+mul-file : tie.Need-offset_bounds-files-i invariant-loop-i decreases-loop-i
 mul-file c = search rules
 
 -- src/lib.rt:89:28
-array-copy-out-file : tie.Need-array-copy-out-file invariant-loop decreases-loop
+array-copy-out-file : tie.Need-bounds-files-i invariant-loop-i decreases-loop-i
 array-copy-out-file c = search rules
 
 -- src/lib.rt:90:28
-mul-card : tie.Need-overflow-mul-card invariant-loop decreases-loop
+mul-card : tie.Need-offset_bounds-all-i invariant-loop-i decreases-loop-i
 mul-card c = search rules
 
 -- src/lib.rt:90:28
-array-copy-out-card : tie.Need-array-copy-out-card invariant-loop decreases-loop
+array-copy-out-card : tie.Need-bounds-all-i invariant-loop-i decreases-loop-i
 array-copy-out-card c = search rules
 
 -- src/lib.rt:92:21
-step-seen-requires : tie.Need-step-seen-requires invariant-loop decreases-loop
+step-seen-requires : tie.Need-step_seen-step-requires invariant-loop-i decreases-loop-i
 step-seen-requires c κs =
-    (c.before.before.before.before.before.before.before.before.loop.invariant.turning.keys_len, omega (arith, c.before.before.before.before.before.before.before.if1.true, c.before.before.before.before.before.before.before.before.before.before.before.requires.1))
+    (c.before.before.before.before.before.before.before.before.loop-i.invariant.turning.keys_len, omega (arith, c.before.before.before.before.before.before.before.if-i-count.true, c.before.before.before.before.before.before.before.before.before.before.before.requires.1))
 
 -- src/lib.rt:94:21
-without-requires : tie.Need-without-requires invariant-loop decreases-loop
+without-requires : tie.Need-without-requires invariant-loop-i decreases-loop-i
 without-requires c κs = search rules
 
 -- src/lib.rt:94:21
-returns : tie.Need-returns invariant-loop decreases-loop
+returns : tie.Need-returns-then-step invariant-loop-i decreases-loop-i
 returns c =
     let a = c.before.before.before.before.before.before.before.before.before.before.before.before.before.before.args in
     let pre = c.before.before.before.before.before.before.before.before.before.before.before.before.before.before.requires in
-    let l = c.before.before.before.before.before.before.before.before.before.before.before.loop in
-    let step = c.before.before.step-seen in
-    let used = c.before.before.before.before.before.before.before.before.is-used.ensures.yes c.before.before.before.before.before.before.before.if2.true in
-    let by = at_file a.t1 a.space l.i _ l.keys _ step.result _ step.ensures refl in
-    called_halted l.invariant pre.0 pre.1 c.before.before.before.before.before.before.before.before.before.before.if1.true _ _ used _ step.result by c.before.if3.true c.without.result c.without.ensures.0
+    let l = c.before.before.before.before.before.before.before.before.before.before.before.loop-i in
+    let step = c.before.before.step_seen-step in
+    let used = c.before.before.before.before.before.before.before.before.is_used.ensures.yes c.before.before.before.before.before.before.before.if-is_used.true in
+    let by = at_file a.files a.space l.i _ l.keys _ step.result _ step.ensures refl in
+    called_halted l.invariant pre.0 pre.1 c.before.before.before.before.before.before.before.before.before.before.if-i-count.true _ _ used _ step.result by c.before.if-step.true c.without.result c.without.ensures.0
 
 -- src/lib.rt:98:17
-mul-all : tie.Need-overflow-mul-all invariant-loop decreases-loop
+mul-all : tie.Need-offset_bounds-all-i-then-is_used invariant-loop-i decreases-loop-i
 mul-all c = search rules
 
 -- src/lib.rt:98:17
-array-set-from-all : tie.Need-array-set-from-all invariant-loop decreases-loop
+array-set-from-all : tie.Need-bounds-all-i-then-is_used invariant-loop-i decreases-loop-i
 array-set-from-all c = search rules
 
 -- src/lib.rt:99:17
-mul-seen : tie.Need-overflow-mul-seen invariant-loop decreases-loop
+mul-seen : tie.Need-offset_bounds-seen-i-then-is_used invariant-loop-i decreases-loop-i
 mul-seen c = search rules
 
 -- src/lib.rt:99:17
-array-set-from-seen : tie.Need-array-set-from-seen invariant-loop decreases-loop
+array-set-from-seen : tie.Need-bounds-seen-i-then-is_used invariant-loop-i decreases-loop-i
 array-set-from-seen c = search rules
 
 -- src/lib.rt:101:17
-add-i : tie.Need-overflow-add-i invariant-loop decreases-loop
+add-i : tie.Need-overflow_add-i invariant-loop-i decreases-loop-i
 add-i c = search rules
 
 -- src/lib.rt:85:5
-loop-less : tie.Need-loop-smaller invariant-loop decreases-loop
+loop-less : tie.Need-loop-i-smaller-then-is_used invariant-loop-i decreases-loop-i
 loop-less c =
     let a = c.before.before.before.before.before.before.before.before.before.before.before.before.before.before.before.args in
     let pre = c.before.before.before.before.before.before.before.before.before.before.before.before.before.before.before.requires in
-    let l = c.before.before.before.before.before.before.before.before.before.before.before.before.loop in
-    let step = c.before.before.before.step-seen in
-    let used = c.before.before.before.before.before.before.before.before.before.is-used.ensures.yes c.before.before.before.before.before.before.before.before.if2.true in
-    let by = at_file a.t1 a.space l.i _ l.keys _ step.result _ step.ensures refl in
-    card_less l.invariant pre.0 pre.1 c.before.before.before.before.before.before.before.before.before.before.before.if1.true _ _ used _ step.result by c.before.before.if3.false
+    let l = c.before.before.before.before.before.before.before.before.before.before.before.before.loop-i in
+    let step = c.before.before.before.step_seen-step in
+    let used = c.before.before.before.before.before.before.before.before.before.is_used.ensures.yes c.before.before.before.before.before.before.before.before.if-is_used.true in
+    let by = at_file a.files a.space l.i _ l.keys _ step.result _ step.ensures refl in
+    card_less l.invariant pre.0 pre.1 c.before.before.before.before.before.before.before.before.before.before.before.if-i-count.true _ _ used _ step.result by c.before.before.if-step.false
 
 -- src/lib.rt:85:5
-loop-again : tie.Need-loop-preserved invariant-loop decreases-loop
+loop-again : tie.Need-loop-i-preserved-then-is_used invariant-loop-i decreases-loop-i
 loop-again c =
     let a = c.before.before.before.before.before.before.before.before.before.before.before.before.before.before.before.args in
     let pre = c.before.before.before.before.before.before.before.before.before.before.before.before.before.before.before.requires in
-    let l = c.before.before.before.before.before.before.before.before.before.before.before.before.loop in
-    let step = c.before.before.before.step-seen in
-    let used = c.before.before.before.before.before.before.before.before.before.is-used.ensures.yes c.before.before.before.before.before.before.before.before.if2.true in
-    let by = at_file a.t1 a.space l.i _ l.keys _ step.result _ step.ensures refl in
-    rounds_step l.invariant pre.0 pre.1 c.before.before.before.before.before.before.before.before.before.before.before.if1.true _ _ used _ step.result by c.before.before.if3.false
+    let l = c.before.before.before.before.before.before.before.before.before.before.before.before.loop-i in
+    let step = c.before.before.before.step_seen-step in
+    let used = c.before.before.before.before.before.before.before.before.before.is_used.ensures.yes c.before.before.before.before.before.before.before.before.if-is_used.true in
+    let by = at_file a.files a.space l.i _ l.keys _ step.result _ step.ensures refl in
+    rounds_step l.invariant pre.0 pre.1 c.before.before.before.before.before.before.before.before.before.before.before.if-i-count.true _ _ used _ step.result by c.before.before.if-step.false
 
 -- src/lib.rt:104:16
-is-long-requires : tie.Need-is-long-requires invariant-loop decreases-loop
+is-long-requires : tie.Need-is_long-requires invariant-loop-i decreases-loop-i
 is-long-requires c κs = search rules
 
 -- src/lib.rt:105:17
-without-requires-2 : tie.Need-without-requires-2 invariant-loop decreases-loop
+without-requires-2 : tie.Need-without-requires-then-is_long invariant-loop-i decreases-loop-i
 without-requires-2 c κs = search rules
 
 -- src/lib.rt:105:17
-returns-2 : tie.Need-returns-2 invariant-loop decreases-loop
+returns-2 : tie.Need-returns-then-is_long invariant-loop-i decreases-loop-i
 returns-2 c =
     let a = c.before.before.before.before.before.before.before.before.before.before.args in
     let pre = c.before.before.before.before.before.before.before.before.before.before.requires in
-    let l = c.before.before.before.before.before.before.before.loop in
-    called_long l.invariant pre.0 pre.1 c.before.before.before.before.before.before.if1.true _ (c.before.before.is-long.ensures.yes c.before.if4.true) c.without2.result c.without2.ensures.0
+    let l = c.before.before.before.before.before.before.before.loop-i in
+    called_long l.invariant pre.0 pre.1 c.before.before.before.before.before.before.if-i-count.true _ (c.before.before.is_long.ensures.yes c.before.if-is_long.true) c.without-then-is_long.result c.without-then-is_long.ensures.0
 
 -- src/lib.rt:107:13
-add-i-2 : tie.Need-overflow-add-i-2 invariant-loop decreases-loop
+add-i-2 : tie.Need-overflow_add-i-then-i-count invariant-loop-i decreases-loop-i
 add-i-2 c = search rules
 
 -- src/lib.rt:85:5
-loop-less-2 : tie.Need-loop-smaller-2 invariant-loop decreases-loop
+loop-less-2 : tie.Need-loop-i-smaller-then-i-count invariant-loop-i decreases-loop-i
 loop-less-2 c =
-    omega (arith, c.before.before.before.before.before.if1.true)
+    omega (arith, c.before.before.before.before.before.if-i-count.true)
 
 -- src/lib.rt:85:5
-loop-again-2 : tie.Need-loop-preserved-2 invariant-loop decreases-loop
+loop-again-2 : tie.Need-loop-i-preserved-then-i-count invariant-loop-i decreases-loop-i
 loop-again-2 c =
     let a = c.before.before.before.before.before.before.before.before.before.args in
     let pre = c.before.before.before.before.before.before.before.before.before.requires in
-    let l = c.before.before.before.before.before.before.loop in
-    rounds_skip l.invariant pre.0 pre.1 c.before.before.before.before.before.if1.true _ (c.before.before.before.is-used.ensures.no c.before.before.if2.false) (c.before.is-long.ensures.no c.if4.false)
+    let l = c.before.before.before.before.before.before.loop-i in
+    rounds_skip l.invariant pre.0 pre.1 c.before.before.before.before.before.if-i-count.true _ (c.before.before.before.is_used.ensures.no c.before.before.if-is_used.false) (c.before.is_long.ensures.no c.if-is_long.false)
 
 -- src/lib.rt:110:12
-has-room-requires : tie.Need-has-room-requires invariant-loop decreases-loop
+has-room-requires : tie.Need-has_room-requires invariant-loop-i decreases-loop-i
 has-room-requires c κs = search rules
 
 -- src/lib.rt:111:13
-without-requires-3 : tie.Need-without-requires-3 invariant-loop decreases-loop
+without-requires-3 : tie.Need-without-requires-else-has_room invariant-loop-i decreases-loop-i
 without-requires-3 c κs = search rules
 
 -- src/lib.rt:111:13
-returns-3 : tie.Need-returns-3 invariant-loop decreases-loop
+returns-3 : tie.Need-returns-else-has_room invariant-loop-i decreases-loop-i
 returns-3 c =
     let a = c.before.before.before.before.before.before.before.args in
     let pre = c.before.before.before.before.before.before.before.requires in
-    let l = c.before.before.before.before.loop in
-    called_short l.invariant pre.0 pre.1 c.before.before.before.if1.false (sym c.before.before.has_room.ensures ∙ c.before.if5.false) c.without3.result c.without3.ensures.0
+    let l = c.before.before.before.before.loop-i in
+    called_short l.invariant pre.0 pre.1 c.before.before.before.if-i-count.false (sym c.before.before.has_room.ensures ∙ c.before.if-has_room.false) c.without-else-has_room.result c.without-else-has_room.ensures.0
 
 -- src/lib.rt:113:13
-decide-requires : tie.Need-decide-requires invariant-loop decreases-loop
+decide-requires : tie.Need-decide-decided-requires invariant-loop-i decreases-loop-i
 decide-requires c κs =
     let a = c.before.before.before.before.before.before.before.args in
     let pre = c.before.before.before.before.before.before.before.requires in
-    let l = c.before.before.before.before.loop in
-    (pre.0, pre.1, rounds_ready l.invariant pre.0 pre.1 c.before.before.before.if1.false)
+    let l = c.before.before.before.before.loop-i in
+    (pre.0, pre.1, rounds_ready l.invariant pre.0 pre.1 c.before.before.before.if-i-count.false)
 
 -- src/lib.rt:120:40
-enum_told : tie.Need-enum-told invariant-loop decreases-loop
+enum_told : tie.Need-enum_told-1 invariant-loop-i decreases-loop-i
 enum_told c = search rules
 
 -- src/lib.rt:120:21
-deal-requires : tie.Need-deal-requires invariant-loop decreases-loop
+deal-requires : tie.Need-deal-last-requires invariant-loop-i decreases-loop-i
 deal-requires c κs = search rules
 
 -- src/lib.rt:121:17
-without-requires-4 : tie.Need-without-requires-4 invariant-loop decreases-loop
+without-requires-4 : tie.Need-without-requires-in-NoMore invariant-loop-i decreases-loop-i
 without-requires-4 c κs = search rules
 
 -- src/lib.rt:121:17
-returns-4 : tie.Need-returns-4 invariant-loop decreases-loop
+returns-4 : tie.Need-returns-in-NoMore invariant-loop-i decreases-loop-i
 returns-4 c =
-    let a = c.before.before.before.before.before.before.before.before.before.before.before.before.before.before.before.args in
-    let pre = c.before.before.before.before.before.before.before.before.before.before.before.before.before.before.before.requires in
-    let l = c.before.before.before.before.before.before.before.before.before.before.before.before.loop in
-    let d = c.before.before.before.before.before.before.before.decide in
-    let room = sym c.before.before.before.before.before.before.before.before.before.before.has_room.ensures ∙ c.before.before.before.before.before.before.before.before.before.if5.true in
-    called_end l.invariant pre.0 pre.1 c.before.before.before.before.before.before.before.before.before.before.before.if1.false room d.result d.ensures c.before.before.enum_told.given.1 c.without4.result c.without4.ensures.0 (subst (AllDealt a.count l.all l.seen) (sym c.without4.ensures.1) c.before.deal.ensures)
+    let a = c.before.before.before.before.before.before.before.before.before.before.before.before.before.before.args in
+    let pre = c.before.before.before.before.before.before.before.before.before.before.before.before.before.before.requires in
+    let l = c.before.before.before.before.before.before.before.before.before.before.before.loop-i in
+    let d = c.before.before.before.before.before.before.decide-decided in
+    let room = sym c.before.before.before.before.before.before.before.before.before.has_room.ensures ∙ c.before.before.before.before.before.before.before.before.if-has_room.true in
+    called_end l.invariant pre.0 pre.1 c.before.before.before.before.before.before.before.before.before.before.if-i-count.false room d.result d.ensures c.before.before.in-NoMore.is c.without-in-NoMore.result c.without-in-NoMore.ensures.0 (subst (AllDealt a.count l.all l.seen) (sym c.without-in-NoMore.ensures.1) c.before.deal-last.ensures)
 
 -- src/lib.rt:124:35
-enum-told-2 : tie.Need-enum-told-2 invariant-loop decreases-loop
+enum-told-2 : tie.Need-enum_told-in-This invariant-loop-i decreases-loop-i
 enum-told-2 c = search rules
 
 -- src/lib.rt:124:21
-head-at-requires : tie.Need-head-at-requires invariant-loop decreases-loop
+head-at-requires : tie.Need-head_at-key-requires invariant-loop-i decreases-loop-i
 head-at-requires c κs =
-    let a = c.before.before.before.before.before.before.before.before.before.before.before.before.before.before.args in
-    let pre = c.before.before.before.before.before.before.before.before.before.before.before.before.before.before.requires in
-    let l = c.before.before.before.before.before.before.before.before.before.before.before.loop in
-    let d = c.before.before.before.before.before.before.decide in
-    let room = sym c.before.before.before.before.before.before.before.before.before.has_room.ensures ∙ c.before.before.before.before.before.before.before.before.if5.true in
-    (l.invariant.turning.keys_len, item_within l.invariant pre.0 pre.1 c.before.before.before.before.before.before.before.before.before.before.if1.false room d.result d.ensures c.before.enum-told2.given.1)
+    let a = c.before.before.before.before.before.before.before.before.before.before.before.before.before.args in
+    let pre = c.before.before.before.before.before.before.before.before.before.before.before.before.before.requires in
+    let l = c.before.before.before.before.before.before.before.before.before.before.loop-i in
+    let d = c.before.before.before.before.before.decide-decided in
+    let room = sym c.before.before.before.before.before.before.before.before.has_room.ensures ∙ c.before.before.before.before.before.before.before.if-has_room.true in
+    (l.invariant.turning.keys_len, item_within l.invariant pre.0 pre.1 c.before.before.before.before.before.before.before.before.before.if-i-count.false room d.result d.ensures c.before.in-This.is)
 
 -- src/lib.rt:125:21
-deal-requires-2 : tie.Need-deal-requires-2 invariant-loop decreases-loop
+deal-requires-2 : tie.Need-deal-after-requires invariant-loop-i decreases-loop-i
 deal-requires-2 c κs = search rules
 
 -- src/lib.rt:126:17
-returns-5 : tie.Need-returns-5 invariant-loop decreases-loop
+returns-5 : tie.Need-returns-in-This invariant-loop-i decreases-loop-i
 returns-5 c =
-    let a = c.before.before.before.before.before.before.before.before.before.before.before.before.before.before.before.before.args in
-    let pre = c.before.before.before.before.before.before.before.before.before.before.before.before.before.before.before.before.requires in
-    let l = c.before.before.before.before.before.before.before.before.before.before.before.before.before.loop in
-    let d = c.before.before.before.before.before.before.before.before.decide in
-    let room = sym c.before.before.before.before.before.before.before.before.before.before.before.has_room.ensures ∙ c.before.before.before.before.before.before.before.before.before.before.if5.true in
-    called_item l.invariant pre.0 pre.1 c.before.before.before.before.before.before.before.before.before.before.before.before.if1.false room d.result d.ensures c.before.before.before.enum-told2.given.1 c.before.head_at.result c.before.head_at.ensures.0 c.before.head_at.ensures.1 c.deal2.result c.deal2.ensures
+    let a = c.before.before.before.before.before.before.before.before.before.before.before.before.before.before.before.args in
+    let pre = c.before.before.before.before.before.before.before.before.before.before.before.before.before.before.before.requires in
+    let l = c.before.before.before.before.before.before.before.before.before.before.before.before.loop-i in
+    let d = c.before.before.before.before.before.before.before.decide-decided in
+    let room = sym c.before.before.before.before.before.before.before.before.before.before.has_room.ensures ∙ c.before.before.before.before.before.before.before.before.before.if-has_room.true in
+    called_item l.invariant pre.0 pre.1 c.before.before.before.before.before.before.before.before.before.before.before.if-i-count.false room d.result d.ensures c.before.before.before.in-This.is c.before.head_at-key.result c.before.head_at-key.ensures.0 c.before.head_at-key.ensures.1 c.deal-after.result c.deal-after.ensures
 
 -- src/lib.rt:134:17
-enum-told-3 : tie.Need-enum-told-3 invariant-loop decreases-loop
+enum-told-3 : tie.Need-enum_told-in-Another invariant-loop-i decreases-loop-i
 enum-told-3 c = search rules
 
 -- src/lib.rt:85:5
-loop-less-3 : tie.Need-loop-smaller-3 invariant-loop decreases-loop
+loop-less-3 : tie.Need-loop-i-smaller invariant-loop-i decreases-loop-i
 loop-less-3 c =
-    let a = c.before.before.before.before.before.before.before.before.before.before.before.before.before.args in
-    let pre = c.before.before.before.before.before.before.before.before.before.before.before.before.before.requires in
-    let l = c.before.before.before.before.before.before.before.before.before.before.loop in
-    let d = c.before.before.before.before.before.decide in
-    let room = sym c.before.before.before.before.before.before.before.before.has_room.ensures ∙ c.before.before.before.before.before.before.before.if5.true in
-    round_less l.invariant pre.0 pre.1 c.before.before.before.before.before.before.before.before.before.if1.false room d.result d.ensures c.enum-told3.given.1
+    let a = c.before.before.before.before.before.before.before.before.before.before.before.before.args in
+    let pre = c.before.before.before.before.before.before.before.before.before.before.before.before.requires in
+    let l = c.before.before.before.before.before.before.before.before.before.loop-i in
+    let d = c.before.before.before.before.decide-decided in
+    let room = sym c.before.before.before.before.before.before.before.has_room.ensures ∙ c.before.before.before.before.before.before.if-has_room.true in
+    round_less l.invariant pre.0 pre.1 c.before.before.before.before.before.before.before.before.if-i-count.false room d.result d.ensures c.in-Another.is
 
 -- src/lib.rt:85:5
-loop-again-3 : tie.Need-loop-preserved-3 invariant-loop decreases-loop
+loop-again-3 : tie.Need-loop-i-preserved invariant-loop-i decreases-loop-i
 loop-again-3 c =
-    let a = c.before.before.before.before.before.before.before.before.before.before.before.before.before.args in
-    let pre = c.before.before.before.before.before.before.before.before.before.before.before.before.before.requires in
-    let l = c.before.before.before.before.before.before.before.before.before.before.loop in
-    let d = c.before.before.before.before.before.decide in
-    let room = sym c.before.before.before.before.before.before.before.before.has_room.ensures ∙ c.before.before.before.before.before.before.before.if5.true in
-    rounds_again l.invariant pre.0 pre.1 c.before.before.before.before.before.before.before.before.before.if1.false room d.result d.ensures c.enum-told3.given.1
+    let a = c.before.before.before.before.before.before.before.before.before.before.before.before.args in
+    let pre = c.before.before.before.before.before.before.before.before.before.before.before.before.requires in
+    let l = c.before.before.before.before.before.before.before.before.before.loop-i in
+    let d = c.before.before.before.before.decide-decided in
+    let room = sym c.before.before.before.before.before.before.before.has_room.ensures ∙ c.before.before.before.before.before.before.if-has_room.true in
+    rounds_again l.invariant pre.0 pre.1 c.before.before.before.before.before.before.before.before.if-i-count.false room d.result d.ensures c.in-Another.is
 
 pub rounds_spec : {M : Type 1} → statement M
 rounds_spec =
     tie.close
     (tie.spec
-    invariant-loop
-    decreases-loop
+    invariant-loop-i
+    decreases-loop-i
     see-requires
     loop-holds
     mul-one

@@ -8,46 +8,46 @@ use native.Mathlib.Omega.{arith}
 use Rattle.pack_end.proofs.ends.Statement.{statement}
 use Rattle.pack_end.proofs.ends.Tie as tie
 
-returns : tie.Need-returns
-returns c = λ tables cells table e. let t = c.before.before.before in answer_refused (e.refuses c.if1.false t.args.limit) t.args.output.now table
+returns : tie.Need-returns-else-turn
+returns c = λ tables cells table e. let t = c.before.before.before in answer_refused (e.refuses c.if-turn.false t.args.limit) t.args.output.now table
 
-sub-if2 : tie.Need-overflow-sub-if2
-sub-if2 c = let h = (c.before.before.before.requires.ended.done c.if1.true).1.laid.high in search rules
+sub-if2 : tie.Need-overflow_sub-output
+sub-if2 c = let h = (c.before.before.before.requires.ended.done c.if-turn.true).1.laid.high in search rules
 
-returns-2 : tie.Need-returns-2
+returns-2 : tie.Need-returns-then-output-next-lt16
 returns-2 c = λ tables cells table e.
     let t = c.before.before.before.before in
-    let d = e.done c.before.if1.true in
-    short_answer t.args.limit t.args.list.now tables cells (length t.args.output.now) d.0.list d.0.fit d.0.two d.1 refl c.if2.true
+    let d = e.done c.before.if-turn.true in
+    short_answer t.args.limit t.args.list.now tables cells (length t.args.output.now) d.0.list d.0.fit d.0.two d.1 refl c.if-output-next-lt16.true
 
-add-if3 : tie.Need-overflow-add-if3
+add-if3 : tie.Need-overflow_add-next
 add-if3 c = search rules
 
-returns-3 : tie.Need-returns-3
+returns-3 : tie.Need-returns-then-limit-next
 returns-3 c = λ tables cells table e.
     let t = c.before.before.before.before.before in
-    let d = e.done c.before.before.if1.true in
-    over_answer t.args.limit t.args.list.now tables cells (length t.args.output.now) d.0.list d.0.fit d.0.two d.1 refl (λ z. omega (arith, c.before.if2.false)) c.if3.true
+    let d = e.done c.before.before.if-turn.true in
+    over_answer t.args.limit t.args.list.now tables cells (length t.args.output.now) d.0.list d.0.fit d.0.two d.1 refl (λ z. omega (arith, c.before.if-output-next-lt16.false)) c.if-limit-next.true
 
-key-count-requires : tie.Need-key-count-requires
-key-count-requires c κs = (c.before.before.before.before.before.requires.ended.done c.before.before.if1.true).0.list.long
+key-count-requires : tie.Need-key_count-n-requires
+key-count-requires c κs = (c.before.before.before.before.before.requires.ended.done c.before.before.if-turn.true).0.list.long
 
-write-ends-requires : tie.Need-write-ends-requires
+write-ends-requires : tie.Need-write_ends-requires
 write-ends-requires c κs =
-    let l = (c.before.before.before.before.before.before.before.requires.ended.done c.before.before.before.before.if1.true).1.laid in
-    (l.low, omega (arith, l.high, c.before.before.before.if2.false))
+    let l = (c.before.before.before.before.before.before.before.requires.ended.done c.before.before.before.before.if-turn.true).1.laid in
+    (l.low, omega (arith, l.high, c.before.before.before.if-output-next-lt16.false))
 
-add-t10 : tie.Need-overflow-add-t10
+add-t10 : tie.Need-overflow_add-result
 add-t10 c = search rules
 
-same_length : tie.Need-same-length
+same_length : tie.Need-shape_of-output
 same_length c = search rules
 
-returns-4 : tie.Need-returns-4
+returns-4 : tie.Need-returns
 returns-4 c = λ tables cells table e.
     let t = c.before.before.before.before.before.before.before.before.before.before in
-    let d = e.done c.before.before.before.before.before.before.before.if1.true in
-    done_answer t.args.limit t.args.list.now tables cells (length t.args.output.now) d.0.list d.0.fit d.0.two d.1 refl (λ z. omega (arith, c.before.before.before.before.before.before.if2.false)) (λ z. omega (arith, c.before.before.before.before.before.if3.false)) _ c.before.before.before.before.key-count.ensures.0 _ c.before.before.write-ends.ensures c.before.output.given
+    let d = e.done c.before.before.before.before.before.before.before.if-turn.true in
+    done_answer t.args.limit t.args.list.now tables cells (length t.args.output.now) d.0.list d.0.fit d.0.two d.1 refl (λ z. omega (arith, c.before.before.before.before.before.before.if-output-next-lt16.false)) (λ z. omega (arith, c.before.before.before.before.before.if-limit-next.false)) _ c.before.before.before.before.key_count-n.ensures.0 _ c.before.before.write_ends.ensures c.before.output-1.given
 
 pub ends_spec : {M : Type 1} → statement M
 ends_spec =

@@ -9,34 +9,34 @@ use borrow.Author.Rules.{rules}
 use Rattle.pack_end.proofs.finish.Statement.{statement}
 use Rattle.pack_end.proofs.finish.Tie as tie
 
-ends-requires : tie.Need-ends-requires
+ends-requires : tie.Need-ends-answer-requires
 ends-requires c κs = search rules
 
-enum-known-answer : tie.Need-enum-known-answer
+enum-known-answer : tie.Need-enum_known-answer
 enum-known-answer c = search rules
 
-enum-known-answer-2 : tie.Need-enum-known-answer-2
+enum-known-answer-2 : tie.Need-enum_known-answer-in-Refused-1
 enum-known-answer-2 c = search rules
 
-zero-bytes-requires : tie.Need-zero-bytes-requires
+zero-bytes-requires : tie.Need-zero_bytes-requires
 zero-bytes-requires c κs = search rules
 
-same_length : tie.Need-same-length
+same_length : tie.Need-shape_of-output-in-Len
 same_length c = search rules
 
-returns : tie.Need-returns
+returns : tie.Need-returns-in-Len
 returns c = record {
-  answers = λ tables cells table e. written_on (c.before.before.before.before.before.ends.ensures tables cells table e) c.before.answer.given.1;
+  answers = λ tables cells table e. written_on (c.before.before.before.ends-answer.ensures tables cells table e) c.in-Len.is;
   emptied = λ k q. absurd (refused_not (sym q));
 }
 
-same-length-2 : tie.Need-same-length-2
+same-length-2 : tie.Need-shape_of-output-in-Refused
 same-length-2 c = search rules
 
-returns-2 : tie.Need-returns-2
+returns-2 : tie.Need-returns-in-Refused
 returns-2 c = record {
-  answers = λ tables cells table e. refused_any (c.before.before.before.before.before.before.before.before.before.ends.ensures tables cells table e) c.before.before.before.before.before.answer2.given.1 _;
-  emptied = λ k q. c.before.before.zero-bytes.ensures ∙ ap (λ (n : ℕ). replicate n 0) c.before.before.before.before.before.before.before.before.output.given;
+  answers = λ tables cells table e. refused_any (c.before.before.before.before.before.before.before.ends-answer.ensures tables cells table e) c.before.before.before.before.in-Refused.is _;
+  emptied = λ k q. c.before.before.zero_bytes.ensures ∙ ap (λ (n : ℕ). replicate n 0) c.before.before.before.before.before.before.output-1.given;
 }
 
 pub finish_spec : {M : Type 1} → statement M

@@ -8,36 +8,36 @@ use native.Mathlib.Omega.{arith}
 use Rattle.pack_step.proofs.judged.Statement.{statement}
 use Rattle.pack_step.proofs.judged.Tie as tie
 
-judge-list-requires : tie.Need-judge-list-requires
+judge-list-requires : tie.Need-judge_list-requires
 judge-list-requires c κs = search rules
 
-returns : tie.Need-returns
+returns : tie.Need-returns-else-judge_list
 returns c =
     let t = c.before.before.before in
-    judged_list t.args.list.now (tables_test t.args.inputs t.args.leasts t.args.targets) t.args.cells t.args.room (c.before.judge-list.ensures.no c.if1.false)
+    judged_list t.args.list.now (tables_test t.args.inputs t.args.leasts t.args.targets) t.args.cells t.args.room (c.before.judge_list.ensures.no c.if-judge_list.false)
 
-tables-fit-requires : tie.Need-tables-fit-requires
+tables-fit-requires : tie.Need-tables_fit-requires
 tables-fit-requires c κs = search rules
 
-returns-2 : tie.Need-returns-2
+returns-2 : tie.Need-returns-else-tables_fit
 returns-2 c =
     let t = c.before.before.before.before.before in
-    judged_tables t.args.list.now (tables_test t.args.inputs t.args.leasts t.args.targets) t.args.cells t.args.room (c.before.before.before.judge-list.ensures.yes c.before.before.if1.true) (sym c.before.tables-fit.ensures ∙ c.if2.false)
+    judged_tables t.args.list.now (tables_test t.args.inputs t.args.leasts t.args.targets) t.args.cells t.args.room (c.before.before.before.judge_list.ensures.yes c.before.before.if-judge_list.true) (sym c.before.tables_fit.ensures ∙ c.if-tables_fit.false)
 
-returns-3 : tie.Need-returns-3
+returns-3 : tie.Need-returns-then-cells-lt2
 returns-3 c =
     let t = c.before.before.before.before.before.before in
-    judged_cells t.args.list.now (tables_test t.args.inputs t.args.leasts t.args.targets) t.args.cells t.args.room (c.before.before.before.before.judge-list.ensures.yes c.before.before.before.if1.true) (sym c.before.before.tables-fit.ensures ∙ c.before.if2.true) c.if3.true
+    judged_cells t.args.list.now (tables_test t.args.inputs t.args.leasts t.args.targets) t.args.cells t.args.room (c.before.before.before.before.judge_list.ensures.yes c.before.before.before.if-judge_list.true) (sym c.before.before.tables_fit.ensures ∙ c.before.if-tables_fit.true) c.if-cells-lt2.true
 
-returns-4 : tie.Need-returns-4
+returns-4 : tie.Need-returns-then-room-lt32
 returns-4 c =
     let t = c.before.before.before.before.before.before.before in
-    judged_room t.args.list.now (tables_test t.args.inputs t.args.leasts t.args.targets) t.args.cells t.args.room (c.before.before.before.before.before.judge-list.ensures.yes c.before.before.before.before.if1.true) (sym c.before.before.before.tables-fit.ensures ∙ c.before.before.if2.true) (omega (arith, c.before.if3.false)) c.if4.true
+    judged_room t.args.list.now (tables_test t.args.inputs t.args.leasts t.args.targets) t.args.cells t.args.room (c.before.before.before.before.before.judge_list.ensures.yes c.before.before.before.before.if-judge_list.true) (sym c.before.before.before.tables_fit.ensures ∙ c.before.before.if-tables_fit.true) (omega (arith, c.before.if-cells-lt2.false)) c.if-room-lt32.true
 
-returns-5 : tie.Need-returns-5
+returns-5 : tie.Need-returns
 returns-5 c =
     let t = c.before.before.before.before.before.before.before in
-    judged_sound t.args.list.now (tables_test t.args.inputs t.args.leasts t.args.targets) t.args.cells t.args.room (c.before.before.before.before.before.judge-list.ensures.yes c.before.before.before.before.if1.true) (sym c.before.before.before.tables-fit.ensures ∙ c.before.before.if2.true) (omega (arith, c.before.if3.false)) (omega (arith, c.if4.false))
+    judged_sound t.args.list.now (tables_test t.args.inputs t.args.leasts t.args.targets) t.args.cells t.args.room (c.before.before.before.before.before.judge_list.ensures.yes c.before.before.before.before.if-judge_list.true) (sym c.before.before.before.tables_fit.ensures ∙ c.before.before.if-tables_fit.true) (omega (arith, c.before.if-cells-lt2.false)) (omega (arith, c.if-room-lt32.false))
 
 pub judged_spec : {M : Type 1} → statement M
 judged_spec =

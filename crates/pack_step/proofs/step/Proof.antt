@@ -7,47 +7,47 @@ use native.Mathlib.Omega.{arith}
 use Rattle.pack_step.proofs.step.Statement.{statement}
 use Rattle.pack_step.proofs.step.Tie as tie
 
-step-root-requires : tie.Need-step-root-requires
-step-root-requires c κs = let t = c.before.before.before.before.before.before.before.before.before.before.before.before.before.before.before.before in record { cells = t.args.cells; asked = t.requires; top = c.before.before.before.before.before.before.before.before.if1.true }
+step-root-requires : tie.Need-step_root-requires
+step-root-requires c κs = let t = c.before.before.before.before.before.before.before.before.before.before in record { cells = t.args.cells; asked = t.requires; top = c.before.before.if-way-eq0.true }
 
-same_length : tie.Need-same-length
+same_length : tie.Need-shape_of-output-then-way-eq0
 same_length c = search rules
 
-same-length-2 : tie.Need-same-length-2
+same-length-2 : tie.Need-shape_of-inputs-then-way-eq0
 same-length-2 c = search rules
 
-same-length-3 : tie.Need-same-length-3
+same-length-3 : tie.Need-shape_of-leasts-then-way-eq0
 same-length-3 c = search rules
 
-same-length-4 : tie.Need-same-length-4
+same-length-4 : tie.Need-shape_of-targets-then-way-eq0
 same-length-4 c = search rules
 
-returns : tie.Need-returns
-returns c = c.before.before.before.before.step-root.ensures _
+returns : tie.Need-returns-then-way-eq0
+returns c = c.before.before.before.before.step_root.ensures _
 
-node-in-row-requires : tie.Need-node-in-row-requires
+node-in-row-requires : tie.Need-node_in_row-made-requires
 node-in-row-requires c κs =
     let t = c.before.before.before.before.before.before.before.before.before.before.before.before.before.before.before.before in
     let l : 0 < t.args.turn.way.depth = omega arith in
     node_asked_of t.requires l
 
-after-node-requires : tie.Need-after-node-requires
+after-node-requires : tie.Need-after_node-requires
 after-node-requires c κs = search rules
 
-same-length-5 : tie.Need-same-length-5
+same-length-5 : tie.Need-shape_of-output
 same-length-5 c = search rules
 
-same-length-6 : tie.Need-same-length-6
+same-length-6 : tie.Need-shape_of-inputs
 same-length-6 c = search rules
 
-same-length-7 : tie.Need-same-length-7
+same-length-7 : tie.Need-shape_of-leasts
 same-length-7 c = search rules
 
-same-length-8 : tie.Need-same-length-8
+same-length-8 : tie.Need-shape_of-targets
 same-length-8 c = search rules
 
-returns-2 : tie.Need-returns-2
-returns-2 c = steps_node c.before.before.before.before.before.before.before.before.before.node-in-row.ensures c.after-node.ensures c.before.before.before.before.before.before.before.before.output2.given
+returns-2 : tie.Need-returns
+returns-2 c = steps_node c.before.before.before.before.before.before.before.before.before.node_in_row-made.ensures c.after_node.ensures c.before.before.before.before.before.before.before.before.output-2-1.given
 
 pub step_spec : {M : Type 1} → statement M
 step_spec =

@@ -7,39 +7,39 @@ use borrow.Author.Rules.{rules}
 use Rattle.seats.proofs.dispatch.Statement.{statement}
 use Rattle.seats.proofs.dispatch.Tie as tie
 
-seats-right-requires : tie.Need-seats-right-requires
+seats-right-requires : tie.Need-seats_right-requires
 seats-right-requires c κs = search rules
 
-returns : tie.Need-returns
+returns : tie.Need-returns-else-seats_right
 returns c =
     let q = c.before.before.before.before in
-    told_wrong q.args.file.now (seats_is q.args.seats) q.args.key.now _ refl (sym c.before.seats-right.ensures ∙ c.if1.false) refl
+    told_wrong q.args.file.now (seats_is q.args.seats) q.args.key.now _ refl (sym c.before.seats_right.ensures ∙ c.if-seats_right.false) refl
 
-turn-of-requires : tie.Need-turn-of-requires
-turn-of-requires c κs = right_last (seats_is c.before.before.before.before.args.seats) (sym c.before.seats-right.ensures ∙ c.if1.true)
+turn-of-requires : tie.Need-turn_of-turn-requires
+turn-of-requires c κs = right_last (seats_is c.before.before.before.before.args.seats) (sym c.before.seats_right.ensures ∙ c.if-seats_right.true)
 
-enum_told : tie.Need-enum-told
+enum_told : tie.Need-enum_told-1
 enum_told c = search rules
 
-enum-known-turn : tie.Need-enum-known-turn
+enum-known-turn : tie.Need-enum_known-turn
 enum-known-turn c = search rules
 
 serve-requires : tie.Need-serve-requires
 serve-requires c κs =
-    let m = c.before.before in
-    let w = m.before.before in
-    (sym w.before.before.seats-right.ensures ∙ w.before.if1.true, sym w.turn-of.ensures ∙ ap turn_is m.turn.given.1)
+    let m = c.before in
+    let w = m.before in
+    (sym w.before.before.seats_right.ensures ∙ w.before.if-seats_right.true, sym w.turn_of-turn.ensures ∙ ap turn_is m.in-Of.is)
 
-returns-2 : tie.Need-returns-2
+returns-2 : tie.Need-returns-in-Nobody
 returns-2 c =
-    let w = c.before.before in
+    let w = c.before in
     let q = w.before.before.before.before.before in
-    told_nobody q.args.file.now (seats_is q.args.seats) q.args.key.now _ refl (sym w.before.before.seats-right.ensures ∙ w.before.if1.true) (sym w.turn-of.ensures ∙ ap turn_is c.enum_told.given.1) refl
+    told_nobody q.args.file.now (seats_is q.args.seats) q.args.key.now _ refl (sym w.before.before.seats_right.ensures ∙ w.before.if-seats_right.true) (sym w.turn_of-turn.ensures ∙ ap turn_is c.in-Nobody.is) refl
 
-same_length : tie.Need-same-length
+same_length : tie.Need-shape_of-key
 same_length c = search rules
 
-returns-3 : tie.Need-returns-3
+returns-3 : tie.Need-returns-in-Of
 returns-3 c = search rules
 
 pub dispatch_spec : {M : Type 1} → statement M

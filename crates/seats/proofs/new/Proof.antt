@@ -6,11 +6,13 @@ use borrow.Author.Rules.{rules}
 use Rattle.seats.proofs.new.Statement.{statement}
 use Rattle.seats.proofs.new.Tie as tie
 
-no-seats-requires : tie.Need-no-seats-requires
+no-seats-requires : tie.Need-no_seats-requires
 no-seats-requires c κs = search rules
 
 returns : tie.Need-returns
-returns c = ap seats_is c.no-seats.ensures ∙ new_is
+returns c = ap seats_is c.no_seats.ensures ∙ new_is
 
 pub new_spec : {M : Type 1} → statement M
-new_spec = tie.close (tie.spec no-seats-requires returns)
+new_spec = tie.close (tie.spec
+    no-seats-requires
+    returns)

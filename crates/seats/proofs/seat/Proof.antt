@@ -10,42 +10,42 @@ use native.Mathlib.Omega.{arith}
 use Rattle.seats.proofs.seat.Statement.{statement}
 use Rattle.seats.proofs.seat.Tie as tie
 
-eight : (q : tie.Start) → length q.args.t1.seats ≡ 8
-eight q = length_mapped _ _ _ q.args.t1.seats 8 q.well-formed.0.1.1.1.0.1.0.1
+eight : (q : tie.Start) → length q.args.seats.seats ≡ 8
+eight q = q.well_formed.0.1.1.1.0.1.0.1
 
 refused-requires : tie.Need-refused-requires
 refused-requires c κs = search rules
 
-returns : tie.Need-returns
+returns : tie.Need-returns-then-number-gt-LAST_SEAT
 returns c =
     let a = c.before.before.args in
-    changed_as (seat_number (seats_is a.t1) a.number (plain_is a.reading) c.before.if1.true) c.refused.ensures
+    changed_as (seat_number (seats_is a.seats) a.number (plain_is a.reading) c.before.if-number-gt-LAST_SEAT.true) c.refused.ensures
 
-seats-right-requires : tie.Need-seats-right-requires
+seats-right-requires : tie.Need-seats_right-requires
 seats-right-requires c κs = search rules
 
-refused-requires-2 : tie.Need-refused-requires-2
+refused-requires-2 : tie.Need-refused-requires-else-seats_right
 refused-requires-2 c κs = search rules
 
-returns-2 : tie.Need-returns-2
+returns-2 : tie.Need-returns-else-seats_right
 returns-2 c =
     let a = c.before.before.before.before.args in
-    changed_as (seat_wrong (seats_is a.t1) a.number (plain_is a.reading) (omega arith) (sym c.before.before.seats-right.ensures ∙ c.before.if2.false)) c.refused2.ensures
+    changed_as (seat_wrong (seats_is a.seats) a.number (plain_is a.reading) (omega arith) (sym c.before.before.seats_right.ensures ∙ c.before.if-seats_right.false)) c.refused-else-seats_right.ensures
 
-mul-waiting : tie.Need-overflow-mul-waiting
+mul-waiting : tie.Need-offset_bounds-seats-number
 mul-waiting c = search rules
 
-element-copy-out-waiting : tie.Need-element-copy-out-waiting
+element-copy-out-waiting : tie.Need-bounds-seats-number
 element-copy-out-waiting c = search rules
 
-put-seat-requires : tie.Need-put-seat-requires
+put-seat-requires : tie.Need-put_seat-requires
 put-seat-requires c κs = search rules
 
-returns-3 : tie.Need-returns-3
+returns-3 : tie.Need-returns
 returns-3 c =
     let q = c.before.before.before.before in
     let a = q.args in
-    seat_told a.t1 (eight q) a.number _ (omega arith) a.reading _ (sym c.before.before.seats-right.ensures ∙ c.before.if2.true) refl c.put-seat.ensures
+    seat_told a.seats (eight q) a.number _ (omega arith) a.reading _ (sym c.before.before.seats_right.ensures ∙ c.before.if-seats_right.true) refl c.put_seat.ensures
 
 pub seat_spec : {M : Type 1} → statement M
 seat_spec =

@@ -6,14 +6,17 @@ use native.Mathlib.Omega.{arith}
 use Rattle.seats_keep.proofs.keep.Statement.{statement}
 use Rattle.seats_keep.proofs.keep.Tie as tie
 
-put-plain-requires : tie.Need-put-plain-requires
+put-plain-requires : tie.Need-put_plain-requires
 put-plain-requires c κs = search rules
 
-put-flag-requires : tie.Need-put-flag-requires
+put-flag-requires : tie.Need-put_flag-requires
 put-flag-requires c κs = search rules
 
 returns : tie.Need-returns
-returns c = record { last_is = refl; waits = c.put-flag.ensures; row = c.before.before.put-plain.ensures; seat_is_lem = refl }
+returns c = record { last_is = refl; waits = c.put_flag.ensures; row = c.before.before.put_plain.ensures; seat_is_lem = refl }
 
 pub keep_spec : {M : Type 1} → statement M
-keep_spec = tie.close (tie.spec put-plain-requires put-flag-requires returns)
+keep_spec = tie.close (tie.spec
+    put-plain-requires
+    put-flag-requires
+    returns)
