@@ -1,2 +1,2 @@
 -- What a result is read back as, for the proofs of this crate.
-mod PackResults
+pub mod PackResults

@@ -1,9 +1,7 @@
 -- From what packing answers to what the function for C leaves, for each answer.
 -- Assumes nothing.
-use mathlib.Core.Path.{◌≡◌, ap, ◌∙◌}
-use mathlib.Core.List.{List}
-use Prim.Native.Nat.{ℕ}
-use lib.IntN.{ℤ}
+use Rattle.std.specs.Prelude.{◌≡◌, List, ℕ, ℤ}
+use Rattle.std.proofs.Common.{ap, ◌∙◌}
 use Rattle.packing.specs.Packing.{Answer, written, refused}
 use Rattle.pack.specs.PackList.{PacksBy}
 use Rattle.pack_blank.specs.declared.Packed.{Packed}

@@ -1,7 +1,7 @@
 -- What the result of packing tells the C caller: FST_OK comes for a written file only, which is admitted and holds exactly the listed pairs.
 --     pack_ok     on FST_OK the bytes were a list, and the output begins with its file
 -- Assumes nothing.
-use Rattle.std.specs.Prelude.{◌≡◌, refl, Bool, true, false, cond, ◌&&◌, List, ℕ, suc, ◌<◌, leb, ℤ, length, get_or}
+use Rattle.std.specs.Prelude.{◌≡◌, Bool, true, false, cond, ◌&&◌, List, ℕ, suc, ◌<◌, leb, ℤ, length, get_or}
 use Rattle.std.proofs.Common.{sym, ap, ◌∙◌}
 use Rattle.format.specs.Limits.{max_len}
 use Rattle.packing.specs.Lists.{list_test, pairs_of}

@@ -1,5 +1,4 @@
 // A list of keys and values packed into a file of version 2. The caller lends the output, the cells and the working tables.
-// Each function is walked, since the kit's borrow checker covers no reference to a struct.
 #![tactic(auto)]
 
 ghost use Rattle.std.specs.Prelude.{length};

@@ -1,3 +1,1 @@
-pub mod Sides
-pub mod Claims
-mod Turns
+pub mod Turns

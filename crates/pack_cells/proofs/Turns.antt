@@ -1,11 +1,7 @@
 -- The loop of `run`: what a turn may change, what holds between two turns, and what a step asks and leaves of the cells.
 -- Assumes nothing.
-use mathlib.Core.Path.{◌≡◌, sym, ap, ap₂, subst, ◌∙◌}
-use mathlib.Core.Bool.{Bool, true}
-use mathlib.Core.List.{List}
-use Prim.Native.Nat.{ℕ, ◌+◌, ◌<◌}
-use native.Mathlib.Omega.{arith}
-use lib.ListN.{length, set}
+use Rattle.std.specs.Prelude.{◌≡◌, Bool, true, List, ℕ, ◌+◌, ◌<◌, length, set}
+use Rattle.std.proofs.Common.{sym, ap, ap₂, subst, ◌∙◌, arith}
 use Rattle.packing_rows.specs.WorkTables.{Tables, tables_with}
 use Rattle.pack_blank.specs.PackBlank.{tables_test}
 use Rattle.pack_cell.specs.Cells.{at}
@@ -60,32 +56,34 @@ module _ {s : List ℕ} {i l t n m : ℕ} (v : State) (f : Between s i l t n m v
         subst (λ (k : ℕ). Stands k (length v.out) v.out (pairs_is v.cells) (tables_of v) v.turn) (sym cells_same)
         (subst (λ (k : ℕ). Stands n k v.out (pairs_is v.cells) (tables_of v) v.turn) (sym f.standing.long) f.standing)
 
-    taken : TakenFrom (pairs_is v.cells) v.turn.row (pair_of (at v.cells j) (at v.cells (j + 1)))
-    taken = subst (λ (k : ℕ). TakenFrom (pairs_is v.cells) k (pair_of (at v.cells j) (at v.cells (j + 1)))) row (pairs_taken v.cells j within)
+    taken : {one two : Cell} → one ≡ at v.cells j → two ≡ at v.cells (j + 1) → TakenFrom (pairs_is v.cells) v.turn.row (pair_of one two)
+    taken e₁ e₂ = rw (e₁, e₂) (subst (λ (k : ℕ). TakenFrom (pairs_is v.cells) k (pair_of (at v.cells j) (at v.cells (j + 1)))) row (pairs_taken v.cells j within))
 
-    pub asked : StepAsked s (length v.cells) v.out (at v.cells j) (at v.cells (j + 1)) (tables_of v) v.turn
-    asked = record { tables = tables; table = pairs_is v.cells; standing = here; going = go; taken = taken }
+    -- one and two are the cells of that row
+    module _ {one two : Cell} (one_is : one ≡ at v.cells j) (two_is : two ≡ at v.cells (j + 1)) where
+      pub asked : StepAsked s (length v.cells) v.out one two (tables_of v) v.turn
+      asked = record { tables = tables; table = pairs_is v.cells; standing = here; going = go; taken = taken one_is two_is }
 
-    -- v' is what a step leaves, with its two cells put back
-    module _ (v' : State) {r : Stepped} (w : Steps s (length v.cells) v.out (at v.cells j) (at v.cells (j + 1)) (tables_of v) v.turn v'.out (tables_of v') r) {c d : Cell} (first : c ≡ r.one)
-        (second : d ≡ r.two) (next : v'.turn ≡ r.turn) (put : v'.cells ≡ set (set v.cells j c) (j + 1) d) where
-      abbrev table' : List (List ℕ)
-      table' = put_pair (pairs_is v.cells) v.turn.row (pair_of r.one r.two)
+      -- v' is what a step leaves, with its two cells put back
+      module _ (v' : State) {r : Stepped} (w : Steps s (length v.cells) v.out one two (tables_of v) v.turn v'.out (tables_of v') r) {c d : Cell} (first : c ≡ r.one)
+          (second : d ≡ r.two) (next : v'.turn ≡ r.turn) (put : v'.cells ≡ set (set v.cells j c) (j + 1) d) where
+        abbrev table' : List (List ℕ)
+        table' = put_pair (pairs_is v.cells) v.turn.row (pair_of r.one r.two)
 
-      table_is : pairs_is v'.cells ≡ table'
-      table_is =
-          ap pairs_is put ∙ pairs_put v.cells j c d ∙ ap₂ (λ (x y : Cell). put_pair (pairs_is v.cells) j (pair_of x y)) first second
-          ∙ ap (λ (k : ℕ). put_pair (pairs_is v.cells) k (pair_of r.one r.two)) row
+        table_is : pairs_is v'.cells ≡ table'
+        table_is =
+            ap pairs_is put ∙ pairs_put v.cells j c d ∙ ap₂ (λ (x y : Cell). put_pair (pairs_is v.cells) j (pair_of x y)) first second
+            ∙ ap (λ (k : ℕ). put_pair (pairs_is v.cells) k (pair_of r.one r.two)) row
 
-      after : Stands n m v'.out (pairs_is v'.cells) (tables_of v') v'.turn
-      after =
-          subst (λ (k : ℕ). Stands k m v'.out (pairs_is v'.cells) (tables_of v') v'.turn) cells_same
-          (subst (λ (k : ℕ). Stands (length v.cells) k v'.out (pairs_is v'.cells) (tables_of v') v'.turn) f.standing.long
-          (subst (λ (x : List (List ℕ)). Stands (length v.cells) (length v.out) v'.out x (tables_of v') v'.turn) (sym table_is)
-          (subst (λ (x : Turn). Stands (length v.cells) (length v.out) v'.out table' (tables_of v') x) (sym next) (w.stands tables (pairs_is v.cells) here go taken))))
+        after : Stands n m v'.out (pairs_is v'.cells) (tables_of v') v'.turn
+        after =
+            subst (λ (k : ℕ). Stands k m v'.out (pairs_is v'.cells) (tables_of v') v'.turn) cells_same
+            (subst (λ (k : ℕ). Stands (length v.cells) k v'.out (pairs_is v'.cells) (tables_of v') v'.turn) f.standing.long
+            (subst (λ (x : List (List ℕ)). Stands (length v.cells) (length v.out) v'.out x (tables_of v') v'.turn) (sym table_is)
+            (subst (λ (x : Turn). Stands (length v.cells) (length v.out) v'.out table' (tables_of v') x) (sym next) (w.stands tables (pairs_is v.cells) here go (taken one_is two_is)))))
 
-      pub between : length v'.inputs ≡ length v.inputs → length v'.leasts ≡ length v.leasts → length v'.targets ≡ length v.targets → Between s i l t n m v'
-      between x y z = record { standing = after; inputs_same = x ∙ f.inputs_same; leasts_same = y ∙ f.leasts_same; targets_same = z ∙ f.targets_same }
+        pub between : length v'.inputs ≡ length v.inputs → length v'.leasts ≡ length v.leasts → length v'.targets ≡ length v.targets → Between s i l t n m v'
+        between x y z = record { standing = after; inputs_same = x ∙ f.inputs_same; leasts_same = y ∙ f.leasts_same; targets_same = z ∙ f.targets_same }
 
-      pub less : turn_left s v'.turn < turn_left s v.turn
-      less = subst (λ (x : Turn). turn_left s x < turn_left s v.turn) (sym next) (w.less go)
+        pub less : turn_left s v'.turn < turn_left s v.turn
+        less = subst (λ (x : Turn). turn_left s x < turn_left s v.turn) (sym next) (w.less go)

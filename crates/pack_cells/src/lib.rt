@@ -1,5 +1,4 @@
 // The nodes of a list packed over the table of cells as a slice of structs: the two cells of a row are taken, a step is made, and two cells are stored.
-// Each function is walked, since the kit's borrow checker covers no reference to a struct.
 #![tactic(auto)]
 
 ghost use Rattle.std.specs.Prelude.{◌≡◌, cond, length, replicate};
