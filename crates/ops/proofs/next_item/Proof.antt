@@ -19,75 +19,75 @@ refused-requires : tie.Need-refused-requires
 refused-requires c κs = search rules
 
 -- src/lib.rt:137:9
-returns : tie.Need-returns
+returns : tie.Need-returns-then-count-eq0
 returns c =
     let a = c.before.before.before.before.args in
-    merged_cards (map (λ f. f.now) a.files) a.cards (length a.key.now) a.key.now (count_none a.cards.count c.before.if1.true) c.refused.result c.refused.ensures
+    merged_cards (map (λ f. f.now) a.files) a.cards (length a.key.now) a.key.now (count_none a.cards.count c.before.if-count-eq0.true) c.refused.result c.refused.ensures
 
 -- src/lib.rt:140:9
-refused-requires-2 : tie.Need-refused-requires-2
+refused-requires-2 : tie.Need-refused-requires-then-count-gt8
 refused-requires-2 c κs = search rules
 
 -- src/lib.rt:140:9
-returns-2 : tie.Need-returns-2
+returns-2 : tie.Need-returns-then-count-gt8
 returns-2 c =
     let a = c.before.before.before.before.before.args in
-    merged_cards (map (λ f. f.now) a.files) a.cards (length a.key.now) a.key.now (count_many a.cards.count c.before.if2.true) c.refused2.result c.refused2.ensures
+    merged_cards (map (λ f. f.now) a.files) a.cards (length a.key.now) a.key.now (count_many a.cards.count c.before.if-count-gt8.true) c.refused-then-count-gt8.result c.refused-then-count-gt8.ensures
 
 -- src/lib.rt:142:9
-rounds-requires : tie.Need-rounds-requires
+rounds-requires : tie.Need-rounds-called-requires
 rounds-requires c κs = search rules
 
 -- src/lib.rt:148:23
-enum-known-came : tie.Need-enum-known-came
+enum-known-came : tie.Need-enum_known-came
 enum-known-came c = search rules
 
 -- src/lib.rt:148:31
-refused-requires-3 : tie.Need-refused-requires-3
+refused-requires-3 : tie.Need-refused-requires-in-Refused
 refused-requires-3 c κs = search rules
 
 -- src/lib.rt:150:21
-enum_told : tie.Need-enum-told
+enum_told : tie.Need-enum_told-1
 enum_told c = search rules
 
 -- src/lib.rt:161:17
-enum-told-2 : tie.Need-enum-told-2
+enum-told-2 : tie.Need-enum_told-in-Item
 enum-told-2 c = search rules
 
 -- src/lib.rt:163:17
-put-key-requires : tie.Need-put-key-requires
+put-key-requires : tie.Need-put_key-n-requires
 put-key-requires c κs =
-    let a = c.before.before.before.before.before.before.before.before.before.before.before.before.before.args in
-    let d = c.before.before.before.before.before.before.before.before.rounds in
-    let room = item_room (map (λ f. f.now) a.files) a.cards (length a.key.now) a.key.now (omega (arith, c.before.before.before.before.before.before.before.before.before.before.if1.false)) c.before.before.before.before.before.before.before.before.before.if2.false d.result d.ensures c.before.before.before.enum-told2.given.1 in
-    let fits = item_fits (map (λ f. f.now) a.files) a.cards (length a.key.now) a.key.now (omega (arith, c.before.before.before.before.before.before.before.before.before.before.if1.false)) c.before.before.before.before.before.before.before.before.before.if2.false d.result d.ensures c.before.before.before.enum-told2.given.1 in
+    let a = c.before.before.before.before.before.before.before.before.before.before.before.before.args in
+    let d = c.before.before.before.before.before.before.before.rounds-called in
+    let room = item_room (map (λ f. f.now) a.files) a.cards (length a.key.now) a.key.now (omega (arith, c.before.before.before.before.before.before.before.before.before.if-count-eq0.false)) c.before.before.before.before.before.before.before.before.if-count-gt8.false d.result d.ensures c.before.before.before.in-Item.is in
+    let fits = item_fits (map (λ f. f.now) a.files) a.cards (length a.key.now) a.key.now (omega (arith, c.before.before.before.before.before.before.before.before.before.if-count-eq0.false)) c.before.before.before.before.before.before.before.before.if-count-gt8.false d.result d.ensures c.before.before.before.in-Item.is in
     (fits, omega arith)
 
 -- src/lib.rt:128:1
-returns-4 : tie.Need-returns-4
+returns-4 : tie.Need-returns-in-Refused
 returns-4 c =
-    let a = c.before.before.before.before.before.before.before.before.before.before.before.before.args in
-    let d = c.before.before.before.before.before.before.before.rounds in
-    merged_refused (map (λ f. f.now) a.files) a.cards (length a.key.now) a.key.now (omega (arith, c.before.before.before.before.before.before.before.before.before.if1.false)) c.before.before.before.before.before.before.before.before.if2.false d.result d.ensures _ c.before.before.came.given.1 c.refused3.result c.refused3.ensures
-
--- src/lib.rt:128:1
-returns-5 : tie.Need-returns-5
-returns-5 c =
     let a = c.before.before.before.before.before.before.before.before.before.before.args in
-    let d = c.before.before.before.before.before.rounds in
-    merged_end (map (λ f. f.now) a.files) a.cards (length a.key.now) a.key.now (omega (arith, c.before.before.before.before.before.before.before.if1.false)) c.before.before.before.before.before.before.if2.false d.result d.ensures c.enum_told.given.1
+    let d = c.before.before.before.before.before.rounds-called in
+    merged_refused (map (λ f. f.now) a.files) a.cards (length a.key.now) a.key.now (omega (arith, c.before.before.before.before.before.before.before.if-count-eq0.false)) c.before.before.before.before.before.before.if-count-gt8.false d.result d.ensures _ c.before.in-Refused.is c.refused-in-Refused.result c.refused-in-Refused.ensures
 
 -- src/lib.rt:128:1
-same_length : tie.Need-same-length
+returns-5 : tie.Need-returns-in-End
+returns-5 c =
+    let a = c.before.before.before.before.before.before.before.before.before.args in
+    let d = c.before.before.before.before.rounds-called in
+    merged_end (map (λ f. f.now) a.files) a.cards (length a.key.now) a.key.now (omega (arith, c.before.before.before.before.before.before.if-count-eq0.false)) c.before.before.before.before.before.if-count-gt8.false d.result d.ensures c.in-End.is
+
+-- src/lib.rt:128:1
+same_length : tie.Need-shape_of-key-in-Item
 same_length c = search rules
 
 -- src/lib.rt:128:1
-returns-3 : tie.Need-returns-3
+returns-3 : tie.Need-returns-in-Item
 returns-3 c =
-    let a = c.before.before.before.before.before.before.before.before.before.before.before.before.before.before.before.before.args in
-    let d = c.before.before.before.before.before.before.before.before.before.before.before.rounds in
-    let k = c.before.before.put_key in
-    merged_item (map (λ f. f.now) a.files) a.cards (length a.key.now) a.key.now (omega (arith, c.before.before.before.before.before.before.before.before.before.before.before.before.before.if1.false)) c.before.before.before.before.before.before.before.before.before.before.before.before.if2.false d.result d.ensures c.before.before.before.before.before.before.enum-told2.given.1 k.result k.ensures.0 _ k.ensures.1
+    let a = c.before.before.before.before.before.before.before.before.before.before.before.before.before.before.before.args in
+    let d = c.before.before.before.before.before.before.before.before.before.before.rounds-called in
+    let k = c.before.before.put_key-n in
+    merged_item (map (λ f. f.now) a.files) a.cards (length a.key.now) a.key.now (omega (arith, c.before.before.before.before.before.before.before.before.before.before.before.before.if-count-eq0.false)) c.before.before.before.before.before.before.before.before.before.before.before.if-count-gt8.false d.result d.ensures c.before.before.before.before.before.before.in-Item.is k.result k.ensures.0 _ k.ensures.1
 
 pub next_item_spec : {M : Type 1} → statement M
 next_item_spec =

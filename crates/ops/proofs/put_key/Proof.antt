@@ -17,43 +17,43 @@ long : (s : tie.Start) → length s.args.head.inps ≡ 256
 long s = search rules
 
 -- src/lib.rt:118:9
-key-len-requires : tie.Need-key-len-requires
+key-len-requires : tie.Need-key_len-n-requires
 key-len-requires c κs = search rules
 
 -- src/lib.rt:120:25
-sub-copy-front : tie.Need-overflow-sub-copy-front
+sub-copy-front : tie.Need-slice_bounds-copy_front-count
 sub-copy-front c = search rules
 
 -- src/lib.rt:120:25
-part-copy-front-start : tie.Need-slice-bounds-copy-front-start
+part-copy-front-start : tie.Need-slice_bounds-copy_front-start
 part-copy-front-start c = search rules
 
 -- src/lib.rt:120:25
-part-copy-front-end : tie.Need-slice-bounds-copy-front-end
+part-copy-front-end : tie.Need-slice_bounds-copy_front-end
 part-copy-front-end c =
-    let h = long c.before.before.before.before in
+    let h = long c.before.before.before in
     omega (arith, h)
 
 -- src/lib.rt:120:5
-copy-front-requires : tie.Need-copy-front-requires
+copy-front-requires : tie.Need-copy_front-requires
 copy-front-requires c κs =
-    let start = c.before.before.before.before.before.before in
+    let start = c.before.before.before.before.before in
     let h = start.args.head in
     let pre = start.requires in
-    let n = c.before.before.before.before.key-len.ensures in
+    let n = c.before.before.before.key_len-n.ensures in
     let l = length-take-le 255 (drop 1 h.inps) (omega (arith, long start, length-drop 1 h.inps)) in
     (omega (arith, n, l), omega (arith, n))
 
 -- src/lib.rt:113:1
-same_length : tie.Need-same-length
+same_length : tie.Need-shape_of-key
 same_length c = search rules
 
 -- src/lib.rt:113:1
 returns : tie.Need-returns
 returns c =
-    let start = c.before.before.before.before.before.before.before.before.before in
+    let start = c.before.before.before.before.before.before.before.before in
     let h = start.args.head in
-    key_put h c.before.before.before.before.before.before.before.key-len.result start.args.key.now _ (long start) start.requires.0 c.before.before.before.before.before.before.before.key-len.ensures c.before.before.copy-front.ensures
+    key_put h c.before.before.before.before.before.before.key_len-n.result start.args.key.now _ (long start) start.requires.0 c.before.before.before.before.before.before.key_len-n.ensures c.before.before.copy_front.ensures
 
 pub put_key_spec : {M : Type 1} → statement M
 put_key_spec =

@@ -22,69 +22,69 @@ use Rattle.ops_put.proofs.has_room.Reads as has_room_reads
 
 -- where the count is one to eight
 abbrev Few : Type 0
-Few = tie.Else2
+Few = tie.Else-count-gt8
 
 some : (q : Few) → 0 < q.before.before.before.before.before.before.before.before.args.count
-some q = omega (arith, q.before.if1.false)
+some q = omega (arith, q.before.if-count-eq0.false)
 
 few : (q : Few) → q.before.before.before.before.before.before.before.before.args.count ≤ 8
-few q = q.if2.false
+few q = q.if-count-gt8.false
 
 refused-requires : tie.Need-refused-requires
 refused-requires c κs = search rules
 
-returns : tie.Need-returns
+returns : tie.Need-returns-then-count-eq0
 returns c =
     let a = c.before.before.before.before.before.before.before.before.args in
-    refused_by _ a.rows.now a.counts.now a.numbers.now a.values.now (items_no_cards (op_is a.op) a.count (map (λ f. f.now) a.files) (bound_is a.lower-kind a.lower.now) (bound_is a.upper-kind a.upper.now) a.most
-    (length a.rows.now) (length a.counts.now) (length a.numbers.now) (length a.values.now) (inl c.before.if1.true)) c.refused.ensures
+    refused_by _ a.rows.now a.counts.now a.numbers.now a.values.now (items_no_cards (op_is a.op) a.count (map (λ f. f.now) a.files) (bound_is a.lower_kind a.lower.now) (bound_is a.upper_kind a.upper.now) a.most
+    (length a.rows.now) (length a.counts.now) (length a.numbers.now) (length a.values.now) (inl c.before.if-count-eq0.true)) c.refused.ensures
 
-refused-requires-2 : tie.Need-refused-requires-2
+refused-requires-2 : tie.Need-refused-requires-then-count-gt8
 refused-requires-2 c κs = search rules
 
-returns-2 : tie.Need-returns-2
+returns-2 : tie.Need-returns-then-count-gt8
 returns-2 c =
     let a = c.before.before.before.before.before.before.before.before.before.args in
-    refused_by _ a.rows.now a.counts.now a.numbers.now a.values.now (items_no_cards (op_is a.op) a.count (map (λ f. f.now) a.files) (bound_is a.lower-kind a.lower.now) (bound_is a.upper-kind a.upper.now) a.most
-    (length a.rows.now) (length a.counts.now) (length a.numbers.now) (length a.values.now) (inr c.before.if2.true)) c.refused2.ensures
+    refused_by _ a.rows.now a.counts.now a.numbers.now a.values.now (items_no_cards (op_is a.op) a.count (map (λ f. f.now) a.files) (bound_is a.lower_kind a.lower.now) (bound_is a.upper_kind a.upper.now) a.most
+    (length a.rows.now) (length a.counts.now) (length a.numbers.now) (length a.values.now) (inr c.before.if-count-gt8.true)) c.refused-then-count-gt8.ensures
 
-has-room-requires : tie.Need-has-room-requires
+has-room-requires : tie.Need-has_room-requires
 has-room-requires c κs = search rules
 
-refused-requires-3 : tie.Need-refused-requires-3
+refused-requires-3 : tie.Need-refused-requires-else-has_room
 refused-requires-3 c κs = search rules
 
-returns-3 : tie.Need-returns-3
+returns-3 : tie.Need-returns-else-has_room
 returns-3 c =
     let q = c.before.before.before in
     let a = q.before.before.before.before.before.before.before.before.args in
-    refused_by _ a.rows.now a.counts.now a.numbers.now a.values.now (items_no_room (op_is a.op) a.count (map (λ f. f.now) a.files) (bound_is a.lower-kind a.lower.now) (bound_is a.upper-kind a.upper.now) a.most
-    (length a.rows.now) (length a.counts.now) (length a.numbers.now) (length a.values.now) (some q) (few q) (sym c.before.before.has_room.ensures ∙ c.before.if3.false)) c.refused3.ensures
+    refused_by _ a.rows.now a.counts.now a.numbers.now a.values.now (items_no_room (op_is a.op) a.count (map (λ f. f.now) a.files) (bound_is a.lower_kind a.lower.now) (bound_is a.upper_kind a.upper.now) a.most
+    (length a.rows.now) (length a.counts.now) (length a.numbers.now) (length a.values.now) (some q) (few q) (sym c.before.before.has_room.ensures ∙ c.before.if-has_room.false)) c.refused-else-has_room.ensures
 
-items-from-requires : tie.Need-items-from-requires
+items-from-requires : tie.Need-items_from-requires
 items-from-requires c κs =
     let q = c.before.before.before.before.before.before in
     let a = q.before.before.before.before.before.before.before.before.args in
-    ((some q, few q), room_of a.most a.rows.now a.counts.now a.numbers.now a.values.now (sym c.before.before.before.before.before.has_room.ensures ∙ c.before.before.before.before.if3.true))
+    ((some q, few q), room_of a.most a.rows.now a.counts.now a.numbers.now a.values.now (sym c.before.before.before.before.before.has_room.ensures ∙ c.before.before.before.before.if-has_room.true))
 
-same_length : tie.Need-same-length
+same_length : tie.Need-shape_of-rows
 same_length c = search rules
 
-same-length-2 : tie.Need-same-length-2
+same-length-2 : tie.Need-shape_of-counts
 same-length-2 c = search rules
 
-same-length-3 : tie.Need-same-length-3
+same-length-3 : tie.Need-shape_of-numbers
 same-length-3 c = search rules
 
-same-length-4 : tie.Need-same-length-4
+same-length-4 : tie.Need-shape_of-values
 same-length-4 c = search rules
 
-returns-4 : tie.Need-returns-4
+returns-4 : tie.Need-returns
 returns-4 c =
     let q = c.before.before.before.before.before.before.before.before.before.before.before.before.before.before.before in
     let a = q.before.before.before.before.before.before.before.before.args in
-    paged_as (sym (items_from (op_is a.op) a.count (map (λ f. f.now) a.files) (bound_is a.lower-kind a.lower.now) (bound_is a.upper-kind a.upper.now) a.most
-    (length a.rows.now) (length a.counts.now) (length a.numbers.now) (length a.values.now) (some q) (few q) (sym c.before.before.before.before.before.before.before.before.before.before.before.before.before.before.has_room.ensures ∙ c.before.before.before.before.before.before.before.before.before.before.before.before.before.if3.true))) c.before.before.before.before.before.before.before.before.items_from.ensures
+    paged_as (sym (items_from (op_is a.op) a.count (map (λ f. f.now) a.files) (bound_is a.lower_kind a.lower.now) (bound_is a.upper_kind a.upper.now) a.most
+    (length a.rows.now) (length a.counts.now) (length a.numbers.now) (length a.values.now) (some q) (few q) (sym c.before.before.before.before.before.before.before.before.before.before.before.before.before.before.has_room.ensures ∙ c.before.before.before.before.before.before.before.before.before.before.before.before.before.if-has_room.true))) c.before.before.before.before.before.before.before.before.items_from.ensures
 
 pub items_spec : {M : Type 1} → statement M
 items_spec =

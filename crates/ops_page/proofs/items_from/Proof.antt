@@ -15,47 +15,47 @@ use Rattle.ops_page.proofs.fill.Reads as fill_reads
 use Rattle.ops_page.proofs.refused.Reads as refused_reads
 use Rattle.ops_starts.proofs.starts.Reads as starts_reads
 
-starts-requires : tie.Need-starts-requires
+starts-requires : tie.Need-starts-started-requires
 starts-requires c κs = search rules
 
-enum-known-answer : tie.Need-enum-known-answer
+enum-known-answer : tie.Need-enum_known-answer
 enum-known-answer c = search rules
 
 refused-requires : tie.Need-refused-requires
 refused-requires c κs = search rules
 
-enum_told : tie.Need-enum-told
+enum_told : tie.Need-enum_told-1
 enum_told c = search rules
 
 fill-requires : tie.Need-fill-requires
 fill-requires c κs = search rules
 
-returns : tie.Need-returns
+returns : tie.Need-returns-in-Refused
 returns c =
-    let a = c.before.before.before.before.before.before.before.before.before.before.before.before.args in
-    let t = c.before.before.before.before.before.starts in
-    let m = start_all (bound_is a.lower-kind a.lower.now) (bound_is a.upper-kind a.upper.now) (take a.count (map (λ f. f.now) a.files)) in
+    let a = c.before.before.before.before.before.before.before.before.before.before.args in
+    let t = c.before.before.before.starts-started in
+    let m = start_all (bound_is a.lower_kind a.lower.now) (bound_is a.upper_kind a.upper.now) (take a.count (map (λ f. f.now) a.files)) in
     refused_by _ a.rows.now a.counts.now a.numbers.now a.values.now
-    (page_refused (op_is a.op) a.most (map (λ f. f.now) a.files) a.count m t.result t.ensures _ c.before.before.answer.given.1) c.refused.ensures
+    (page_refused (op_is a.op) a.most (map (λ f. f.now) a.files) a.count m t.result t.ensures _ c.before.in-Refused.is) c.refused.ensures
 
-same_length : tie.Need-same-length
+same_length : tie.Need-shape_of-rows
 same_length c = search rules
 
-same-length-2 : tie.Need-same-length-2
+same-length-2 : tie.Need-shape_of-counts
 same-length-2 c = search rules
 
-same-length-3 : tie.Need-same-length-3
+same-length-3 : tie.Need-shape_of-numbers
 same-length-3 c = search rules
 
-same-length-4 : tie.Need-same-length-4
+same-length-4 : tie.Need-shape_of-values
 same-length-4 c = search rules
 
-returns-2 : tie.Need-returns-2
+returns-2 : tie.Need-returns-in-Began
 returns-2 c =
-    let a = c.before.before.before.before.before.before.before.before.before.before.before.before.before.before.before.before.before.before.before.before.before.before.before.args in
-    let t = c.before.before.before.before.before.before.before.before.before.before.before.before.before.before.before.before.starts in
-    let m = start_all (bound_is a.lower-kind a.lower.now) (bound_is a.upper-kind a.upper.now) (take a.count (map (λ f. f.now) a.files)) in
-    paged_as (page_began (op_is a.op) a.most (map (λ f. f.now) a.files) a.count m t.result t.ensures c.before.before.before.before.before.before.before.before.before.before.before.before.before.enum_told.given.1) c.before.before.before.before.before.before.before.before.fill.ensures
+    let a = c.before.before.before.before.before.before.before.before.before.before.before.before.before.before.before.before.before.before.before.before.before.before.args in
+    let t = c.before.before.before.before.before.before.before.before.before.before.before.before.before.before.before.starts-started in
+    let m = start_all (bound_is a.lower_kind a.lower.now) (bound_is a.upper_kind a.upper.now) (take a.count (map (λ f. f.now) a.files)) in
+    paged_as (page_began (op_is a.op) a.most (map (λ f. f.now) a.files) a.count m t.result t.ensures c.before.before.before.before.before.before.before.before.before.before.before.before.before.in-Began.is) c.before.before.before.before.before.before.before.before.fill.ensures
 
 pub items_from_spec : {M : Type 1} → statement M
 items_from_spec =
