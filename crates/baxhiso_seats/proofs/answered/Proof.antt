@@ -6,29 +6,29 @@ use Rattle.baxhiso_seats.proofs.SeatResults.{key_leaves, end_leaves, no_leaves}
 use Rattle.baxhiso_seats.proofs.answered.Statement.{statement}
 use Rattle.baxhiso_seats.proofs.answered.Tie as tie
 
-enum-known-answer : tie.Need-enum-known-answer
+enum-known-answer : tie.Need-enum_known-answer
 enum-known-answer c = search rules
 
-enum_told : tie.Need-enum-told
+enum_told : tie.Need-enum_told-1
 enum_told c = search rules
 
-enum-known-answer-2 : tie.Need-enum-known-answer-2
+enum-known-answer-2 : tie.Need-enum_known-answer-in-Refused-1
 enum-known-answer-2 c = search rules
 
 code-requires : tie.Need-code-requires
 code-requires c κs = search rules
 
 -- a key
-returns : tie.Need-returns
-returns c = let bound = c.before in key_leaves _ _ _ _ _ bound.answer.given.1
+returns : tie.Need-returns-in-Key
+returns c = let bound = c in key_leaves _ _ _ _ _ bound.in-Key.is
 
 -- the end
-returns-2 : tie.Need-returns-2
-returns-2 c = end_leaves _ _ _ c.enum_told.given.1
+returns-2 : tie.Need-returns-in-End
+returns-2 c = end_leaves _ _ _ c.in-End.is
 
 -- a refusal
-returns-3 : tie.Need-returns-3
-returns-3 c = no_leaves _ _ _ _ _ c.before.before.answer2.given.1 (code_is c.code.result c.code.type-inv c.code.ensures)
+returns-3 : tie.Need-returns-in-Refused
+returns-3 c = no_leaves _ _ _ _ _ c.before.in-Refused.is (code_is c.code.result c.code.type_inv c.code.ensures)
 
 pub answered_spec : {M : Type 1} → statement M
 answered_spec =

@@ -12,7 +12,7 @@ use borrow.Author.Rules.{rules}
 use Rattle.baxhiso_seats.proofs.fst_dispatch_arrays.Statement.{statement}
 use Rattle.baxhiso_seats.proofs.fst_dispatch_arrays.Tie as tie
 
-abbrev start : tie.After-seats-right → tie.Start
+abbrev start : tie.After-seats_right → tie.Start
 start w = w.before.before.before.before.before.before
 
 abbrev held : tie.Start → Rows
@@ -22,63 +22,63 @@ held q = let x = q.args in
 abbrev given : tie.Start → T.Seats
 given q = let x = q.args in flat_is (flat x.last.now x.taken.now x.waiting.now (held q))
 
-right : (c : tie.Then1) → T.right_test (given (start c.before)) ≡ true
-right c = sym (c.before.seats-right.ensures (plain_at (held (start c.before)))) ∙ c.if1.true
+right : (c : tie.Then-seats_right) → T.right_test (given (start c.before)) ≡ true
+right c = sym (c.before.seats_right.ensures (plain_at (held (start c.before)))) ∙ c.if-seats_right.true
 
-seats-right-requires : tie.Need-seats-right-requires
+seats-right-requires : tie.Need-seats_right-requires
 seats-right-requires c κs = search rules
 
 code-requires : tie.Need-code-requires
 code-requires c κs = search rules
 
 -- the seats are not right
-returns : tie.Need-returns
+returns : tie.Need-returns-else-seats_right
 returns c =
     let w = c.before.before in
     let x = (start w).args in
     dispatch_unright x.file.now x.last.now x.taken.now x.waiting.now (held (start w)) x.key.now _ x.seat.now x.len.now x.value.now
-    (sym (w.seats-right.ensures (plain_at (held (start w)))) ∙ c.before.if1.false) (code_is c.code.result c.code.type-inv c.code.ensures)
+    (sym (w.seats_right.ensures (plain_at (held (start w)))) ∙ c.before.if-seats_right.false) (code_is c.code.result c.code.type_inv c.code.ensures)
 
-turn-of-requires : tie.Need-turn-of-requires
+turn-of-requires : tie.Need-turn_of-turn-requires
 turn-of-requires c κs = right_last (given (start c.before)) (right c)
 
-enum_told : tie.Need-enum-told
+enum_told : tie.Need-enum_told-1
 enum_told c = search rules
 
-enum-known-turn : tie.Need-enum-known-turn
+enum-known-turn : tie.Need-enum_known-turn
 enum-known-turn c = search rules
 
 serve-requires : tie.Need-serve-requires
 serve-requires c κs =
-    let m = c.before.before.before.before.before.before.before.before.before.before.before.before.before.before in
-    let w = m.before.before in
+    let m = c.before.before.before.before.before.before.before.before.before.before.before.before.before in
+    let w = m.before in
     let x = (start w.before.before).args in
     turn_number x.file.now x.last.now x.taken.now x.waiting.now (held (start w.before.before)) x.key.now _
-    (sym (w.turn-of.ensures x.taken.now (plain_at (held (start w.before.before)))) ∙ ap turn_is m.turn.given.1)
+    (sym (w.turn_of-turn.ensures x.taken.now (plain_at (held (start w.before.before)))) ∙ ap turn_is m.in-Of.is)
 
 -- nobody waits
-returns-2 : tie.Need-returns-2
+returns-2 : tie.Need-returns-in-Nobody
 returns-2 c =
-    let w = c.before.before in
+    let w = c.before in
     let q = start w.before.before in
     let x = q.args in
     dispatch_none x.file.now x.last.now x.taken.now x.waiting.now (held q) x.key.now x.seat.now x.len.now x.value.now
-    (right w.before) (sym (w.turn-of.ensures x.taken.now (plain_at (held q))) ∙ ap turn_is c.enum_told.given.1)
+    (right w.before) (sym (w.turn_of-turn.ensures x.taken.now (plain_at (held q))) ∙ ap turn_is c.in-Nobody.is)
 
-same_length : tie.Need-same-length
+same_length : tie.Need-shape_of-key
 same_length c = search rules
 
 -- the seat whose turn it is
-returns-3 : tie.Need-returns-3
+returns-3 : tie.Need-returns-in-Of
 returns-3 c =
     let s = c.before.before in
-    let m = s.before.before.before.before.before.before.before.before.before.before.before.before.before.before.before in
-    let w = m.before.before in
+    let m = s.before.before.before.before.before.before.before.before.before.before.before.before.before.before in
+    let w = m.before in
     let q = start w.before.before in
     let x = q.args in
     dispatch_serves x.file.now x.last.now x.taken.now x.waiting.now (held q) x.key.now _ (right w.before)
-    (sym (w.turn-of.ensures x.taken.now (plain_at (held q))) ∙ ap turn_is m.turn.given.1) _ _ _ _ x.seat.now _ x.len.now _ x.value.now _ _ _
-    (result_back s.serve.result s.serve.type-inv) s.serve.ensures
+    (sym (w.turn_of-turn.ensures x.taken.now (plain_at (held q))) ∙ ap turn_is m.in-Of.is) _ _ _ _ x.seat.now _ x.len.now _ x.value.now _ _ _
+    (result_back s.serve.result s.serve.type_inv) s.serve.ensures
 
 pub fst_dispatch_arrays_spec : {M : Type 1} → statement M
 fst_dispatch_arrays_spec =

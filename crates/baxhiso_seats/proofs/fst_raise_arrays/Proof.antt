@@ -12,42 +12,42 @@ use Rattle.baxhiso_seats.proofs.fst_raise_arrays.Tie as tie
 code-requires : tie.Need-code-requires
 code-requires c κs = search rules
 
-returns : tie.Need-returns
+returns : tie.Need-returns-then-number-gt-LAST_SEAT
 returns c = let x = c.before.before.args in
-    λ r. raise_number x.last x.taken.now x.waiting.now x.number r _ c.before.if1.true (code_is c.code.result c.code.type-inv c.code.ensures)
+    λ r. raise_number x.last x.taken.now x.waiting.now x.number r _ c.before.if-number-gt-LAST_SEAT.true (code_is c.code.result c.code.type_inv c.code.ensures)
 
-seats-right-requires : tie.Need-seats-right-requires
+seats-right-requires : tie.Need-seats_right-requires
 seats-right-requires c κs = search rules
 
-code-requires-2 : tie.Need-code-requires-2
+code-requires-2 : tie.Need-code-requires-else-seats_right
 code-requires-2 c κs = search rules
 
-returns-2 : tie.Need-returns-2
+returns-2 : tie.Need-returns-else-seats_right
 returns-2 c = let w = c.before.before in
     let x = w.before.before.before.before.args in
-    λ r. raise_wrong x.last x.taken.now x.waiting.now x.number r _ w.before.before.before.if1.false (sym (w.seats-right.ensures (plain_at r)) ∙ c.before.if2.false)
-    (code_is c.code2.result c.code2.type-inv c.code2.ensures)
+    λ r. raise_wrong x.last x.taken.now x.waiting.now x.number r _ w.before.before.before.if-number-gt-LAST_SEAT.false (sym (w.seats_right.ensures (plain_at r)) ∙ c.before.if-seats_right.false)
+    (code_is c.code-else-seats_right.result c.code-else-seats_right.type_inv c.code-else-seats_right.ensures)
 
-array-read-if3 : tie.Need-array-read-if3
+array-read-if3 : tie.Need-bounds-t-number
 array-read-if3 c = search rules
 
-code-requires-3 : tie.Need-code-requires-3
+code-requires-3 : tie.Need-code-requires-then-t-number-eq0
 code-requires-3 c κs = search rules
 
-returns-3 : tie.Need-returns-3
+returns-3 : tie.Need-returns-then-t-number-eq0
 returns-3 c = let w = c.before.before.before in
     let x = w.before.before.before.before.args in
-    λ r. raise_empty x.last x.taken.now x.waiting.now x.number r _ w.before.before.before.if1.false (sym (w.seats-right.ensures (plain_at r)) ∙ c.before.before.if2.true)
-    c.before.if3.true (code_is c.code3.result c.code3.type-inv c.code3.ensures)
+    λ r. raise_empty x.last x.taken.now x.waiting.now x.number r _ w.before.before.before.if-number-gt-LAST_SEAT.false (sym (w.seats_right.ensures (plain_at r)) ∙ c.before.before.if-seats_right.true)
+    c.before.if-t-number-eq0.true (code_is c.code-then-t-number-eq0.result c.code-then-t-number-eq0.type_inv c.code-then-t-number-eq0.ensures)
 
-put-flag-requires : tie.Need-put-flag-requires
+put-flag-requires : tie.Need-put_flag-requires
 put-flag-requires c κs = search rules
 
-returns-4 : tie.Need-returns-4
+returns-4 : tie.Need-returns
 returns-4 c = let w = c.before.before.before.before in
     let x = w.before.before.before.before.args in
-    λ r. raise_done x.last x.taken.now x.waiting.now x.number r _ c.put-flag.ensures w.before.before.before.if1.false
-    (sym (w.seats-right.ensures (plain_at r)) ∙ c.before.before.before.if2.true) c.before.before.if3.false
+    λ r. raise_done x.last x.taken.now x.waiting.now x.number r _ c.put_flag.ensures w.before.before.before.if-number-gt-LAST_SEAT.false
+    (sym (w.seats_right.ensures (plain_at r)) ∙ c.before.before.before.if-seats_right.true) c.before.before.if-t-number-eq0.false
 
 pub fst_raise_arrays_spec : {M : Type 1} → statement M
 fst_raise_arrays_spec =

@@ -19,38 +19,38 @@ one q = let x = q.args in held x.head.now x.bound.now x.addr.now x.inp.now x.tra
 code-requires : tie.Need-code-requires
 code-requires c κs = search rules
 
-returns : tie.Need-returns
+returns : tie.Need-returns-then-number-gt-LAST_SEAT
 returns c = let q = c.before.before in
     let x = q.args in
-    seat_number x.last x.taken.now x.waiting.now x.number (before q) (one q) x.to-come _ c.before.if1.true (code_is c.code.result c.code.type-inv c.code.ensures)
+    seat_number x.last x.taken.now x.waiting.now x.number (before q) (one q) x.to_come _ c.before.if-number-gt-LAST_SEAT.true (code_is c.code.result c.code.type_inv c.code.ensures)
 
-seats-right-requires : tie.Need-seats-right-requires
+seats-right-requires : tie.Need-seats_right-requires
 seats-right-requires c κs = search rules
 
-code-requires-2 : tie.Need-code-requires-2
+code-requires-2 : tie.Need-code-requires-else-seats_right
 code-requires-2 c κs = search rules
 
-returns-2 : tie.Need-returns-2
+returns-2 : tie.Need-returns-else-seats_right
 returns-2 c = let w = c.before.before in
     let q = w.before.before.before.before in
     let x = q.args in
-    seat_wrong x.last x.taken.now x.waiting.now x.number (before q) (one q) x.to-come _ w.before.before.before.if1.false
-    (sym (w.seats-right.ensures (plain_at (before q))) ∙ c.before.if2.false) (code_is c.code2.result c.code2.type-inv c.code2.ensures)
+    seat_wrong x.last x.taken.now x.waiting.now x.number (before q) (one q) x.to_come _ w.before.before.before.if-number-gt-LAST_SEAT.false
+    (sym (w.seats_right.ensures (plain_at (before q))) ∙ c.before.if-seats_right.false) (code_is c.code-else-seats_right.result c.code-else-seats_right.type_inv c.code-else-seats_right.ensures)
 
-put-rows-requires : tie.Need-put-rows-requires
+put-rows-requires : tie.Need-put_rows-requires
 put-rows-requires c κs = search rules
 
-put-flag-requires : tie.Need-put-flag-requires
+put-flag-requires : tie.Need-put_flag-requires
 put-flag-requires c κs = search rules
 
-returns-3 : tie.Need-returns-3
+returns-3 : tie.Need-returns
 returns-3 c = let p = c.before.before in
     let d = p.before.before.before.before.before.before.before.before in
     let w = d.before in
     let q = w.before.before.before.before in
     let x = q.args in
-    seat_done x.last x.taken.now x.waiting.now x.number (before q) (one q) x.to-come _ c.put-flag.ensures w.before.before.before.if1.false
-    (sym (w.seats-right.ensures (plain_at (before q))) ∙ d.if2.true) _ p.put-rows.ensures
+    seat_done x.last x.taken.now x.waiting.now x.number (before q) (one q) x.to_come _ c.put_flag.ensures w.before.before.before.if-number-gt-LAST_SEAT.false
+    (sym (w.seats_right.ensures (plain_at (before q))) ∙ d.if-seats_right.true) _ p.put_rows.ensures
 
 pub fst_seat_arrays_spec : {M : Type 1} → statement M
 fst_seat_arrays_spec =

@@ -12,135 +12,135 @@ use Rattle.ops_whole.proofs.items.Lts as lts
 use Rattle.ops_whole.proofs.call.Reads as call_reads
 use Rattle.ops_whole.proofs.totals.Reads as totals_reads
 
-abbrev invariant-loop : tie.invariant-loop
-invariant-loop files rows₀ numbers₀ followed₀ cards₀ at₀ to₀ n₀ rows numbers followed cards at to n =
+abbrev invariant-loop-rows : tie.invariant-loop-rows
+invariant-loop-rows files rows₀ numbers₀ followed₀ cards₀ at₀ to₀ n₀ rows numbers followed cards at to n =
     (length rows ≡ length rows₀) × (length numbers ≡ length numbers₀) × (at ≤ length rows) × (to ≤ length numbers) × (n ≤ at)
 
-abbrev decreases-loop : tie.decreases-loop
-decreases-loop files rows₀ numbers₀ followed₀ cards₀ at₀ to₀ n₀ rows numbers followed cards at to n = length rows - at
+abbrev decreases-loop-rows : tie.decreases-loop-rows
+decreases-loop-rows files rows₀ numbers₀ followed₀ cards₀ at₀ to₀ n₀ rows numbers followed cards at to n = length rows - at
 
 -- src/lib.rt:207:5
-loop-holds : tie.Need-loop-init invariant-loop decreases-loop
+loop-holds : tie.Need-loop-rows-init invariant-loop-rows decreases-loop-rows
 loop-holds c = (search rules, search rules, search rules, search rules, search rules)
 
 -- src/lib.rt:207:18
-sub-loop : tie.Need-overflow-sub-loop invariant-loop decreases-loop
+sub-loop : tie.Need-overflow_sub-rows invariant-loop-rows decreases-loop-rows
 sub-loop c = search rules
 
 -- src/lib.rt:208:12
-sub-if1 : tie.Need-overflow-sub-if1 invariant-loop decreases-loop
+sub-if1 : tie.Need-overflow_sub-numbers invariant-loop-rows decreases-loop-rows
 sub-if1 c = search rules
 
 -- src/lib.rt:209:13
-same_length : tie.Need-same-length invariant-loop decreases-loop
+same_length : tie.Need-shape_of-rows-then-numbers-to-lt-ITEM invariant-loop-rows decreases-loop-rows
 same_length c = search rules
 
 -- src/lib.rt:209:13
-same-length-2 : tie.Need-same-length-2 invariant-loop decreases-loop
+same-length-2 : tie.Need-shape_of-numbers-then-numbers-to-lt-ITEM invariant-loop-rows decreases-loop-rows
 same-length-2 c = search rules
 
 -- src/lib.rt:209:13
-returns : tie.Need-returns invariant-loop decreases-loop
+returns : tie.Need-returns-then-numbers-to-lt-ITEM invariant-loop-rows decreases-loop-rows
 returns c = search rules
 
 -- src/lib.rt:211:41
-sub-call : tie.Need-overflow-sub-call invariant-loop decreases-loop
+sub-call : tie.Need-slice_bounds-call-count invariant-loop-rows decreases-loop-rows
 sub-call c = search rules
 
 -- src/lib.rt:211:41
-part-call-start : tie.Need-slice-bounds-call-start invariant-loop decreases-loop
+part-call-start : tie.Need-slice_bounds-call-start invariant-loop-rows decreases-loop-rows
 part-call-start c = search rules
 
 -- src/lib.rt:211:41
-part-call-end : tie.Need-slice-bounds-call-end invariant-loop decreases-loop
+part-call-end : tie.Need-slice_bounds-call-end invariant-loop-rows decreases-loop-rows
 part-call-end c = search rules
 
 -- src/lib.rt:211:58
-mul-call : tie.Need-overflow-mul-call invariant-loop decreases-loop
+mul-call : tie.Need-offset_bounds-numbers-to invariant-loop-rows decreases-loop-rows
 mul-call c = search rules
 
 -- src/lib.rt:211:58
-sub-call-2 : tie.Need-overflow-sub-call-2 invariant-loop decreases-loop
+sub-call-2 : tie.Need-slice_bounds-call-count-in-loop-rows invariant-loop-rows decreases-loop-rows
 sub-call-2 c = search rules
 
 -- src/lib.rt:211:58
-part-call-start-2 : tie.Need-slice-bounds-call-start-2 invariant-loop decreases-loop
+part-call-start-2 : tie.Need-slice_bounds-call-start-in-loop-rows invariant-loop-rows decreases-loop-rows
 part-call-start-2 c = search rules
 
 -- src/lib.rt:211:58
-part-call-end-2 : tie.Need-slice-bounds-call-end-2 invariant-loop decreases-loop
+part-call-end-2 : tie.Need-slice_bounds-call-end-in-loop-rows invariant-loop-rows decreases-loop-rows
 part-call-end-2 c = search rules
 
 -- src/lib.rt:211:13
-call-requires : tie.Need-call-requires invariant-loop decreases-loop
+call-requires : tie.Need-call-called-requires invariant-loop-rows decreases-loop-rows
 call-requires c κs = search rules
 
 -- src/lib.rt:215:25
-totals-requires : tie.Need-totals-requires invariant-loop decreases-loop
+totals-requires : tie.Need-totals-requires invariant-loop-rows decreases-loop-rows
 totals-requires c κs = search rules
 
 -- src/lib.rt:216:13
-same-length-3 : tie.Need-same-length-3 invariant-loop decreases-loop
+same-length-3 : tie.Need-shape_of-rows-then-came-eq-ENDED invariant-loop-rows decreases-loop-rows
 same-length-3 c = search rules
 
 -- src/lib.rt:216:13
-same-length-4 : tie.Need-same-length-4 invariant-loop decreases-loop
+same-length-4 : tie.Need-shape_of-numbers-then-came-eq-ENDED invariant-loop-rows decreases-loop-rows
 same-length-4 c = search rules
 
 -- src/lib.rt:216:13
-returns-2 : tie.Need-returns-2 invariant-loop decreases-loop
+returns-2 : tie.Need-returns-then-came-eq-ENDED invariant-loop-rows decreases-loop-rows
 returns-2 c = search rules
 
 -- src/lib.rt:219:13
-same-length-5 : tie.Need-same-length-5 invariant-loop decreases-loop
+same-length-5 : tie.Need-shape_of-rows-then-came-ne-ITEM_PUT invariant-loop-rows decreases-loop-rows
 same-length-5 c = search rules
 
 -- src/lib.rt:219:13
-same-length-6 : tie.Need-same-length-6 invariant-loop decreases-loop
+same-length-6 : tie.Need-shape_of-numbers-then-came-ne-ITEM_PUT invariant-loop-rows decreases-loop-rows
 same-length-6 c = search rules
 
 -- src/lib.rt:219:13
-returns-3 : tie.Need-returns-3 invariant-loop decreases-loop
+returns-3 : tie.Need-returns-then-came-ne-ITEM_PUT invariant-loop-rows decreases-loop-rows
 returns-3 c = search rules
 
 -- src/lib.rt:221:9
-add_at : tie.Need-overflow-add-at invariant-loop decreases-loop
+add_at : tie.Need-overflow_add-at invariant-loop-rows decreases-loop-rows
 add_at c = search rules
 
 -- src/lib.rt:222:9
-add-to : tie.Need-overflow-add-to invariant-loop decreases-loop
+add-to : tie.Need-overflow_add-to invariant-loop-rows decreases-loop-rows
 add-to c = search rules
 
 -- src/lib.rt:223:9
-add-n : tie.Need-overflow-add-n invariant-loop decreases-loop
+add-n : tie.Need-overflow_add-n invariant-loop-rows decreases-loop-rows
 add-n c = search rules
 
 -- src/lib.rt:207:5
-loop-less : tie.Need-loop-smaller invariant-loop decreases-loop
+loop-less : tie.Need-loop-rows-smaller invariant-loop-rows decreases-loop-rows
 loop-less c = search rules
 
 -- src/lib.rt:207:5
-loop-again : tie.Need-loop-preserved invariant-loop decreases-loop
+loop-again : tie.Need-loop-rows-preserved invariant-loop-rows decreases-loop-rows
 loop-again c = (search rules, search rules, search rules, search rules, search rules)
 
 -- src/lib.rt:196:1
-same-length-7 : tie.Need-same-length-7 invariant-loop decreases-loop
+same-length-7 : tie.Need-shape_of-rows invariant-loop-rows decreases-loop-rows
 same-length-7 c = search rules
 
 -- src/lib.rt:196:1
-same-length-8 : tie.Need-same-length-8 invariant-loop decreases-loop
+same-length-8 : tie.Need-shape_of-numbers invariant-loop-rows decreases-loop-rows
 same-length-8 c = search rules
 
 -- src/lib.rt:196:1
-returns-4 : tie.Need-returns-4 invariant-loop decreases-loop
+returns-4 : tie.Need-returns invariant-loop-rows decreases-loop-rows
 returns-4 c = search rules
 
 pub items_spec : {M : Type 1} → statement M
 items_spec =
     tie.close
     (tie.spec
-    invariant-loop
-    decreases-loop
+    invariant-loop-rows
+    decreases-loop-rows
     loop-holds
     sub-loop
     sub-if1
