@@ -11,7 +11,7 @@ use Rattle.format.specs.Strings as S
 use Rattle.plain.specs.Plain as P
 use Rattle.plain.specs.Plain.{start_plain, next_plain}
 use Rattle.counting.specs.CountOutcomes.{Counts}
-use Rattle.counting.specs.CountExactly.{counted_filled}
+use Rattle.counting.proofs.CountExactly.{counted_filled}
 use Rattle.stream_step.specs.Stepped.{answer_as}
 use Rattle.stream_calls.specs.Calls.{CodeCall, CallMade, Made, in_hand, answered, code_answers, StartMade, DemandCode}
 use Rattle.stream_calls.specs.CallsLaws.{demand_3_code}

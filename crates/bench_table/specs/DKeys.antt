@@ -16,7 +16,7 @@ use Rattle.format.specs.Laws.ReachedLaws.{reached_root, reached_by, reached_stay
 use Rattle.counting.specs.declared.Counting.{Counting}
 use Rattle.counting.specs.declared.Counting.TheVariants.{Counted}
 use Rattle.counting.specs.CountOutcomes.{FewKeys, Counts, CountOutcome}
-use Rattle.counting.specs.CountExactly.{FewAdmitted, count_exactly}
+use Rattle.counting.proofs.CountExactly.{FewAdmitted, count_exactly}
 use Rattle.bench_table.specs.BenchTable.{D}
 use Rattle.bench_table.specs.DAdmitted.{root_node, t_node, in_two, nodes_two, meta_d, opens_D, root_D, t_D, admitted_D, meta_D}
 

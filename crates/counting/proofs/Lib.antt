@@ -2,3 +2,4 @@
 mod Passing
 mod Leaving
 pub mod CountLaws
+pub mod CountExactly

@@ -1,3 +1,2 @@
 pub mod CountOutcomes
 pub mod CountPasses
-pub mod CountExactly

@@ -11,7 +11,7 @@ use lib.ListN.{length}
 use Rattle.format.specs.Limits.{max_path}
 use Rattle.format.specs.Strings.{unbounded}
 use Rattle.counting.specs.CountOutcomes.{CountRefusedFor, Counts, CountOutcome}
-use Rattle.counting.specs.CountExactly.{counted_filled}
+use Rattle.counting.proofs.CountExactly.{counted_filled}
 use Rattle.counting.specs.declared.Counting.{Counting}
 use Rattle.counting.specs.declared.Counting.TheVariants.{Counted as Yes, Refused as NotCounted}
 use Rattle.plain.specs.Plain.{Plain, begun, start_plain}
