@@ -11,42 +11,42 @@ use Rattle.ops_made.proofs.put_cards.Reads as reads
 use Rattle.ops_made.proofs.put_cards.Lts as lts
 use Rattle.ops_made.proofs.put_card.Reads as put_card_reads
 
-abbrev invariant-loop : tie.invariant-loop
-invariant-loop slots₀ values₀ heads₀ bounds₀ addrs₀ inps₀ trans₀ outs₀ keys₀ all i₀ slots values heads bounds addrs inps trans outs keys i = i ≤ 8
+abbrev invariant-loop-i : tie.invariant-loop-i
+invariant-loop-i slots₀ values₀ heads₀ bounds₀ addrs₀ inps₀ trans₀ outs₀ keys₀ all i₀ slots values heads bounds addrs inps trans outs keys i = i ≤ 8
 
-abbrev decreases-loop : tie.decreases-loop
-decreases-loop slots₀ values₀ heads₀ bounds₀ addrs₀ inps₀ trans₀ outs₀ keys₀ all i₀ slots values heads bounds addrs inps trans outs keys i = 8 - i
+abbrev decreases-loop-i : tie.decreases-loop-i
+decreases-loop-i slots₀ values₀ heads₀ bounds₀ addrs₀ inps₀ trans₀ outs₀ keys₀ all i₀ slots values heads bounds addrs inps trans outs keys i = 8 - i
 
-loop-holds : tie.Need-loop-init invariant-loop decreases-loop
+loop-holds : tie.Need-loop-i-init invariant-loop-i decreases-loop-i
 loop-holds c = search rules
 
-mul-one : tie.Need-overflow-mul-one invariant-loop decreases-loop
+mul-one : tie.Need-offset_bounds-all-i invariant-loop-i decreases-loop-i
 mul-one c = search rules
 
-array-copy-out-one : tie.Need-array-copy-out-one invariant-loop decreases-loop
+array-copy-out-one : tie.Need-bounds-all-i invariant-loop-i decreases-loop-i
 array-copy-out-one c = search rules
 
-put-card-requires : tie.Need-put-card-requires invariant-loop decreases-loop
+put-card-requires : tie.Need-put_card-requires invariant-loop-i decreases-loop-i
 put-card-requires c κs = search rules
 
-add-i : tie.Need-overflow-add-i invariant-loop decreases-loop
+add-i : tie.Need-overflow_add-i invariant-loop-i decreases-loop-i
 add-i c = search rules
 
-loop-less : tie.Need-loop-smaller invariant-loop decreases-loop
+loop-less : tie.Need-loop-i-smaller invariant-loop-i decreases-loop-i
 loop-less c = search rules
 
-loop-again : tie.Need-loop-preserved invariant-loop decreases-loop
+loop-again : tie.Need-loop-i-preserved invariant-loop-i decreases-loop-i
 loop-again c = search rules
 
-returns : tie.Need-returns invariant-loop decreases-loop
+returns : tie.Need-returns invariant-loop-i decreases-loop-i
 returns c = search rules
 
 pub put_cards_spec : {M : Type 1} → statement M
 put_cards_spec =
     tie.close
     (tie.spec
-    invariant-loop
-    decreases-loop
+    invariant-loop-i
+    decreases-loop-i
     loop-holds
     mul-one
     array-copy-out-one
