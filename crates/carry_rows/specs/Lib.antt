@@ -1,2 +1,0 @@
-pub mod CarryRows
-pub mod CarryOwnRows

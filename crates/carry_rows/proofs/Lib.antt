@@ -1,0 +1,2 @@
+pub mod CarryRows
+pub mod CarryOwnRows
