@@ -6,40 +6,40 @@ use borrow.Author.Rules.{rules}
 use Rattle.oracle_carry.proofs.oracle_carry.Statement.{statement}
 use Rattle.oracle_carry.proofs.oracle_carry.Tie as tie
 
-reading-of-requires : tie.Need-reading-of-requires
+reading-of-requires : tie.Need-reading_of-reading-requires
 reading-of-requires c κs = search rules
 
-carry-requires : tie.Need-carry-requires
+carry-requires : tie.Need-carry-carried-requires
 carry-requires c κs = search rules
 
-enum-known-answer : tie.Need-enum-known-answer
+enum-known-answer : tie.Need-enum_known-answer
 enum-known-answer c = search rules
 
-cast-result : tie.Need-overflow-cast-result
+cast-result : tie.Need-overflow_cast-result
 cast-result c = search rules
 
-enum_told : tie.Need-enum-told
+enum_told : tie.Need-enum_told-1
 enum_told c = search rules
 
 put-requires : tie.Need-put-requires
 put-requires c κs = search rules
 
 -- it is refused, and the arrays are as they were
-returns : tie.Need-returns
-returns c = let called = c.before.before.before in
+returns : tie.Need-returns-in-Refused
+returns c = let called = c.before in
     let read = called.before in
     let x = read.before.before.before.before.before.before.before.before.before.args in
     let h = held x.head.now x.bound.now x.addrs.now x.inps.now x.trans.now x.outs.now in
-    carry_refused x.old.now x.new.now h x.keys read.reading-of.ensures called.carry.ensures _ c.before.answer.given.1
+    carry_refused x.old.now x.new.now h x.keys read.reading_of-reading.ensures called.carry-carried.ensures _ c.in-Refused.is
 
 -- the arrays hold the carried reading
-returns-2 : tie.Need-returns-2
+returns-2 : tie.Need-returns-in-Carried
 returns-2 c = let told = c.before.before.before.before.before.before.before.before.before in
-    let called = told.before.before in
+    let called = told.before in
     let read = called.before in
     let x = read.before.before.before.before.before.before.before.before.before.args in
     let h = held x.head.now x.bound.now x.addrs.now x.inps.now x.trans.now x.outs.now in
-    carry_carried x.old.now x.new.now h x.keys read.reading-of.ensures called.carry.ensures told.enum_told.given.1 _ c.put.ensures
+    carry_carried x.old.now x.new.now h x.keys read.reading_of-reading.ensures called.carry-carried.ensures told.in-Carried.is _ c.put.ensures
 
 pub oracle_carry_spec : {M : Type 1} → statement M
 oracle_carry_spec =
