@@ -119,21 +119,21 @@ static inline const char *fst_result_name(int result)
 #define FST_MAX_LEN   UINT64_C(4294967295) /* the longest file                                 */
 #define FST_KEY_SPACE 255                  /* the shortest key buffer, and the longest key in it */
 
-/* The stack that a call takes, in bytes: measured on x86-64 with the older toolchain's compiler (tests/c/stack.c), and rounded up. */
+/* The stack that a call takes, in bytes: measured on x86-64 (tests/c/stack.c), and rounded up. */
 #define FST_STACK_OPEN     64
 #define FST_STACK_GET      768
 #define FST_STACK_GET_KEY  3840
 #define FST_STACK_ADMIT    576
-#define FST_STACK_COUNT    704
-#define FST_STACK_START    10240
-#define FST_STACK_NEXT     32768
+#define FST_STACK_COUNT    896
+#define FST_STACK_START    32768
+#define FST_STACK_NEXT     53248
 #define FST_STACK_RANGE    6144
 #define FST_STACK_FIND     40960
 #define FST_STACK_CONVERT  12288
 #define FST_STACK_PACK     8192
-#define FST_STACK_CARRY    16384
+#define FST_STACK_CARRY    36864
 #define FST_STACK_SEAT     4608 /* fst_clear_seats and fst_raise take less */
-#define FST_STACK_DISPATCH 32768
+#define FST_STACK_DISPATCH 53248
 #define FST_STACK_ITEMS    143360
 
 /* What stands for the checksum of a file that has none: larger than any stored checksum. */
