@@ -46,6 +46,14 @@ fn trailer_len(version: u64) -> usize
     if version == 3 { 20 } else { 16 }
 }
 
+// The length of a file without nodes that has a trailer of this many bytes: the trailer stands right after the header.
+fn len_without_nodes(trailer: usize) -> usize
+    requires { trailer ≤ 20 }
+    ensures { result ≡ 16 + trailer }
+{
+    FIRST_NODE + trailer
+}
+
 // The rule on roots.
 fn root_right(version: u64, root: usize, len: usize) -> bool
     requires { least_len version ≤ len }
@@ -106,21 +114,25 @@ pub fn open(file: &[u8]) -> Opened
     ensures { opening_is result ≡ opening file.now }
 {
     let n = file.len();
-    if n < MIN_LEN {
+    let few = n < MIN_LEN;
+    if few {
         return of_few(n);
     }
-    if MAX_LEN < n {
+    let too_large = MAX_LEN < n;
+    if too_large {
         return Opened::Refused(LARGE);
     }
     let version = read_u64_le(file);
     if version < 1 {
         return Opened::Refused(VERSION);
     }
-    if 3 < version {
+    let too_new = 3 < version;
+    if too_new {
         return Opened::Refused(VERSION);
     }
     let trailer = trailer_len(version);
-    if n < FIRST_NODE + trailer {
+    let least = len_without_nodes(trailer);
+    if n < least {
         return Opened::Refused(SHORT);
     }
     let len_at = n - trailer;

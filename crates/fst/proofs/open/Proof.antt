@@ -2,7 +2,7 @@
 -- Assumes nothing.
 use mathlib.Core.Path.{◌≡◌, refl, sym, ap, ◌∙◌}
 use Rattle.format.specs.Laws.OpeningLaws.{opening_large, opening_version, opening_few, opening_root, opening_opened, version_low, version_high, version_right}
-use Prim.Native.Nat.{ℕ, ◌+◌, ◌-◌}
+use Prim.Native.Nat.{ℕ, ◌+◌, ◌-◌, ◌≤◌}
 use lib.ListN.{length}
 use mathlib.Core.Bool.{true, false}
 use mathlib.Core.List.{List}
@@ -18,14 +18,14 @@ of-few-requires : tie.Need-of_few-requires
 of-few-requires c κs = search rules
 
 -- under 32 bytes: a blank card, or SHORT
-returns : tie.Need-returns-then-n-lt-MIN_LEN
-returns c = c.of_few.ensures ∙ sym (opening_of_few c.before.before.before.args.file.now c.before.if-n-lt-MIN_LEN.true)
+returns : tie.Need-returns-then-few
+returns c = c.of_few.ensures ∙ sym (opening_of_few c.before.before.before.args.file.now c.before.if-few.true)
 
 -- over the largest length: LARGE
-returns-2 : tie.Need-returns-then-n-gt-MAX_LEN
+returns-2 : tie.Need-returns-then-too_large
 returns-2 c =
-    let low = c.before.if-n-lt-MIN_LEN.false in
-    sym (opening_large c.before.before.before.args.file.now (λ z. omega arith) low (omega (arith, c.if-n-gt-MAX_LEN.true)))
+    let low = c.before.if-few.false in
+    sym (opening_large c.before.before.before.args.file.now (λ z. omega arith) low (omega (arith, c.if-too_large.true)))
 
 read-u64-le-requires : tie.Need-read_u64_le-version-requires
 read-u64-le-requires c κs = search rules
@@ -35,7 +35,7 @@ abbrev file : tie.After-read_u64_le-version → List ℕ
 file call = call.before.before.before.before.args.file.now
 
 some : (call : tie.After-read_u64_le-version) → ¬ (length (file call) ≡ 0)
-some call = let low = call.before.before.if-n-lt-MIN_LEN.false in λ z. omega arith
+some call = let low = call.before.before.if-few.false in λ z. omega arith
 
 version : (call : tie.After-read_u64_le-version) → call.read_u64_le-version.result ≡ (meta_of (file call)).version
 version call = version_is (file call) call.read_u64_le-version.result call.read_u64_le-version.ensures
@@ -44,15 +44,15 @@ version call = version_is (file call) call.read_u64_le-version.result call.read_
 returns-3 : tie.Need-returns-then-version-lt1
 returns-3 c =
     let call = c.before in
-    sym (opening_version (file call) (some call) call.before.before.if-n-lt-MIN_LEN.false call.before.if-n-gt-MAX_LEN.false
+    sym (opening_version (file call) (some call) call.before.before.if-few.false call.before.if-too_large.false
     (rw (← version call) (version_low call.read_u64_le-version.result c.if-version-lt1.true)))
 
 -- a version above 3: VERSION
-returns-4 : tie.Need-returns-then-version-gt3
+returns-4 : tie.Need-returns-then-too_new
 returns-4 c =
     let call = c.before.before in
-    sym (opening_version (file call) (some call) call.before.before.if-n-lt-MIN_LEN.false call.before.if-n-gt-MAX_LEN.false
-    (rw (← version call) (version_high call.read_u64_le-version.result c.if-version-gt3.true)))
+    sym (opening_version (file call) (some call) call.before.before.if-few.false call.before.if-too_large.false
+    (rw (← version call) (version_high call.read_u64_le-version.result c.if-too_new.true)))
 
 trailer-len-requires : tie.Need-trailer_len-trailer-requires
 trailer-len-requires c κs = search rules
@@ -62,22 +62,22 @@ read t = t.before.before.before
 
 -- the version is from 1 to 3
 right : (t : tie.After-trailer_len-trailer) → version_test (meta_of (file (read t))).version ≡ true
-right t = rw (← version (read t)) (version_right (read t).read_u64_le-version.result t.before.before.if-version-lt1.false t.before.if-version-gt3.false)
+right t = rw (← version (read t)) (version_right (read t).read_u64_le-version.result t.before.before.if-version-lt1.false t.before.if-too_new.false)
 
 least : (t : tie.After-trailer_len-trailer) → least_len (meta_of (file (read t))).version ≡ 16 + t.trailer_len-trailer.result
 least t =
     least_is_lem (read t).read_u64_le-version.result (meta_of (file (read t))).version t.trailer_len-trailer.result (version (read t)) t.trailer_len-trailer.ensures.0
 
-add-if5 : tie.Need-overflow_add-trailer
-add-if5 c = search rules
+len-without-nodes-requires : tie.Need-len_without_nodes-least-requires
+len-without-nodes-requires c κs = search rules
 
 -- under the least length of its version: SHORT
-returns-5 : tie.Need-returns-then-n-trailer
+returns-5 : tie.Need-returns-then-n-least
 returns-5 c =
-    let t = c.before in
+    let t = c.before.before in
     let call = read t in
-    sym (opening_few (file call) (some call) call.before.before.if-n-lt-MIN_LEN.false call.before.if-n-gt-MAX_LEN.false (right t)
-    (omega (arith, least t, c.if-n-trailer.true)))
+    sym (opening_few (file call) (some call) call.before.before.if-few.false call.before.if-too_large.false (right t)
+    (omega (arith, least t, c.before.len_without_nodes-least.ensures, c.if-n-least.true)))
 
 sub-len-at : tie.Need-overflow_sub-len_at
 sub-len-at c = search rules
@@ -99,10 +99,14 @@ read-u64-le-requires-2 c κs = search rules
 
 -- the file has room for header and trailer of its version
 root-right-requires : tie.Need-root_right-requires
-root-right-requires c κs = let t = c.before.before.before in rw (← t.trailer_len-trailer.ensures.0) c.before.before.if-n-trailer.false
+root-right-requires c κs = let l = c.before.before.before in
+    rw (← l.before.trailer_len-trailer.ensures.0, ← l.len_without_nodes-least.ensures) c.before.before.if-n-least.false
 
 abbrev measured : tie.After-root_right → tie.After-trailer_len-trailer
-measured w = w.before.before.before.before
+measured w = w.before.before.before.before.before
+
+room : (w : tie.After-root_right) → 16 + (measured w).trailer_len-trailer.result ≤ length (file (read (measured w)))
+room w = rw (← w.before.before.before.before.len_without_nodes-least.ensures) w.before.before.before.if-n-least.false
 
 -- what the file says of its root
 root_read : (w : tie.After-root_right) → w.before.read_u64_le-root.result ≡ (meta_of (file (read (measured w)))).root
@@ -127,8 +131,8 @@ returns-6 c =
     let w = c.before in
     let t = measured w in
     let call = read t in
-    sym (opening_root (file call) (some call) call.before.before.if-n-lt-MIN_LEN.false call.before.if-n-gt-MAX_LEN.false (right t)
-    (rw (least t) w.before.before.before.if-n-trailer.false) (sym (rule w) ∙ c.if-root_right.false))
+    sym (opening_root (file call) (some call) call.before.before.if-few.false call.before.if-too_large.false (right t)
+    (rw (least t) (room w)) (sym (rule w) ∙ c.if-root_right.false))
 
 sub-read-u64-le-2 : tie.Need-slice_bounds-read_u64_le-count-2
 sub-read-u64-le-2 c = search rules
@@ -169,8 +173,8 @@ returns-7 c =
     let ty = c.before.before.before.read_u64_le-ty in
     let len = c.before.read_u64_le-len in
     let opens =
-    opening_opened s (some call) call.before.before.if-n-lt-MIN_LEN.false call.before.if-n-gt-MAX_LEN.false (right t)
-    (rw (least t) w.before.before.before.if-n-trailer.false) (sym (rule w) ∙ c.before.before.before.before.before.if-root_right.true) in
+    opening_opened s (some call) call.before.before.if-few.false call.before.if-too_large.false (right t)
+    (rw (least t) (room w)) (sym (rule w) ∙ c.before.before.before.before.before.if-root_right.true) in
     ap opened (meta_is_lem s call.read_u64_le-version.result ty.result len.result root.result tl.result c.checksum_of-checksum.result call.read_u64_le-version.ensures tl.ensures.0
     (ty.ensures ∙ (rw (part_rest s 8))) (len.ensures ∙ (rw (part_rest s (length s - tl.result))))
     (root.ensures ∙ rw (part_rest s (length s - tl.result + 8))) c.checksum_of-checksum.ensures) ∙ sym opens
@@ -186,7 +190,7 @@ open_spec =
     returns-3
     returns-4
     trailer-len-requires
-    add-if5
+    len-without-nodes-requires
     returns-5
     sub-len-at
     add-root-at
