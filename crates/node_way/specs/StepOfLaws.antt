@@ -14,7 +14,7 @@ use Rattle.node_way.specs.declared.Step.TheVariants.{Sound as Stepped, Unsound a
 use Rattle.node_way.specs.declared.Way.{Way}
 use Rattle.node_way.specs.declared.Way.TheVariants.{To, Absent as Nowhere}
 use Rattle.node.specs.Read.{Readable, Judges, transitions_in, node_inputs, node_deltas, search_is, Finds, empty_node}
-use Rattle.node_way.specs.Ways.{way_in, step_of}
+use Rattle.node_way.specs.Ways.{way_at, way_in, step_of}
 use Rattle.node.specs.ReadLaws.{finds_at, finds_missing, node_find, node_transition, length_node_inputs}
 use Rattle.node.specs.JudgedLaws.{judged_empty}
 
@@ -34,6 +34,12 @@ module _ (s : List ℕ) (m : Node) (r : Readable s m) (b : ℕ) (f : Found) (h :
   way_to i out target e is_out is_target =
       let place : Search.at i ≡ find_input (transitions_in s m) b = sym (ap search_is e) ∙ node_find s m r b f h in
       rw (← place, node_transition s m r i (place_lt i e), is_out, is_target)
+
+module _ (s : List ℕ) (m : Node) (r : Readable s m) (b : ℕ) where
+  pub way_at_is : (f : Found) → Finds (node_inputs s m) b f
+      → way_at m.first (numbers_down s m.outputs m.osize m.ntrans) (node_deltas s m) f ≡ way_in (transitions_in s m) b
+  way_at_is (At i) h = way_to s m r b (At i) h i _ _ refl refl refl
+  way_at_is (Missing p) h = way_absent s m r b (Missing p) h p refl
 
 -- ---- the answers
 

@@ -1,10 +1,10 @@
 // Where an input leads from a sound node: the part of a step of a lookup by key that comes after the judging.
 #![tactic(auto)]
 
-ghost use Rattle.std.specs.Prelude.{◌≡◌, ◌≤◌, ◌<◌, get_or};
-ghost use Rattle.format.specs.Node.{SoundAt, node_at, target_of};
+ghost use Rattle.std.specs.Prelude.{◌≡◌, ◌+◌, ◌*◌, ◌≤◌, ◌<◌, length, get_or};
+ghost use Rattle.format.specs.Node.{SoundAt, node_at, numbers_down, target_of};
 ghost use Rattle.node.specs.Read.{transitions_in, Readable};
-ghost use Rattle.node_way.specs.Ways.{any_node, way_in, step_of};
+ghost use Rattle.node_way.specs.Ways.{any_node, way_at, PlaceRight, way_in, step_of};
 ghost use Rattle.node_way.specs.declared.Step.TheVariants.{Sound as Stepped};
 
 use le_bytes::{number_of, small};
@@ -36,6 +36,33 @@ pub fn target_of(first: usize, delta: u64) -> usize
     if d == 0 { 0 } else { first - d }
 }
 
+// Where finding an input leads in a node with any number of transitions: by the output and the delta at its place, or nowhere.
+fn way_at(
+    file: &[u8],
+    first: usize,
+    outputs: usize,
+    deltas: usize,
+    n: usize,
+    tsize: usize,
+    osize: usize,
+    found: Found,
+) -> Way
+    requires { (outputs + n * osize ≤ length file.now) × (deltas + n * tsize ≤ length file.now)
+        × (osize ≤ 8) × (tsize ≤ 8)
+        × PlaceRight first (numbers_down file.now deltas tsize n) n found }
+    ensures { result ≡ way_at first (numbers_down file.now outputs osize n)
+        (numbers_down file.now deltas tsize n) found }
+{
+    match found {
+        Found::Absent(p) => Way::Absent(p),
+        Found::At(i) => {
+            let out = number_of(file, outputs, osize, n, i);
+            let delta = number_of(file, deltas, tsize, n, i);
+            Way::To(out, target_of(first, delta))
+        }
+    }
+}
+
 // Where b leads from a node with any number of transitions, whose outputs start at this place.
 pub fn any_way(
     file: &[u8],
@@ -54,14 +81,7 @@ pub fn any_way(
     let deltas = outputs + n * osize;
     let inputs = deltas + n * tsize;
     let found = find_in(file, inputs, n, index_len, b);
-    match found {
-        Found::Absent(p) => Way::Absent(p),
-        Found::At(i) => {
-            let out = number_of(file, outputs, osize, n, i);
-            let delta = number_of(file, deltas, tsize, n, i);
-            Way::To(out, target_of(first, delta))
-        }
-    }
+    way_at(file, first, outputs, deltas, n, tsize, osize, found)
 }
 
 // Where b leads from a sound node with one transition.
