@@ -24,6 +24,7 @@ use Rattle.admission_node.specs.declared.Total.{Total}
 use Rattle.admission_node.specs.declared.Total.TheVariants.{Is}
 use Rattle.admission_node.specs.declared.Survey.{Survey}
 use Rattle.admission_fill.specs.declared.Verdict.{Verdict}
+use Rattle.admission_fill.specs.declared.Verdict.TheVariants.{Deep, Good, Heavy}
 use Rattle.admission_node.specs.Entries.{Kept, deepest, heaviest, total_as, entry_is, or_over, Surveyable, SurveyableAt, SurveyedAt}
 use Rattle.admission_walk.specs.Walks.{Live}
 use Rattle.admission_fill.specs.Fills.{AllPassed, Fillable, LostOne, DeepOne, HeavyOne, GoodAll, HeavyCase, FillCase, Filled}
@@ -267,3 +268,12 @@ module _ {f : Fst} {d₀ s₀ d s : List ℕ} {deep heavy : Bool} {a : ℕ} (h :
             let e = h.sums.below j (omega arith) in
             record { off = e.off; on = e.on no_heavy; low = e.fine no_heavy };
       }
+
+  verdict_case : (x y : Bool) → deep ≡ x → heavy ≡ y → FillCase f d₀ d s (cond x Deep (cond y Heavy Good))
+  verdict_case true y is _ = (passed_all, h.one_deep is)
+  verdict_case false true low is = filled_heavy low is
+  verdict_case false false low light = filled_good low light
+
+  -- the two flags tell
+  pub filling_told : (v : Verdict) → v ≡ cond deep Deep (cond heavy Heavy Good) → Filled f d₀ s₀ d s v
+  filling_told v e = filling_ends h v (rw e (verdict_case deep heavy refl refl))

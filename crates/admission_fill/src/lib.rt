@@ -2,8 +2,10 @@
 // its targets, which lie below it.
 #![tactic(auto)]
 
+ghost use Rattle.std.specs.Prelude.{◌≡◌, cond};
 ghost use Rattle.format.specs.Paths.{fst_with};
 ghost use Rattle.admission_fill.specs.Fills.{Fillable, Filled};
+ghost use Rattle.admission_fill.specs.declared.Verdict.TheVariants.{Deep, Good, Heavy};
 
 use admission_node::{UNUSED, clamped, entry_of, or_deep, or_over, survey_at};
 
@@ -19,6 +21,19 @@ pub enum Verdict {
     Heavy,
 }
 
+// What the two flags say of the whole file: DEEP is decided over all reached nodes, and SUM after it.
+fn verdict_of(deep: bool, heavy: bool) -> Verdict
+    ensures { result ≡ cond deep Deep (cond heavy Heavy Good) }
+{
+    if deep {
+        return Verdict::Deep;
+    }
+    if heavy {
+        return Verdict::Heavy;
+    }
+    Verdict::Good
+}
+
 // Fills both tables at the marks, in ascending order of addresses. The sums' entries are zeros at entry.
 pub fn fill(file: &[u8], version: u64, root: usize, depths: &mut [u16], sums: &mut [u64]) -> Verdict
     requires { Fillable (fst_with file.now version root) depths.old sums.old }
@@ -32,7 +47,8 @@ pub fn fill(file: &[u8], version: u64, root: usize, depths: &mut [u16], sums: &m
         let mark = depths[a];
         if mark != 0 {
             // a node leads here, and here is none of the chain
-            if mark < UNUSED {
+            let lost = mark < UNUSED;
+            if lost {
                 return Verdict::Lost;
             }
             let s = survey_at(file, version, root, a, mark, depths, sums);
@@ -45,12 +61,5 @@ pub fn fill(file: &[u8], version: u64, root: usize, depths: &mut [u16], sums: &m
         }
         a += 1;
     }
-    // DEEP is decided over all reached nodes, and SUM after it
-    if deep {
-        return Verdict::Deep;
-    }
-    if heavy {
-        return Verdict::Heavy;
-    }
-    Verdict::Good
+    verdict_of(deep, heavy)
 }

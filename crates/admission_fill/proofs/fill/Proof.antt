@@ -5,9 +5,9 @@ use mathlib.Core.Logic.{⊎_elim}
 use Prim.Native.Nat.{◌-◌, ◌≤◌, ◌<◌}
 use lib.ListN.{length, set}
 use Rattle.format.specs.Paths.{Fst, fst_with}
-use Rattle.admission_fill.specs.declared.Verdict.TheVariants.{Good, Lost, Deep, Heavy}
+use Rattle.admission_fill.specs.declared.Verdict.TheVariants.{Lost}
 use Rattle.admission_node.specs.KeptLaws.{kept_lt}
-use Rattle.admission_fill.proofs.Filling.{Filling, filling_none, filling_skip, surveyable_at, filling_lost, filling_store, filling_as, filling_ends, passed_all, filled_heavy, filled_good}
+use Rattle.admission_fill.proofs.Filling.{Filling, filling_none, filling_skip, surveyable_at, filling_lost, filling_store, filling_as, filling_ends, filling_told}
 use borrow.Author.Rules.{rules}
 use native.Mathlib.Omega.{arith}
 use Rattle.admission_fill.proofs.fill.Statement.{statement}
@@ -55,26 +55,26 @@ slice-read-mark : tie.Need-bounds-depths-a invariant-loop-a decreases-loop-a
 slice-read-mark c = room_depths c.before
 
 -- the depths keep their length
-same_length : tie.Need-shape_of-depths-then-mark-lt-UNUSED invariant-loop-a decreases-loop-a
+same_length : tie.Need-shape_of-depths-then-lost invariant-loop-a decreases-loop-a
 same_length c = (filling c.before.before.before.before).depths_kept.long
 
 -- the sums keep their length
-same-length-2 : tie.Need-shape_of-sums-then-mark-lt-UNUSED invariant-loop-a decreases-loop-a
+same-length-2 : tie.Need-shape_of-sums-then-lost invariant-loop-a decreases-loop-a
 same-length-2 c = (filling c.before.before.before.before).sums_kept.long
 
 -- a node leads to an address that is none of the chain
-returns : tie.Need-returns-then-mark-lt-UNUSED invariant-loop-a decreases-loop-a
+returns : tie.Need-returns-then-lost invariant-loop-a decreases-loop-a
 returns c =
     let turn = c.before.before.before in
     let h = filling turn.before in
-    filling_ends h Lost (filling_lost h turn.loop-a-test.true c.before.if-mark-ne0.true (omega (arith, c.if-mark-lt-UNUSED.true)))
+    filling_ends h Lost (filling_lost h turn.loop-a-test.true c.before.if-mark-ne0.true (omega (arith, c.if-lost.true)))
 
 -- the targets lie below the node, where entries are small
 survey-at-requires : tie.Need-survey_at-s-requires invariant-loop-a decreases-loop-a
 survey-at-requires c κs =
     let turn = c.before.before.before in
     let at = turn.before in
-    surveyable_at (filling at) (start at).requires turn.loop-a-test.true c.if-mark-lt-UNUSED.false (λ i. (at.before.before.before.shared_slice_known-1.given i).fits)
+    surveyable_at (filling at) (start at).requires turn.loop-a-test.true c.if-lost.false (λ i. (at.before.before.before.shared_slice_known-1.given i).fits)
     (room_depths turn) (room_sums turn)
 
 or-deep-requires : tie.Need-or_deep-deep-requires invariant-loop-a decreases-loop-a
@@ -124,58 +124,31 @@ loop-again c =
     let l = turn.loop-a-test.true in (
       omega arith,
       elim c.if-mark-ne0.branch [
-        | lts.then-mark-ne0+else-mark-lt-UNUSED w ↦
+        | lts.then-mark-ne0+else-lost w ↦
             filling_as
             (w.depths-is ∙ ap (λ x. set at.loop-a.depths at.loop-a.a x) w.clamped.ensures)
             (w.sums-is ∙ ap (λ x. set at.loop-a.sums at.loop-a.a x) w.entry_of.ensures)
             (w.deep-is ∙ w.or_deep-deep.ensures)
             (w.heavy-is ∙ w.or_over-heavy.ensures)
-            (filling_store h (start at).requires l w.if-mark-lt-UNUSED.false w.survey_at-s.result w.survey_at-s.ensures)
+            (filling_store h (start at).requires l w.if-lost.false w.survey_at-s.result w.survey_at-s.ensures)
         | lts.else-mark-ne0 w ↦ filling_as w.depths-is w.sums-is w.deep-is w.heavy-is (filling_skip h w.if-mark-ne0.false ((start at).requires.zeros _ l))
       ],
     )
 
+verdict-of-requires : tie.Need-verdict_of-requires invariant-loop-a decreases-loop-a
+verdict-of-requires c κs = search rules
+
 -- the depths keep their length
-same-length-3 : tie.Need-shape_of-depths-then-deep invariant-loop-a decreases-loop-a
+same-length-3 : tie.Need-shape_of-depths invariant-loop-a decreases-loop-a
 same-length-3 c = (filling c.before.before).depths_kept.long
 
 -- the sums keep their length
-same-length-4 : tie.Need-shape_of-sums-then-deep invariant-loop-a decreases-loop-a
+same-length-4 : tie.Need-shape_of-sums invariant-loop-a decreases-loop-a
 same-length-4 c = (filling c.before.before).sums_kept.long
 
--- a path over the limit
-returns-2 : tie.Need-returns-then-deep invariant-loop-a decreases-loop-a
-returns-2 c =
-    let h = filling c.before.before in
-    filling_ends h Deep (passed_all h c.before.loop-a-test.false, h.one_deep c.if-deep.true)
-
--- the depths keep their length
-same-length-5 : tie.Need-shape_of-depths-then-heavy invariant-loop-a decreases-loop-a
-same-length-5 c = (filling c.before.before.before).depths_kept.long
-
--- the sums keep their length
-same-length-6 : tie.Need-shape_of-sums-then-heavy invariant-loop-a decreases-loop-a
-same-length-6 c = (filling c.before.before.before).sums_kept.long
-
--- no path, but a sum over the limit
-returns-3 : tie.Need-returns-then-heavy invariant-loop-a decreases-loop-a
-returns-3 c =
-    let h = filling c.before.before.before in
-    filling_ends h Heavy (filled_heavy h c.before.before.loop-a-test.false c.before.if-deep.false c.if-heavy.true)
-
--- the depths keep their length
-same-length-7 : tie.Need-shape_of-depths invariant-loop-a decreases-loop-a
-same-length-7 c = (filling c.before.before.before).depths_kept.long
-
--- the sums keep their length
-same-length-8 : tie.Need-shape_of-sums invariant-loop-a decreases-loop-a
-same-length-8 c = (filling c.before.before.before).sums_kept.long
-
--- neither
-returns-4 : tie.Need-returns invariant-loop-a decreases-loop-a
-returns-4 c =
-    let h = filling c.before.before.before in
-    filling_ends h Good (filled_good h c.before.before.loop-a-test.false c.before.if-deep.false c.if-heavy.false)
+-- every address is passed, and the flags tell
+returns-2 : tie.Need-returns invariant-loop-a decreases-loop-a
+returns-2 c = filling_told (filling c.before.before) c.before.loop-a-test.false c.verdict_of.result c.verdict_of.ensures
 
 pub fill_spec : {M : Type 1} → statement M
 fill_spec =
@@ -201,12 +174,7 @@ fill_spec =
     add_a
     loop-less
     loop-again
+    verdict-of-requires
     same-length-3
     same-length-4
-    returns-2
-    same-length-5
-    same-length-6
-    returns-3
-    same-length-7
-    same-length-8
-    returns-4)
+    returns-2)
