@@ -55,6 +55,7 @@ pub fn common_inputs_inv_at(i: u8) -> u8
 }
 
 // What the state byte keeps of an input: 1 plus its place, or 0 past place 62, since six bits hold no more than 63.
+#[tactic(auto, using(crate::proofs::IdxLaws::idx_lt, crate::proofs::IdxLaws::idx_le))]
 pub fn common_idx(input: u8) -> u8
     ensures { Idx input result }
 {
