@@ -42,12 +42,13 @@ pub fn fst_raise_arrays(last: usize, taken: &[u8; 8], waiting: &mut [u8; 8], num
     if LAST_SEAT < number {
         return code(SEAT);
     }
-    let t = *taken;
-    let w = *waiting;
-    if seats_right(last, t, w) {} else {
+    let taken_now = *taken;
+    let waiting_now = *waiting;
+    if seats_right(last, taken_now, waiting_now) {} else {
         return code(SEAT);
     }
-    if t[number] == 0 {
+    let empty = taken_now[number] == 0;
+    if empty {
         return code(SEAT);
     }
     put_flag(waiting, number, 1);

@@ -28,17 +28,17 @@ returns-2 c = let w = c.before.before in
     λ r. raise_wrong x.last x.taken.now x.waiting.now x.number r _ w.before.before.before.if-number-gt-LAST_SEAT.false (sym (w.seats_right.ensures (plain_at r)) ∙ c.before.if-seats_right.false)
     (code_is c.code-else-seats_right.result c.code-else-seats_right.type_inv c.code-else-seats_right.ensures)
 
-array-read-if3 : tie.Need-bounds-t-number
+array-read-if3 : tie.Need-bounds-taken_now-number
 array-read-if3 c = search rules
 
-code-requires-3 : tie.Need-code-requires-then-t-number-eq0
+code-requires-3 : tie.Need-code-requires-then-empty
 code-requires-3 c κs = search rules
 
-returns-3 : tie.Need-returns-then-t-number-eq0
+returns-3 : tie.Need-returns-then-empty
 returns-3 c = let w = c.before.before.before in
     let x = w.before.before.before.before.args in
     λ r. raise_empty x.last x.taken.now x.waiting.now x.number r _ w.before.before.before.if-number-gt-LAST_SEAT.false (sym (w.seats_right.ensures (plain_at r)) ∙ c.before.before.if-seats_right.true)
-    c.before.if-t-number-eq0.true (code_is c.code-then-t-number-eq0.result c.code-then-t-number-eq0.type_inv c.code-then-t-number-eq0.ensures)
+    c.before.if-empty.true (code_is c.code-then-empty.result c.code-then-empty.type_inv c.code-then-empty.ensures)
 
 put-flag-requires : tie.Need-put_flag-requires
 put-flag-requires c κs = search rules
@@ -47,7 +47,7 @@ returns-4 : tie.Need-returns
 returns-4 c = let w = c.before.before.before.before in
     let x = w.before.before.before.before.args in
     λ r. raise_done x.last x.taken.now x.waiting.now x.number r _ c.put_flag.ensures w.before.before.before.if-number-gt-LAST_SEAT.false
-    (sym (w.seats_right.ensures (plain_at r)) ∙ c.before.before.before.if-seats_right.true) c.before.before.if-t-number-eq0.false
+    (sym (w.seats_right.ensures (plain_at r)) ∙ c.before.before.before.if-seats_right.true) c.before.before.if-empty.false
 
 pub fst_raise_arrays_spec : {M : Type 1} → statement M
 fst_raise_arrays_spec =
