@@ -222,7 +222,8 @@ pub fn clamped(d: u16) -> u16
 pub fn or_deep(deep: bool, d: u16) -> bool
     ensures { result ≡ cond (ltb max_levels d) true deep }
 {
-    if DEEPEST < d {
+    let too_deep = DEEPEST < d;
+    if too_deep {
         return true;
     }
     deep

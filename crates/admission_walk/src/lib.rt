@@ -28,7 +28,8 @@ pub fn walk(file: &[u8], version: u64, root: usize, depths: &mut [u16]) -> bool
         let first = mark_at(file, version, root, a, mark, depths);
         // UNUSED, or 4 for a node that is reached
         depths[a] = mark + 2;
-        if first == FIRST_NODE {
+        let ends = first == FIRST_NODE;
+        if ends {
             return true;
         }
         a = first - 1;

@@ -34,7 +34,8 @@ fn settle(new: &[u8], version: u64, root: usize, addr: usize, ntrans: usize, sam
     let Judged::Sound(m) = node::node_at(new, version, root, addr) else {
         return Settled::Halted(NODE);
     };
-    if m.ntrans == ntrans {
+    let as_many = m.ntrans == ntrans;
+    if as_many {
         if same {
             let to = addr as u32;
             return Settled::Stands(to, m);

@@ -111,7 +111,8 @@ fn convert_opened(
         sums.old out.old table.old depths.new
         sums.new out.new table.new result }
 {
-    if version != 1 {
+    let other_version = version != 1;
+    if other_version {
         return Converted::Refused(EDITION);
     }
     let done = convert_old(file, root, count, limit, depths, sums, out, table);

@@ -31,7 +31,8 @@ fn zeros_to(depths: &[u16], from: usize, n: usize, counts: &mut [u64]) -> usize
 {
     let mut a = from;
     while a < n {
-        if depths[a] != 0 {
+        let reached = depths[a] != 0;
+        if reached {
             return a;
         }
         counts[a] = 0;
@@ -93,7 +94,8 @@ fn count_opened(
         counts.old depths.new sums.new counts.new result }
 {
     // the third table is judged with the other two, before any node
-    if counts.len() < file.len() {
+    let short = counts.len() < file.len();
+    if short {
         return Counting::Refused(SPACE);
     }
     match admission::admit(file, depths, sums) {

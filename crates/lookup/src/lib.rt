@@ -55,7 +55,8 @@ fn get_from(file: &[u8], version: u64, root: usize, key: &[u8]) -> Answer
             return Answer::None;
         };
         addr = target;
-        if u64::MAX - sum < out {
+        let past = u64::MAX - sum < out;
+        if past {
             return Answer::Refused(fst::past_sum(file, version, root, addr));
         }
         sum += out;

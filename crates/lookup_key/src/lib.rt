@@ -21,7 +21,8 @@ pub fn get_key(file: &[u8], value: u64, key: &mut [u8]) -> KeyAnswer
     match opened {
         Opened::Refused(why) => KeyAnswer::Refused(why),
         Opened::Meta(m) => {
-            if key.len() < MAX_KEY {
+            let short = key.len() < MAX_KEY;
+            if short {
                 return KeyAnswer::Refused(SPACE);
             }
             // version 0 is a file without bytes, which has no node to enter

@@ -48,7 +48,8 @@ pub fn find_key(
             }
             Choice::To(inp, out, target) => {
                 // a key has at most 255 bytes
-                if MAX_KEY <= n {
+                let too_deep = MAX_KEY <= n;
+                if too_deep {
                     return KeyAnswer::Refused(DEEP);
                 }
                 path[n] = inp;

@@ -137,7 +137,8 @@ fn name_right(names: [Name; MARKS], count: usize, i: usize) -> bool
     if held.len == 0 {
         return false;
     }
-    if MAX_NAME < held.len {
+    let too_long = MAX_NAME < held.len;
+    if too_long {
         return false;
     }
     let mut j = i + 1;

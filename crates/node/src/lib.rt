@@ -173,7 +173,8 @@ pub fn node_at(file: &[u8], version: u64, root: usize, addr: usize) -> Judged
 {
     if addr == 0 {
         // a file without bytes has no node
-        if 0 < file.len() {
+        let has_bytes = 0 < file.len();
+        if has_bytes {
             return Judged::Sound(empty_final());
         }
         return Judged::Unsound;
@@ -285,7 +286,8 @@ pub fn find_in(file: &[u8], at: usize, n: usize, index_len: usize, b: u8) -> Fou
 {
     if index_len != 0 {
         let e = small(file[at + n + (b as usize)]);
-        if e < n {
+        let is_place = e < n;
+        if is_place {
             return Found::At(e);
         }
     }

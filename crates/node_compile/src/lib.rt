@@ -56,7 +56,8 @@ fn record_ok(
     if first < FIRST_NODE {
         return false;
     }
-    if MAX_LEN < first {
+    let past_limit = MAX_LEN < first;
+    if past_limit {
         return false;
     }
     if inputs_ascend(inputs) {} else {

@@ -97,7 +97,8 @@ fn count_below(file: &[u8], index: usize, n: usize) -> usize
     ensures { result ≡ below n (take 256 (drop index file.now)) }
 {
     // an entry is a byte
-    if 256 <= n {
+    let all_below = 256 <= n;
+    if all_below {
         return 256;
     }
     let m = n as u8;

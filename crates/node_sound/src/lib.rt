@@ -56,7 +56,8 @@ pub fn input_of(file: &[u8], addr: usize) -> u8
 fn index_len_of(version: u64, n: usize) -> usize
     ensures { (result ≡ index_len version n) × (result ≤ 256) }
 {
-    if version < 2 {
+    let before_indexes = version < 2;
+    if before_indexes {
         return 0;
     }
     if TRANS_INDEX_THRESHOLD < n { 256 } else { 0 }

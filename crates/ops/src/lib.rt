@@ -83,7 +83,8 @@ pub fn begin(op: Op, count: usize, readings: [Plain; 8]) -> Begun
             cards: all,
         };
     }
-    if count > 8 {
+    let too_many = count > 8;
+    if too_many {
         return Begun {
             answer: Begins::Refused(CARDS),
             cards: all,

@@ -54,7 +54,8 @@ fn takes(op: Op, count: usize, pairs: Pairs) -> bool
         Op::Union => true,
         Op::Intersection => n == count,
         Op::Difference => {
-            if n == 1 {
+            let alone = n == 1;
+            if alone {
                 return files[0] == 0;
             }
             false

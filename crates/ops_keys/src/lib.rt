@@ -53,7 +53,8 @@ fn compare_bytes(keys: &[u8; KEYS], x: usize, j: usize, y: usize, k: usize) -> O
         }
         i += 1;
     }
-    if j < k { Order::Less } else { Order::Equal }
+    let shorter = j < k;
+    if shorter { Order::Less } else { Order::Equal }
 }
 
 // The length of the key of so many levels: a reading without levels has the empty key too.

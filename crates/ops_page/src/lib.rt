@@ -192,7 +192,8 @@ pub fn items(
     if count == 0 {
         return refused(CARDS);
     }
-    if 8 < count {
+    let too_many = 8 < count;
+    if too_many {
         return refused(CARDS);
     }
     if has_room(most, rows.len(), counts.len(), numbers.len(), values.len()) {} else {

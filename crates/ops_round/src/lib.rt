@@ -29,7 +29,8 @@ pub struct Card {
 pub fn step_used(file: &[u8], reading: Plain, space: usize) -> Step
     ensures { CallGave (P.next_plain file.now (plain_is reading) space) result }
 {
-    if MAX_KEY <= space {
+    let room = MAX_KEY <= space;
+    if room {
         let mut key = [0u8; MAX_KEY];
         return stream::next(file, reading, &mut key);
     }

@@ -82,7 +82,8 @@ pub fn ahead(
     let mut to = way.to;
     let mut i = way.keys;
     while i < n {
-        if to < depth {
+        let finishes = to < depth;
+        if finishes {
             return Way { depth, to, keys: i };
         }
         let more = open_one(list, n, i, to, counts, led, finals, values);
@@ -99,7 +100,8 @@ pub fn ahead(
 fn base_at(d: usize, is_final: bool, value: u64, leasts: &[u64]) -> u64
     ensures { result ≡ cond (eqb d 0) 0 (least_from is_final value leasts.now) }
 {
-    if d == 0 {
+    let at_root = d == 0;
+    if at_root {
         return 0;
     }
     pack_finish::least_in(is_final, value, leasts)

@@ -86,7 +86,8 @@ pub fn start(
         (bound_is lower_kind lower.now) (bound_is upper_kind upper.now))
         (given_is positions.now rest) result }
 {
-    if MAX_KEY < positions.len() {
+    let too_many = MAX_KEY < positions.len();
+    if too_many {
         return refuse_many(file, positions, rest);
     }
     let started = stream_start::start(file, lower_kind, lower, upper_kind, upper);

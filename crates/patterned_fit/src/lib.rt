@@ -13,7 +13,8 @@ use format::{LEVELS, MAX_KEY};
 fn fits_at(position: u16, b: u8) -> bool
     ensures { result ≡ at_test (position_is position) b }
 {
-    if position < 256 {
+    let is_byte = position < 256;
+    if is_byte {
         return position == b as u16;
     }
     true

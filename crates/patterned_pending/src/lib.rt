@@ -105,7 +105,8 @@ pub fn pending(
     if exceeded(&inps, 0, &bound, bound_len, kind) {
         return ended(reading, reading.total);
     }
-    if pattern.len == 0 {
+    let fits = pattern.len == 0;
+    if fits {
         return Step {
             answer: Answer::Key(0, value),
             reading: placed(reading, reading.levels, reading.total),

@@ -33,7 +33,8 @@ pub fn step(file: &[u8], reading: Reading, pattern: Pattern, key: &mut [u8]) -> 
                     reading,
                 };
             }
-            if MAX_KEY < pattern.len {
+            let too_many = MAX_KEY < pattern.len;
+            if too_many {
                 return Step {
                     answer: Answer::Refused(PATTERN),
                     reading,

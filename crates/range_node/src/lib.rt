@@ -37,7 +37,8 @@ fn ending_of(file: &[u8], version: u64, root: usize, addr: usize) -> Ending
     requires { SoundAt file.now version root addr }
     ensures { Met-sound result ≡ met_of (node_at file.now version root addr) }
 {
-    if 128 <= small(file[addr]) {
+    let one_transition = 128 <= small(file[addr]);
+    if one_transition {
         return Ending::Inner;
     }
     let m = node::any_node(file, version, root, addr);

@@ -16,7 +16,8 @@ pub fn seats_right(last: usize, taken: [u8; 8], waiting: [u8; 8]) -> bool
     let mut i = 0;
     while i < SEATS {
         if waiting[i] != 0 {
-            if taken[i] == 0 {
+            let empty = taken[i] == 0;
+            if empty {
                 return false;
             }
         }

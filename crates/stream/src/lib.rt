@@ -116,7 +116,8 @@ pub fn start(
             if MAX_KEY < stream_start::len_of(upper_kind, upper) {
                 return refused(BOUND);
             }
-            if counts.len() < file.len() {
+            let short = counts.len() < file.len();
+            if short {
                 return refused(SPACE);
             }
             numbered(

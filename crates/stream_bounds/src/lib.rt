@@ -70,7 +70,8 @@ pub fn exceeded(inps: &[u8; LEVELS], k: usize, bound: &[u8; MAX_KEY], n: usize, 
 pub fn state_right(levels: usize, bound_len: usize, held: usize, len: usize) -> bool
     ensures { result ≡ state_right levels bound_len held len }
 {
-    if LEVELS < levels {
+    let too_many = LEVELS < levels;
+    if too_many {
         return false;
     }
     if MAX_KEY < bound_len {

@@ -113,7 +113,8 @@ pub fn next(file: &[u8], reading: Reading, key: &mut [u8]) -> Step
                     reading,
                 };
             }
-            if key.len() < MAX_KEY {
+            let short = key.len() < MAX_KEY;
+            if short {
                 return Step {
                     answer: Answer::Refused(SPACE),
                     reading,

@@ -274,7 +274,8 @@ fn start_from(
 {
     let n = len_of(lower_kind, lower);
     let bound_len = len_of(upper_kind, upper);
-    if MAX_KEY < n {
+    let too_long = MAX_KEY < n;
+    if too_long {
         return refused(BOUND);
     }
     if MAX_KEY < bound_len {

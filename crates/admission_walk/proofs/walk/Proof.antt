@@ -140,15 +140,15 @@ slice-write-depths-2 : tie.Need-bounds-depths-a-in-loop-version invariant-loop-v
 slice-write-depths-2 c = room_marked c.before.before
 
 -- the depths keep their length
-same-length-2 : tie.Need-shape_of-depths-then-first-eq-FIRST_NODE invariant-loop-version decreases-loop-version
+same-length-2 : tie.Need-shape_of-depths-then-ends invariant-loop-version decreases-loop-version
 same-length-2 c = (kept_now c.before.before.before).long
 
 -- the first byte is 16: the chain is whole
-returns-2 : tie.Need-returns-then-first-eq-FIRST_NODE invariant-loop-version decreases-loop-version
+returns-2 : tie.Need-returns-then-ends invariant-loop-version decreases-loop-version
 returns-2 c =
     let q = c.before.before.before in
     let mark = q.before.before.mark_of-mark.ensures in
-    (kept_now q, (_, walking_last (walked (told q)) _ (node (told q)).1 _ mark.0 mark.1 _ (marks q) (room_marked q) (sym (first_is q) ∙ c.if-first-eq-FIRST_NODE.true)))
+    (kept_now q, (_, walking_last (walked (told q)) _ (node (told q)).1 _ mark.0 mark.1 _ (marks q) (room_marked q) (sym (first_is q) ∙ c.if-ends.true)))
 
 -- the first byte is 16 at least
 sub-a : tie.Need-overflow_sub-a invariant-loop-version decreases-loop-version
@@ -170,7 +170,7 @@ loop-again c =
       kept_set _ _ (inside (told q)) (kept_then (at_node (told q)).loop-version.invariant.0 (marks q).kept),
       (
         _,
-        walking_next (walked (told q)) _ (node (told q)).1 _ mark.0 mark.1 _ (marks q) (room_marked q) _ (λ e. c.if-first-eq-FIRST_NODE.false (first_is q ∙ e))
+        walking_next (walked (told q)) _ (node (told q)).1 _ mark.0 mark.1 _ (marks q) (room_marked q) _ (λ e. c.if-ends.false (first_is q ∙ e))
             (ap (λ x. x - 1) (first_is q)),
       ),
     )

@@ -63,17 +63,17 @@ cast-to c = let q = c.before.before in
 returns-2 : tie.Need-returns-then-same
 returns-2 c = let q = c.before.before in
     let a = (start q).args in
-    settle_stands (file q) a.version a.root a.addr a.ntrans a.same (m q) (node_is q) (readable q) c.before.if-m-ntrans.true c.if-same.true
+    settle_stands (file q) a.version a.root a.addr a.ntrans a.same (m q) (node_is q) (readable q) c.before.if-as_many.true c.if-same.true
 
 returns-3 : tie.Need-returns-else-same
 returns-3 c = let q = c.before.before in
     let a = (start q).args in
-    settle_value (file q) a.version a.root a.addr a.ntrans a.same (m q) (node_is q) (readable q) c.before.if-m-ntrans.true c.if-same.false
+    settle_value (file q) a.version a.root a.addr a.ntrans a.same (m q) (node_is q) (readable q) c.before.if-as_many.true c.if-same.false
 
-returns-4 : tie.Need-returns-else-m-ntrans
+returns-4 : tie.Need-returns-else-as_many
 returns-4 c = let q = c.before in
     let a = (start q).args in
-    settle_count (file q) a.version a.root a.addr a.ntrans a.same (m q) (node_is q) (readable q) c.if-m-ntrans.false
+    settle_count (file q) a.version a.root a.addr a.ntrans a.same (m q) (node_is q) (readable q) c.if-as_many.false
 
 pub settle_spec : {M : Type 1} → statement M
 settle_spec =

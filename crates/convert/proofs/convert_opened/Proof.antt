@@ -6,14 +6,14 @@ use native.Mathlib.Omega.{arith}
 use Rattle.convert.proofs.convert_opened.Statement.{statement}
 use Rattle.convert.proofs.convert_opened.Tie as tie
 
-returns : tie.Need-returns-then-version-ne1
-returns c = let s = c.before.before.before.before.before.before in edition_again s.requires.0 s.requires.1 _ _ _ c.if-version-ne1.true
+returns : tie.Need-returns-then-other_version
+returns c = let s = c.before.before.before.before.before.before in edition_again s.requires.0 s.requires.1 _ _ _ c.if-other_version.true
 
 convert-old-requires : tie.Need-convert_old-done-requires
 convert-old-requires c κs =
     let test = c.before.before.before.before in
     let s = test.before.before.before.before.before.before in
-    (old_of s.requires.0 s.requires.1 test.if-version-ne1.false, s.requires.2)
+    (old_of s.requires.0 s.requires.1 test.if-other_version.false, s.requires.2)
 
 restore-requires : tie.Need-restore-requires
 restore-requires c κs = search rules

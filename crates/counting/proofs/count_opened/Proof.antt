@@ -12,14 +12,14 @@ use Rattle.counting.proofs.count_opened.Tie as tie
 
 -- ---- admission called
 
-abbrev roomy : tie.After-admit → tie.Else-counts-file
+abbrev roomy : tie.After-admit → tie.Else-short
 roomy q = q.before.before.before
 
 abbrev start : tie.After-admit → tie.Start
 start q = (roomy q).before.before.before.before.before
 
 room : (q : tie.After-admit) → length (start q).args.file.now ≤ length (start q).args.counts.now
-room q = (roomy q).if-counts-file.false
+room q = (roomy q).if-short.false
 
 answered : (q : tie.After-admit) (a : Admission) → q.admit.result ≡ a
     → Outcome (start q).args.file.now (start q).args.depths.now (start q).args.sums.now q.admit.new.depths q.admit.new.sums a
@@ -28,8 +28,8 @@ answered q a e =
     e q.admit.ensures
 
 -- no room in the third table
-returns : tie.Need-returns-then-counts-file
-returns c = space_refused _ _ _ c.before.before.before.before.before.requires c.if-counts-file.true
+returns : tie.Need-returns-then-short
+returns c = space_refused _ _ _ c.before.before.before.before.before.requires c.if-short.true
 
 admit-requires : tie.Need-admit-requires
 admit-requires c κs = search rules

@@ -25,12 +25,12 @@ shared-slice-read-if1 : tie.Need-bounds-depths-a invariant-loop-a decreases-loop
 shared-slice-read-if1 c = search rules
 
 -- the table keeps its length
-same_length : tie.Need-shape_of-counts-then-depths-a-ne0 invariant-loop-a decreases-loop-a
+same_length : tie.Need-shape_of-counts-then-reached invariant-loop-a decreases-loop-a
 same_length c = c.before.before.before.loop-a.invariant.kept.long
 
 -- an address with an entry
-returns : tie.Need-returns-then-depths-a-ne0 invariant-loop-a decreases-loop-a
-returns c = zeroing_stops c.before.before.before.loop-a.invariant (λ _. c.if-depths-a-ne0.true)
+returns : tie.Need-returns-then-reached invariant-loop-a decreases-loop-a
+returns c = zeroing_stops c.before.before.before.loop-a.invariant (λ _. c.if-reached.true)
 
 mul-counts : tie.Need-offset_bounds-counts-a invariant-loop-a decreases-loop-a
 mul-counts c = search rules
@@ -51,7 +51,7 @@ loop-less c = search rules
 loop-again : tie.Need-loop-a-preserved invariant-loop-a decreases-loop-a
 loop-again c =
     let turn = c.before.before in
-    zeroing_step turn.before.loop-a.invariant turn.before.before.requires.2 turn.loop-a-test.true c.if-depths-a-ne0.false
+    zeroing_step turn.before.loop-a.invariant turn.before.before.requires.2 turn.loop-a-test.true c.if-reached.false
 
 -- the table keeps its length
 same-length-2 : tie.Need-shape_of-counts invariant-loop-a decreases-loop-a

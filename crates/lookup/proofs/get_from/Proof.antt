@@ -129,19 +129,19 @@ returns-2 c =
     (way_none n.0.transitions (byte q) c.in_default-way.field-0 (sym c.in_default-way.is ∙ n.1.1)))
 
 -- the running sum is at most the largest
-sub-if1 : tie.Need-overflow_sub-sum invariant-loop-i decreases-loop-i
+sub-if1 : tie.Need-overflow_sub-past invariant-loop-i decreases-loop-i
 sub-if1 c = omega (arith, fits (q_of c))
 
 past-sum-requires : tie.Need-past_sum-requires invariant-loop-i decreases-loop-i
 past-sum-requires c κs = search rules
 
 -- the sum passes the largest
-returns-3 : tie.Need-returns-then-sum-out invariant-loop-i decreases-loop-i
+returns-3 : tie.Need-returns-then-past invariant-loop-i decreases-loop-i
 returns-3 c =
     let w = c.before.before in
     let q = q_of w in
     sym ((next w).same ∙ (rw c.past_sum.ensures
-    (get_from_past (f q) (drop ((at_loop q).loop-i.i + 1) (key q)) _ ((at_loop q).loop-i.sum + out w) (omega (arith, c.before.if-sum-out.true)))))
+    (get_from_past (f q) (drop ((at_loop q).loop-i.i + 1) (key q)) _ ((at_loop q).loop-i.sum + out w) (omega (arith, c.before.if-past.true)))))
 
 -- the sum was tested
 add-sum : tie.Need-overflow_add-sum invariant-loop-i decreases-loop-i

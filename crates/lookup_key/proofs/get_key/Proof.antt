@@ -37,7 +37,7 @@ answered : (w : tie.After-find_key-found)
 answered w =
     let a = (told w).before.before.before.before.args in
     let m = meta_is (told w).in-Meta.m in
-    get_key_opened a.file.now a.value (length (buf w)) m (opens (told w)) w.before.before.before.before.if-key-lt-MAX_KEY.false
+    get_key_opened a.file.now a.value (length (buf w)) m (opens (told w)) w.before.before.before.before.if-short.false
     (version_some a.file.now m (opens (told w)) w.before.before.if-m-eq0.false)
     ∙ sym w.find_key-found.ensures.0
 
@@ -51,10 +51,10 @@ enum-known-opened-2 : tie.Need-enum_known-opened-in-Meta-1
 enum-known-opened-2 c = search rules
 
 -- the buffer is under 255 bytes: SPACE
-returns : tie.Need-returns-then-key-lt-MAX_KEY
+returns : tie.Need-returns-then-short
 returns c = let told = c.before in
     let a = told.before.before.before.before.args in
-    written_refused _ a.key.now 8 (get_key_space a.file.now a.value (length a.key.now) (meta_is told.in-Meta.m) (opens told) c.if-key-lt-MAX_KEY.true)
+    written_refused _ a.key.now 8 (get_key_space a.file.now a.value (length a.key.now) (meta_is told.in-Meta.m) (opens told) c.if-short.true)
 
 -- version 0: the file has no bytes
 returns-2 : tie.Need-returns-then-m-eq0
@@ -63,7 +63,7 @@ returns-2 c =
     let a = q.before.before.before.before.args in
     let m = meta_is q.in-Meta.m in
     written_none _ a.key.now
-    (get_key_blank a.file.now a.value (length a.key.now) m (opens q) c.before.before.if-key-lt-MAX_KEY.false
+    (get_key_blank a.file.now a.value (length a.key.now) m (opens q) c.before.before.if-short.false
     (version_blank a.file.now m (opens q) c.if-m-eq0.true))
 
 find-key-requires : tie.Need-find_key-found-requires
@@ -79,7 +79,7 @@ slice-aggregate-copy-front c = search rules
 copy-front-requires : tie.Need-copy_front-requires
 copy-front-requires c κs = let w = c.before.before.before in
     let fits = key_fits w.find_key-found.result (path w) _ w.find_key-found.ensures.1 c.before.before.in-Key.is in
-    (omega (arith, fits, w.find_key-found.ensures.1.len), omega (arith, fits, w.before.before.before.before.if-key-lt-MAX_KEY.false))
+    (omega (arith, fits, w.find_key-found.ensures.1.len), omega (arith, fits, w.before.before.before.before.if-short.false))
 
 enum_told : tie.Need-enum_told-1
 enum_told c = search rules

@@ -121,13 +121,13 @@ enum-known-choice-2 : tie.Need-enum_known-choice-in-To-1 invariant-loop-choice d
 enum-known-choice-2 c = search rules
 
 -- a transition fits, but the key has 255 bytes
-returns-4 : tie.Need-returns-then-n-ge-MAX_KEY invariant-loop-choice decreases-loop-choice
+returns-4 : tie.Need-returns-then-too_deep invariant-loop-choice decreases-loop-choice
 returns-4 c =
     let w = c.before in
     let q = q_of w in
     let n = node_is q in
     let t = followed w in
-    (sym (searching_deep (at_loop q).loop-choice.invariant.rest n.0 n.1.0 t.on (omega (arith, c.if-n-ge-MAX_KEY.true)) t.place t.fits), record { len = (at_loop q).loop-choice.invariant.len; fits = omega arith })
+    (sym (searching_deep (at_loop q).loop-choice.invariant.rest n.0 n.1.0 t.on (omega (arith, c.if-too_deep.true)) t.place t.fits), record { len = (at_loop q).loop-choice.invariant.len; fits = omega arith })
 
 element-write-path : tie.Need-bounds-path-n invariant-loop-choice decreases-loop-choice
 element-write-path c = search rules
@@ -149,7 +149,7 @@ loop-again c =
     let q = q_of w in
     let n = node_is q in
     let t = followed w in
-    search_step n.0 n.1.0 t.on c.if-n-ge-MAX_KEY.false t.place t.fits (inp w) (out w) (target w) t.is_inp t.is_out t.is_target (at_loop q).loop-choice.invariant
+    search_step n.0 n.1.0 t.on c.if-too_deep.false t.place t.fits (inp w) (out w) (target w) t.is_inp t.is_out t.is_target (at_loop q).loop-choice.invariant
 
 pub find_key_spec : {M : Type 1} → statement M
 find_key_spec =

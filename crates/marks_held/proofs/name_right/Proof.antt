@@ -13,10 +13,10 @@ use Rattle.marks_held.proofs.name_right.Statement.{statement}
 use Rattle.marks_held.proofs.name_right.Tie as tie
 
 abbrev invariant-loop-j : tie.invariant-loop-j
-invariant-loop-j count i names held name j₀ j = (i + 1 ≤ j) × (j ≤ count) × ((ms : List M.Mark) → length ms ≡ count → NamesAre ms names → Once ms i j)
+invariant-loop-j count i names held name too_long j₀ j = (i + 1 ≤ j) × (j ≤ count) × ((ms : List M.Mark) → length ms ≡ count → NamesAre ms names → Once ms i j)
 
 abbrev decreases-loop-j : tie.decreases-loop-j
-decreases-loop-j count i names held name j₀ j = count - j
+decreases-loop-j count i names held name too_long j₀ j = count - j
 
 -- the place is one of the marks'
 within : (q : tie.Start invariant-loop-j decreases-loop-j) (ms : List M.Mark) → length ms ≡ q.args.count → q.args.i < length ms
@@ -34,11 +34,11 @@ returns c =
     let a = q.args in
     λ ms e are. name_none ms a.i _ (name_long ms a.names are a.i _ (within q ms e)) c.if-held-eq0.true
 
-returns-2 : tie.Need-returns-then-held-gt-MAX_NAME invariant-loop-j decreases-loop-j
+returns-2 : tie.Need-returns-then-too_long invariant-loop-j decreases-loop-j
 returns-2 c =
     let q = c.before.before.before.before.before.before in
     let a = q.args in
-    λ ms e are. name_over ms a.i _ (name_long ms a.names are a.i _ (within q ms e)) c.if-held-gt-MAX_NAME.true
+    λ ms e are. name_over ms a.i _ (name_long ms a.names are a.i _ (within q ms e)) c.if-too_long.true
 
 add-j : tie.Need-overflow_add-j invariant-loop-j decreases-loop-j
 add-j c = search rules
@@ -67,7 +67,7 @@ returns-3 c =
     λ ms e are.
     let below : j < length ms = let lt : j < a.count = test.loop-j-test.true in omega arith in
     let w = within q ms e in
-    name_again ms a.i _ (name_long ms a.names are a.i _ w) some.if-held-eq0.false short.if-held-gt-MAX_NAME.false
+    name_again ms a.i _ (name_long ms a.names are a.i _ w) some.if-held-eq0.false short.if-too_long.false
     (there_place (mark_at ms a.i).name ms (a.i + 1) j
     (at_place j loop.loop-j.invariant.0 below (pair_is ms a.names are a.i _ w j _ below ∙ sym c.before.same_name.ensures ∙ c.if-same_name.true) (loop.loop-j.invariant.2 ms e are)))
 
@@ -100,7 +100,7 @@ returns-4 c =
     let a = q.args in
     let past : a.count ≤ loop.loop-j.j = c.loop-j-test.false in
     λ ms e are.
-    name_once ms a.i _ (name_long ms a.names are a.i _ (within q ms e)) some.if-held-eq0.false short.if-held-gt-MAX_NAME.false
+    name_once ms a.i _ (name_long ms a.names are a.i _ (within q ms e)) some.if-held-eq0.false short.if-too_long.false
     (marked_nowhere (mark_at ms a.i).name ms (a.i + 1) (nowhere (λ k le lt. loop.loop-j.invariant.2 ms e are k le (omega arith))))
 
 pub name_right_spec : {M : Type 1} → statement M

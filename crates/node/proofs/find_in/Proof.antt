@@ -32,7 +32,7 @@ small-requires : tie.Need-small-e-requires
 small-requires c κs = search rules
 
 -- by the index
-returns : tie.Need-returns-then-e-n
+returns : tie.Need-returns-then-is_place
 returns c =
     let call = c.before in
     let test = call.before.before in
@@ -40,7 +40,7 @@ returns c =
     let a = start.args in
     let s = a.file.now in
     entry_finds (bytes_down s a.at a.n) (take 256 (drop (a.at + a.n) s)) a.b call.small-e.result (start.requires.index test.if-index_len-ne0.true) start.ranges.b.fits
-    (rw (length_bytes_down s a.at a.n) c.if-e-n.true)
+    (rw (length_bytes_down s a.at a.n) c.if-is_place.true)
     (entry_is_lem s (a.at + a.n) a.b call.small-e.result start.ranges.b.fits call.small-e.ensures)
 
 seek-requires : tie.Need-seek-requires

@@ -10,15 +10,15 @@ empty-final-requires : tie.Need-empty_final-requires
 empty-final-requires c κs = search rules
 
 -- address 0 of a file that has bytes
-returns : tie.Need-returns-then-file-gt0
+returns : tie.Need-returns-then-has_bytes
 returns c =
     let a = c.before.before.before.before.args in
-    rw (c.empty_final.ensures, c.before.before.if-addr-eq0.true) (judged_empty a.file.now a.version a.root c.before.if-file-gt0.true)
+    rw (c.empty_final.ensures, c.before.before.if-addr-eq0.true) (judged_empty a.file.now a.version a.root c.before.if-has_bytes.true)
 
 -- address 0 of a file without bytes
 returns-2 : tie.Need-returns-then-addr-eq0
 returns-2 c =
-    let a = c.before.before.before.args in judged_blank a.file.now a.version a.root a.addr (omega (arith, c.if-file-gt0.false))
+    let a = c.before.before.before.args in judged_blank a.file.now a.version a.root a.addr (omega (arith, c.if-has_bytes.false))
 
 is-sound-requires : tie.Need-is_sound-requires
 is-sound-requires c κs = search rules

@@ -25,8 +25,8 @@ returns-4 : tie.Need-returns-then-first-lt-FIRST_NODE
 returns-4 c = decides_false (λ ok. not-le_of_lt c.if-first-lt-FIRST_NODE.true ok.first_low)
 
 -- F above the largest length of a file
-returns-5 : tie.Need-returns-then-first-gt-MAX_LEN
-returns-5 c = decides_false (λ ok. absurd (omega (arith, c.if-first-gt-MAX_LEN.true, ok.first_high)))
+returns-5 : tie.Need-returns-then-past_limit
+returns-5 c = decides_false (λ ok. absurd (omega (arith, c.if-past_limit.true, ok.first_high)))
 
 inputs-ascend-requires : tie.Need-inputs_ascend-requires
 inputs-ascend-requires c κs = search rules
@@ -55,7 +55,7 @@ returns-8 c =
       targets_len = sizes.before.before.if-targets-inputs.false;
       ascending = inputs.inputs_ascend.ensures.yes targets.before.if-inputs_ascend.true;
       first_low = sizes.before.if-first-lt-FIRST_NODE.false;
-      first_high = sizes.if-first-gt-MAX_LEN.false;
+      first_high = sizes.if-past_limit.false;
       targets_ok = targets.targets_ok.ensures.yes c.before.if-targets_ok.true;
       final_ok = λ e. absurd (true≢false e);
     }))
@@ -74,7 +74,7 @@ returns-9 c =
       targets_len = sizes.before.before.if-targets-inputs.false;
       ascending = inputs.inputs_ascend.ensures.yes targets.before.if-inputs_ascend.true;
       first_low = sizes.before.if-first-lt-FIRST_NODE.false;
-      first_high = sizes.if-first-gt-MAX_LEN.false;
+      first_high = sizes.if-past_limit.false;
       targets_ok = targets.targets_ok.ensures.yes c.before.if-targets_ok.true;
       final_ok = λ e. z;
     })

@@ -7,11 +7,11 @@ use Rattle.node_inputs.proofs.count_below.Statement.{statement}
 use Rattle.node_inputs.proofs.count_below.Tie as tie
 
 -- every byte is below 256
-returns : tie.Need-returns-then-n-ge256
+returns : tie.Need-returns-then-all_below
 returns c =
     let known = c.before in
     let a = known.before.args in
-    below_every a.file.now a.index a.n known.before.requires (λ i. (known.shared_slice_known-1.given i).fits) (omega (arith, c.if-n-ge256.true))
+    below_every a.file.now a.index a.n known.before.requires (λ i. (known.shared_slice_known-1.given i).fits) (omega (arith, c.if-all_below.true))
 
 cast-m : tie.Need-overflow_cast-m
 cast-m c = search rules

@@ -10,14 +10,14 @@ use Rattle.node_sound.proofs.index_len_of.Statement.{statement}
 use Rattle.node_sound.proofs.index_len_of.Tie as tie
 
 -- below version 2
-returns : tie.Need-returns-then-version-lt2
+returns : tie.Need-returns-then-before_indexes
 unfolding index_len
-returns c = let start = c.before in (rw (lt-leb 2 start.args.version c.if-version-lt2.true), omega arith)
+returns c = let start = c.before in (rw (lt-leb 2 start.args.version c.if-before_indexes.true), omega arith)
 
 -- more than 32 transitions
 returns-2 : tie.Need-returns-then-n-gt-TRANS_INDEX_THRESHOLD
 unfolding index_len
-returns-2 c = let start = c.before.before in (rw (le-leb 2 start.args.version c.before.if-version-lt2.false, lt-ltb 32 start.args.n c.if-n-gt-TRANS_INDEX_THRESHOLD.true), omega arith)
+returns-2 c = let start = c.before.before in (rw (le-leb 2 start.args.version c.before.if-before_indexes.false, lt-ltb 32 start.args.n c.if-n-gt-TRANS_INDEX_THRESHOLD.true), omega arith)
 
 -- 32 transitions at most
 returns-3 : tie.Need-returns-else-n-gt-TRANS_INDEX_THRESHOLD

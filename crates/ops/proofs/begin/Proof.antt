@@ -85,16 +85,16 @@ returns c =
     begun_none a.op a.count a.readings _ (count_none a.count c.if-count-eq0.true) refl
 
 -- src/lib.rt:86:9
-returns-2 : tie.Need-returns-then-count-gt8
+returns-2 : tie.Need-returns-then-too_many
 returns-2 c =
     let a = c.before.before.before.before.before.before.before.before.before.before.before.before.before.before.before.before.before.before.args in
-    begun_none a.op a.count a.readings _ (count_many a.count c.if-count-gt8.true) refl
+    begun_none a.op a.count a.readings _ (count_many a.count c.if-too_many.true) refl
 
 -- src/lib.rt:65:1
 returns-3 : tie.Need-returns
 returns-3 c =
     let a = c.before.before.before.before.before.before.before.before.before.before.before.before.before.before.before.before.before.before.args in
-    begun_as a.op a.count a.readings _ c.before.before.before.before.before.before.before.before.before.before.before.before.before.before.before.before.fresh.result c.before.before.before.before.before.before.before.before.before.before.before.before.before.before.fresh-2.result c.before.before.before.before.before.before.before.before.before.before.before.before.fresh-3.result c.before.before.before.before.before.before.before.before.before.before.fresh-4.result c.before.before.before.before.before.before.before.before.fresh-5.result c.before.before.before.before.before.before.fresh-6.result c.before.before.before.before.fresh-7.result c.before.before.fresh-8.result (long c.before.before.before.before.before.before.before.before.before.before.before.before.before.before.before.before.before.before) (omega (arith, c.before.if-count-eq0.false)) c.if-count-gt8.false
+    begun_as a.op a.count a.readings _ c.before.before.before.before.before.before.before.before.before.before.before.before.before.before.before.before.fresh.result c.before.before.before.before.before.before.before.before.before.before.before.before.before.before.fresh-2.result c.before.before.before.before.before.before.before.before.before.before.before.before.fresh-3.result c.before.before.before.before.before.before.before.before.before.before.fresh-4.result c.before.before.before.before.before.before.before.before.fresh-5.result c.before.before.before.before.before.before.fresh-6.result c.before.before.before.before.fresh-7.result c.before.before.fresh-8.result (long c.before.before.before.before.before.before.before.before.before.before.before.before.before.before.before.before.before.before) (omega (arith, c.before.if-count-eq0.false)) c.if-too_many.false
     c.before.before.before.before.before.before.before.before.before.before.before.before.before.before.before.before.fresh.ensures c.before.before.before.before.before.before.before.before.before.before.before.before.before.before.fresh-2.ensures c.before.before.before.before.before.before.before.before.before.before.before.before.fresh-3.ensures c.before.before.before.before.before.before.before.before.before.before.fresh-4.ensures c.before.before.before.before.before.before.before.before.fresh-5.ensures c.before.before.before.before.before.before.fresh-6.ensures c.before.before.before.before.fresh-7.ensures c.before.before.fresh-8.ensures
 
 pub begin_spec : {M : Type 1} → statement M

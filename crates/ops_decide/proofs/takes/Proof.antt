@@ -25,10 +25,10 @@ array-read-result : tie.Need-bounds-files-0
 array-read-result c = search rules
 
 -- src/lib.rt:62:17
-returns : tie.Need-returns-then-n-eq1
+returns : tie.Need-returns-then-alone
 returns c = λ ps are.
     let a = c.before.before.before.args in
-    takes_one a.op a.count a.pairs ps are c.before.in-Difference.is c.if-n-eq1.true
+    takes_one a.op a.count a.pairs ps are c.before.in-Difference.is c.if-alone.true
 
 -- src/lib.rt:66:36
 enum-told-4 : tie.Need-enum_told-in-SymmetricDifference
@@ -47,10 +47,10 @@ returns-3 c = λ ps are.
     takes_intersection a.op a.count a.pairs ps are c.in-Intersection.is
 
 -- src/lib.rt:51:1
-returns-4 : tie.Need-returns-else-n-eq1
+returns-4 : tie.Need-returns-else-alone
 returns-4 c = λ ps are.
     let a = c.before.before.before.args in
-    takes_many a.op a.count a.pairs ps are c.before.in-Difference.is c.if-n-eq1.false
+    takes_many a.op a.count a.pairs ps are c.before.in-Difference.is c.if-alone.false
 
 -- src/lib.rt:51:1
 returns-5 : tie.Need-returns-in-SymmetricDifference

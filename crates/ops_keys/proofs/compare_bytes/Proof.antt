@@ -68,13 +68,13 @@ loop-again c = let in_both = c.before.before.before.before.before in let at = in
     in_both.before.loop-i-test.true in_both.if-k-i.false _ _ (sym (get_or-drop a.x a.keys.now (at.loop-i.i + 1) 0)) (sym (get_or-drop a.y a.keys.now (at.loop-i.i + 1) 0)) c.before.if-a-b.false c.if-b-a.false
 
 -- the first key ends first
-returns-4 : tie.Need-returns-then-j-k invariant-loop-i decreases-loop-i
+returns-4 : tie.Need-returns-then-shorter invariant-loop-i decreases-loop-i
 returns-4 c = let at = c.before.before in let a = at.before.args in let p = at.before.requires in
     comparing_short (drop a.x a.keys.now) (drop a.y a.keys.now) a.j a.k (room a.keys.now a.x a.j p.0 p.1) (room a.keys.now a.y a.k p.0 p.2) at.loop-i.i at.loop-i.invariant
     c.before.loop-i-test.false (omega (arith, at.loop-i.invariant.within))
 
 -- both end here: they are the same
-returns-5 : tie.Need-returns-else-j-k invariant-loop-i decreases-loop-i
+returns-5 : tie.Need-returns-else-shorter invariant-loop-i decreases-loop-i
 returns-5 c = let at = c.before.before in let a = at.before.args in let p = at.before.requires in
     comparing_same (drop a.x a.keys.now) (drop a.y a.keys.now) a.j a.k (room a.keys.now a.x a.j p.0 p.1) (room a.keys.now a.y a.k p.0 p.2) at.loop-i.i at.loop-i.invariant
     c.before.loop-i-test.false (omega (arith, c.before.loop-i-test.false))

@@ -22,13 +22,13 @@ use Rattle.ops_put.proofs.has_room.Reads as has_room_reads
 
 -- where the count is one to eight
 abbrev Few : Type 0
-Few = tie.Else-count-gt8
+Few = tie.Else-too_many
 
 some : (q : Few) → 0 < q.before.before.before.before.before.before.before.before.args.count
 some q = omega (arith, q.before.if-count-eq0.false)
 
 few : (q : Few) → q.before.before.before.before.before.before.before.before.args.count ≤ 8
-few q = q.if-count-gt8.false
+few q = q.if-too_many.false
 
 refused-requires : tie.Need-refused-requires
 refused-requires c κs = search rules
@@ -39,14 +39,14 @@ returns c =
     refused_by _ a.rows.now a.counts.now a.numbers.now a.values.now (items_no_cards (op_is a.op) a.count (map (λ f. f.now) a.files) (bound_is a.lower_kind a.lower.now) (bound_is a.upper_kind a.upper.now) a.most
     (length a.rows.now) (length a.counts.now) (length a.numbers.now) (length a.values.now) (inl c.before.if-count-eq0.true)) c.refused.ensures
 
-refused-requires-2 : tie.Need-refused-requires-then-count-gt8
+refused-requires-2 : tie.Need-refused-requires-then-too_many
 refused-requires-2 c κs = search rules
 
-returns-2 : tie.Need-returns-then-count-gt8
+returns-2 : tie.Need-returns-then-too_many
 returns-2 c =
     let a = c.before.before.before.before.before.before.before.before.before.args in
     refused_by _ a.rows.now a.counts.now a.numbers.now a.values.now (items_no_cards (op_is a.op) a.count (map (λ f. f.now) a.files) (bound_is a.lower_kind a.lower.now) (bound_is a.upper_kind a.upper.now) a.most
-    (length a.rows.now) (length a.counts.now) (length a.numbers.now) (length a.values.now) (inr c.before.if-count-gt8.true)) c.refused-then-count-gt8.ensures
+    (length a.rows.now) (length a.counts.now) (length a.numbers.now) (length a.values.now) (inr c.before.if-too_many.true)) c.refused-then-too_many.ensures
 
 has-room-requires : tie.Need-has_room-requires
 has-room-requires c κs = search rules

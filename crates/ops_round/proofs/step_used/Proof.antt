@@ -23,11 +23,11 @@ next-requires : tie.Need-next-requires
 next-requires c κs = search rules
 
 -- src/lib.rt:57:9
-returns : tie.Need-returns-then-space-ge-MAX_KEY
+returns : tie.Need-returns-then-room
 returns c =
     let start = c.before.before.before.before.before in
     let a = start.args in
-    let room : 255 ≤ a.space = c.before.before.before.if-space-ge-MAX_KEY.true in
+    let room : 255 ≤ a.space = c.before.before.before.if-room.true in
     gave_room a.file.now (plain_is a.reading) max_path a.space _ (sym (le-leb max_path a.space room)) c.before.next.ensures.gave
 
 -- src/lib.rt:60:33
@@ -43,7 +43,7 @@ returns-2 : tie.Need-returns
 returns-2 c =
     let start = c.before.before.before.before.before in
     let a = start.args in
-    let short : a.space < 255 = c.before.before.before.if-space-ge-MAX_KEY.false in
+    let short : a.space < 255 = c.before.before.before.if-room.false in
     gave_room a.file.now (plain_is a.reading) 1 a.space _ (sym (lt-leb max_path a.space short)) c.before.next-2.ensures.gave
 
 pub step_used_spec : {M : Type 1} → statement M

@@ -19,15 +19,15 @@ decreases-loop-i list n counts₀ led₀ finals₀ values₀ depth₀ to₀ i₀
 loop-holds : tie.Need-loop-i-init invariant-loop-i decreases-loop-i
 loop-holds c = let t = c.before in gone_none t.args.list.now t.args.counts.now t.args.led.now t.args.finals.now t.args.values.now _
 
-returns : tie.Need-returns-then-to-depth invariant-loop-i decreases-loop-i
-returns c = let t = c.before.before.before.before in record { gone = gone_from t.requires.0 c.before.before.loop-i.invariant; stops = inl c.if-to-depth.true }
+returns : tie.Need-returns-then-finishes invariant-loop-i decreases-loop-i
+returns c = let t = c.before.before.before.before in record { gone = gone_from t.requires.0 c.before.before.loop-i.invariant; stops = inl c.if-finishes.true }
 
 open-one-requires : tie.Need-open_one-more-requires invariant-loop-i decreases-loop-i
 open-one-requires c κs =
     let l = c.before.before.before.before.before.before in
     let t = l.before.before in
     let i = c.before.before.before.before.before.loop-i-test.true in
-    let k = key_goes (gone_from {w = t.args.way} t.requires.0 l.loop-i.invariant) t.requires.0 (omega (arith, t.requires.1, i)) c.before.before.before.before.if-to-depth.false t.requires.2 in
+    let k = key_goes (gone_from {w = t.args.way} t.requires.0 l.loop-i.invariant) t.requires.0 (omega (arith, t.requires.1, i)) c.before.before.before.before.if-finishes.false t.requires.2 in
     (t.requires.0, t.requires.1, i, k.0, k.1, k.2, k.3, k.4)
 
 add-i : tie.Need-overflow_add-i invariant-loop-i decreases-loop-i
@@ -40,7 +40,7 @@ loop-again : tie.Need-loop-i-preserved invariant-loop-i decreases-loop-i
 loop-again c =
     let l = c.before.before.before.before.before.before.before in
     let t = l.before.before in
-    gone_open l.loop-i.invariant t.requires.0 (omega (arith, t.requires.1, c.before.before.before.before.before.before.loop-i-test.true)) c.before.before.before.before.before.if-to-depth.false c.open_one-more.ensures
+    gone_open l.loop-i.invariant t.requires.0 (omega (arith, t.requires.1, c.before.before.before.before.before.before.loop-i-test.true)) c.before.before.before.before.before.if-finishes.false c.open_one-more.ensures
 
 returns-2 : tie.Need-returns invariant-loop-i decreases-loop-i
 returns-2 c = let t = c.before.before.before in record { gone = gone_from t.requires.0 c.before.loop-i.invariant; stops = inr (omega (arith, t.requires.1, c.loop-i-test.false)) }

@@ -34,13 +34,13 @@ placed-requires : tie.Need-placed-requires
 placed-requires c κs = search rules
 
 -- it fits, and is handed out
-returns-2 : tie.Need-returns-then-pattern-eq0
+returns-2 : tie.Need-returns-then-fits
 returns-2 c = let test = c.before in
     let x = test.before.before.before in
     let a = (start x).args in
     let q = a.pattern in
     pending_key (f x) (held_is q) a.reading a.value (sym x.exceeded.ensures ∙ test.before.before.if-exceeded.false) a.key.now
-    (fits_empty q.len q.rest q.positions test.if-pattern-eq0.true) c.placed.result c.placed.ensures
+    (fits_empty q.len q.rest q.positions test.if-fits.true) c.placed.result c.placed.ensures
 
 -- what the caller showed
 walk-requires : tie.Need-walk-requires
@@ -57,7 +57,7 @@ returns-3 c = let call = c.before.before in
     let a = (start x).args in
     let q = a.pattern in
     pending_walk (f x) (held_is q) a.reading a.value (sym x.exceeded.ensures ∙ test.before.before.if-exceeded.false) a.key.now _
-    (fits_not q.len q.rest q.positions test.if-pattern-eq0.false) call.walk.result call.walk.ensures
+    (fits_not q.len q.rest q.positions test.if-fits.false) call.walk.result call.walk.ensures
 
 pub pending_spec : {M : Type 1} → statement M
 pending_spec =

@@ -36,14 +36,14 @@ right : (v : tie.Then-state_right)
     → (let a = (start (q_of v.before)).args in state_right a.reading.levels a.reading.bound_len a.reading.len (length a.file.now)) ≡ true
 right v = sym v.before.state_right.ensures ∙ v.if-state_right.true
 
-abbrev v_of : tie.Else-pattern-gt-MAX_KEY → tie.Then-state_right
+abbrev v_of : tie.Else-too_many → tie.Then-state_right
 v_of u = u.before.before
 
-abbrev at : tie.Else-pattern-gt-MAX_KEY → tie.Start
+abbrev at : tie.Else-too_many → tie.Start
 at u = start (q_of (v_of u).before)
 
-few : (u : tie.Else-pattern-gt-MAX_KEY) → length (held_is (at u).args.pattern).positions ≤ 255
-few u = let q = (at u).args.pattern in omega (arith, positions_length q.len q.positions, u.if-pattern-gt-MAX_KEY.false)
+few : (u : tie.Else-too_many) → length (held_is (at u).args.pattern).positions ≤ 255
+few u = let q = (at u).args.pattern in omega (arith, positions_length q.len q.positions, u.if-too_many.false)
 
 open-requires : tie.Need-open-opened-requires
 open-requires c κs = search rules
@@ -64,12 +64,12 @@ returns c = let w = c.before in
     next_state a.file.now (held_is a.pattern) a.reading a.key.now (meta_is (meta (q_of w))) (opens (q_of w)) (sym w.state_right.ensures ∙ c.if-state_right.false)
 
 -- over 255 positions are held: PATTERN
-returns-2 : tie.Need-returns-then-pattern-gt-MAX_KEY
+returns-2 : tie.Need-returns-then-too_many
 returns-2 c = let v = c.before.before in
     let q = q_of v.before in
     let a = (start q).args in
     next_pattern a.file.now (held_is a.pattern) a.reading a.key.now (meta_is (meta q)) (opens q) (right v)
-    (omega (arith, positions_length a.pattern.len a.pattern.positions, c.if-pattern-gt-MAX_KEY.true))
+    (omega (arith, positions_length a.pattern.len a.pattern.positions, c.if-too_many.true))
 
 -- the buffer is under 255 bytes: SPACE
 returns-3 : tie.Need-returns-then-key-lt-MAX_KEY
@@ -89,7 +89,7 @@ pending-requires c κs = let told = c.before.before in
     let v = v_of u in
     let q = q_of v.before in
     let e = state_facts (start q).args.reading (length (start q).args.file.now) (right v) in
-    (e.0, e.1, root_fits (start q).args.file.now (meta_is (meta q)) (opens q), told.if-key-lt-MAX_KEY.false, u.if-pattern-gt-MAX_KEY.false)
+    (e.0, e.1, root_fits (start q).args.file.now (meta_is (meta q)) (opens q), told.if-key-lt-MAX_KEY.false, u.if-too_many.false)
 
 enum_told : tie.Need-enum_told-1
 enum_told c = search rules
@@ -101,7 +101,7 @@ walk-requires c κs = let told = c.before.before in
     let v = v_of u in
     let q = q_of v.before in
     let e = state_facts (start q).args.reading (length (start q).args.file.now) (right v) in
-    (e.0, e.1, root_fits (start q).args.file.now (meta_is (meta q)) (opens q), told.if-key-lt-MAX_KEY.false, u.if-pattern-gt-MAX_KEY.false)
+    (e.0, e.1, root_fits (start q).args.file.now (meta_is (meta q)) (opens q), told.if-key-lt-MAX_KEY.false, u.if-too_many.false)
 
 -- the file does not open
 returns-4 : tie.Need-returns-in-Refused

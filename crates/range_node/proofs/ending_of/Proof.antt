@@ -9,22 +9,22 @@ use Rattle.range_node.proofs.ending_of.Tie as tie
 shared-slice-read-small : tie.Need-bounds-file-addr
 shared-slice-read-small c = search rules
 
-small-requires : tie.Need-small-requires
+small-requires : tie.Need-small-one_transition-requires
 small-requires c κs = search rules
 
 -- one transition: not final
-returns : tie.Need-returns-then-small-ge128
+returns : tie.Need-returns-then-one_transition
 returns c =
     let call = c.before in
     let start = call.before.before.before in
     let a = start.args in
-    met_inner a.file.now a.version a.root a.addr start.requires (omega (arith, call.small.ensures, c.if-small-ge128.true))
+    met_inner a.file.now a.version a.root a.addr start.requires (omega (arith, call.small-one_transition.ensures, c.if-one_transition.true))
 
 any-node-requires : tie.Need-any_node-m-requires
 any-node-requires c κs =
     let call = c.before in
     let start = call.before.before.before in
-    (start.requires, omega (arith, call.small.ensures, c.if-small-ge128.false))
+    (start.requires, omega (arith, call.small-one_transition.ensures, c.if-one_transition.false))
 
 returns-2 : tie.Need-returns-then-m
 returns-2 c =

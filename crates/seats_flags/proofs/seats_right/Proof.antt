@@ -31,11 +31,11 @@ array-read-if2 c = search rules
 array-read-if3 : tie.Need-bounds-taken-i invariant-loop-i decreases-loop-i
 array-read-if3 c = search rules
 
-returns-2 : tie.Need-returns-then-taken-i-eq0 invariant-loop-i decreases-loop-i
+returns-2 : tie.Need-returns-then-empty invariant-loop-i decreases-loop-i
 returns-2 c =
     let loop = c.before.before.before in
     let a = loop.before.before.args in
-    λ plains. right_wrong a.last a.taken a.waiting plains loop.loop-i.i c.before.before.loop-i-test.true c.before.if-waiting-i-ne0.true c.if-taken-i-eq0.true (loop.loop-i.invariant.1 plains) (omega arith)
+    λ plains. right_wrong a.last a.taken a.waiting plains loop.loop-i.i c.before.before.loop-i-test.true c.before.if-waiting-i-ne0.true c.if-empty.true (loop.loop-i.invariant.1 plains) (omega arith)
 
 add-i : tie.Need-overflow_add-i invariant-loop-i decreases-loop-i
 add-i c = search rules
@@ -47,7 +47,7 @@ loop-again : tie.Need-loop-i-preserved invariant-loop-i decreases-loop-i
 loop-again c =
     let loop = c.before.before in
     let a = loop.before.before.args in
-    (omega arith, λ plains. right_on a.last a.taken a.waiting plains loop.loop-i.i c.before.loop-i-test.true (seat_passes a.last a.taken a.waiting plains loop.loop-i.i (elim c.if-waiting-i-ne0.branch [ lts.then-waiting-i-ne0+else-taken-i-eq0 x ↦ inl (x.if-waiting-i-ne0.true, x.if-taken-i-eq0.false) | lts.else-waiting-i-ne0 x ↦ inr x.if-waiting-i-ne0.false ])) (loop.loop-i.invariant.1 plains))
+    (omega arith, λ plains. right_on a.last a.taken a.waiting plains loop.loop-i.i c.before.loop-i-test.true (seat_passes a.last a.taken a.waiting plains loop.loop-i.i (elim c.if-waiting-i-ne0.branch [ lts.then-waiting-i-ne0+else-empty x ↦ inl (x.if-waiting-i-ne0.true, x.if-empty.false) | lts.else-waiting-i-ne0 x ↦ inr x.if-waiting-i-ne0.false ])) (loop.loop-i.invariant.1 plains))
 
 returns-3 : tie.Need-returns invariant-loop-i decreases-loop-i
 returns-3 c =

@@ -85,23 +85,23 @@ returns-2 c =
     let q = u.before.before.before in
     ap begun_is c.refused-then-len_of-gt-MAX_KEY-2.ensures ∙ sym (plain_upper (file q) (lo q) (hi q) (table q) (meta_is (meta q)) (opens q) (omega (arith, c.before.if-len_of-gt-MAX_KEY-2.true, u.len_of-in-Meta.ensures.count)))
 
-refused-requires-4 : tie.Need-refused-requires-then-counts-file
+refused-requires-4 : tie.Need-refused-requires-then-short
 refused-requires-4 c κs = search rules
 
-returns-3 : tie.Need-returns-then-counts-file
+returns-3 : tie.Need-returns-then-short
 returns-3 c =
     let u = c.before.before.before in
     let l = u.before.before in
     let q = l.before in
-    ap begun_is c.refused-then-counts-file.ensures
+    ap begun_is c.refused-then-short.ensures
     ∙ sym
     (plain_table (file q) (lo q) (hi q) (table q) (meta_is (meta q)) (opens q) (omega (arith, u.before.if-len_of-gt-MAX_KEY.false, l.len_of.ensures.count))
-    (omega (arith, c.before.before.if-len_of-gt-MAX_KEY-2.false, u.len_of-in-Meta.ensures.count)) c.before.if-counts-file.true)
+    (omega (arith, c.before.before.if-len_of-gt-MAX_KEY-2.false, u.len_of-in-Meta.ensures.count)) c.before.if-short.true)
 
 numbered-requires : tie.Need-numbered-requires
 numbered-requires c κs =
     let q = c.before.before.before.before.before in
-    record { long = c.if-counts-file.false; root_inside = root_inside (file q) (meta_is (meta q)) (opens q) }
+    record { long = c.if-short.false; root_inside = root_inside (file q) (meta_is (meta q)) (opens q) }
 
 returns-4 : tie.Need-returns-in-Refused
 returns-4 c =
@@ -113,7 +113,7 @@ returns-4 c =
     (plain_refused a.file.now (bound_is a.lower_kind a.lower.now) (bound_is a.upper_kind a.upper.now) a.counts.now _
     (sym call.open-opened.ensures ∙ ap opening_is q.in-Refused.is))
 
-returns-5 : tie.Need-returns-else-counts-file
+returns-5 : tie.Need-returns-else-short
 returns-5 c =
     let u = c.before.before.before in
     let l = u.before.before in
@@ -121,7 +121,7 @@ returns-5 c =
     c.numbered.ensures
     ∙ sym
     (plain_then (file q) (lo q) (hi q) (table q) (meta_is (meta q)) (opens q) (omega (arith, u.before.if-len_of-gt-MAX_KEY.false, l.len_of.ensures.count))
-    (omega (arith, c.before.before.if-len_of-gt-MAX_KEY-2.false, u.len_of-in-Meta.ensures.count)) c.before.if-counts-file.false)
+    (omega (arith, c.before.before.if-len_of-gt-MAX_KEY-2.false, u.len_of-in-Meta.ensures.count)) c.before.if-short.false)
 
 pub start_spec : {M : Type 1} → statement M
 start_spec =

@@ -70,7 +70,7 @@ by_walk call =
     let v = then_of call in
     let q = q_of v.before in
     let a = (start q).args in
-    next_walk a.file.now a.reading a.key.now (meta_is (meta q)) (opens q) (right v) told.before.if-key-lt-MAX_KEY.false (ap empty_is told.in-Absent.is)
+    next_walk a.file.now a.reading a.key.now (meta_is (meta q)) (opens q) (right v) told.before.if-short.false (ap empty_is told.in-Absent.is)
 
 open-requires : tie.Need-open-opened-requires
 open-requires c κs = search rules
@@ -91,11 +91,11 @@ returns c = let w = c.before in
     next_state a.file.now a.reading a.key.now (meta_is (meta (q_of w))) (opens (q_of w)) (sym w.state_right.ensures ∙ c.if-state_right.false)
 
 -- the buffer is under 255 bytes: SPACE
-returns-2 : tie.Need-returns-then-key-lt-MAX_KEY
+returns-2 : tie.Need-returns-then-short
 returns-2 c = let v = c.before in
     let w = v.before in
     let a = (start (q_of w)).args in
-    next_space a.file.now a.reading a.key.now (meta_is (meta (q_of w))) (opens (q_of w)) (right v) c.if-key-lt-MAX_KEY.true
+    next_space a.file.now a.reading a.key.now (meta_is (meta (q_of w))) (opens (q_of w)) (right v) c.if-short.true
 
 enum-known-empty : tie.Need-enum_known-empty
 enum-known-empty c = search rules
@@ -115,7 +115,7 @@ walk-requires c κs = let told = told_of c in
     let q = q_of v.before in
     let e = state_facts (start q).args.reading (length (start q).args.file.now) (right v) in (
       (arrays (start q), bound_held (start q), e.1),
-      (e.0, root_fits (start q).args.file.now (meta_is (meta q)) (opens q), told.before.if-key-lt-MAX_KEY.false),
+      (e.0, root_fits (start q).args.file.now (meta_is (meta q)) (opens q), told.before.if-short.false),
     )
 
 enum-known-why : tie.Need-enum_known-why
@@ -148,7 +148,7 @@ returns-5 c = let told = c.before in
     let v = told.before.before in
     let q = q_of v.before in
     let a = (start q).args in
-    next_walk a.file.now a.reading a.key.now (meta_is (meta q)) (opens q) (right v) told.before.if-key-lt-MAX_KEY.false
+    next_walk a.file.now a.reading a.key.now (meta_is (meta q)) (opens q) (right v) told.before.if-short.false
     (ap empty_is told.in-Pending.is) a.key.now c.pending.result
     (c.pending.ensures (fst_of a.file.now (meta_is (meta q))) a.key.now)
 

@@ -45,9 +45,9 @@ refused-requires : tie.Need-refused-requires
 refused-requires c κs = search rules
 
 -- a long lower bound
-returns : tie.Need-returns-then-n-gt-MAX_KEY
+returns : tie.Need-returns-then-too_long
 returns c = let q = c.before.before in
-    rw c.refused.ensures (from_lower (f q) (lo q) (hi q) (omega (arith, c.before.if-n-gt-MAX_KEY.true, (lower_taken q).count)))
+    rw c.refused.ensures (from_lower (f q) (lo q) (hi q) (omega (arith, c.before.if-too_long.true, (lower_taken q).count)))
 
 refused-requires-2 : tie.Need-refused-requires-then-bound_len-gt-MAX_KEY
 refused-requires-2 c κs = search rules
@@ -71,7 +71,7 @@ pending-at-requires c κs = search rules
 reading-from-requires : tie.Need-reading_from-requires
 reading-from-requires c κs = let else = c.before.before.before.before.before in
     let q = else.before in
-    ((start q).requires.0, (start q).requires.1, omega (arith, else.if-n-gt-MAX_KEY.false, (lower_taken q).count))
+    ((start q).requires.0, (start q).requires.1, omega (arith, else.if-too_long.false, (lower_taken q).count))
 
 -- neither is long
 returns-3 : tie.Need-returns
@@ -82,7 +82,7 @@ returns-3 c = let pending = c.before in
     let a = (start q).args in
     c.reading_from.ensures
     ∙ from_reading (f q) (lo q) (hi q)
-    (bounds_short (lo q) (hi q) (omega (arith, tests.before.if-n-gt-MAX_KEY.false, (lower_taken q).count)) (omega (arith, tests.if-bound_len-gt-MAX_KEY.false, (upper_taken q).count))) _ _ _ _
+    (bounds_short (lo q) (hi q) (omega (arith, tests.before.if-too_long.false, (lower_taken q).count)) (omega (arith, tests.if-bound_len-gt-MAX_KEY.false, (upper_taken q).count))) _ _ _ _
     (bound_is_lem a.upper_kind a.upper.now q.len_of-bound_len.result (upper_taken q) _ _ copied.copy_front.ensures)
     (upper_taken q).count
     pending.pending_at-empty_output.ensures
