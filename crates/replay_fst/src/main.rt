@@ -8,7 +8,7 @@ ghost use Rattle.std.specs.Prelude.{◌≡◌, ◌+◌, ◌*◌, ◌≤◌, ◌<
 ghost use Rattle.replay_list.specs.Records.{Within};
 
 use admission::Admission;
-use fst::{Checksum, Meta, Opened};
+use fst::{Meta, Opened};
 use lookup::Answer;
 use lookup_search::KeyAnswer;
 use replay_list::{Entry, FILE, KEPT, Parsed, Place, at_most, number};
@@ -36,11 +36,8 @@ const VALUE: u64 = 5;
 // ---- opening
 
 // A checksum as a number, 2^32 where there is none.
-fn checksum_number(checksum: Checksum) -> u64 {
-    match checksum {
-        Checksum::Stored(n) => n as u64,
-        Checksum::Missing => 4_294_967_296,
-    }
+fn checksum_number(checksum: Option<u32>) -> u64 {
+    checksum.map_or(4_294_967_296, u64::from)
 }
 
 // Whether what a file says is what stands at place at of the list.
