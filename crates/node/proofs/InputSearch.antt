@@ -1,20 +1,20 @@
 -- The place of a byte among ascending inputs, by how many are above it.
 -- Assumes nothing.
-use mathlib.Core.Path.{◌≡◌, refl, sym, ap, ◌∙◌}
+use mathlib.Core.Path.{◌≡◌, sym, ◌∙◌}
 use mathlib.Core.Logic.{◌⊎◌, inl, inr}
 use mathlib.Core.List.{List}
-use Prim.Native.Nat.{ℕ, zero, suc, ◌+◌, ◌-◌, ◌*◌, ◌≤◌, ◌<◌}
+use Prim.Native.Nat.{ℕ, ◌+◌, ◌-◌, ◌≤◌, ◌<◌}
 use native.Mathlib.Nat.{le_refl, eq-or-lt_of_le}
 use native.Mathlib.Omega.{arith}
 use borrow.Author.Count.{below_more}
-use lib.ListN.{length, get_or, take, drop}
+use lib.ListN.{get_or, take, drop}
 use lib.Seq.{get_or-take, get_or-drop}
-use Rattle.format.specs.Node.{bytes_down, Ascending, Absent}
+use Rattle.format.specs.Node.{bytes_down, Ascending}
 use Rattle.format.specs.Laws.StoredLaws.{length_bytes_down, get_d_bytes_down}
 use Rattle.std.specs.Prelude.{Ok, Err}
 use Rattle.node.specs.Read.{Finds}
 use Rattle.node.specs.ReadLaws.{finds_at, finds_missing}
-use Rattle.node_inputs.specs.AscentLaws.{lt_or, falls_ascending, falls_by}
+use Rattle.node_inputs.specs.AscentLaws.{falls_ascending, falls_by}
 
 -- of the first j bytes from at on, `over` are above b, and they stand first
 pub record Over (s : List ℕ) (at n b over j : ℕ) : Type 0 where

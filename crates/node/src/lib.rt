@@ -249,18 +249,14 @@ fn seek(file: &[u8], at: usize, n: usize, b: u8) -> Result<usize, usize>
 {
     // a byte holds the count: fewer than 256 bytes are above b
     let mut over: u8 = 0;
-    let mut j = 0;
-    while j < n {
+    for j in 0..n {
         if b < file[at + j] {
             over += 1;
         }
-        j += 1;
     }
-    let p = small(over);
-    if p < n {
-        if file[at + p] == b {
-            return Ok(n - 1 - p);
-        }
+    let p = over as usize;
+    if p < n && file[at + p] == b {
+        return Ok(n - 1 - p);
     }
     Err(n - p)
 }
