@@ -5,17 +5,15 @@
 --     CountsAt, TakesAt         how many transitions a sound node has; its transition i
 --     SoundTo f xs n            the first n addresses of a list are those of sound nodes
 -- Assumes nothing.
-use Rattle.std.specs.Prelude.{◌≡◌, cond, List, ℕ, ◌<◌, length, get_or}
+use Rattle.std.specs.Prelude.{◌≡◌, cond, Option, Some, None, List, ℕ, ◌<◌, length, get_or}
 use Rattle.format.specs.declared.Transition.{Transition}
 use Rattle.format.specs.Node.{Node, Judgement, sound, unsound, transition_at}
 use Rattle.format.specs.Paths.{Fst, node_in}
-use Rattle.range_node.specs.declared.Ending.{Ending}
-use Rattle.range_node.specs.declared.Ending.TheVariants.{Final, Inner}
 use Rattle.range_node.specs.declared.Met.{Met}
 use Rattle.range_node.specs.declared.Met.TheVariants.{Sound, Unsound}
 
-abbrev pub ending_of : Node → Ending
-ending_of m = cond m.final (Final m.final_output) Inner
+abbrev pub ending_of : Node → Option ℕ
+ending_of m = cond m.final (Some m.final_output) None
 
 abbrev pub met_of : Judgement → Met
 met_of (sound m) = Sound (ending_of m)

@@ -8,20 +8,12 @@ ghost use Rattle.range_node.specs.Entries.{met_of, Entered, Leads, CountsAt, Tak
 ghost use Rattle.range_node.specs.declared.Met.TheVariants.{Sound as Met-sound};
 
 use format::Transition;
-use le_bytes::small;
 use node_sound::is_sound;
 
-// Whether a key ends at a node, and then what that adds to its value.
-#[derive(Clone, Copy)]
-pub enum Ending {
-    Final(u64),
-    Inner,
-}
-
-// What entering a node says: that it is sound, and whether a key ends there; or that it is not.
+// What entering a node says: that it is sound, and whether a key ends there, with what that adds to its value; or that it is not.
 #[derive(Clone, Copy)]
 pub enum Met {
-    Sound(Ending),
+    Sound(Option<u64>),
     Unsound,
 }
 
@@ -32,20 +24,20 @@ pub fn wide_addr(addr: u32) -> usize
     addr as usize
 }
 
-// Whether a key ends at a sound node with bytes. Only a node with any number of transitions can be final.
-fn ending_of(file: &[u8], version: u64, root: usize, addr: usize) -> Ending
+// Whether a key ends at a sound node with bytes, and then what that adds to its value. Only a node with any number of transitions can be final.
+fn ending_of(file: &[u8], version: u64, root: usize, addr: usize) -> Option<u64>
     requires { SoundAt file.now version root addr }
     ensures { Met-sound result ≡ met_of (node_at file.now version root addr) }
 {
-    let one_transition = 128 <= small(file[addr]);
+    let one_transition = 128 <= file[addr];
     if one_transition {
-        return Ending::Inner;
+        return None;
     }
     let m = node::any_node(file, version, root, addr);
     if m.is_final {
-        return Ending::Final(m.final_output);
+        return Some(m.final_output);
     }
-    Ending::Inner
+    None
 }
 
 // Judges the node at addr, as it is entered.
@@ -55,7 +47,7 @@ pub fn meet(file: &[u8], version: u64, root: usize, addr: usize) -> Met
     if addr == 0 {
         // a file without bytes has no node
         if 0 < file.len() {
-            return Met::Sound(Ending::Final(0));
+            return Met::Sound(Some(0));
         }
         return Met::Unsound;
     }
@@ -73,7 +65,7 @@ pub fn count_of(file: &[u8], version: u64, root: usize, addr: usize) -> usize
     if addr == 0 {
         return 0;
     }
-    let state = small(file[addr]);
+    let state = file[addr];
     if state < 128 {
         let any = node::any_node(file, version, root, addr);
         return any.ntrans;
@@ -91,7 +83,7 @@ pub fn take(file: &[u8], version: u64, root: usize, addr: usize, i: usize) -> Tr
     requires { Leads (fst_with file.now version root) addr i }
     ensures { TakesAt (fst_with file.now version root) addr i result }
 {
-    let state = small(file[addr]);
+    let state = file[addr];
     if state < 128 {
         let any = node::any_node(file, version, root, addr);
         return node::transition(file, any, i);
