@@ -17,11 +17,9 @@ use Rattle.format.specs.Laws.NodeLaws.{node_at_cases, node_at_sound, not_final}
 use Rattle.format.specs.Paths.{Fst, node_in}
 use Rattle.node_sound.specs.JudgingLaws.{sound_low}
 use Rattle.node.specs.declared.Node.{Node}
-use Rattle.node.specs.declared.Judged.TheVariants as J
 use Rattle.node.specs.Read.{meaning, Judges, Readable}
 use Rattle.node.specs.ReadLaws.{length_node_transitions}
-use Rattle.std.specs.Prelude.{None}
-use Rattle.range_node.specs.declared.Met.TheVariants.{Sound}
+use Rattle.std.specs.Prelude.{Ok, None}
 use Rattle.range_node.specs.Entries.{Leads, met_of}
 
 sound_same : {m n : F.Node} → sound m ≡ sound n → m ≡ n
@@ -38,7 +36,7 @@ module _ (f : Fst) (a : ℕ) {n : F.Node} (is : node_in f a ≡ sound n) where
   pub not_zero : (i : ℕ) → i < length n.transitions → ¬ (a ≡ 0)
   not_zero i has z = omega (arith, no_count z)
 
-  module _ {m : Node} (j : Judges f.bytes f.version f.root a (J.Sound m)) where
+  module _ {m : Node} (j : Judges f.bytes f.version f.root a (Ok m)) where
     same : meaning f.bytes m ≡ n
     same = sound_same (j.answer ∙ is)
 
@@ -55,7 +53,7 @@ module _ (f : Fst) (a : ℕ) {n : F.Node} (is : node_in f a ≡ sound n) where
 pub leads_sound : {f : Fst} {a i : ℕ} (l : Leads f a i) → SoundAt f.bytes f.version f.root a
 leads_sound {f} {a} {i} l = sound_of f a l.is (not_zero f a l.is i l.has)
 
-pub leads_reads : {f : Fst} {a i : ℕ} (l : Leads f a i) {m : Node} → Judges f.bytes f.version f.root a (J.Sound m)
+pub leads_reads : {f : Fst} {a i : ℕ} (l : Leads f a i) {m : Node} → Judges f.bytes f.version f.root a (Ok m)
     → Readable f.bytes m × (i < m.ntrans)
 leads_reads {f} {a} {i} l j = reads f a l.is j i l.has
 
@@ -65,6 +63,6 @@ module _ (s : List ℕ) (v root a : ℕ) (h : SoundAt s v root a) where
   not_low : ¬ (a ≡ 0)
   not_low z = omega (arith, sound_low s v root a h)
 
-  pub met_inner : 128 ≤ get_or s a 0 → Sound None ≡ met_of (node_at s v root a)
+  pub met_inner : 128 ≤ get_or s a 0 → Ok None ≡ met_of (node_at s v root a)
   unfolding node_of
   met_inner big = sym (ap met_of (node_at_sound s v root a not_low h) ∙ rw (not_final (get_or s a 0) big))
