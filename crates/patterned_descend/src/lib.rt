@@ -12,7 +12,7 @@ ghost use Rattle.patterned_fit.specs.Positions.{positions_is, pattern_is};
 ghost use Rattle.patterned_descend.specs.Descents.{Follows, found_at, DescendsBy};
 
 use format::{DEEP, LEVELS, MAX_KEY, NODE, SUM};
-use node::{Judged, Node};
+use node::Node;
 use patterned_fit::{fit_after, is_key, live};
 use stream_bounds::exceeded;
 use stream_descend::{Added, add, counted};
@@ -64,7 +64,7 @@ fn follow(
         return Followed::Halted(SUM);
     };
     let target = node::transition_addr(file, node, i);
-    let Judged::Sound(n) = node::node_at(file, version, root, target) else {
+    let Ok(n) = node::node_at(file, version, root, target) else {
         return Followed::Halted(NODE);
     };
     let inp = node::input(file, node, i);

@@ -11,7 +11,7 @@ ghost use Rattle.patterned_fit.specs.Positions.{pattern_is};
 ghost use Rattle.patterned_walk.specs.Walks.{PopsBy, WalksBy};
 
 use format::{LEVELS, MAX_KEY, NODE};
-use node::{Judged, Node};
+use node::Node;
 use patterned_descend::{Down, descend_by};
 use patterned_fit::{fit_of, live};
 use stream_pop::{Popped, wide_place};
@@ -54,7 +54,7 @@ fn pop_by(
     while 0 < k {
         let top = k - 1;
         let addr = wide_addr(addrs[top]);
-        let Judged::Sound(m) = node::node_at(file, version, root, addr) else {
+        let Ok(m) = node::node_at(file, version, root, addr) else {
             return Popped::Bad;
         };
         if live(wide_place(trans[top]), m.ntrans, top, fit, len, rest) {

@@ -9,7 +9,7 @@ ghost use Rattle.stream_pop.specs.Pops.{Ready};
 ghost use Rattle.stream_descend.specs.Descent.{Descends, down_from, found_at, Adds};
 
 use format::{DEEP, LEVELS, MAX_KEY, NODE, SUM};
-use node::{Judged, Node};
+use node::Node;
 use stream_bounds::exceeded;
 use stream_pop::wide_place;
 use stream_start::Bound;
@@ -94,7 +94,7 @@ pub fn descend(
             return Down::Halted(SUM);
         };
         let target = node::transition_addr(file, m, i);
-        let Judged::Sound(n) = node::node_at(file, version, root, target) else {
+        let Ok(n) = node::node_at(file, version, root, target) else {
             return Down::Halted(NODE);
         };
         let inp = node::input(file, m, i);

@@ -6,7 +6,7 @@ ghost use Rattle.format.specs.Limits.{max_levels};
 ghost use Rattle.stream_pop.specs.Pops.{Pops};
 
 use format::LEVELS;
-use node::{Judged, Node};
+use node::Node;
 
 // What the pops find: the place of the highest level that has a transition left, with its node; no such level; or a node that is not
 // sound.
@@ -48,7 +48,7 @@ pub fn highest(
     while 0 < k {
         let top = k - 1;
         let addr = wide_addr(addrs[top]);
-        let Judged::Sound(m) = node::node_at(file, version, root, addr) else {
+        let Ok(m) = node::node_at(file, version, root, addr) else {
             return Popped::Bad;
         };
         if wide_place(trans[top]) < m.ntrans {

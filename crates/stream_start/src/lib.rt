@@ -13,7 +13,6 @@ ghost use Rattle.stream_start.specs.Starts.{BoundTaken, pending_if, pending_from
 
 use format::{BOUND, LEVELS, MAX_KEY};
 use fst::Opened;
-use node::Judged;
 use stream_seek::{Sought, seek};
 
 // Which kind a bound is; its bytes stand beside it. The bytes beside an unbounded one carry no meaning.
@@ -109,7 +108,7 @@ fn empty_output(file: &[u8], version: u64, root: usize, meets: bool) -> EmptyOut
         (node_in (fst_with file.now version root) root) }
 {
     if meets {
-        let Judged::Sound(m) = node::node_at(file, version, root, root) else {
+        let Ok(m) = node::node_at(file, version, root, root) else {
             return EmptyOutput::Absent;
         };
         if m.is_final {

@@ -52,20 +52,20 @@ added : (q : Targeted) → (q.before.in-Within.sum ≡ sum_before q + out q) × 
 added q = (u_of q).add.ensures.within q.before.in-Within.sum q.before.in-Within.is
 
 abbrev Judged : Type 0
-Judged = tie.In-Sound
+Judged = tie.In-Ok
 
 abbrev q_of : Judged → Targeted
 q_of j = j.before.before
 
 abbrev n : Judged → Node
-n j = j.in-Sound.n
+n j = j.in-Ok.n
 
 node_is : (j : Judged) → node_in (fst_with (start (w_of (q_of j))).args.file.now (start (w_of (q_of j))).args.version (start (w_of (q_of j))).args.root)
     (q_of j).transition_addr-target.result ≡ sound (meaning (start (w_of (q_of j))).args.file.now (n j))
-node_is j = answer_sound j.before.node_at.ensures (n j) j.in-Sound.is
+node_is j = answer_sound j.before.node_at.ensures (n j) j.in-Ok.is
 
 readable : (j : Judged) → Readable (start (w_of (q_of j))).args.file.now (n j)
-readable j = j.before.node_at.ensures.readable (n j) j.in-Sound.is
+readable j = j.before.node_at.ensures.readable (n j) j.in-Ok.is
 
 place_small : (j : Judged) → (w_of (q_of j)).wide_place-i.result < 256
 place_small j = let w = w_of (q_of j) in place_fits (at w) (place_is w) (λ i. (w.before.before.shared_slice_known-1.given i).fits)
@@ -130,7 +130,7 @@ returns-2 c = let call = c.before in
     let q = call.before in
     let w = w_of q in
     follows_bad (at w) (place_is w) (u_of q).before.before.before.output-out.ensures (added q).1 q.transition_addr-target.ensures
-    (answer_unsound call.node_at.ensures c.in_default-node_at.is)
+    (answer_unsound call.node_at.ensures c.in_default-node_at.field-0 c.in_default-node_at.is)
 
 -- the judged node can be read, and it has the level's next transition
 input-requires : tie.Need-input-inp-requires

@@ -73,7 +73,7 @@ added : (q : Targeted) → (q.before.in-Within.sum ≡ sum_before q + out q) × 
 added q = (u_of q).add.ensures.within q.before.in-Within.sum q.before.in-Within.is
 
 abbrev Judged : Type 0
-Judged = tie.In-Sound invariant-loop-k decreases-loop-k
+Judged = tie.In-Ok invariant-loop-k decreases-loop-k
 
 abbrev q_of : Judged → Targeted
 q_of j = j.before.before
@@ -82,14 +82,14 @@ abbrev w_at : Judged → Placed
 w_at j = w_of (u_of (q_of j))
 
 abbrev n : Judged → Node
-n j = j.in-Sound.n
+n j = j.in-Ok.n
 
 node_is : (j : Judged) → node_in (fst_with (file (w_at j)) (start (w_at j)).args.version (start (w_at j)).args.root)
     (q_of j).transition_addr-target.result ≡ sound (meaning (file (w_at j)) (n j))
-node_is j = answer_sound j.before.node_at.ensures (n j) j.in-Sound.is
+node_is j = answer_sound j.before.node_at.ensures (n j) j.in-Ok.is
 
 readable : (j : Judged) → Readable (file (w_at j)) (n j)
-readable j = j.before.node_at.ensures.readable (n j) j.in-Sound.is
+readable j = j.before.node_at.ensures.readable (n j) j.in-Ok.is
 
 place_small : (j : Judged) → (w_at j).wide_place-i.result < 256
 place_small j = place_fits (at_loop (w_at j)).loop-k.invariant (place_is (w_at j)) (λ i. ((at_loop (w_at j)).before.shared_slice_known-1.given i).fits)
@@ -158,7 +158,7 @@ returns-2 c = let call = c.before in
     let q = call.before in
     let w = w_of (u_of q) in
     going_bad (at_loop w).loop-k.invariant (place_is w) (room w) (u_of q).before.before.before.output-out.ensures (added q).1
-    q.transition_addr-target.ensures (answer_unsound call.node_at.ensures c.in_default-node_at.is)
+    q.transition_addr-target.ensures (answer_unsound call.node_at.ensures c.in_default-node_at.field-0 c.in_default-node_at.is)
 
 -- the judged node can be read, and it has the level's next transition
 input-requires : tie.Need-input-inp-requires invariant-loop-k decreases-loop-k

@@ -24,7 +24,7 @@ decreases-loop-k file version root addrs trans levels k₀ k = k
 -- ---- what is known where a level's node is read
 
 abbrev At : Type 0
-At = tie.In-Sound invariant-loop-k decreases-loop-k
+At = tie.In-Ok invariant-loop-k decreases-loop-k
 
 abbrev at_loop : At → tie.At-loop-k invariant-loop-k decreases-loop-k
 at_loop q = q.before.before.before.before.before.before
@@ -33,7 +33,7 @@ abbrev file : At → List ℕ
 file q = (at_loop q).before.before.args.file.now
 
 abbrev m : At → Node
-m q = q.in-Sound.m
+m q = q.in-Ok.m
 
 positive : (q : At) → 0 < (at_loop q).loop-k.k
 positive q = q.before.before.before.before.before.loop-k-test.true
@@ -43,10 +43,10 @@ node_is : (q : At) → node_in (fst_with (file q) (at_loop q).before.before.args
 node_is q = let call = q.before in
     let a = (at_loop q).before.before.args in
     ap (node_in (fst_with a.file.now a.version a.root)) (sym call.before.wide_addr-addr.ensures) ∙ answer_sound
-    call.node_at.ensures (m q) q.in-Sound.is
+    call.node_at.ensures (m q) q.in-Ok.is
 
 readable : (q : At) → Readable (file q) (m q)
-readable q = q.before.node_at.ensures.readable (m q) q.in-Sound.is
+readable q = q.before.node_at.ensures.readable (m q) q.in-Ok.is
 
 -- no level is popped yet
 loop-holds : tie.Need-loop-k-init invariant-loop-k decreases-loop-k
@@ -78,7 +78,7 @@ enum_told c = search rules
 returns : tie.Need-returns-in_default invariant-loop-k decreases-loop-k
 returns c = let call = c.before in let turn = call.before.before.before.before in
     popping_bad turn.before.loop-k.invariant turn.loop-k-test.true
-    (rw call.before.wide_addr-addr.ensures at (answer_unsound call.node_at.ensures c.in_default.is))
+    (rw call.before.wide_addr-addr.ensures at (answer_unsound call.node_at.ensures c.in_default.field-0 c.in_default.is))
 
 mul-wide-place : tie.Need-offset_bounds-trans-top invariant-loop-k decreases-loop-k
 mul-wide-place c = search rules
