@@ -8,14 +8,14 @@ use lib.ListN.{length}
 use Rattle.format.specs.Node.{sound}
 use Rattle.format.specs.Paths.{node_in, fst_with}
 use Rattle.node.specs.declared.Node.{Node}
-use Rattle.node.specs.declared.Judged.{Judged}
-use Rattle.node.specs.declared.Judged.TheVariants.{Sound}
+use Rattle.node.specs.declared.Unsound.{Unsound}
+use Rattle.std.specs.Prelude.{Result, Ok}
 use Rattle.node.specs.Read.{meaning, judged_is, Judges, Readable, transitions_in}
 use Rattle.node_sound.specs.Shapes.{is_any}
 use Rattle.node.specs.ReadLaws.{length_node_transitions}
 
-module _ {s : List ℕ} {v root a : ℕ} {r : Judged} (j : Judges s v root a r) where
-  pub judged_sound : (m : Node) → r ≡ Sound m → node_in (fst_with s v root) a ≡ sound (meaning s m)
+module _ {s : List ℕ} {v root a : ℕ} {r : Result Node Unsound} (j : Judges s v root a r) where
+  pub judged_sound : (m : Node) → r ≡ Ok m → node_in (fst_with s v root) a ≡ sound (meaning s m)
   judged_sound m e = sym j.answer ∙ ap (judged_is s) e
 
 -- a node of one transition

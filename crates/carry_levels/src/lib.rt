@@ -9,7 +9,7 @@ ghost use Rattle.node.specs.Read.{Readable};
 ghost use Rattle.carry_levels.specs.Settling.{Settles, FirstCarried, LevelCarried, WalkedTo, LevelsCarried};
 
 use format::{CARRY, LEVELS, NODE};
-use node::{Found, Judged, Node};
+use node::Node;
 
 // A level in the new file: its address and its node there, or the number of a refusal.
 #[derive(Clone, Copy)]
@@ -31,7 +31,7 @@ fn settle(new: &[u8], version: u64, root: usize, addr: usize, ntrans: usize, sam
     requires { root < 4294967296 }
     ensures { Settles new.now version root addr ntrans same result }
 {
-    let Judged::Sound(m) = node::node_at(new, version, root, addr) else {
+    let Ok(m) = node::node_at(new, version, root, addr) else {
         return Settled::Halted(NODE);
     };
     let as_many = m.ntrans == ntrans;
@@ -69,7 +69,7 @@ fn first_level(
     ensures { FirstCarried (fst_with old.now old_version old_root)
         new.now version root addr out result }
 {
-    let Judged::Sound(m) = node::node_at(old, old_version, old_root, addr) else {
+    let Ok(m) = node::node_at(old, old_version, old_root, addr) else {
         return Settled::Halted(NODE);
     };
     settle(new, version, root, root, m.ntrans, 0 == out)
@@ -94,10 +94,10 @@ fn next_level(
     ensures { LevelCarried (fst_with old.now old_version old_root)
         new.now version root addr inp out below sum result }
 {
-    let Judged::Sound(m) = node::node_at(old, old_version, old_root, addr) else {
+    let Ok(m) = node::node_at(old, old_version, old_root, addr) else {
         return Settled::Halted(NODE);
     };
-    let Found::At(p) = node::find_input(new, below, inp) else {
+    let Ok(p) = node::find_input(new, below, inp) else {
         return Settled::Halted(CARRY);
     };
     let to = node::transition_addr(new, below, p);

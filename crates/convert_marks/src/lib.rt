@@ -11,7 +11,6 @@ ghost use Rattle.convert_marks.specs.Marks.{FirstIs, Markable, ChainMarkable, Ma
 use admission::clear16;
 use format::FIRST_NODE;
 use le_bytes::small;
-use node::Judged;
 
 // Final, with no transition, and adding nothing.
 fn nothing(is_final: bool, n: usize, final_output: u64) -> bool
@@ -26,8 +25,8 @@ fn becomes_zero(file: &[u8], root: usize, a: usize) -> bool
 {
     let judged = node::node_at(file, 1, root, a);
     match judged {
-        Judged::Sound(m) => nothing(m.is_final, m.ntrans, m.final_output),
-        Judged::Unsound => false,
+        Ok(m) => nothing(m.is_final, m.ntrans, m.final_output),
+        Err(_) => false,
     }
 }
 

@@ -10,7 +10,7 @@ ghost use Rattle.packing.specs.Registry.{fnv_step, hash_of, same_bool, same_tran
 ghost use Rattle.registry.specs.Matching.{cell_with, matches_in, chosen};
 
 use format::Transition;
-use node::{Judged, Node};
+use node::Node;
 
 // ---- the hash
 
@@ -132,12 +132,12 @@ pub fn same_node(
 {
     let judged = node::node_at(file, 2, file.len() - 1, addr);
     match judged {
-        Judged::Sound(node) => {
+        Ok(node) => {
             same_bool(node.is_final, is_final)
                 && (node.final_output == final_output
                     && same_transitions(file, node, inputs, outputs, targets))
         }
-        Judged::Unsound => false,
+        Err(_) => false,
     }
 }
 

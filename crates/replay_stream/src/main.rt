@@ -11,7 +11,7 @@ use replay_list::{Entry, FILE, KEPT, Parsed, Place, at_most, number};
 use std::io;
 use std::io::Read;
 use stream::{Plain, Started};
-use stream_start::{Begins, Bound, EmptyOutput, Reading};
+use stream_start::{Begins, Bound, Reading};
 use stream_step::Answer;
 
 // The list's length, and one byte more by which a longer list is seen.
@@ -208,7 +208,7 @@ fn replay_next(
 // A reading of nothing.
 fn nothing() -> Reading {
     let kind = Bound::Unbounded;
-    let empty_output = EmptyOutput::Absent;
+    let empty_output = None;
     Reading {
         len: 0,
         kind,
@@ -264,11 +264,11 @@ fn fill_levels(
 }
 
 // The value of the empty key, where that key is pending.
-fn pending_of(there: u64, value: u64) -> EmptyOutput {
+fn pending_of(there: u64, value: u64) -> Option<u64> {
     if there == 0 {
-        return EmptyOutput::Absent;
+        return None;
     }
-    EmptyOutput::Pending(value)
+    Some(value)
 }
 
 // How long the part of a recorded reading is.

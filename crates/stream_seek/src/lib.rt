@@ -10,7 +10,6 @@ ghost use Rattle.stream_levels.specs.Stacks.{Arrays};
 ghost use Rattle.stream_seek.specs.Seeks.{enter_of, place_in, SoughtAs};
 
 use format::{LEVELS, NODE};
-use node::{Found, Judged};
 use stream_levels::{last_levels, put_level};
 
 // A byte looked for at a node: its place, with the target and the output; the place of the first greater input; or the node is not sound.
@@ -34,13 +33,13 @@ fn enter(file: &[u8], version: u64, root: usize, addr: usize, b: u8) -> Entered
     ensures { (result ≡ enter_of (fst_with file.now version root) addr b)
         × (place_in result ≤ max_levels) }
 {
-    let Judged::Sound(m) = node::node_at(file, version, root, addr) else {
+    let Ok(m) = node::node_at(file, version, root, addr) else {
         return Entered::Unsound;
     };
     let found = node::find_input(file, m, b);
     match found {
-        Found::Absent(p) => Entered::Miss(p as u16),
-        Found::At(p) => {
+        Err(p) => Entered::Miss(p as u16),
+        Ok(p) => {
             let target = node::transition_addr(file, m, p);
             let out = node::output(file, m, p);
             let place = p as u16;
@@ -96,7 +95,7 @@ pub fn seek(
             }
         }
     }
-    let Judged::Sound(_) = node::node_at(file, version, root, addr as usize) else {
+    let Ok(_) = node::node_at(file, version, root, addr as usize) else {
         return Sought::Halted(NODE);
     };
     Sought::Levels(last_levels(k, inclusive, addr, inp, sum, addrs, inps, trans, outs))

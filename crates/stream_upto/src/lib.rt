@@ -12,7 +12,7 @@ ghost use Rattle.plain.specs.Numbers.{up_to};
 ghost use Rattle.stream_upto.specs.Counts.{HasEntry, HasEntries, total_as, added_to, turn_of, walked_as};
 
 use format::NODE;
-use node::{Found, Judged, Node};
+use node::Node;
 
 // A number of keys, or that it passes 2^64 - 1. One that passes is kept and not answered: a node further on is refused before it.
 #[derive(Clone, Copy)]
@@ -107,15 +107,15 @@ fn turn(
     ensures { (n : ℕ) → total ≡ total_as n
         → result ≡ turn_of (fst_with file.now version root) counts.now addr b n }
 {
-    let Judged::Sound(m) = node::node_at(file, version, root, addr) else {
+    let Ok(m) = node::node_at(file, version, root, addr) else {
         return Turned::Unsound;
     };
     // a key that begins the string and ends here comes before it
     let kept = added(total, own_key(true, m.is_final));
     let found = node::find_input(file, m, b);
     match found {
-        Found::Absent(p) => Turned::Gone(below(file, m, p, counts, kept)),
-        Found::At(p) => {
+        Err(p) => Turned::Gone(below(file, m, p, counts, kept)),
+        Ok(p) => {
             let target = node::transition_addr(file, m, p);
             let sum = below(file, m, p, counts, kept);
             Turned::On(target, sum)
@@ -129,7 +129,7 @@ fn at_end(file: &[u8], version: u64, root: usize, addr: usize, own: bool, total:
         → result ≡ walked_as (N.plus n
         (up_to (fst_with file.now version root) c own addr [])) }
 {
-    let Judged::Sound(m) = node::node_at(file, version, root, addr) else {
+    let Ok(m) = node::node_at(file, version, root, addr) else {
         return Walked::Halted(NODE);
     };
     let k = own_key(own, m.is_final);

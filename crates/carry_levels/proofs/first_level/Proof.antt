@@ -20,7 +20,7 @@ enum_told c = search rules
 returns : tie.Need-returns-in_default
 returns c = let call = c.before in
     let a = call.before.before.before.args in
-    first_unsound a.old.now a.old_version a.old_root a.new.now a.version a.root a.addr a.out (answer_unsound call.node_at.ensures c.in_default.is)
+    first_unsound a.old.now a.old_version a.old_root a.new.now a.version a.root a.addr a.out (answer_unsound call.node_at.ensures c.in_default.field-0 c.in_default.is)
 
 settle-requires : tie.Need-settle-requires
 settle-requires c κs = search rules
@@ -29,9 +29,9 @@ returns-2 : tie.Need-returns
 returns-2 c = let known = c.before in
     let call = known.before in
     let a = call.before.before.before.args in
-    let m = known.in-Sound.m in
-    first_settles a.old.now a.old_version a.old_root a.new.now a.version a.root a.addr a.out m (answer_sound call.node_at.ensures m known.in-Sound.is)
-    (call.node_at.ensures.readable m known.in-Sound.is) c.settle.ensures
+    let m = known.in-Ok.m in
+    first_settles a.old.now a.old_version a.old_root a.new.now a.version a.root a.addr a.out m (answer_sound call.node_at.ensures m known.in-Ok.is)
+    (call.node_at.ensures.readable m known.in-Ok.is) c.settle.ensures
 
 pub first_level_spec : {M : Type 1} → statement M
 first_level_spec =

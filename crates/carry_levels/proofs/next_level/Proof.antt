@@ -17,7 +17,7 @@ use Rattle.carry_levels.proofs.next_level.Tie as tie
 -- ---- what is known where the old node is sound, and where the byte's place is found
 
 abbrev At : Type 0
-At = tie.In-Sound
+At = tie.In-Ok
 
 abbrev start : At → tie.Start
 start q = q.before.before.before.before
@@ -29,25 +29,25 @@ abbrev new : At → List ℕ
 new q = (start q).args.new.now
 
 abbrev m : At → Node
-m q = q.in-Sound.m
+m q = q.in-Ok.m
 
 node_is : (q : At) → node_at (old q) (start q).args.old_version (start q).args.old_root (start q).args.addr ≡ sound (meaning (old q) (m q))
-node_is q = answer_sound q.before.node_at.ensures (m q) q.in-Sound.is
+node_is q = answer_sound q.before.node_at.ensures (m q) q.in-Ok.is
 
 readable : (q : At) → Readable (old q) (m q)
-readable q = q.before.node_at.ensures.readable (m q) q.in-Sound.is
+readable q = q.before.node_at.ensures.readable (m q) q.in-Ok.is
 
 abbrev Found_at : Type 0
-Found_at = tie.In-At
+Found_at = tie.In-Ok-find_input
 
 abbrev q_of : Found_at → At
 q_of w = w.before.before
 
 abbrev p : Found_at → ℕ
-p w = w.in-At.p
+p w = w.in-Ok-find_input.p
 
 place : (w : Found_at) → find_input (transitions_in (new (q_of w)) (start (q_of w)).args.below) (start (q_of w)).args.inp ≡ Search.at (p w)
-place w = search_is_lem _ w.before.find_input.result w.before.find_input.ensures (p w) w.in-At.is
+place w = search_is_lem _ w.before.find_input.result w.before.find_input.ensures (p w) w.in-Ok-find_input.is
 
 place_low : (w : Found_at) → p w < (start (q_of w)).args.below.ntrans
 place_low w = place_lt (new (q_of w)) (start (q_of w)).args.below (start (q_of w)).requires.1 (start (q_of w)).args.inp (p w) (place w)
@@ -66,7 +66,7 @@ returns : tie.Need-returns-in_default
 returns c = let call = c.before in
     let a = call.before.before.before.args in
     level_unsound a.old.now a.old_version a.old_root a.new.now a.version a.root a.addr a.inp a.out a.below a.sum
-    (answer_unsound call.node_at.ensures c.in_default.is)
+    (answer_unsound call.node_at.ensures c.in_default.field-0 c.in_default.is)
 
 find-input-requires : tie.Need-find_input-requires
 find-input-requires c κs = (start c).requires.1

@@ -29,13 +29,13 @@ abbrev file : At → List ℕ
 file q = (start q).args.new.now
 
 abbrev m : At → Node
-m q = q.before.in-Sound.m
+m q = q.before.in-Ok.m
 
 node_is : (q : At) → node_at (file q) (start q).args.version (start q).args.root (start q).args.addr ≡ sound (meaning (file q) (m q))
-node_is q = answer_sound q.before.before.node_at.ensures (m q) q.before.in-Sound.is
+node_is q = answer_sound q.before.before.node_at.ensures (m q) q.before.in-Ok.is
 
 readable : (q : At) → Readable (file q) (m q)
-readable q = q.before.before.node_at.ensures.readable (m q) q.before.in-Sound.is
+readable q = q.before.before.node_at.ensures.readable (m q) q.before.in-Ok.is
 
 node-at-requires : tie.Need-node_at-requires
 node-at-requires c κs = search rules
@@ -50,7 +50,7 @@ enum_told c = search rules
 returns : tie.Need-returns-in_default
 returns c = let call = c.before in
     let a = call.before.before.args in
-    settle_unsound a.new.now a.version a.root a.addr a.ntrans a.same (answer_unsound call.node_at.ensures c.in_default.is)
+    settle_unsound a.new.now a.version a.root a.addr a.ntrans a.same (answer_unsound call.node_at.ensures c.in_default.field-0 c.in_default.is)
 
 cast-to : tie.Need-overflow_cast-to
 cast-to c = let q = c.before.before in

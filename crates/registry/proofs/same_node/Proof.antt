@@ -38,7 +38,7 @@ same-transitions-requires : tie.Need-same_transitions-requires
 same-transitions-requires c κs =
     let told = c.before.before.before.before in
     let at = told.before in
-    (at.node_at-judged.ensures.readable _ told.in-Sound.is, (start at).requires.1, (start at).requires.2)
+    (at.node_at-judged.ensures.readable _ told.in-Ok.is, (start at).requires.1, (start at).requires.2)
 
 -- src/lib.rt:140:28
 enum_told : tie.Need-enum_told-1
@@ -50,7 +50,7 @@ returns c =
     let tested = c.before.before.before in
     let told = tested.before.before in
     let at = told.before in
-    transitions_decide at.node_at-judged.ensures (the_record (start at)) told.in-Sound.node told.in-Sound.is _ tested.before.same_bool.ensures tested.if-same_bool.true
+    transitions_decide at.node_at-judged.ensures (the_record (start at)) told.in-Ok.node told.in-Ok.is _ tested.before.same_bool.ensures tested.if-same_bool.true
     c.before.if-node-final_output.true _ c.same_transitions.ensures
 
 -- src/lib.rt:118:1
@@ -59,8 +59,8 @@ returns-2 c =
     let tested = c.before.before in
     let told = tested.before.before in
     let at = told.before in
-    ne_eqb told.in-Sound.node.final_output (start at).args.final_output c.if-node-final_output.false
-    ∙ output_differs at.node_at-judged.ensures (the_record (start at)) told.in-Sound.node told.in-Sound.is _ tested.before.same_bool.ensures tested.if-same_bool.true
+    ne_eqb told.in-Ok.node.final_output (start at).args.final_output c.if-node-final_output.false
+    ∙ output_differs at.node_at-judged.ensures (the_record (start at)) told.in-Ok.node told.in-Ok.is _ tested.before.same_bool.ensures tested.if-same_bool.true
     c.if-node-final_output.false
 
 -- src/lib.rt:118:1
@@ -69,13 +69,13 @@ returns-3 c =
     let told = c.before.before in
     let at = told.before in
     c.if-same_bool.false
-    ∙ final_differs at.node_at-judged.ensures (the_record (start at)) told.in-Sound.node told.in-Sound.is _ c.before.same_bool.ensures c.if-same_bool.false
+    ∙ final_differs at.node_at-judged.ensures (the_record (start at)) told.in-Ok.node told.in-Ok.is _ c.before.same_bool.ensures c.if-same_bool.false
 
 -- src/lib.rt:118:1
-returns-4 : tie.Need-returns-in-Unsound
+returns-4 : tie.Need-returns-in-Err
 returns-4 c =
     let at = c.before in
-    unsound_differs at.node_at-judged.ensures (the_record (start at)) c.in-Unsound.is
+    unsound_differs at.node_at-judged.ensures (the_record (start at)) c.in-Err.field-0 c.in-Err.is
 
 pub same_node_spec : {M : Type 1} → statement M
 same_node_spec =

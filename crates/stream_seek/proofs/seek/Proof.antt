@@ -156,7 +156,7 @@ cast-node-at c = omega (arith, c.before.loop-k.invariant.0)
 node-at-requires : tie.Need-node_at-requires invariant-loop-k decreases-loop-k
 node-at-requires c κs = search rules
 
-enum-told-2 : tie.Need-enum_told-in-Sound invariant-loop-k decreases-loop-k
+enum-told-2 : tie.Need-enum_told-in-Ok invariant-loop-k decreases-loop-k
 enum-told-2 c = search rules
 
 enum-told-3 : tie.Need-enum_told-in_default invariant-loop-k decreases-loop-k
@@ -166,7 +166,7 @@ enum-told-3 c = search rules
 returns-4 : tie.Need-returns-in_default invariant-loop-k decreases-loop-k
 returns-4 c = let call = c.before in
     let h = call.before.before.loop-k.invariant.1 in
-    record { arrays = h.arrays; found = seeking_unsound h (answer_unsound call.node_at.ensures c.in_default.is) }
+    record { arrays = h.arrays; found = seeking_unsound h (answer_unsound call.node_at.ensures c.in_default.field-0 c.in_default.is) }
 
 -- level k is one of 256, and the level before it has followed a transition
 last-levels-requires : tie.Need-last_levels-requires invariant-loop-k decreases-loop-k
@@ -178,10 +178,10 @@ returns-5 : tie.Need-returns invariant-loop-k decreases-loop-k
 returns-5 c = let told = c.before.before.before.before.before in
     let call = told.before in
     let at = call.before.before in
-    let m = told.in-Sound.field-0 in
+    let m = told.in-Ok.field-0 in
     record {
       arrays = c.last_levels.ensures.arrays;
-      found = seeking_done at.loop-k.invariant.1 call.before.loop-k-test.false (meaning at.before.before.before.args.file.now m) (answer_sound call.node_at.ensures m told.in-Sound.is) c.last_levels.ensures;
+      found = seeking_done at.loop-k.invariant.1 call.before.loop-k-test.false (meaning at.before.before.before.args.file.now m) (answer_sound call.node_at.ensures m told.in-Ok.is) c.last_levels.ensures;
     }
 
 pub seek_spec : {M : Type 1} → statement M

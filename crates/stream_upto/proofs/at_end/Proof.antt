@@ -21,7 +21,7 @@ enum_told c = search rules
 returns : tie.Need-returns-in_default
 returns c = let call = c.before in
     let a = call.before.before.args in
-    λ d n e. end_unsound (fst_with a.file.now a.version a.root) a.own a.addr (answer_unsound call.node_at.ensures c.in_default.is) d n
+    λ d n e. end_unsound (fst_with a.file.now a.version a.root) a.own a.addr (answer_unsound call.node_at.ensures c.in_default.field-0 c.in_default.is) d n
 
 own-key-requires : tie.Need-own_key-k-requires
 own-key-requires c κs = search rules
@@ -34,7 +34,7 @@ returns-2 : tie.Need-returns
 returns-2 c = let known = c.before.before in
     let call = known.before in
     let a = call.before.before.args in
-    let m = known.in-Sound in
+    let m = known.in-Ok in
     λ d n e.
     end_sound (fst_with a.file.now a.version a.root) a.own a.addr (meaning a.file.now m.m) (answer_sound call.node_at.ensures m.m m.is)
     _ c.before.own_key-k.ensures a.total _ c.added.ensures d n e

@@ -46,13 +46,13 @@ abbrev b : At → ℕ
 b q = (start q).args.b
 
 abbrev m : At → Node
-m q = q.before.before.before.in-Sound.m
+m q = q.before.before.before.in-Ok.m
 
 node_is : (q : At) → node_in (f q) (addr q) ≡ sound (meaning (file q) (m q))
-node_is q = answer_sound (judged q).node_at.ensures (m q) q.before.before.before.in-Sound.is
+node_is q = answer_sound (judged q).node_at.ensures (m q) q.before.before.before.in-Ok.is
 
 readable : (q : At) → Readable (file q) (m q)
-readable q = (judged q).node_at.ensures.readable (m q) q.before.before.before.in-Sound.is
+readable q = (judged q).node_at.ensures.readable (m q) q.before.before.before.in-Ok.is
 
 entries : (q : At) → HasEntries (counts q) (transitions_in (file q) (m q))
 entries q = has_entries (f q) (addr q) (meaning (file q) (m q)) (node_is q) (counts q) (start q).requires
@@ -78,7 +78,7 @@ enum_told c = search rules
 returns : tie.Need-returns-in_default
 returns c = let call = c.before in
     let a = call.before.before.before.args in
-    λ n e. turn_unsound (fst_with a.file.now a.version a.root) a.counts.now a.addr a.b n (answer_unsound call.node_at.ensures c.in_default.is)
+    λ n e. turn_unsound (fst_with a.file.now a.version a.root) a.counts.now a.addr a.b n (answer_unsound call.node_at.ensures c.in_default.field-0 c.in_default.is)
 
 own-key-requires : tie.Need-own_key-requires
 own-key-requires c κs = search rules
@@ -89,41 +89,41 @@ added-requires c κs = search rules
 -- the judged node can be read
 find-input-requires : tie.Need-find_input-found-requires
 find-input-requires c κs = let known = c.before.before in
-    known.before.node_at.ensures.readable known.in-Sound.m known.in-Sound.is
+    known.before.node_at.ensures.readable known.in-Ok.m known.in-Ok.is
 
 enum-known-found : tie.Need-enum_known-found
 enum-known-found c = search rules
 
 -- ---- the byte is absent
 
-abbrev gone_at : tie.In-Absent → At
+abbrev gone_at : tie.In-Err → At
 gone_at w = w.before
 
-abbrev gone_place : tie.In-Absent → ℕ
-gone_place w = w.in-Absent.p
+abbrev gone_place : tie.In-Err → ℕ
+gone_place w = w.in-Err.p
 
-gone : (w : tie.In-Absent) → find_input (transitions_in (file (gone_at w)) (m (gone_at w))) (b (gone_at w)) ≡ Search.absent (gone_place w)
-gone w = search_gone _ (gone_at w).find_input-found.result (gone_at w).find_input-found.ensures (gone_place w) w.in-Absent.is
+gone : (w : tie.In-Err) → find_input (transitions_in (file (gone_at w)) (m (gone_at w))) (b (gone_at w)) ≡ Search.absent (gone_place w)
+gone w = search_gone _ (gone_at w).find_input-found.result (gone_at w).find_input-found.ensures (gone_place w) w.in-Err.is
 
 -- as many transitions as the place says
 below-requires : tie.Need-below-requires
 below-requires c κs = (readable (gone_at c), gone_le (file (gone_at c)) (m (gone_at c)) (readable (gone_at c)) (b (gone_at c)) (gone_place c) (gone c), entries (gone_at c))
 
-enum-known-found-2 : tie.Need-enum_known-found-in-At-1
+enum-known-found-2 : tie.Need-enum_known-found-in-Ok-found
 enum-known-found-2 c = search rules
 
 -- ---- the byte is found
 
-abbrev found_at : tie.In-At → At
+abbrev found_at : tie.In-Ok-found → At
 found_at w = w.before
 
-abbrev place : tie.In-At → ℕ
-place w = w.in-At.p
+abbrev place : tie.In-Ok-found → ℕ
+place w = w.in-Ok-found.p
 
-found : (w : tie.In-At) → find_input (transitions_in (file (found_at w)) (m (found_at w))) (b (found_at w)) ≡ Search.at (place w)
-found w = search_is_lem _ (found_at w).find_input-found.result (found_at w).find_input-found.ensures (place w) w.in-At.is
+found : (w : tie.In-Ok-found) → find_input (transitions_in (file (found_at w)) (m (found_at w))) (b (found_at w)) ≡ Search.at (place w)
+found w = search_is_lem _ (found_at w).find_input-found.result (found_at w).find_input-found.ensures (place w) w.in-Ok-found.is
 
-place_low : (w : tie.In-At) → place w < (m (found_at w)).ntrans
+place_low : (w : tie.In-Ok-found) → place w < (m (found_at w)).ntrans
 place_low w = place_lt (file (found_at w)) (m (found_at w)) (readable (found_at w)) (b (found_at w)) (place w) (found w)
 
 -- the node has the transition
@@ -135,14 +135,14 @@ below-requires-2 : tie.Need-below-sum-requires
 below-requires-2 c κs = let w = c.before in (readable (found_at w), omega (arith, place_low w), entries (found_at w))
 
 -- the byte is absent
-returns-2 : tie.Need-returns-in-Absent
+returns-2 : tie.Need-returns-in-Err
 returns-2 c = let w = c.before in
     let q = gone_at w in
     λ n e.
     turn_gone (f q) (counts q) (addr q) (b q) n (meaning (file q) (m q)) (node_is q) (gone_place w) _ (c.below.ensures (n + one (m q).is_final) (kept q n e)) (gone w)
 
 -- the byte is found
-returns-3 : tie.Need-returns-in-At
+returns-3 : tie.Need-returns-in-Ok-found
 returns-3 c = let w = c.before.before in
     let q = found_at w in
     λ n e.
