@@ -59,20 +59,12 @@ fn near(file: &[u8], at: usize, size: usize, n: usize, reach: usize) -> bool
     }
 }
 
-// The number of 4 bytes from place p on, in steps that compile to one load. The weight is not
-// multiplied after the last byte.
+// The number of 4 bytes from place p on.
 fn load4(file: &[u8], p: usize) -> u32
     requires { p + 4 ≤ length file.now }
     ensures { result ≡ le (take 4 (drop p file.now)) }
 {
-    let mut n = u32::from(file[p]);
-    let mut weight: u32 = 256;
-    n += u32::from(file[p + 1]) * weight;
-    weight *= 256;
-    n += u32::from(file[p + 2]) * weight;
-    weight *= 256;
-    n += u32::from(file[p + 3]) * weight;
-    n
+    u32::from_le_bytes([file[p], file[p + 1], file[p + 2], file[p + 3]])
 }
 
 // A bound of n numbers of 3 bytes: each is read with the byte before it, which stands for less than
