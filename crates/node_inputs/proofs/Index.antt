@@ -137,10 +137,11 @@ pub entry_of : (s : List ℕ) (at n index i : ℕ) → i < n → get_or s (at + 
     → get_or (entries_of s index) (get_or (bytes_down s at n) i 0) 0 ≡ get_or s (index + get_or s (at + (n - 1 - i)) 0) 0
 entry_of s at n index i l byte = rw (get_d_bytes_down s at n i l, get_or-take 256 (drop index s) (get_or s (at + (n - 1 - i)) 0) 0 byte, get_or-drop)
 
--- the first j inputs have the entries that their places ask for: input i is the byte n - 1 - i
+-- the bytes from at on, up to j of them, have the entries that their places ask for: the byte at k is input n - 1 - k
 pub record PlacedTo (s : List ℕ) (at n index j : ℕ) : Type 0 where
-  pub right : (i : ℕ) → i < j → get_or s (index + get_or s (at + (n - 1 - i)) 0) 0 ≡ i
+  pub right : (k : ℕ) → k < j → get_or s (index + get_or s (at + k) 0) 0 + k ≡ n - 1
 
+-- every byte has its entry where every input's entry is its place
 pub placed_all : {s : List ℕ} {at n index j : ℕ} {good : Bool} → j ≤ n → n ≤ j → ((i : ℕ) → get_or s i 0 < 256) → Decides good (PlacedTo s at n index j)
     → Decides good (Probed (bytes_down s at n) (entries_of s index))
 unfolding Probed
@@ -149,10 +150,19 @@ placed_all {s} {at} {n} {index} {j} within past bytes d = decides_iff to from d
     to : PlacedTo s at n index j → (i : ℕ) → i < length (bytes_down s at n) → get_or (entries_of s index) (get_or (bytes_down s at n) i 0) 0 ≡ i
     to p i l =
         let few : i < n = omega (arith, length_bytes_down s at n) in
-        entry_of s at n index i few (bytes (at + (n - 1 - i))) ∙ p.right i (omega arith)
+        let here = p.right (n - 1 - i) (omega arith) in
+        entry_of s at n index i few (bytes (at + (n - 1 - i))) ∙ omega arith
 
     from : ((i : ℕ) → i < length (bytes_down s at n) → get_or (entries_of s index) (get_or (bytes_down s at n) i 0) 0 ≡ i) → PlacedTo s at n index j
-    from p = record { right = λ i l. sym (entry_of s at n index i (omega arith) (bytes (at + (n - 1 - i)))) ∙ p i (omega (arith, length_bytes_down s at n)) }
+    from p = record { right = λ k l. back k l }
+      where
+        back : (k : ℕ) → k < j → get_or s (index + get_or s (at + k) 0) 0 + k ≡ n - 1
+        back k l =
+            let e : n - 1 - (n - 1 - k) ≡ k = omega arith in
+            let here = p (n - 1 - k) (omega (arith, length_bytes_down s at n)) in
+            let there = entry_of s at n index (n - 1 - k) (omega arith) (bytes (at + (n - 1 - (n - 1 - k)))) in
+            let both = rw e at there in
+            omega arith
 
 -- more than 256 places cannot all be entries
 pub probed_few : (s : List ℕ) (at n index : ℕ) → 256 < n → ((i : ℕ) → get_or s i 0 < 256) → ¬ Probed (bytes_down s at n) (entries_of s index)

@@ -64,10 +64,11 @@ fn probes(file: &[u8], at: usize, n: usize, index: usize) -> bool
         return false;
     }
     let mut good = true;
-    // the inputs stand last first
-    for i in 0..n {
-        let b = file[at + (n - 1 - i)] as usize;
-        if file[index + b] != i as u8 {
+    // the inputs stand last first: from at on, n - 1 down to 0
+    let mut i = n;
+    for b in &file[at..at + n] {
+        i -= 1;
+        if file[index + *b as usize] != i as u8 {
             good = false;
         }
     }

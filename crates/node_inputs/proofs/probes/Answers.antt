@@ -9,4 +9,4 @@ returns-then-n-gt256 c =
     decides_false (probed_few c.args.file.now c.args.at c.args.n c.args.index c.if-n-gt256.true (λ i. (c.type_inv.file i).fits))
 
 pub returns : goal.returns
-returns c = placed_all (omega arith) (omega arith) (λ i. (c.type_inv.file i).fits) c.loop-i.invariant
+returns c = placed_all (omega arith) (omega arith) (λ i. (c.type_inv.file i).fits) c.loop-b.invariant.1
