@@ -3,6 +3,7 @@
 --     Passing f d c a     the entries below a are as they are to be
 --     AtNode f d c a      and the next address has an entry in the depths
 -- Assumes nothing.
+use Rattle.std.specs.Prelude.{Option}
 use mathlib.Core.Path.{◌≡◌, refl, sym, ap, ◌∙◌}
 use mathlib.Core.Bool.{Bool, true, false}
 use mathlib.Core.List.{List}
@@ -15,7 +16,6 @@ use Rattle.format.specs.Paths.{Fst, node_in}
 use Rattle.format.specs.Tables.{keys_from}
 use Rattle.format.specs.Laws.NodeLaws.{node_at_sound}
 use Rattle.format.specs.Laws.NodeFacts.{node_target_lt}
-use Rattle.admission_node.specs.declared.Total.{Total}
 use Rattle.admission_node.specs.Entries.{Kept, total_as, entry_is, or_over}
 use Rattle.admission_node.specs.KeptLaws.{at_set, kept_none, kept_set, kept_lt}
 use Rattle.admission_node.specs.TotalLaws.{total_cases}
@@ -98,7 +98,7 @@ module _ {f : Fst} {d c₀ c : List ℕ} {a : ℕ} (h : AtNode f d c a) (ok : Co
   pub node_here : SoundAt f.bytes f.version f.root a
   node_here = ok.sounds a inside (h.next inside)
 
-  module _ (r : Total) (v : CountedAt f c a r) where
+  module _ (r : Option ℕ) (v : CountedAt f c a r) where
     -- the number of keys, or that it does not fit
     total_is : r ≡ total_as (keys_from f a)
     total_is =
