@@ -4,7 +4,7 @@
 --     Filling f ..          all of this, with the flags
 -- Assumes nothing.
 use Rattle.std.specs.Prelude.{Option, Some}
-use mathlib.Core.Path.{◌≡◌, refl, sym, ap, ◌∙◌, subst}
+use mathlib.Core.Path.{◌≡◌, refl, sym, ap, ◌∙◌}
 use mathlib.Core.Bool.{Bool, true, false, cond}
 use mathlib.Core.List.{List, Memᴰ}
 use Prim.Native.Nat.{ℕ, ◌+◌, ◌≤◌, ◌<◌, min}
@@ -249,14 +249,14 @@ filling_ends h v found = record { depths_kept = h.depths_kept; sums_kept = h.sum
 -- ---- every address is passed
 
 module _ {f : Fst} {d₀ s₀ d s : List ℕ} {deep heavy : Bool} {a : ℕ} (h : Filling f d₀ s₀ d s deep heavy a) (all : length f.bytes ≤ a) where
-  pub passed_all : AllPassed d₀ (length f.bytes)
+  passed_all : AllPassed d₀ (length f.bytes)
   passed_all = record { each = λ j l. h.passed.each j (omega arith) }
 
-  pub filled_heavy : deep ≡ false → heavy ≡ true → HeavyCase f d₀
+  filled_heavy : deep ≡ false → heavy ≡ true → HeavyCase f d₀
   filled_heavy no_deep is =
       record { passed = passed_all; low = λ j l. (h.depths.below j (omega arith)).fine no_deep; one = h.one_heavy is }
 
-  pub filled_good : deep ≡ false → heavy ≡ false → GoodAll f d₀ d s
+  filled_good : deep ≡ false → heavy ≡ false → GoodAll f d₀ d s
   filled_good no_deep no_heavy =
       record {
         passed = passed_all;
