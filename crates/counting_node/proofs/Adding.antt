@@ -1,7 +1,7 @@
 -- One node, by the entries of its targets: what is known after the first i of its transitions.
 --     CountedTo ..        their keys and the node's own, as a total
 -- Assumes nothing.
-use Rattle.std.specs.Prelude.{Option, Some, None}
+use Rattle.std.specs.Prelude.{Option, Some}
 use mathlib.Core.Path.{◌≡◌, sym, ap, ◌∙◌}
 use mathlib.Core.Bool.{Bool, true, false}
 use mathlib.Core.List.{List}
@@ -24,12 +24,6 @@ use Rattle.counting_node.specs.CountNodes.{added_to, keys_by, Inside}
 
 -- ---- a total and more
 
-pub added_over : (t : Option ℕ) (b x : ℕ) → t ≡ Some b → max_sum < b + x → None ≡ added_to t x
-added_over t b x e h = sym (ap (λ u. added_to u x) e ∙ rw (lt-leb (b + x) max_sum h))
-
-pub added_is : (t : Option ℕ) (b x : ℕ) → t ≡ Some b → b + x ≤ max_sum → Some (b + x) ≡ added_to t x
-added_is t b x e h = sym (ap (λ u. added_to u x) e ∙ rw (le-leb (b + x) max_sum h))
-
 added_total : (n x : ℕ) → added_to (total_as n) x ≡ total_as (n + x)
 added_total n x =
     elim (dec_le n max_sum) [
@@ -49,14 +43,13 @@ one_low true = omega arith
 one_low false = omega arith
 
 pub record CountedTo (c : List ℕ) (final : Bool) (ts : List Transition) (i : ℕ) (total : Option ℕ) : Type 0 where
-  pub within : i ≤ length ts
   pub total_is : total ≡ total_as (keys_by c final (take i ts))
 
 pub counted_none : (c : List ℕ) (final : Bool) (ts : List Transition) (n : ℕ) → n ≡ one final → CountedTo c final ts 0 (Some n)
 unfolding keys_by sum_of
 counted_none c final ts n e =
     let same : n ≡ one final + 0 = omega arith in
-    record { within = omega arith; total_is = total_of_le n (omega (arith, one_low final)) ∙ ap total_as same }
+    record { total_is = total_of_le n (omega (arith, one_low final)) ∙ ap total_as same }
 
 module _ {c : List ℕ} {ts : List Transition} (i : ℕ) (l : i < length ts) (a : ℕ) (a_is : a ≡ (transition_at ts i).addr) where
   pub target_inside : Inside c ts → a < length c
@@ -67,7 +60,6 @@ module _ {c : List ℕ} {ts : List Transition} (i : ℕ) (l : i < length ts) (a 
   counted_step {final} k total' before k_is now_is_lem =
       let child : k ≡ keys_at c (transition_at ts i).addr = k_is ∙ ap (keys_at c) a_is in
       record {
-        within = omega arith;
         total_is =
             now_is_lem
             ∙ ap (λ u. added_to u k) before.total_is
