@@ -8,7 +8,6 @@ ghost use Rattle.format.specs.Paths.{fst_with};
 ghost use Rattle.converting.specs.Converting.{vanishes};
 ghost use Rattle.convert_marks.specs.Marks.{FirstIs, Markable, ChainMarkable, MarksChain, MarksNodes};
 
-use admission::clear16;
 use format::FIRST_NODE;
 use le_bytes::small;
 
@@ -92,7 +91,7 @@ pub fn mark(file: &[u8], root: usize, depths: &mut [u16])
         depths.new }
 {
     if becomes_zero(file, root, root) {
-        clear16(depths, file.len());
+        depths[..file.len()].fill(0);
         return;
     }
     mark_chain(file, root, depths);

@@ -7,7 +7,7 @@
 -- Assumes nothing.
 use Rattle.std.specs.Prelude.{◌≡◌, refl, Bool, true, false, ℕ, ◌+◌, ◌-◌, ◌/◌, ◌%◌, ◌≤◌, ◌<◌, ltb, length, get_or}
 use Rattle.std.proofs.Common.{sym, ap, ◌∙◌, subst, true≢false, ⊎_elim, arith, ltb-true, ltb-false}
-use mathlib.Core.List.{List, map, Memᴰ}
+use mathlib.Core.List.{List, map}
 use Rattle.std.proofs.lemmas.List.{length-map}
 use Rattle.format.specs.declared.Transition.{Transition}
 use Rattle.format.specs.declared.State.{State}

@@ -1,15 +1,12 @@
 -- `convert_marks::becomes_zero` meets its contract.
 -- Assumes nothing.
-use mathlib.Core.Path.{◌≡◌, sym, ap, ◌∙◌}
+use mathlib.Core.Path.{sym, ap, ◌∙◌}
 use Prim.Native.Nat.{ℕ}
 use lib.Dec.{eqb}
-use lib.ListN.{length}
 use mathlib.Core.Bool.{◌&&◌}
-use Rattle.node.specs.Read.{transitions_in}
 use Rattle.node.specs.ReadLaws.{length_node_transitions, answer_sound, answer_unsound}
 use Rattle.converting.specs.Converting.{vanishes}
 use borrow.Author.Rules.{rules}
-use native.Mathlib.Omega.{arith}
 use Rattle.convert_marks.proofs.becomes_zero.Statement.{statement}
 use Rattle.convert_marks.proofs.becomes_zero.Tie as tie
 
