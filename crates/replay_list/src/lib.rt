@@ -125,12 +125,10 @@ pub fn same_bytes(list: &[u8], at: usize, n: usize, buffer: &[u8; 4096]) -> bool
     if 4096 < n {
         return false;
     }
-    let mut i = 0;
-    while i < 4096 {
-        if buffer[i] != wanted(list, at, n, i) {
+    for (i, x) in buffer.iter().enumerate() {
+        if *x != wanted(list, at, n, i) {
             return false;
         }
-        i += 1;
     }
     true
 }
