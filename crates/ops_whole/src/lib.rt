@@ -41,24 +41,12 @@ fn op_of(n: u64) -> Op {
 
 // ---- the arguments taken apart
 
-// The bytes from one place to another, and none where they are not there.
-fn part(bytes: &[u8], from: usize, to: usize) -> &[u8] {
-    if from <= to {
-        if to <= bytes.len() {
-            return &bytes[from..to];
-        }
+// What stands from one place to another, and nothing where they are not there.
+fn part<T>(items: &[T], from: usize, to: usize) -> &[T] {
+    if from <= to && to <= items.len() {
+        return &items[from..to];
     }
-    &bytes[..0]
-}
-
-// The same of a table's entries.
-fn entries(table: &[u64], from: usize, to: usize) -> &[u64] {
-    if from <= to {
-        if to <= table.len() {
-            return &table[from..to];
-        }
-    }
-    &table[..0]
+    &items[..0]
 }
 
 // Whether parts that end there follow one another in so many bytes.
@@ -262,7 +250,7 @@ fn start_at(
     let upper_kind = stated[4 * i + 2];
     let upper_len = stated[4 * i + 3];
     let file = part(blob, from, to);
-    let counts = entries(tables, from, to);
+    let counts = part(tables, from, to);
     let lower = bound_at(bounds, 510 * i, lower_len);
     let upper = bound_at(bounds, 510 * i + 255, upper_len);
     start(file, counts, lower_kind, lower, upper_kind, upper)
