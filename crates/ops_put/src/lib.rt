@@ -18,10 +18,7 @@ const PLACES: usize = 8;
 pub fn has_room(most: usize, rows: usize, counts: usize, numbers: usize, values: usize) -> bool
     ensures { result ≡ P.room_test most rows counts numbers values }
 {
-    most <= rows / ROW
-        && most <= counts
-        && most <= numbers / PLACES
-        && most <= values / PLACES
+    most <= rows / ROW && most <= counts && most <= numbers / PLACES && most <= values / PLACES
 }
 
 // Writes an item, its key and its pairs, as item number `place`. Every other place stays as given.

@@ -10,9 +10,9 @@ loop-j-preserved c =
     let l = c.loop-j in
     let a = c.args in
     elim c.if-goes_before.branch [
-      then-goes_before w ↦ rw (w.values-is, w.files-is, w.v-is, w.f-is, w.found-is)
+      | then-goes_before w ↦ rw (w.values-is, w.files-is, w.v-is, w.f-is, w.found-is)
           (placing_put a.value a.file a.pairs.count a.pairs.values a.pairs.files l.values l.files l.v l.f l.found l.j l.invariant (omega arith) (sym c.goes_before.ensures ∙ w.if-goes_before.true))
-    | else-goes_before w ↦ rw (w.values-is, w.files-is, w.v-is, w.f-is, w.found-is)
+      | else-goes_before w ↦ rw (w.values-is, w.files-is, w.v-is, w.f-is, w.found-is)
           (placing_pass a.value a.file a.pairs.count a.pairs.values a.pairs.files l.values l.files l.v l.f l.found l.j l.invariant (omega arith) (sym c.goes_before.ensures ∙ w.if-goes_before.false))
     ]
 
