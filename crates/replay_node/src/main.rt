@@ -8,7 +8,7 @@ ghost use Rattle.std.specs.Prelude.{◌≡◌, ◌+◌, ◌*◌, ◌≤◌, ◌<
 ghost use Rattle.node.specs.Read.{Readable};
 ghost use Rattle.replay_list.specs.Records.{Within};
 
-use node::{Found, Judged, Node};
+use node::Node;
 use node_compile::Compiled;
 use replay_list::{Entry, FILE, KEPT, Parsed, Place, at_most, number};
 use std::io;
@@ -133,8 +133,8 @@ fn transition_alike(node: &[u8], n: usize, file: &[u8], read: Node, i: usize) ->
         return false;
     }
     match node::find_input(file, read, t.inp) {
-        Found::At(k) => k == i,
-        Found::Absent(_) => false,
+        Ok(k) => k == i,
+        Err(_) => false,
     }
 }
 
@@ -161,8 +161,8 @@ fn passed(file: &[u8], read: Node, b: u8, n: usize) -> usize
     ensures { result ≤ 301 }
 {
     match node::find_input(file, read, b) {
-        Found::At(k) => if k == n { n + 1 } else { 300 },
-        Found::Absent(p) => if p == n { n } else { 300 },
+        Ok(k) => if k == n { n + 1 } else { 300 },
+        Err(p) => if p == n { n } else { 300 },
     }
 }
 
@@ -207,7 +207,7 @@ fn node_alike(
 ) -> bool
     requires { 51 + 13 * n ≤ length node.now }
 {
-    let Judged::Sound(read) = node::node_at(file, version, root, addr) else {
+    let Ok(read) = node::node_at(file, version, root, addr) else {
         return sound == 0;
     };
     if read.ntrans != n {
