@@ -27,13 +27,6 @@ pub struct Entry {
     pub len: usize,
 }
 
-#[derive(Clone, Copy)]
-pub enum Parsed {
-    Good(Entry),
-    // the list ends within the record
-    Malformed,
-}
-
 // Where the file that is asked stands in the list.
 #[derive(Clone, Copy)]
 pub struct Place {
@@ -51,26 +44,26 @@ pub fn number(list: &[u8], at: usize, size: usize) -> u64
     le_bytes::unpack_uint(&list[at..], size)
 }
 
-// The record at place at.
-pub fn parse(list: &[u8], at: usize) -> Parsed
+// The record at place at, or none where the list ends within it.
+pub fn parse(list: &[u8], at: usize) -> Option<Entry>
     ensures { result ≡ parsed_at list.now at }
 {
     if list.len() <= at {
-        return Parsed::Malformed;
+        return None;
     }
     let left = list.len() - at;
     if left < 15 {
-        return Parsed::Malformed;
+        return None;
     }
     let len = number(list, at + 13, 2) as usize;
     if left - 15 < len {
-        return Parsed::Malformed;
+        return None;
     }
     let kind = number(list, at, 1);
     let a = number(list, at + 1, 2);
     let b = number(list, at + 3, 8);
     let c = number(list, at + 11, 2);
-    Parsed::Good(Entry {
+    Some(Entry {
         kind,
         a,
         b,

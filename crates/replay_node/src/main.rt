@@ -10,7 +10,7 @@ ghost use Rattle.replay_list.specs.Records.{Within};
 
 use node::Node;
 use node_compile::Compiled;
-use replay_list::{Entry, FILE, KEPT, Parsed, Place, at_most, number};
+use replay_list::{Entry, FILE, KEPT, Place, at_most, number};
 use std::io;
 use std::io::Read;
 
@@ -321,7 +321,7 @@ fn replay(rt: &impl Print, list: &[u8], counts: &mut [u64; 16]) -> io::Result<()
     let mut place = Place { from: 0, to: 0 };
     let mut at = 0;
     while at < list.len() {
-        let Parsed::Good(entry) = replay_list::parse(list, at) else {
+        let Some(entry) = replay_list::parse(list, at) else {
             replay_list::tally(counts, 0, false);
             return Ok(());
         };

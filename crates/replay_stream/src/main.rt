@@ -7,7 +7,7 @@
 ghost use Rattle.std.specs.Prelude.{◌+◌, ◌*◌, ◌≤◌, ◌<◌, length};
 ghost use Rattle.replay_list.specs.Records.{Within};
 
-use replay_list::{Entry, FILE, KEPT, Parsed, Place, at_most, number};
+use replay_list::{Entry, FILE, KEPT, Place, at_most, number};
 use std::io;
 use std::io::Read;
 use stream::{Plain, Started};
@@ -387,7 +387,7 @@ fn replay(list: &[u8], counts: &mut [u64; 16]) {
     let mut place = Place { from: 0, to: 0 };
     let mut at = 0;
     while at < list.len() {
-        let Parsed::Good(entry) = replay_list::parse(list, at) else {
+        let Some(entry) = replay_list::parse(list, at) else {
             replay_list::tally(counts, 0, false);
             return;
         };
