@@ -25,7 +25,7 @@ pub record Single (f : Fst) (a : ℕ) (m : Node) : Type 0 where
   pub counted : m.ntrans ≡ 1
   pub listed : length (transitions_in f.bytes m) ≡ 1
 
-pub single : {s : List ℕ} {v root a : ℕ} {m : Node} → Judges s v root a (Sound m) → is_any m.state ≡ false → Single (fst_with s v root) a m
+pub single : {s : List ℕ} {v root a : ℕ} {m : Node} → Judges s v root a (Ok m) → is_any m.state ≡ false → Single (fst_with s v root) a m
 single {s} {m = m} j form =
     let ok = j.readable m refl in
     record {
