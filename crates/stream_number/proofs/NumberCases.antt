@@ -10,7 +10,8 @@ use mathlib.Core.List.{List}
 use Prim.Native.Nat.{ℕ, ◌≤◌}
 use native.Mathlib.Decide.{ℕ_discrete}
 use native.Mathlib.Omega.{arith}
-use borrow.Author.Tests.{eq-eqb, ne_eqb, le-leb}
+use borrow.Author.Tests.{le-leb}
+use lib.Dec.{eqb}
 use lib.ListN.{length, get_or}
 use Rattle.format.specs.Limits.{max_sum}
 use Rattle.format.specs.Paths.{Fst}
@@ -75,15 +76,15 @@ module _ (f : Fst) (c : List ℕ) {k : Bound} (x : List ℕ) where
 -- ---- the number
 
 module _ (f : Fst) (c : List ℕ) (lo hi : S.Bound) where
-  pub number_blank : length f.bytes ≡ 0 → comes_to 0 ≡ number f c lo hi
+  pub number_blank : eqb (length f.bytes) 0 ≡ true → comes_to 0 ≡ number f c lo hi
   unfolding number
-  number_blank z = rw (eq-eqb (length f.bytes) 0 z)
+  number_blank z = rw z
 
-  module _ (some : ¬ (length f.bytes ≡ 0)) where
+  module _ (some : eqb (length f.bytes) 0 ≡ false) where
     pub number_crossed : crosses lo hi ≡ true → comes_to 0 ≡ number f c lo hi
     unfolding number
-    number_crossed e = rw (ne_eqb (length f.bytes) 0 some, e)
+    number_crossed e = rw (some, e)
 
     pub number_read : crosses lo hi ≡ false → (r : Tally) → r ≡ less (within f c hi) (below_lower f c lo) → r ≡ number f c lo hi
     unfolding number
-    number_read e r is = rw (ne_eqb (length f.bytes) 0 some, e) is
+    number_read e r is = rw (some, e) is

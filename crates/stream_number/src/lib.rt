@@ -120,7 +120,7 @@ pub fn number(
         counts.now (bound_is lower_kind lower.now)
         (bound_is upper_kind upper.now) }
 {
-    if file.len() == 0 {
+    if file.is_empty() {
         return Tallied::Comes(0);
     }
     if crosses(lower_kind, lower, upper_kind, upper) {

@@ -8,17 +8,17 @@ use Rattle.stream_number.proofs.NumberCases.{number_blank, number_crossed, numbe
 use Rattle.stream_number.proofs.number.Goals as goal
 
 -- the file has no bytes
-pub returns-then-file-eq0 : goal.returns-then-file-eq0
-returns-then-file-eq0 c =
+pub returns-then-is_empty : goal.returns-then-is_empty
+returns-then-is_empty c =
     let a = c.args in
-    number_blank (fst_with a.file.now a.version a.root) a.counts.now (bound_is a.lower_kind a.lower.now) (bound_is a.upper_kind a.upper.now) c.if-file-eq0.true
+    number_blank (fst_with a.file.now a.version a.root) a.counts.now (bound_is a.lower_kind a.lower.now) (bound_is a.upper_kind a.upper.now) (sym c.is_empty.ensures ∙ c.if-is_empty.true)
 
 -- the bounds cross
 pub returns-then-crosses : goal.returns-then-crosses
 returns-then-crosses c =
     let a = c.args in
     number_crossed (fst_with a.file.now a.version a.root) a.counts.now (bound_is a.lower_kind a.lower.now) (bound_is a.upper_kind a.upper.now)
-    c.if-file-eq0.false (sym c.crosses.ensures ∙ c.if-crosses.true)
+    (sym c.is_empty.ensures ∙ c.if-is_empty.false) (sym c.crosses.ensures ∙ c.if-crosses.true)
 
 -- the keys within, less those before
 pub returns : goal.returns
@@ -27,5 +27,5 @@ returns c =
     let f = fst_with a.file.now a.version a.root in
     let lo = bound_is a.lower_kind a.lower.now in
     let hi = bound_is a.upper_kind a.upper.now in
-    number_read f a.counts.now lo hi c.if-file-eq0.false (sym c.crosses.ensures ∙ c.if-crosses.false) _
+    number_read f a.counts.now lo hi (sym c.is_empty.ensures ∙ c.if-is_empty.false) (sym c.crosses.ensures ∙ c.if-crosses.false) _
     (c.less.ensures (N.within f a.counts.now hi) (N.below_lower f a.counts.now lo) c.within-w.ensures c.below_lower-b.ensures)
