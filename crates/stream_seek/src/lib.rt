@@ -68,13 +68,11 @@ pub fn seek(
         [] lower.now) result addrs.new inps.new trans.new
         outs.new }
 {
-    let mut k = 0;
     let mut addr = root as u32;
     let mut inp: u8 = 0;
     let mut sum: u64 = 0;
-    while k < lower.len() {
-        let b = lower[k];
-        let entered = enter(file, version, root, addr as usize, b);
+    for (k, b) in lower.iter().enumerate() {
+        let entered = enter(file, version, root, addr as usize, *b);
         match entered {
             Entered::Unsound => {
                 return Sought::Halted(NODE);
@@ -84,17 +82,17 @@ pub fn seek(
                 return Sought::Levels(k + 1);
             }
             Entered::Hit(p, target, out) => {
-                if u64::MAX - sum < out {
+                let Some(more) = sum.checked_add(out) else {
                     return Sought::Halted(fst::past_sum(file, version, root, target as usize));
-                }
+                };
                 put_level(k, addr, inp, p + 1, sum, addrs, inps, trans, outs);
                 addr = target;
-                inp = b;
-                sum += out;
-                k += 1;
+                inp = *b;
+                sum = more;
             }
         }
     }
+    let k = lower.len();
     let Ok(_) = node::node_at(file, version, root, addr as usize) else {
         return Sought::Halted(NODE);
     };
