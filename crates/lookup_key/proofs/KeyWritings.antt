@@ -1,17 +1,14 @@
 -- The answer and the key buffer of a search by value, for each answer of the definition.
 -- Assumes nothing.
-use mathlib.Core.Path.{◌≡◌, refl, sym, ap, ◌∙◌}
-use mathlib.Core.List.{List, [], ◌∷◌, ◌++◌}
+use mathlib.Core.Path.{◌≡◌}
+use mathlib.Core.List.{List, ◌++◌}
 use Prim.Native.Nat.{ℕ, ◌≤◌}
-use native.Mathlib.Omega.{arith}
 use lib.ListN.{length, take, drop}
 use lib.Seq.{length-take-le}
 use Rattle.format.specs.Lookup as L
 use Rattle.format.specs.Lookup.{found}
-use Rattle.lookup_search.specs.declared.KeyAnswer.{KeyAnswer}
 use Rattle.lookup_search.specs.declared.KeyAnswer.TheVariants.{Key, None as NoKey, Refused as KeyRefused}
-use Rattle.format.specs.Limits.{max_path}
-use Rattle.lookup_search.specs.KeyAnswers.{key_is, key_len, KeyFits, KeyWritten}
+use Rattle.lookup_search.specs.KeyAnswers.{KeyWritten}
 
 pub written_none : (w : L.KeyAnswer) (buf : List ℕ) → w ≡ L.KeyAnswer.none → KeyWritten w buf buf NoKey
 written_none w buf e = record { answer = rw e; buffer = rw e }
@@ -23,7 +20,3 @@ pub written_key : (w : L.KeyAnswer) (path buf₀ buf : List ℕ) (n : ℕ) → w
 written_key w path buf₀ buf n e fits is =
     let len = length-take-le n path fits in
     record { answer = rw (e, len); buffer = rw (e, len) is }
-
--- the length of a found key
-pub key_fits : (r : KeyAnswer) (path : List ℕ) (n : ℕ) → KeyFits r path → r ≡ Key n → n ≤ max_path
-key_fits r path n h e = rw (ap key_len e) at h.fits
