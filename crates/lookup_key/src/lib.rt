@@ -36,8 +36,7 @@ pub fn get_key(file: &[u8], value: u64, key: &mut [u8]) -> KeyAnswer
                     key[..n].copy_from_slice(&path[..n]);
                     KeyAnswer::Key(n)
                 }
-                KeyAnswer::None => KeyAnswer::None,
-                KeyAnswer::Refused(why) => KeyAnswer::Refused(why),
+                unfound => unfound,
             }
         }
     }

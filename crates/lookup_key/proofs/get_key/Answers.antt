@@ -9,7 +9,7 @@ use Rattle.format.specs.Lookup.{get_key, get_key_from}
 use Rattle.format.specs.Laws.LookupLaws.{get_key_opened, get_key_blank, get_key_refused, get_key_space}
 use Rattle.format.specs.Laws.OpeningLaws.{version_blank, version_some}
 use Rattle.fst.specs.Open.{meta_is, opening_is}
-use Rattle.lookup_key.proofs.KeyWritings.{written_none, written_refused, written_key}
+use Rattle.lookup_key.proofs.KeyWritings.{written_none, written_refused, written_key, written_unfound}
 use Rattle.lookup_key.proofs.get_key.Goals as goal
 
 -- a file that opens and has bytes, with a buffer long enough, is searched from its root
@@ -49,18 +49,10 @@ returns-in-Key c =
     (searched a.file.now a.value (length a.key.now) (meta_is c.in-Meta.m) opens c.if-short.false c.if-m-eq0.false c.in-Key.ensures.path_after)
     (omega (arith, c.in-Key.ensures.key_fits.len, c.in-Key.ensures.key_fits.fits)) (ap (λ l. l ++ drop c.in-Key.n a.key.now) c.copy_from_slice.ensures.after)
 
--- no key is found
-pub returns-in-None : goal.returns-in-None
-returns-in-None c =
+-- no key is found, or the search is refused
+pub returns-in_default : goal.returns-in_default
+returns-in_default c =
     let a = c.args in
     let opens = sym c.open-opened.ensures ∙ ap opening_is c.in-Meta.is in
-    written_none _ a.key.now
-    (searched a.file.now a.value (length a.key.now) (meta_is c.in-Meta.m) opens c.if-short.false c.if-m-eq0.false c.in-None.ensures.path_after)
-
--- the search is refused
-pub returns-in-Refused-found : goal.returns-in-Refused-found
-returns-in-Refused-found c =
-    let a = c.args in
-    let opens = sym c.open-opened.ensures ∙ ap opening_is c.in-Meta.is in
-    written_refused _ a.key.now _
-    (searched a.file.now a.value (length a.key.now) (meta_is c.in-Meta.m) opens c.if-short.false c.if-m-eq0.false c.in-Refused-found.ensures.path_after)
+    written_unfound _ c.find_key-found.new.path a.key.now c.find_key-found.result c.in_default.not-Key
+    (searched a.file.now a.value (length a.key.now) (meta_is c.in-Meta.m) opens c.if-short.false c.if-m-eq0.false c.find_key-found.ensures.path_after)
