@@ -70,8 +70,8 @@ fn first_level(
     settle(new, version, root, root, m.ntrans, 0 == out)
 }
 
-// The level over one whose new node is below and whose running value is sum, with its old address, the byte that led to it and its running value: NODE
-// in the old file first, then CARRY where the new file lacks the byte.
+// The level over one whose new node is below and whose running value is sum, with its old address, the byte that led to it and its running value:
+// NODE in the old file first, then CARRY where the new file lacks the byte.
 fn next_level(
     old: &[u8],
     old_version: u64,

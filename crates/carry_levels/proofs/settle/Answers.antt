@@ -1,4 +1,5 @@
--- A level stands, or its node has another number of transitions, or its value is another. An address of a sound node fits 32 bits, since the root does.
+-- A level stands, or its node has another number of transitions, or its value is another.
+-- An address of a sound node fits 32 bits, since the root does.
 -- Assumes nothing.
 use Rattle.std.proofs.Common.{◌≡◌, arith}
 use native.Mathlib.Decide.{ℕ_discrete}
