@@ -35,11 +35,9 @@ fn settle(new: &[u8], version: u64, root: usize, addr: usize, ntrans: usize, sam
         return Settled::Halted(NODE);
     };
     let as_many = m.ntrans == ntrans;
-    if as_many {
-        if same {
-            let to = addr as u32;
-            return Settled::Stands(to, m);
-        }
+    if as_many && same {
+        let to = addr as u32;
+        return Settled::Stands(to, m);
     }
     Settled::Halted(CARRY)
 }
@@ -48,10 +46,7 @@ fn settle(new: &[u8], version: u64, root: usize, addr: usize, ntrans: usize, sam
 fn comes_to(sum: u64, output: u64, out: u64) -> bool
     ensures { result ≡ eqb (sum + output) out }
 {
-    if out < sum {
-        return false;
-    }
-    out - sum == output
+    sum <= out && out - sum == output
 }
 
 // The first level, whose old address is addr and whose running value is out: it stands at the root of the new file, with the running value 0.
@@ -75,8 +70,8 @@ fn first_level(
     settle(new, version, root, root, m.ntrans, 0 == out)
 }
 
-// The level over one whose new node is below and whose running value is sum, with its old address, the byte that led to it and its running value: NODE
-// in the old file first, then CARRY where the new file lacks the byte.
+// The level over one whose new node is below and whose running value is sum, with its old address, the byte that led to it and its running value:
+// NODE in the old file first, then CARRY where the new file lacks the byte.
 fn next_level(
     old: &[u8],
     old_version: u64,
@@ -105,13 +100,6 @@ fn next_level(
     settle(new, version, root, to, m.ntrans, comes_to(sum, output, out))
 }
 
-// A held address as a place in the file.
-fn wide_addr(addr: u32) -> usize
-    ensures { result ≡ addr }
-{
-    addr as usize
-}
-
 // The levels from the second on, where the first one's new node is first; their new addresses go to moved.
 fn other_levels(
     old: &[u8],
@@ -136,10 +124,9 @@ fn other_levels(
         (fst_with new.now version root) levels addrs.now inps.now
         outs.now moved.new result }
 {
-    let mut k = 1;
     let mut below = first;
-    while k < levels {
-        let addr = wide_addr(addrs[k]);
+    for k in 1..levels {
+        let addr = addrs[k] as usize;
         let sum = outs[k - 1];
         let settled = next_level(
             old,
@@ -161,7 +148,6 @@ fn other_levels(
             Settled::Stands(to, m) => {
                 moved[k] = to;
                 below = m;
-                k += 1;
             }
         }
     }
@@ -192,7 +178,7 @@ pub fn carry_levels(
     if levels == 0 {
         return CarriedLevels::All;
     }
-    let addr = wide_addr(addrs[0]);
+    let addr = addrs[0] as usize;
     let settled = first_level(
         old,
         old_version,

@@ -61,7 +61,7 @@ pub fn walk(
         },
         Walked::Ended(total) => ended(reading, total),
         Walked::Found(k, value, total) => {
-            buffers::copy_front(&inps[1..], k, key);
+            key[..k].copy_from_slice(&inps[1..k + 1]);
             let after = Reading {
                 len: reading.len,
                 kind,
