@@ -130,7 +130,7 @@ pub fn same_bytes(list: &[u8], at: usize, n: usize, buffer: &[u8; 4096]) -> bool
 pub fn at_most(n: u64, most: usize) -> usize
     ensures { (result ≡ smaller n most) × (result ≤ most) }
 {
-    if n < most as u64 { n as usize } else { most }
+    n.min(most as u64) as usize
 }
 
 // ---- the counts
@@ -140,10 +140,7 @@ fn more(counts: &mut [u64; 16], k: usize)
     requires { k < 16 }
     ensures { counts.new ≡ more_at counts.old k }
 {
-    let n = counts[k];
-    if n < u64::MAX {
-        counts[k] = n + 1;
-    }
+    counts[k] = counts[k].saturating_add(1);
 }
 
 // Counts a record of this kind, and whether it was answered alike. Kinds past 7 are counted as kind
