@@ -10,6 +10,8 @@ ghost use Rattle.replay_list.specs.Records.{Within, parsed_at, asked_place};
 ghost use Rattle.replay_list.specs.Tallies.{wanted_at, Holds, smaller, more_at, tallied};
 
 use std::io;
+use stream_start::{Begins, Bound};
+use stream_step::Answer;
 
 // The kind of a record that those after it are about, as a file: its part is what they ask of.
 pub const FILE: u64 = 1;
@@ -93,6 +95,34 @@ pub fn place_of(list: &[u8], entry: Entry, place: Place) -> Place
         };
     }
     place
+}
+
+// ---- readings
+
+// The kind of a bound: 0 included, 1 excluded, else unbounded.
+pub fn kind_of(n: u64) -> Bound {
+    match n {
+        0 => Bound::Included,
+        1 => Bound::Excluded,
+        _ => Bound::Unbounded,
+    }
+}
+
+// How a start is recorded: 0 where it gives a reading, else the refusal.
+pub fn begins_number(answer: Begins) -> u64 {
+    match answer {
+        Begins::Began => 0,
+        Begins::Refused(why) => why as u64,
+    }
+}
+
+// Whether an answer of next has the recorded number and value: a key's length and value, 1000 at the end, or 2000 plus the refusal.
+pub fn answer_alike(answer: Answer, number: u64, value: u64) -> bool {
+    match answer {
+        Answer::Key(n, v) => n as u64 == number && v == value,
+        Answer::End => number == 1000,
+        Answer::Refused(why) => 2000 + (why as u64) == number,
+    }
 }
 
 // ---- what a buffer holds
