@@ -47,6 +47,7 @@ pub fn number(list: &[u8], at: usize, size: usize) -> u64
 }
 
 // The record at place at, or none where the list ends within it.
+#[tactic(auto, unfolding(crate::specs::Records::parsed_at))]
 pub fn parse(list: &[u8], at: usize) -> Option<Entry>
     ensures { result ≡ parsed_at list.now at }
 {
@@ -84,6 +85,7 @@ pub fn end_of(list: &[u8], entry: Entry) -> usize
 }
 
 // The file that a record is about: its own part, or the file before it.
+#[tactic(auto, unfolding(crate::specs::Records::asked_place))]
 pub fn place_of(list: &[u8], entry: Entry, place: Place) -> Place
     requires { Within list.now entry }
     ensures { result ≡ asked_place entry place }
@@ -129,6 +131,7 @@ pub fn answer_alike(answer: Answer, number: u64, value: u64) -> bool {
 
 // The byte that a buffer is to hold at place i: that of the n bytes from place at of the list, or
 // behind them what it held.
+#[tactic(auto, unfolding(crate::specs::Tallies::wanted_at))]
 fn wanted(list: &[u8], at: usize, n: usize, i: usize) -> u8
     requires { at + n ≤ length list.now }
     ensures { result ≡ wanted_at list.now at n i }
@@ -175,6 +178,7 @@ fn more(counts: &mut [u64; 16], k: usize)
 
 // Counts a record of this kind, and whether it was answered alike. Kinds past 7 are counted as kind
 // 0: no record has it.
+#[tactic(auto, unfolding(crate::specs::Tallies::tallied))]
 pub fn tally(counts: &mut [u64; 16], kind: u64, alike: bool)
     ensures { counts.new ≡ tallied counts.old kind alike }
 {
