@@ -209,6 +209,7 @@ fn alike(list: &[u8], file: &[u8], entry: Entry) -> bool
 fn replay(list: &[u8], counts: &mut [u64; 16]) {
     let mut place = Place { from: 0, to: 0 };
     let mut at = 0;
+    // by place: each record says where the next begins
     while at < list.len() {
         let Some(entry) = replay_list::parse(list, at) else {
             replay_list::tally(counts, 0, false);

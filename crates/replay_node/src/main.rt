@@ -289,6 +289,7 @@ fn asked(rt: &impl Print, list: &[u8], node: &[u8], entry: Entry) -> io::Result<
 fn replay(rt: &impl Print, list: &[u8], counts: &mut [u64; 16]) -> io::Result<()> {
     let mut place = Place { from: 0, to: 0 };
     let mut at = 0;
+    // by place: each record says where the next begins
     while at < list.len() {
         let Some(entry) = replay_list::parse(list, at) else {
             replay_list::tally(counts, 0, false);

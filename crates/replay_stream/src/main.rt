@@ -184,6 +184,7 @@ fn fill_levels(
 )
     requires { (at + 15 * n ≤ length list.now) × (n ≤ 256) }
 {
+    // by index: four arrays are written at one place
     for i in 0..n {
         let from = at + 15 * i;
         addrs[i] = le_bytes::read_u32_le(&list[from..]);
@@ -304,6 +305,7 @@ fn replay(list: &[u8], counts: &mut [u64; 16]) {
     };
     let mut place = Place { from: 0, to: 0 };
     let mut at = 0;
+    // by place: each record says where the next begins
     while at < list.len() {
         let Some(entry) = replay_list::parse(list, at) else {
             replay_list::tally(counts, 0, false);
