@@ -7,10 +7,11 @@ ghost use Rattle.std.specs.Prelude.{◌≡◌, ◌+◌, ◌*◌, ◌≤◌, ◌<
 ghost use Rattle.buffers.specs.Decide.{Decides};
 ghost use Rattle.format.specs.Bytes.{le};
 ghost use Rattle.replay_list.specs.Records.{Within, parsed_at, asked_place};
+ghost use Rattle.replay_list.specs.Recorded.{start_number, answer_test};
 ghost use Rattle.replay_list.specs.Tallies.{wanted_at, Holds, smaller, more_at, tallied};
 
 use std::io;
-use stream_start::{Begins, Bound};
+use stream_start::Begins;
 use stream_step::Answer;
 
 // The kind of a record that those after it are about, as a file: its part is what they ask of.
@@ -101,17 +102,10 @@ pub fn place_of(list: &[u8], entry: Entry, place: Place) -> Place
 
 // ---- readings
 
-// The kind of a bound: 0 included, 1 excluded, else unbounded.
-pub fn kind_of(n: u64) -> Bound {
-    match n {
-        0 => Bound::Included,
-        1 => Bound::Excluded,
-        _ => Bound::Unbounded,
-    }
-}
-
 // How a start is recorded: 0 where it gives a reading, else the refusal.
-pub fn begins_number(answer: Begins) -> u64 {
+pub fn begins_number(answer: Begins) -> u64
+    ensures { result ≡ start_number answer }
+{
     match answer {
         Begins::Began => 0,
         Begins::Refused(why) => why as u64,
@@ -119,7 +113,9 @@ pub fn begins_number(answer: Begins) -> u64 {
 }
 
 // Whether an answer of next has the recorded number and value: a key's length and value, 1000 at the end, or 2000 plus the refusal.
-pub fn answer_alike(answer: Answer, number: u64, value: u64) -> bool {
+pub fn answer_alike(answer: Answer, number: u64, value: u64) -> bool
+    ensures { result ≡ answer_test answer number value }
+{
     match answer {
         Answer::Key(n, v) => n as u64 == number && v == value,
         Answer::End => number == 1000,

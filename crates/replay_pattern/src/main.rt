@@ -8,11 +8,10 @@ ghost use Rattle.replay_list.specs.Records.{Within};
 
 use patterned::Patterned;
 use patterned_held::Pattern;
-use replay_list::{
-    Entry, FILE, KEPT, Place, answer_alike, at_most, begins_number, kind_of, number,
-};
+use replay_list::{Entry, FILE, KEPT, Place, answer_alike, at_most, begins_number, number};
 use std::io;
 use std::io::Read;
+use stream_arrays::kind_of;
 use stream_start::Bound;
 
 // The list's length, and one byte more by which a longer list is seen.
