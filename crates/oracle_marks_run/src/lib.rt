@@ -159,7 +159,7 @@ pub fn run_operations(
     let count = operations.len().min(answers.len()).min(rows.len() / ROW);
     let by_pattern = rest != 0;
     let mut held = nothing();
-    // by index: a `zip` of the operations, the answers and the rows has no generated proof, since each is lent for a lifetime of its own
+    // by index: the operations, the answers and the rows zipped are no chain that the borrow checker covers
     for i in 0..count {
         let at = i * ROW;
         let op = operations[i];

@@ -198,7 +198,7 @@ pub fn run_events(
 ) -> u64 {
     let count = events.len().min(answers.len()).min(rows.len() / ROW);
     let mut seats = seats::new();
-    // by index: a `zip` of the events, the answers and the rows has no generated proof, since each is lent for a lifetime of its own
+    // by index: the events, the answers and the rows zipped are no chain that the borrow checker covers
     for i in 0..count {
         let at = i * ROW;
         let row = &mut rows[at..at + ROW];
