@@ -16,11 +16,13 @@ pub fn put_bytes(out: &mut [u8], at: usize, bytes: &[u8]) -> usize
     ensures { PutAt out.old at (stored_bytes bytes.now)
         out.new result }
 {
-    let end = at + bytes.len();
-    let part = &mut out[at..end];
-    part.copy_from_slice(bytes);
-    part.reverse();
-    end
+    let mut p = at;
+    // byte by byte: the library's copy would have the C library call memmove, where it cannot see the two apart
+    for i in (0..bytes.len()).rev() {
+        out[p] = bytes[i];
+        p += 1;
+    }
+    p
 }
 
 // The place of each byte among the inputs, and 255 for a byte that is none of them.

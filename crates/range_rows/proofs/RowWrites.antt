@@ -1,21 +1,46 @@
--- A key's bytes written into a row behind their length.
---     put_part     a part of the rows, lent on and back
---     row_put      the length's byte, and the key's bytes after it
+-- A key's bytes written into a row one after the other, and the row with its length in front.
+--     KeyCopied rows₀ first n key rows i     the first i of the key's n bytes stand from place first on
+--     key_none, key_step                     before the first byte, after a byte
+--     row_put                                after the last, with the length's byte before them
 -- Assumes nothing.
-use Rattle.std.specs.Prelude.{◌≡◌, List, [], ◌∷◌, ◌++◌, ℕ, ◌+◌, ◌≤◌, length, take, drop, set}
-use Rattle.std.proofs.Common.{sym, ap, ◌∙◌, append_assoc, arith, drop-drop, length-take-le}
-use borrow.Rule.Slice.PartMut.{put_mid}
+use mathlib.Core.Path.{◌≡◌, refl, sym, ap, ◌∙◌}
+use mathlib.Core.List.{List, [], ◌∷◌, ◌++◌}
+use Prim.Native.Nat.{ℕ, ◌+◌, ◌≤◌, ◌<◌}
+use native.Mathlib.Numerals.{add-one}
+use native.Mathlib.Omega.{arith}
+use lib.ListN.{length, get_or, take, set, length-set}
+use lib.Seq.{take-suc, length-take-le}
 use Rattle.buffers.specs.Put.{put}
-use Rattle.buffers.specs.PutLaws.{put_append, set_put}
+use Rattle.buffers.specs.PutLaws.{put_nil, put_next, put_append, set_put}
 
-pub put_part : (at k : ℕ) (out part v : List ℕ) → part ≡ v → k ≡ length v → put_mid at k out part ≡ put out at v
-unfolding put
-put_part at k out part v holds l =
-    rw (holds, ← l) (ap (λ (rest : List ℕ). take at out ++ (v ++ rest)) (drop-drop k at out) ∙ sym (append_assoc (take at out) v (drop (at + k) out)))
+pub record KeyCopied (rows₀ : List ℕ) (first n : ℕ) (key rows : List ℕ) (i : ℕ) : Type 0 where
+  pub within : i ≤ n
+  pub len : length rows ≡ length rows₀
+  pub is : rows ≡ put rows₀ first (take i key)
 
-pub row_put : (rows : List ℕ) (at n : ℕ) (key : List ℕ) → at + 256 ≤ length rows → n ≤ 255 → n ≤ length key
-    → put (set rows at n) (at + 1) (take n key) ≡ put rows at (n ∷ take n key)
-row_put rows at n key room short held =
+pub key_none : (rows₀ : List ℕ) (first n : ℕ) (key : List ℕ) → KeyCopied rows₀ first n key rows₀ 0
+key_none rows₀ first n key = record { within = omega arith; len = refl; is = sym (put_nil rows₀ first) }
+
+pub key_step : {rows₀ : List ℕ} {first n : ℕ} {key rows : List ℕ} {i : ℕ} → first + n ≤ length rows₀ → n ≤ length key → i < n
+    → KeyCopied rows₀ first n key rows i → KeyCopied rows₀ first n key (set rows (first + i) (get_or key i 0)) (i + 1)
+key_step {rows₀} {first} {n} {key} {rows} {i} room held l w =
+    let len = w.len in
+    let x = get_or key i 0 in
+    let t : length (take i key) ≡ i = length-take-le i key (omega arith) in
+    let more : put rows (first + i) (x ∷ []) ≡ put rows₀ first (take i key ++ (x ∷ [])) =
+    put_next rows₀ first (take i key) (x ∷ []) w.is (omega arith) (omega arith) in
+    record {
+      within = omega arith;
+      len = length-set rows (first + i) x ∙ len;
+      is = set_put rows (first + i) x (omega arith) ∙ more ∙ rw (add-one, take-suc key i 0 (omega arith));
+    }
+
+pub row_put : (rows₀ : List ℕ) (at n : ℕ) (key : List ℕ) {rows : List ℕ} {i : ℕ} → at + 256 ≤ length rows₀ → n ≤ 255 → n ≤ length key → n ≤ i
+    → KeyCopied (set rows₀ at n) (at + 1) n key rows i → rows ≡ put rows₀ at (n ∷ take n key)
+row_put rows₀ at n key {rows} {i} room short held past w =
+    let e : i ≡ n = omega (arith, w.within) in
     let t : length (take n key) ≡ n = length-take-le n key held in
-    ap (λ (l : List ℕ). put l (at + 1) (take n key)) (set_put rows at n (omega arith))
-    ∙ put_append rows at (n ∷ []) (take n key) (omega arith)
+    w.is
+    ∙ ap (λ (j : ℕ). put (set rows₀ at n) (at + 1) (take j key)) e
+    ∙ ap (λ (l : List ℕ). put l (at + 1) (take n key)) (set_put rows₀ at n (omega arith))
+    ∙ put_append rows₀ at (n ∷ []) (take n key) (omega arith)

@@ -1,4 +1,4 @@
--- How the lists of answers record what a start and a next answer (oracle/README.md, "The replay lists").
+-- How the lists of answers record what a start and a next answer (crates/replay_stream/README.md, crates/replay_pattern/README.md).
 --     start_number a       0 where a start gives a reading, else its refusal
 --     answer_test a n v    whether an answer has the number n and the value v: a key's length and value, 1000 at the end, 2000 and the refusal
 -- Assumes nothing.

@@ -1,15 +1,17 @@
--- The bytes are copied and turned round, which is how they are stored.
-use Rattle.std.proofs.Common.{◌∙◌, ap, reverse, arith}
-use Rattle.buffers.specs.PutLaws.{put_part}
-use Rattle.format.specs.Laws.PackedLaws.{length_stored_bytes}
-use Rattle.node_parts.proofs.Storing.{reverse_stored}
+-- One byte more is written, from the last on back.
+use Rattle.std.proofs.Common.{refl, length, arith}
+use Rattle.node_parts.proofs.Storing.{bytes_none, bytes_room, bytes_step, bytes_all}
 use Rattle.node_parts.proofs.put_bytes.Goals as goal
 
-pub slice_bounds-part-end : goal.slice_bounds-part-end
-slice_bounds-part-end c = omega (arith, length_stored_bytes c.args.bytes.now)
+pub loop-i-init : goal.loop-i-init
+loop-i-init c = bytes_none c.args.out.now c.args.at c.args.bytes.now
+
+-- the buffer has room for the bytes that are left
+pub bounds-out-p : goal.bounds-out-p
+bounds-out-p c = bytes_room c.requires (omega arith) c.loop-i.invariant
+
+pub loop-i-preserved : goal.loop-i-preserved
+loop-i-preserved c = bytes_step c.requires (omega arith) c.loop-i.invariant
 
 pub returns : goal.returns
-returns c = record {
-  is = put_part _ _ _ _ _ (c.reverse.ensures.after ∙ ap reverse c.copy_from_slice.ensures.after ∙ reverse_stored c.args.bytes.now) (omega (arith, length_stored_bytes c.args.bytes.now));
-  next = omega (arith, length_stored_bytes c.args.bytes.now);
-}
+returns c = bytes_all (omega arith) c.loop-i.invariant

@@ -1,12 +1,16 @@
--- `range_rows::put_row` meets its contract: the length's byte is written, and the key's bytes after it.
+-- `range_rows::put_row` meets its contract: no byte of the key is written yet; one more is; all are.
 -- Assumes nothing.
-use Rattle.std.proofs.Common.{◌≡◌, ◌+◌, ◌-◌, ◌∙◌, arith, length, take, set, length-take-le}
-use Rattle.range_rows.proofs.RowWrites.{put_part, row_put}
+use Rattle.std.proofs.Common.{arith, length, set}
+use lib.ListN.{length-set}
+use Rattle.range_rows.proofs.RowWrites.{key_none, key_step, row_put}
 use Rattle.range_rows.proofs.put_row.Goals as goal
 
+pub loop-i-init : goal.loop-i-init
+loop-i-init c = key_none _ _ _ _
+
+pub loop-i-preserved : goal.loop-i-preserved
+loop-i-preserved c =
+    key_step (omega (arith, length-set c.args.rows.now c.args.at c.args.n)) c.requires.0 c.loop-i-test.true c.loop-i.invariant
+
 pub returns : goal.returns
-returns c =
-    let a = c.args in
-    let l : a.at + 1 + a.n - (a.at + 1) ≡ length (take a.n a.key.now) = omega (arith, length-take-le a.n a.key.now c.requires.0) in
-    put_part (a.at + 1) _ (set a.rows.now a.at a.n) c.copy_from_slice.new.self (take a.n a.key.now) c.copy_from_slice.ensures.after l
-    ∙ row_put a.rows.now a.at a.n a.key.now c.requires.2 c.requires.1 c.requires.0
+returns c = row_put c.args.rows.now c.args.at c.args.n c.args.key.now c.requires.2 c.requires.1 c.requires.0 c.loop-i-test.false c.loop-i.invariant
