@@ -4,7 +4,7 @@
 --     admitted_is     an admitted file is refused only for want of room
 --     exactly         both, as one claim
 -- Assumes nothing.
-use Rattle.std.specs.Prelude.{◌≡◌, refl, ◌⊎◌, List, ℕ, ◌≤◌, length}
+use Rattle.std.specs.Prelude.{◌≡◌, refl, List, ℕ, ◌≤◌, length}
 use Rattle.std.proofs.Common.{subst, ⊎_elim, arith}
 use Rattle.format.specs.Opening.{Meta, opened, opening}
 use Rattle.format.specs.Paths.{Fst, fst_of}

@@ -20,34 +20,6 @@ pub enum Admission {
     Refused(u8),
 }
 
-// ---- the tables
-
-// The first n entries to 0.
-pub fn clear16(t: &mut [u16], n: usize)
-    requires { n ≤ length t.old }
-    ensures { t.new ≡ replicate n 0 ++ drop n t.old }
-{
-    let mut i = 0;
-    while i < n {
-        t[i] = 0;
-        i += 1;
-    }
-}
-
-// The first n entries to 0.
-pub fn clear64(t: &mut [u64], n: usize)
-    requires { n ≤ length t.old }
-    ensures { t.new ≡ replicate n 0 ++ drop n t.old }
-{
-    let mut i = 0;
-    while i < n {
-        t[i] = 0;
-        i += 1;
-    }
-}
-
-// ---- the answer
-
 // Judges all nodes, with both tables at zero over the file; root 0 has no chain.
 fn judge(file: &[u8], version: u64, root: usize, depths: &mut [u16], sums: &mut [u64]) -> Verdict
     requires { Cleared file.now depths.old sums.old root }
@@ -57,7 +29,7 @@ fn judge(file: &[u8], version: u64, root: usize, depths: &mut [u16], sums: &mut 
     if root == 0 {
         return Verdict::Good;
     }
-    if walk(file, version, root, depths) {} else {
+    if !walk(file, version, root, depths) {
         return Verdict::Lost;
     }
     // address 0 may have a mark, and is no node of the chain
@@ -72,8 +44,8 @@ fn refused(depths: &mut [u16], sums: &mut [u64], n: usize, why: u8) -> Admission
         × (depths.new ≡ replicate n 0 ++ drop n depths.old)
         × (sums.new ≡ replicate n 0 ++ drop n sums.old) }
 {
-    clear16(depths, n);
-    clear64(sums, n);
+    depths[..n].fill(0);
+    sums[..n].fill(0);
     Admission::Refused(why)
 }
 
@@ -96,8 +68,8 @@ fn admit_opened(
     if sums.len() < n {
         return Admission::Refused(SPACE);
     }
-    clear16(depths, n);
-    clear64(sums, n);
+    depths[..n].fill(0);
+    sums[..n].fill(0);
     let v = judge(file, version, root, depths, sums);
     match v {
         Verdict::Good => Admission::Admitted,

@@ -3,7 +3,8 @@
 --     DepthE, SumE          the entries for an address that is passed
 --     Filling f ..          all of this, with the flags
 -- Assumes nothing.
-use mathlib.Core.Path.{◌≡◌, refl, sym, ap, ◌∙◌, subst}
+use Rattle.std.specs.Prelude.{Option, Some}
+use mathlib.Core.Path.{◌≡◌, refl, sym, ap, ◌∙◌}
 use mathlib.Core.Bool.{Bool, true, false, cond}
 use mathlib.Core.List.{List, Memᴰ}
 use Prim.Native.Nat.{ℕ, ◌+◌, ◌≤◌, ◌<◌, min}
@@ -20,8 +21,6 @@ use Rattle.format.specs.Node.{Node, sound}
 use Rattle.format.specs.Paths.{Fst, node_in}
 use Rattle.format.specs.Laws.NodeFacts.{node_target_lt, node_final_lt}
 use Rattle.format.specs.Tables.{longest, largest_sum}
-use Rattle.admission_node.specs.declared.Total.{Total}
-use Rattle.admission_node.specs.declared.Total.TheVariants.{Is}
 use Rattle.admission_node.specs.declared.Survey.{Survey}
 use Rattle.admission_fill.specs.declared.Verdict.{Verdict}
 use Rattle.admission_fill.specs.declared.Verdict.TheVariants.{Deep, Good, Heavy}
@@ -133,7 +132,7 @@ module _ {f : Fst} {d₀ s₀ d s : List ℕ} {deep heavy : Bool} {a : ℕ} (h :
         record { sounds = λ ne. ok.sounds a inside (live_here ne); ready = λ ne. record { each = λ m q. surveyable m q bytes ld ls } }
 
     -- the flags of a step, where the number before is kept: both tables, with the entries stored at a
-    stored : (x : ℕ) (t : Total) → (cond (ltb 256 x) true deep ≡ false → deep ≡ false) → (or_over heavy t ≡ false → heavy ≡ false)
+    stored : (x : ℕ) (t : Option ℕ) → (cond (ltb 256 x) true deep ≡ false → deep ≡ false) → (or_over heavy t ≡ false → heavy ≡ false)
         → DepthE f d₀ (cond (ltb 256 x) true deep) a (min x 257) → SumE f d₀ (or_over heavy t) a (entry_is t)
         → (cond (ltb 256 x) true deep ≡ true → DeepOne f d₀) → (or_over heavy t ≡ true → HeavyOne f d₀)
         → Filling f d₀ s₀ (set d a (min x 257)) (set s a (entry_is t)) (cond (ltb 256 x) true deep) (or_over heavy t) (a + 1)
@@ -156,12 +155,12 @@ module _ {f : Fst} {d₀ s₀ d s : List ℕ} {deep heavy : Bool} {a : ℕ} (h :
     unused_store : get_or d a 0 ≡ 3 → Filling f d₀ s₀ (set d a (min 0 257)) (set s a 0) deep heavy (a + 1)
     unused_store is =
         let away : ¬ Live d₀ a = λ live. omega (arith, mark_was) in
-        stored 0 (Is 0) (λ e. e) (λ e. e)
+        stored 0 (Some 0) (λ e. e) (λ e. e)
         (record { off = λ _. omega arith; low = omega arith; on = λ _ live. absurd (away live); fine = λ _ live. absurd (away live) })
         (record { off = λ _. refl; on = λ _ live. absurd (away live); fine = λ _ live. absurd (away live) })
         h.one_deep h.one_heavy
 
-    module _ (m : Node) (q : node_in f a ≡ sound m) (live : Live d₀ a) (x : ℕ) (t : Total) (x_is : x ≡ deepest d m.transitions + 1)
+    module _ (m : Node) (q : node_in f a ≡ sound m) (live : Live d₀ a) (x : ℕ) (t : Option ℕ) (x_is : x ≡ deepest d m.transitions + 1)
         (t_is : t ≡ total_as (heaviest s m.final_output m.transitions)) where
       -- a target below a has a reached mark, and every address below a that is led to is passed
       target_live : (u : Transition) → Memᴰ u m.transitions → ¬ (u.addr ≡ 0) → Live d₀ u.addr
@@ -250,14 +249,14 @@ filling_ends h v found = record { depths_kept = h.depths_kept; sums_kept = h.sum
 -- ---- every address is passed
 
 module _ {f : Fst} {d₀ s₀ d s : List ℕ} {deep heavy : Bool} {a : ℕ} (h : Filling f d₀ s₀ d s deep heavy a) (all : length f.bytes ≤ a) where
-  pub passed_all : AllPassed d₀ (length f.bytes)
+  passed_all : AllPassed d₀ (length f.bytes)
   passed_all = record { each = λ j l. h.passed.each j (omega arith) }
 
-  pub filled_heavy : deep ≡ false → heavy ≡ true → HeavyCase f d₀
+  filled_heavy : deep ≡ false → heavy ≡ true → HeavyCase f d₀
   filled_heavy no_deep is =
       record { passed = passed_all; low = λ j l. (h.depths.below j (omega arith)).fine no_deep; one = h.one_heavy is }
 
-  pub filled_good : deep ≡ false → heavy ≡ false → GoodAll f d₀ d s
+  filled_good : deep ≡ false → heavy ≡ false → GoodAll f d₀ d s
   filled_good no_deep no_heavy =
       record {
         passed = passed_all;

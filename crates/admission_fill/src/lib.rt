@@ -21,17 +21,17 @@ pub enum Verdict {
     Heavy,
 }
 
-// What the two flags say of the whole file: DEEP is decided over all reached nodes, and SUM after it.
+// What the two flags say once all nodes are passed: DEEP is decided over all reached nodes, and SUM after it.
 fn verdict_of(deep: bool, heavy: bool) -> Verdict
     ensures { result ≡ cond deep Deep (cond heavy Heavy Good) }
 {
     if deep {
-        return Verdict::Deep;
+        Verdict::Deep
+    } else if heavy {
+        Verdict::Heavy
+    } else {
+        Verdict::Good
     }
-    if heavy {
-        return Verdict::Heavy;
-    }
-    Verdict::Good
 }
 
 // Fills both tables at the marks, in ascending order of addresses. The sums' entries are zeros at entry.
@@ -42,8 +42,7 @@ pub fn fill(file: &[u8], version: u64, root: usize, depths: &mut [u16], sums: &m
 {
     let mut deep = false;
     let mut heavy = false;
-    let mut a = 0;
-    while a < file.len() {
+    for a in 0..file.len() {
         let mark = depths[a];
         if mark != 0 {
             // a node leads here, and here is none of the chain
@@ -59,7 +58,6 @@ pub fn fill(file: &[u8], version: u64, root: usize, depths: &mut [u16], sums: &m
             depths[a] = clamped(d);
             sums[a] = entry_of(t);
         }
-        a += 1;
     }
     verdict_of(deep, heavy)
 }

@@ -1,6 +1,7 @@
 -- One node, by the entries of its targets: what is known after the first i of its transitions.
 --     SurveyedTo ..       their largest depth and their largest sum
 -- Assumes nothing.
+use Rattle.std.specs.Prelude.{Option, Some}
 use mathlib.Core.Path.{◌≡◌, refl, sym, ap, ◌∙◌, subst}
 use mathlib.Core.Logic.{⊎_elim}
 use mathlib.Core.List.Memᴰ
@@ -16,10 +17,11 @@ use Rattle.format.specs.Node.{Node, sound, transition_at}
 use Rattle.format.specs.Paths.{Fst, node_in}
 use Rattle.format.specs.Laws.TransitionLaws.{at_member}
 use Rattle.format.specs.Tables.{max_of}
-use Rattle.admission_node.specs.declared.Total.{Total}
-use Rattle.admission_node.specs.declared.Total.TheVariants.{Is}
 use Rattle.admission_node.specs.declared.Survey.{Survey}
-use Rattle.admission_node.specs.Entries.{child_depth, child_sum, deepest, heaviest, total_as, raised_by, Surveyable, Surveyed, SurveyedNode, SurveyedAt}
+use Rattle.admission_node.specs.Entries.{child_depth, child_sum, deepest, heaviest, total_as, raised_by, Surveyable, Surveyed, SurveyReady, SurveyedNode, SurveyedAt}
+use Rattle.node.specs.declared.Node as Node
+use Rattle.node.specs.Read.{transitions_in}
+use Rattle.admission_node.proofs.JudgedNodes.{Single}
 use Rattle.admission_node.specs.TotalLaws.{total_of_le, raised_total}
 
 -- ---- the largest over one transition more
@@ -54,18 +56,16 @@ each_more P ts i l before this t m =
 
 -- ---- the loop
 
-pub record SurveyedTo (d s : List ℕ) (out : ℕ) (ts : List Transition) (i best : ℕ) (total : Total) : Type 0 where
-  pub within : i ≤ length ts
+pub record SurveyedTo (d s : List ℕ) (out : ℕ) (ts : List Transition) (i best : ℕ) (total : Option ℕ) : Type 0 where
   pub low : best ≤ max_path + 2
   pub best_is : best ≡ deepest d (take i ts)
   pub total_is : total ≡ total_as (heaviest s out (take i ts))
 
-pub surveyed_none : {d s : List ℕ} {out : ℕ} {ts : List Transition} → Surveyable d s out ts → SurveyedTo d s out ts 0 0 (Is out)
+pub surveyed_none : {d s : List ℕ} {out : ℕ} {ts : List Transition} → Surveyable d s out ts → SurveyedTo d s out ts 0 0 (Some out)
 unfolding deepest heaviest max_of
 surveyed_none {out = out} ok =
     let same : out ≡ max out 0 = omega arith in
     record {
-      within = omega arith;
       low = omega arith;
       best_is = refl;
       total_is = total_of_le out ok.out_le ∙ ap total_as same;
@@ -85,14 +85,13 @@ module _ {d s : List ℕ} {out : ℕ} {ts : List Transition} (ok : Surveyable d 
     pub target_small : c ≤ max_path + 2
     target_small = omega (arith, depth_is, ok.small (transition_at ts i) (at_member ts i l))
 
-    pub surveyed_step : {best : ℕ} {total : Total} (w x best' : ℕ) (total' : Total) → SurveyedTo d s out ts i best total
+    pub surveyed_step : {best : ℕ} {total : Option ℕ} (w x best' : ℕ) (total' : Option ℕ) → SurveyedTo d s out ts i best total
         → x ≡ child_sum s a → w ≡ (transition_at ts i).out → best' ≡ max best c → total' ≡ raised_by total (w + x)
         → SurveyedTo d s out ts (i + 1) best' total'
     surveyed_step {best} {total} w x best' total' before x_is w_is best_now total_now =
         let small = ok.small (transition_at ts i) (at_member ts i l) in
         let sum_is : w + x ≡ (transition_at ts i).out + child_sum s (transition_at ts i).addr = rw (w_is, x_is, a_is) in
         record {
-          within = omega arith;
           low = omega (arith, before.low, depth_is);
           best_is = omega (arith, before.best_is, depth_is, deepest_more d ts i l);
           total_is =
@@ -103,7 +102,7 @@ module _ {d s : List ℕ} {out : ℕ} {ts : List Transition} (ok : Surveyable d 
               ∙ ap total_as (sym (heaviest_more s out ts i l));
         }
 
-pub surveyed_all : {d s : List ℕ} {out : ℕ} {ts : List Transition} {i best : ℕ} {total : Total} → SurveyedTo d s out ts i best total → length ts ≤ i
+pub surveyed_all : {d s : List ℕ} {out : ℕ} {ts : List Transition} {i best : ℕ} {total : Option ℕ} → SurveyedTo d s out ts i best total → length ts ≤ i
     → Surveyed d s out ts (record { depth = best + 1; total = total })
 surveyed_all {d} {s} {out} {ts} {i} {best} {total} h l =
     let all : take i ts ≡ ts = take_all i ts l in
@@ -112,14 +111,6 @@ surveyed_all {d} {s} {out} {ts} {i} {best} {total} h l =
       total = h.total_is ∙ ap (λ u. total_as (heaviest s out u)) all;
     }
 
--- ---- one transition
-
-pub one_surveyed : {d s : List ℕ} {out : ℕ} {ts : List Transition} → Surveyable d s out ts → length ts ≡ 1 → (a : ℕ) → a ≡ (transition_at ts 0).addr
-    → (c : ℕ) → c ≡ child_depth d a → (w x best : ℕ) (total : Total) → x ≡ child_sum s a → w ≡ (transition_at ts 0).out → best ≡ max 0 c
-    → total ≡ raised_by (Is out) (w + x) → Surveyed d s out ts (record { depth = best + 1; total = total })
-one_surveyed ok one a a_is c c_is w x best total x_is w_is best_is total_is =
-    surveyed_all (surveyed_step ok 0 (omega arith) a a_is c c_is w x best total (surveyed_none ok) x_is w_is best_is total_is) (omega arith)
-
 -- ---- the node at an address
 
 pub surveyed_node : {f : Fst} {d s : List ℕ} {a : ℕ} {r : Survey} (m : Node) → node_in f a ≡ sound m → Surveyed d s m.final_output m.transitions r
@@ -127,9 +118,34 @@ pub surveyed_node : {f : Fst} {d s : List ℕ} {a : ℕ} {r : Survey} (m : Node)
 surveyed_node {f} {d} {s} {r = r} m e h =
     record { each = λ n e'. let same : m ≡ n = cc in subst (λ (x : Node). Surveyed d s x.final_output x.transitions r) same h }
 
+-- ---- a node with one transition
+
+module _ {f : Fst} {a : ℕ} {m : Node.Node} {d s : List ℕ} (one : Single f a m) (ready : SurveyReady f d s a) (t : ℕ)
+    (t_is : t ≡ (transition_at (transitions_in f.bytes m) 0).addr) where
+  able : Surveyable d s m.final_output (transitions_in f.bytes m)
+  able = ready.each _ one.node_is
+
+  pub single_in_depths : t < length d
+  single_in_depths = target_in_depths able 0 (omega (arith, one.listed)) t t_is
+
+  pub single_in_sums : t < length s
+  single_in_sums = target_in_sums able 0 (omega (arith, one.listed)) t t_is
+
+  module _ (c : ℕ) (c_is : c ≡ child_depth d t) where
+    pub single_small : c ≤ max_path + 2
+    single_small = target_small able 0 (omega (arith, one.listed)) t t_is c c_is
+
+    pub single_surveyed : (w x : ℕ) (total : Option ℕ) → x ≡ child_sum s t → w ≡ (transition_at (transitions_in f.bytes m) 0).out
+        → total ≡ raised_by (Some m.final_output) (w + x) → SurveyedNode f d s a (record { depth = c + 1; total = total })
+    single_surveyed w x total x_is w_is total_is =
+        surveyed_node _ one.node_is
+        (surveyed_all
+        (surveyed_step able 0 (omega (arith, one.listed)) t t_is c c_is w x c total (surveyed_none able) x_is w_is (omega arith) total_is)
+        (omega (arith, one.listed)))
+
 -- ---- by the mark
 
-pub unused_surveyed : {f : Fst} {d s : List ℕ} {a mark : ℕ} → mark ≡ 3 → SurveyedAt f d s a mark (record { depth = 0; total = Is 0 })
+pub unused_surveyed : {f : Fst} {d s : List ℕ} {a mark : ℕ} → mark ≡ 3 → SurveyedAt f d s a mark (record { depth = 0; total = Some 0 })
 unused_surveyed is = record { no_depth = λ _. refl; no_total = λ _. refl; found = λ ne. absurd (ne is) }
 
 pub surveyed_at : {f : Fst} {d s : List ℕ} {a mark : ℕ} {r : Survey} → ¬ (mark ≡ 3) → SurveyedNode f d s a r → SurveyedAt f d s a mark r

@@ -11,15 +11,13 @@
 --     total_as, raised_by, entry_is, or_over     sums that may pass the limit
 --     Surveyed, SurveyedAt    what a node's targets say of it; the same by its mark
 -- Assumes nothing.
-use Rattle.std.specs.Prelude.{◌≡◌, Bool, true, false, cond, ◌⊎◌, ℕ, ◌+◌, ◌≤◌, ◌<◌, max, leb, eqb, length, get_or, drop}
+use Rattle.std.specs.Prelude.{◌≡◌, Bool, true, cond, ◌⊎◌, ℕ, ◌+◌, ◌≤◌, ◌<◌, max, leb, eqb, length, get_or, drop, Option, Some, None}
 use mathlib.Core.List.{List, Memᴰ}
 use Rattle.format.specs.declared.Transition.{Transition}
 use Rattle.format.specs.Limits.{max_path, max_sum}
 use Rattle.format.specs.Node.{Node, sound, SoundAt}
 use Rattle.format.specs.Paths.{Fst, node_in}
 use Rattle.format.specs.Tables.{max_of}
-use Rattle.admission_node.specs.declared.Total.{Total}
-use Rattle.admission_node.specs.declared.Total.TheVariants.{Is, Over}
 use Rattle.admission_node.specs.declared.Survey.{Survey}
 
 pub record Kept (n : ℕ) (d₀ d : List ℕ) : Type 0 where
@@ -68,21 +66,21 @@ unfolding max_of
 heaviest s out ts = max out (max_of (λ t. t.out + child_sum s t.addr) ts)
 
 -- n as a total
-abbrev pub total_as : ℕ → Total
-total_as n = cond (leb n max_sum) (Is n) Over
+abbrev pub total_as : ℕ → Option ℕ
+total_as n = cond (leb n max_sum) (Some n) None
 
 -- the larger of a total and x
-abbrev pub raised_by : Total → ℕ → Total
-raised_by (Is b) x = cond (leb x max_sum) (Is (max b x)) Over
-raised_by Over x = Over
+abbrev pub raised_by : Option ℕ → ℕ → Option ℕ
+raised_by (Some b) x = cond (leb x max_sum) (Some (max b x)) None
+raised_by None x = None
 
-abbrev pub entry_is : Total → ℕ
-entry_is (Is x) = x
-entry_is Over = max_sum
+abbrev pub entry_is : Option ℕ → ℕ
+entry_is (Some x) = x
+entry_is None = max_sum
 
-abbrev pub or_over : Bool → Total → Bool
-or_over heavy (Is x) = heavy
-or_over heavy Over = true
+abbrev pub or_over : Bool → Option ℕ → Bool
+or_over heavy (Some x) = heavy
+or_over heavy None = true
 
 -- the targets lie within the tables, and their entries and the final output are small
 pub record Surveyable (d s : List ℕ) (out : ℕ) (ts : List Transition) : Type 0 where
@@ -109,5 +107,5 @@ pub record SurveyableAt (f : Fst) (d s : List ℕ) (a mark : ℕ) : Type 0 where
 
 pub record SurveyedAt (f : Fst) (d s : List ℕ) (a mark : ℕ) (r : Survey) : Type 0 where
   pub no_depth : mark ≡ 3 → r.depth ≡ 0
-  pub no_total : mark ≡ 3 → r.total ≡ Is 0
+  pub no_total : mark ≡ 3 → r.total ≡ Some 0
   pub found : ¬ (mark ≡ 3) → SurveyedNode f d s a r

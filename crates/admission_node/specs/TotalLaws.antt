@@ -1,21 +1,13 @@
 -- Sums that may pass the limit: a total raised by one number after another is the total of their largest.
 -- Assumes nothing.
-use Rattle.std.specs.Prelude.{◌≡◌, ℕ, ◌≤◌, ◌<◌, max}
-use Rattle.std.proofs.Common.{sym, ap, ◌∙◌, arith, le-leb}
+use Rattle.std.specs.Prelude.{◌≡◌, ℕ, ◌≤◌, ◌<◌, max, Option, Some, None}
+use Rattle.std.proofs.Common.{◌∙◌, arith, le-leb}
 use Rattle.std.proofs.Math.Decide.{dec_le}
 use Rattle.std.proofs.lemmas.Bool.{lt-leb}
 use Rattle.format.specs.Limits.{max_sum}
-use Rattle.admission_node.specs.declared.Total.{Total}
-use Rattle.admission_node.specs.declared.Total.TheVariants.{Is, Over}
 use Rattle.admission_node.specs.Entries.{total_as, raised_by}
 
-pub raised_over : (t : Total) (b x : ℕ) → t ≡ Is b → max_sum < x → Over ≡ raised_by t x
-raised_over t b x e h = sym (ap (λ u. raised_by u x) e ∙ rw (lt-leb x max_sum h))
-
-pub raised_is : (t : Total) (b x r : ℕ) → t ≡ Is b → x ≤ max_sum → r ≡ max b x → Is r ≡ raised_by t x
-raised_is t b x r e h k = ap Is k ∙ sym (ap (λ u. raised_by u x) e ∙ rw (le-leb x max_sum h))
-
-pub total_of_le : (n : ℕ) → n ≤ max_sum → Is n ≡ total_as n
+pub total_of_le : (n : ℕ) → n ≤ max_sum → Some n ≡ total_as n
 total_of_le n h = rw (le-leb n max_sum h)
 
 pub raised_total : (n x : ℕ) → raised_by (total_as n) x ≡ total_as (max n x)
@@ -29,7 +21,7 @@ raised_total n x =
     ]
 
 -- a total within the limit, or past it
-pub total_cases : {X : Type 0} (n : ℕ) (t : Total) → t ≡ total_as n → (n ≤ max_sum → t ≡ Is n → X) → (max_sum < n → t ≡ Over → X) → X
+pub total_cases : {X : Type 0} (n : ℕ) (t : Option ℕ) → t ≡ total_as n → (n ≤ max_sum → t ≡ Some n → X) → (max_sum < n → t ≡ None → X) → X
 total_cases n t e f g =
     elim (dec_le n max_sum) [
       | yes p ↦ f p (e ∙ rw (le-leb n max_sum p))

@@ -2,7 +2,7 @@
 // its largest sum come from the entries of its targets.
 #![tactic(auto)]
 
-ghost use Rattle.std.specs.Prelude.{◌≡◌, true, cond, max, min, ◌+◌, ◌≤◌, ◌<◌, ltb, length, get_or};
+ghost use Rattle.std.specs.Prelude.{◌≡◌, true, cond, min, ◌+◌, ◌≤◌, ◌<◌, ltb, length, get_or};
 ghost use Rattle.format.specs.Limits.{max_levels};
 ghost use Rattle.format.specs.Node.{SoundAt};
 ghost use Rattle.format.specs.Paths.{fst_with};
@@ -10,7 +10,6 @@ ghost use Rattle.node.specs.Read.{transitions_in, Readable};
 ghost use Rattle.admission_node.specs.Entries.{Markable, MarksTargets, MarksAt, child_depth, child_sum, raised_by, Surveyable, Surveyed, SurveyReady, SurveyedNode, SurveyableAt, SurveyedAt, entry_is, or_over};
 
 use format::LEVELS;
-use le_bytes::small;
 use node::Node;
 
 // The largest entry of an admitted file: 1 plus a path of 255.
@@ -24,18 +23,11 @@ pub const HIT: u16 = 2;
 
 pub const UNUSED: u16 = 3;
 
-// A sum, or that it passes 2^64 - 1.
-#[derive(Clone, Copy)]
-pub enum Total {
-    Is(u64),
-    Over,
-}
-
-// What the entries of a node's targets say: 1 plus the longest path, and the largest sum.
+// What the entries of a node's targets say: 1 plus the longest path, and the largest sum, or None where one passes 2^64 - 1.
 #[derive(Clone, Copy)]
 pub struct Survey {
     pub depth: u16,
-    pub total: Total,
+    pub total: Option<u64>,
 }
 
 // ---- the entries
@@ -45,10 +37,7 @@ fn child_depth(depths: &[u16], t: usize) -> u16
     requires { t < length depths.now }
     ensures { result ≡ child_depth depths.now t }
 {
-    if t == 0 {
-        return 1;
-    }
-    depths[t]
+    if t == 0 { 1 } else { depths[t] }
 }
 
 // The sum of a target; address 0 has output 0.
@@ -56,43 +45,15 @@ fn child_sum(sums: &[u64], t: usize) -> u64
     requires { t < length sums.now }
     ensures { result ≡ child_sum sums.now t }
 {
-    if t == 0 {
-        return 0;
-    }
-    sums[t]
+    if t == 0 { 0 } else { sums[t] }
 }
 
-fn larger16(x: u16, y: u16) -> u16
-    ensures { result ≡ max x y }
-{
-    if x < y {
-        return y;
-    }
-    x
-}
-
-fn larger64(x: u64, y: u64) -> u64
-    ensures { result ≡ max x y }
-{
-    if x < y {
-        return y;
-    }
-    x
-}
-
-// The larger of a total and w + s, or Over where that passes the limit. Nothing here wraps.
-fn raised(t: Total, w: u64, s: u64) -> Total
+// The larger of a total and w + s, or None where either passes the limit.
+fn raised(t: Option<u64>, w: u64, s: u64) -> Option<u64>
     ensures { result ≡ raised_by t (w + s) }
 {
-    match t {
-        Total::Over => Total::Over,
-        Total::Is(b) => {
-            if u64::MAX - s < w {
-                return Total::Over;
-            }
-            Total::Is(larger64(b, w + s))
-        }
-    }
+    let sum = w.checked_add(s)?;
+    Some(t?.max(sum))
 }
 
 // The entries of a node's targets, in one pass over its transitions.
@@ -104,16 +65,14 @@ fn survey_node(file: &[u8], node: Node, depths: &[u16], sums: &[u64]) -> Survey
 {
     let n = node.ntrans;
     let mut best: u16 = 0;
-    let mut total = Total::Is(node.final_output);
-    let mut i = 0;
-    while i < n {
+    let mut total = Some(node.final_output);
+    for i in 0..n {
         let t = node::transition_addr(file, node, i);
         let d = child_depth(depths, t);
         let s = child_sum(sums, t);
         let w = node::output(file, node, i);
-        best = larger16(best, d);
+        best = best.max(d);
         total = raised(total, w, s);
-        i += 1;
     }
     Survey {
         depth: best + 1,
@@ -140,10 +99,9 @@ fn survey_one(
     let d = child_depth(depths, t);
     let s = child_sum(sums, t);
     let w = node::output(file, m, 0);
-    let best = larger16(0, d);
-    let total = raised(Total::Is(m.final_output), w, s);
+    let total = raised(Some(m.final_output), w, s);
     Survey {
-        depth: best + 1,
+        depth: d + 1,
         total,
     }
 }
@@ -167,10 +125,9 @@ fn survey_next(
     let d = child_depth(depths, t);
     let s = child_sum(sums, t);
     let w = node::output(file, m, 0);
-    let best = larger16(0, d);
-    let total = raised(Total::Is(m.final_output), w, s);
+    let total = raised(Some(m.final_output), w, s);
     Survey {
-        depth: best + 1,
+        depth: d + 1,
         total,
     }
 }
@@ -192,10 +149,10 @@ pub fn survey_at(
     if mark == UNUSED {
         return Survey {
             depth: 0,
-            total: Total::Is(0),
+            total: Some(0),
         };
     }
-    let state = small(file[a]);
+    let state = file[a];
     if state < 128 {
         let m = node::any_node(file, version, root, a);
         return survey_node(file, m, depths, sums);
@@ -212,10 +169,7 @@ pub fn survey_at(
 pub fn clamped(d: u16) -> u16
     ensures { result ≡ min d 257 }
 {
-    if 257 < d {
-        return 257;
-    }
-    d
+    d.min(257)
 }
 
 // Whether a path over 255 was found, now or before.
@@ -223,30 +177,21 @@ pub fn or_deep(deep: bool, d: u16) -> bool
     ensures { result ≡ cond (ltb max_levels d) true deep }
 {
     let too_deep = DEEPEST < d;
-    if too_deep {
-        return true;
-    }
-    deep
+    too_deep || deep
 }
 
 // A total as an entry.
-pub fn entry_of(t: Total) -> u64
+pub fn entry_of(t: Option<u64>) -> u64
     ensures { result ≡ entry_is t }
 {
-    match t {
-        Total::Over => u64::MAX,
-        Total::Is(x) => x,
-    }
+    t.unwrap_or(u64::MAX)
 }
 
 // Whether a sum past the limit was found, now or before.
-pub fn or_over(heavy: bool, t: Total) -> bool
+pub fn or_over(heavy: bool, t: Option<u64>) -> bool
     ensures { result ≡ or_over heavy t }
 {
-    match t {
-        Total::Over => true,
-        Total::Is(_) => heavy,
-    }
+    t.is_none() || heavy
 }
 
 // ---- the marks
@@ -266,11 +211,9 @@ fn mark_targets(file: &[u8], node: Node, mark: u16, depths: &mut [u16])
         (transitions_in file.now node) depths.old depths.new }
 {
     let n = node.ntrans;
-    let mut i = 0;
-    while i < n {
+    for i in 0..n {
         let to = node::transition_addr(file, node, i);
-        depths[to] = larger16(depths[to], mark);
-        i += 1;
+        depths[to] = depths[to].max(mark);
     }
 }
 
@@ -290,7 +233,7 @@ fn mark_one(
 {
     let m = node::one_node(file, version, root, a);
     let t = node::transition_addr(file, m, 0);
-    depths[t] = larger16(depths[t], mark);
+    depths[t] = depths[t].max(mark);
     m.first
 }
 
@@ -310,7 +253,7 @@ fn mark_next(
 {
     let m = node::next_node(file, version, root, a);
     let t = node::transition_addr(file, m, 0);
-    depths[t] = larger16(depths[t], mark);
+    depths[t] = depths[t].max(mark);
     m.first
 }
 
@@ -328,7 +271,7 @@ pub fn mark_at(
     ensures { MarksAt (fst_with file.now version root) a mark
         depths.old depths.new result }
 {
-    let state = small(file[a]);
+    let state = file[a];
     if state < 128 {
         let m = node::any_node(file, version, root, a);
         mark_targets(file, m, mark, depths);

@@ -21,7 +21,7 @@ pub fn walk(file: &[u8], version: u64, root: usize, depths: &mut [u16]) -> bool
     let mut a = root;
     depths[root] = HIT;
     loop {
-        if node_sound::is_sound(file, version, root, a) {} else {
+        if !node_sound::is_sound(file, version, root, a) {
             return false;
         }
         let mark = mark_of(depths[a]);

@@ -9,7 +9,7 @@ ghost use Rattle.baxhiso.specs.Exports.{checksum_number, OpenLeaves, AdmitLeaves
 ghost use Rattle.fst.specs.Open.{checksum_is};
 
 use admission::Admission;
-use fst::{Checksum, Opened};
+use fst::Opened;
 
 const OK: i32 = 0;
 
@@ -24,13 +24,10 @@ pub fn code(why: u8) -> i32
 }
 
 // The checksum as one number.
-fn checksum_number(checksum: Checksum) -> u64
+fn checksum_number(checksum: Option<u32>) -> u64
     ensures { result ≡ checksum_number (checksum_is checksum) }
 {
-    match checksum {
-        Checksum::Stored(n) => n as u64,
-        Checksum::Missing => NO_CHECKSUM,
-    }
+    checksum.map_or(NO_CHECKSUM, u64::from)
 }
 
 // Opens a file. On 0 the five numbers are version, type, key count, root address and checksum; on a refusal they stay as given.

@@ -16,7 +16,7 @@ use format::SEAT;
 use seats_arrays::{plain_at, put_flag, put_rows};
 use seats_flags::{seats_right, turn_of};
 use seats_keep::{is_refused, keep};
-use seats_turn::{LAST_SEAT, Turn};
+use seats_turn::LAST_SEAT;
 use stream_step::Answer;
 
 const OK: i32 = 0;
@@ -44,7 +44,7 @@ pub fn fst_raise_arrays(last: usize, taken: &[u8; 8], waiting: &mut [u8; 8], num
     }
     let taken_now = *taken;
     let waiting_now = *waiting;
-    if seats_right(last, taken_now, waiting_now) {} else {
+    if !seats_right(last, taken_now, waiting_now) {
         return code(SEAT);
     }
     let empty = taken_now[number] == 0;
@@ -96,7 +96,7 @@ pub fn fst_seat_arrays(
     }
     let t = *taken;
     let w = *waiting;
-    if seats_right(last, t, w) {} else {
+    if !seats_right(last, t, w) {
         return code(SEAT);
     }
     put_rows(
@@ -201,13 +201,13 @@ pub fn fst_dispatch_arrays(
     let at = *last;
     let t = *taken;
     let w = *waiting;
-    if seats_right(at, t, w) {} else {
+    if !seats_right(at, t, w) {
         return code(SEAT);
     }
     let turn = turn_of(at, w);
     match turn {
-        Turn::Nobody => NONE,
-        Turn::Of(number) => serve(
+        None => NONE,
+        Some(number) => serve(
             file, number, last, waiting, heads, bounds, addrs, inps, trans, outs, keys, key, seat,
             len, value,
         ),

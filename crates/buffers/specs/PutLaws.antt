@@ -4,6 +4,7 @@ use Rattle.std.specs.Prelude.{◌≡◌, refl, List, [], ◌∷◌, ◌++◌, �
 use Rattle.std.proofs.Common.{sym, ap, ◌∙◌, append_assoc, append-nil, add-zero, zero-add, add_assoc, add_comm, add-one, arith, length-append, length-take, length-drop, length-set, take-append-drop, take_at, drop_at, drop-drop, length-take-le}
 use Rattle.std.proofs.lemmas.List.{set-append_left, set_split}
 use Rattle.std.proofs.lemmas.List.Edits.{sets, sets-eq}
+use borrow.Rule.Slice.PartMut.{put_mid, post_of}
 use Rattle.buffers.specs.Put.{put}
 
 pub put_nil : (out : List ℕ) (at : ℕ) → put out at [] ≡ out
@@ -62,3 +63,9 @@ set_in_put out at v i a h l =
     ap (λ (l : List ℕ). set l (at + i) a) (append_assoc (take at out) v rest)
     ∙ ap (λ (n : ℕ). set (take at out ++ (v ++ rest)) (n + i) a) (sym t)
     ∙ s ∙ ap (λ (l : List ℕ). take at out ++ l) left ∙ sym (append_assoc (take at out) (set v i a) rest) ∙ rw (length-set v i a)
+
+-- a part of the buffer, lent on and back, that now holds v
+pub put_part : (at k : ℕ) (out part v : List ℕ) → part ≡ v → k ≡ length v → put_mid at k out part ≡ put out at v
+unfolding put
+put_part at k out part v holds l =
+    rw (holds, ← l) (ap (λ (rest : List ℕ). take at out ++ (v ++ rest)) (drop-drop k at out) ∙ sym (append_assoc (take at out) v (drop (at + k) out)))

@@ -9,9 +9,5 @@ pub fn copy_front(bytes: &[u8], n: usize, out: &mut [u8])
     requires { (n ≤ length bytes.now) × (n ≤ length out.old) }
     ensures { out.new ≡ take n bytes.now ++ drop n out.old }
 {
-    let mut i = 0;
-    while i < n {
-        out[i] = bytes[i];
-        i += 1;
-    }
+    out[..n].copy_from_slice(&bytes[..n]);
 }

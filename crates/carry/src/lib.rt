@@ -63,28 +63,13 @@ fn placed(reading: Reading, len: usize, moved: [u32; LEVELS]) -> CarriedReading
         (stack_is reading.levels moved reading.inps reading.trans reading.outs)))
         reading result }
 {
-    let kind = reading.kind;
-    let bound = reading.bound;
-    let empty_output = reading.empty_output;
-    let inps = reading.inps;
-    let trans = reading.trans;
-    let outs = reading.outs;
-    let after = Reading {
-        len,
-        kind,
-        bound_len: reading.bound_len,
-        bound,
-        empty_output,
-        total: reading.total,
-        levels: reading.levels,
-        addrs: moved,
-        inps,
-        trans,
-        outs,
-    };
     CarriedReading {
         answer: Carries::Carried,
-        reading: after,
+        reading: Reading {
+            len,
+            addrs: moved,
+            ..reading
+        },
     }
 }
 
@@ -140,12 +125,7 @@ fn carry_reading(old: &[u8], new: &[u8], reading: Reading, fits: bool) -> Carrie
             match opened_new {
                 Opened::Refused(why) => refused(why, reading),
                 Opened::Meta(q) => {
-                    if state_right(
-                        reading.levels,
-                        reading.bound_len,
-                        reading.len,
-                        old.len(),
-                    ) {} else {
+                    if !state_right(reading.levels, reading.bound_len, reading.len, old.len()) {
                         return refused(STATE, reading);
                     }
                     if fits {

@@ -9,28 +9,24 @@ use mathlib.Core.List.{List, [], ◌∷◌}
 use Prim.Native.Nat.{ℕ, zero, suc, ◌+◌, ◌-◌, ◌<◌, ◌≤◌}
 use native.Mathlib.Decide.{ℕ_discrete}
 use native.Mathlib.Omega.{arith}
-use native.Mathlib.Numerals.{add-one}
 use borrow.Author.Tests.{eq-eqb, ne_eqb}
 use lib.Dec.{eqb}
 use lib.ListN.{length, get_or, set}
 use lib.Seq.{get_or-set_same, get_or-set_other}
-use Rattle.format.specs.Limits.{NODE, CARRY}
-use Rattle.format.specs.Node as F
-use Rattle.format.specs.Node.{sound, unsound, Search, find_input, transition_at, node_at}
-use Rattle.format.specs.Paths.{Fst, fst_with, node_in}
+use Rattle.format.specs.Limits.{CARRY}
+use Rattle.format.specs.Node.{sound, Search, find_input, transition_at, node_at}
+use Rattle.format.specs.Paths.{Fst, fst_with}
 use Rattle.node.specs.declared.Node.{Node}
 use Rattle.node.specs.Read.{meaning, transitions_in, Readable}
 use Rattle.node.specs.ReadLaws.{length_node_transitions}
-use Rattle.reading.specs.Reading.{Level, View, level_with}
+use Rattle.reading.specs.Reading.{Level, level_with}
 use Rattle.stream_start.specs.Views.{level_at, stack_is}
-use Rattle.stream_start.specs.StackLaws.{stack_none, stack_more, stack_suc, stack_ext}
-use Rattle.carrying.specs.Carry as C
-use Rattle.carrying.specs.Carry.{Carrying, none_yet, over, carry_level, carry_levels, Carried, carried, refused, carried_to, after_levels}
+use Rattle.stream_start.specs.StackLaws.{stack_more, stack_suc, stack_ext}
+use Rattle.carrying.specs.Carry.{Carrying, over, carry_level, carry_levels, carried, carried_to, after_levels}
 use Rattle.carry_levels.specs.declared.Settled.{Settled}
 use Rattle.carry_levels.specs.declared.Settled.TheVariants.{Stands, Halted}
-use Rattle.carry_levels.specs.declared.CarriedLevels.{CarriedLevels}
 use Rattle.carry_levels.specs.declared.CarriedLevels.TheVariants as Levels
-use Rattle.carry_levels.specs.Settling.{settled_is, Legible, Settles, FirstCarried, LevelCarried, WalkedTo, carried_as, LevelsCarried}
+use Rattle.carry_levels.specs.Settling.{settled_is, Legible, Settles, FirstCarried, LevelCarried, WalkedTo, LevelsCarried}
 
 halted_legible : (new : List ℕ) (c : ℕ) → Legible new (Halted c)
 halted_legible new c a m is = absurd (let z : ◌≡◌ {A = ℕ} 0 1 = cc in omega arith)
@@ -38,24 +34,9 @@ halted_legible new c a m is = absurd (let z : ◌≡◌ {A = ℕ} 0 1 = cc in om
 stands_legible : (new : List ℕ) (a : ℕ) (m : Node) → Readable new m → Legible new (Stands a m)
 stands_legible new a m h b n is = let same : m ≡ n = cc in subst (Readable new) same h
 
--- ---- a sum
-
-pub comes_less : (sum o out : ℕ) → out < sum → false ≡ eqb (sum + o) out
-comes_less sum o out lt = sym (ne_eqb (sum + o) out (λ e. omega arith))
-
-pub comes_rest : (sum o out : ℕ) → sum ≤ out → eqb (out - sum) o ≡ eqb (sum + o) out
-comes_rest sum o out le =
-    elim (ℕ_discrete (sum + o) out) [
-      | yes e ↦ eq-eqb (out - sum) o (omega arith) ∙ sym (eq-eqb (sum + o) out e)
-      | no ne ↦ ne_eqb (out - sum) o (λ e. ne (omega arith)) ∙ sym (ne_eqb (sum + o) out ne)
-    ]
-
 -- ---- a level at an address
 
 module _ (new : List ℕ) (v root a n : ℕ) (same : Bool) where
-  pub settle_unsound : node_at new v root a ≡ unsound → Settles new v root a n same (Halted NODE)
-  settle_unsound e = record { settled = λ l m sum s len eq. rw e; legible = halted_legible new NODE }
-
   module _ (m : Node) (e : node_at new v root a ≡ sound (meaning new m)) (h : Readable new m) where
     count : length (transitions_in new m) ≡ m.ntrans
     count = length_node_transitions new m h
@@ -84,9 +65,6 @@ module _ (old : List ℕ) (v₀ root₀ : ℕ) (new : List ℕ) (v root a : ℕ)
   abbrev f : Fst
   f = fst_with old v₀ root₀
 
-  pub first_unsound : (out : ℕ) → node_at old v₀ root₀ a ≡ unsound → FirstCarried f new v root a out (Halted NODE)
-  first_unsound out e = record { settled = λ inp p. rw e; legible = halted_legible new NODE }
-
   pub first_settles : (out : ℕ) (m : Node) → node_at old v₀ root₀ a ≡ sound (meaning old m) → Readable old m → {r : Settled}
       → Settles new v root root m.ntrans (eqb 0 out) r → FirstCarried f new v root a out r
   first_settles out m e h w = record {
@@ -95,21 +73,15 @@ module _ (old : List ℕ) (v₀ root₀ : ℕ) (new : List ℕ) (v root a : ℕ)
   }
 
   module _ (inp out : ℕ) (below : Node) (sum : ℕ) where
-    pub level_unsound : node_at old v₀ root₀ a ≡ unsound → LevelCarried f new v root a inp out below sum (Halted NODE)
-    level_unsound e = record { settled = λ p k s is. rw e; legible = halted_legible new NODE }
-
     module _ (m : Node) (e : node_at old v₀ root₀ a ≡ sound (meaning old m)) (h : Readable old m) where
-      pub level_absent : (p : ℕ) → find_input (transitions_in new below) inp ≡ Search.absent p → LevelCarried f new v root a inp out below sum (Halted CARRY)
-      level_absent p none = record { settled = λ q k s is. rw (e, none); legible = halted_legible new CARRY }
-
-      pub level_settles : (p : ℕ) → find_input (transitions_in new below) inp ≡ Search.at p → {r : Settled}
-          → Settles new v root (transition_at (transitions_in new below) p).addr m.ntrans (eqb (sum + (transition_at (transitions_in new below) p).out) out) r
-          → LevelCarried f new v root a inp out below sum r
-      level_settles p at w = record {
+      pub level_settles : (p : ℕ) → find_input (transitions_in new below) inp ≡ Search.at p → {to : ℕ} {same : Bool} {r : Settled}
+          → to ≡ (transition_at (transitions_in new below) p).addr → same ≡ eqb (sum + (transition_at (transitions_in new below) p).out) out
+          → Settles new v root to m.ntrans same r → LevelCarried f new v root a inp out below sum r
+      level_settles p at to_is same_is w = record {
         settled = λ q k s is.
             w.settled (level_with a inp q out) (meaning old m) (k.out + (transition_at (transitions_in new below) p).out) (k ∷ s) (length_node_transitions old m h)
-            (ap (λ (x : ℕ). eqb (x + (transition_at (transitions_in new below) p).out) out) is)
-            ∙ rw (e, at);
+            (ap (λ (x : ℕ). eqb (x + (transition_at (transitions_in new below) p).out) out) is ∙ sym same_is)
+            ∙ rw (to_is, e, at);
         legible = w.legible;
       }
 

@@ -6,7 +6,7 @@
 --     LevelsCarried .. r           all levels are carried, or why not
 -- Next places carry no meaning here: they stay as they are, whatever they are.
 -- Assumes nothing.
-use Rattle.std.specs.Prelude.{◌≡◌, Bool, List, [], ◌∷◌, ℕ, ◌-◌, eqb, length, get_or}
+use Rattle.std.specs.Prelude.{◌≡◌, Bool, List, [], ◌∷◌, ℕ, ◌-◌, eqb, length}
 use Rattle.format.specs.Node as F
 use Rattle.format.specs.Paths.{Fst, fst_with}
 use Rattle.node.specs.declared.Node.{Node}

@@ -9,7 +9,7 @@ ghost use Rattle.node.specs.Read.{Readable};
 ghost use Rattle.carry_levels.specs.Settling.{Settles, FirstCarried, LevelCarried, WalkedTo, LevelsCarried};
 
 use format::{CARRY, LEVELS, NODE};
-use node::{Found, Judged, Node};
+use node::Node;
 
 // A level in the new file: its address and its node there, or the number of a refusal.
 #[derive(Clone, Copy)]
@@ -31,15 +31,13 @@ fn settle(new: &[u8], version: u64, root: usize, addr: usize, ntrans: usize, sam
     requires { root < 4294967296 }
     ensures { Settles new.now version root addr ntrans same result }
 {
-    let Judged::Sound(m) = node::node_at(new, version, root, addr) else {
+    let Ok(m) = node::node_at(new, version, root, addr) else {
         return Settled::Halted(NODE);
     };
     let as_many = m.ntrans == ntrans;
-    if as_many {
-        if same {
-            let to = addr as u32;
-            return Settled::Stands(to, m);
-        }
+    if as_many && same {
+        let to = addr as u32;
+        return Settled::Stands(to, m);
     }
     Settled::Halted(CARRY)
 }
@@ -48,10 +46,7 @@ fn settle(new: &[u8], version: u64, root: usize, addr: usize, ntrans: usize, sam
 fn comes_to(sum: u64, output: u64, out: u64) -> bool
     ensures { result ≡ eqb (sum + output) out }
 {
-    if out < sum {
-        return false;
-    }
-    out - sum == output
+    sum <= out && out - sum == output
 }
 
 // The first level, whose old address is addr and whose running value is out: it stands at the root of the new file, with the running value 0.
@@ -69,14 +64,14 @@ fn first_level(
     ensures { FirstCarried (fst_with old.now old_version old_root)
         new.now version root addr out result }
 {
-    let Judged::Sound(m) = node::node_at(old, old_version, old_root, addr) else {
+    let Ok(m) = node::node_at(old, old_version, old_root, addr) else {
         return Settled::Halted(NODE);
     };
     settle(new, version, root, root, m.ntrans, 0 == out)
 }
 
-// The level over one whose new node is below and whose running value is sum, with its old address, the byte that led to it and its running value: NODE
-// in the old file first, then CARRY where the new file lacks the byte.
+// The level over one whose new node is below and whose running value is sum, with its old address, the byte that led to it and its running value:
+// NODE in the old file first, then CARRY where the new file lacks the byte.
 fn next_level(
     old: &[u8],
     old_version: u64,
@@ -94,22 +89,15 @@ fn next_level(
     ensures { LevelCarried (fst_with old.now old_version old_root)
         new.now version root addr inp out below sum result }
 {
-    let Judged::Sound(m) = node::node_at(old, old_version, old_root, addr) else {
+    let Ok(m) = node::node_at(old, old_version, old_root, addr) else {
         return Settled::Halted(NODE);
     };
-    let Found::At(p) = node::find_input(new, below, inp) else {
+    let Ok(p) = node::find_input(new, below, inp) else {
         return Settled::Halted(CARRY);
     };
     let to = node::transition_addr(new, below, p);
     let output = node::output(new, below, p);
     settle(new, version, root, to, m.ntrans, comes_to(sum, output, out))
-}
-
-// A held address as a place in the file.
-fn wide_addr(addr: u32) -> usize
-    ensures { result ≡ addr }
-{
-    addr as usize
 }
 
 // The levels from the second on, where the first one's new node is first; their new addresses go to moved.
@@ -136,10 +124,9 @@ fn other_levels(
         (fst_with new.now version root) levels addrs.now inps.now
         outs.now moved.new result }
 {
-    let mut k = 1;
     let mut below = first;
-    while k < levels {
-        let addr = wide_addr(addrs[k]);
+    for k in 1..levels {
+        let addr = addrs[k] as usize;
         let sum = outs[k - 1];
         let settled = next_level(
             old,
@@ -161,7 +148,6 @@ fn other_levels(
             Settled::Stands(to, m) => {
                 moved[k] = to;
                 below = m;
-                k += 1;
             }
         }
     }
@@ -192,7 +178,7 @@ pub fn carry_levels(
     if levels == 0 {
         return CarriedLevels::All;
     }
-    let addr = wide_addr(addrs[0]);
+    let addr = addrs[0] as usize;
     let settled = first_level(
         old,
         old_version,

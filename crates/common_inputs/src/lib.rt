@@ -41,6 +41,7 @@ const COMMON_INPUTS_INV: [u8; 256] = [
 ];
 
 // The place of the byte b in the order of frequency.
+#[tactic(auto, unfolding(format::specs::CommonInputs::common_inputs))]
 pub fn common_inputs_at(b: u8) -> u8
     ensures { result ≡ get_or common_inputs b 0 }
 {
@@ -48,6 +49,7 @@ pub fn common_inputs_at(b: u8) -> u8
 }
 
 // The byte at place i in the order of frequency.
+#[tactic(auto, unfolding(format::specs::CommonInputs::common_inputs_inv))]
 pub fn common_inputs_inv_at(i: u8) -> u8
     ensures { result ≡ get_or common_inputs_inv i 0 }
 {
@@ -55,7 +57,7 @@ pub fn common_inputs_inv_at(i: u8) -> u8
 }
 
 // What the state byte keeps of an input: 1 plus its place, or 0 past place 62, since six bits hold no more than 63.
-#[tactic(auto, using(crate::proofs::IdxLaws::idx_lt, crate::proofs::IdxLaws::idx_le))]
+#[tactic(auto, unfolding(format::specs::CommonInputs::common_idx))]
 pub fn common_idx(input: u8) -> u8
     ensures { Idx input result }
 {
@@ -64,6 +66,7 @@ pub fn common_idx(input: u8) -> u8
 }
 
 // The input that idx stands for in a state byte; 0 stands for none.
+#[tactic(auto, unfolding(format::specs::CommonInputs::common_input))]
 pub fn common_input(idx: u8) -> u8
     requires { (1 ≤ idx) × (idx < 64) }
     ensures { result ≡ common_input idx }

@@ -10,7 +10,7 @@ ghost use Rattle.admission.specs.Outcome.{Outcome};
 ghost use Rattle.convert.specs.Convert.{Marked, Says, OldFile, OldConverted, AgainConverted, Finishable, Finished, Converts};
 
 use admission::{Admission, admit};
-use convert_layout::{Layout, TRAILER, lay_out, put_table};
+use convert_layout::{TRAILER, lay_out, put_table};
 use convert_marks::mark;
 use convert_write::write_file;
 use format::{EDITION, LARGE, MAX_LEN, SPACE};
@@ -80,8 +80,8 @@ fn convert_old(
     mark(file, root, depths);
     let layout = lay_out(file, root, limit, depths, sums);
     match layout {
-        Layout::Over => Converted::Refused(LARGE),
-        Layout::Ends(next) => finish(file, root, count, next, depths, sums, out, table),
+        None => Converted::Refused(LARGE),
+        Some(next) => finish(file, root, count, next, depths, sums, out, table),
     }
 }
 

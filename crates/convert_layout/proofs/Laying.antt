@@ -6,17 +6,15 @@
 --     Writes, writes-..           the second pass
 -- Assumes nothing.
 use mathlib.Core.Path.{◌≡◌, refl, sym, ap, ap₂, ◌∙◌, subst}
-use mathlib.Core.Bool.{Bool, true, false, cond}
-use mathlib.Core.Logic.{◌⊎◌, inl, inr, ⊎_elim}
-use mathlib.Core.List.{List, [], ◌∷◌, ◌++◌, append-nil, append_assoc, Memᴰ}
+use mathlib.Core.Bool.{Bool, true, false}
+use mathlib.Core.Logic.{⊎_elim}
+use mathlib.Core.List.{List, ◌∷◌, ◌++◌}
 use Prim.Native.Nat.{ℕ, zero, suc, ◌+◌, ◌-◌, ◌≤◌, ◌<◌}
 use native.Mathlib.Decide.{ℕ_discrete}
 use native.Mathlib.Omega.{arith}
-use borrow.Author.Tests.{eq-eqb, ne_eqb, ltb-true, ltb-false}
-use lib.Dec.{eqb, ltb}
-use lib.ListN.{length, get_or, set, take, drop, replicate, length-append, length-set, length-drop, length-take, length-replicate, get_or-append, get_or-replicate}
-use lib.Seq.{drop_at}
-use Rattle.format.specs.declared.Transition.{Transition}
+use borrow.Author.Tests.{ne_eqb, ltb-true, ltb-false}
+use lib.Dec.{ltb}
+use lib.ListN.{length, get_or, set, take, drop, length-append}
 use Rattle.format.specs.Limits.{max_len}
 use Rattle.format.specs.Node.{Node, sound, SoundAt}
 use Rattle.format.specs.Packed.{BuilderNode, TargetOk, RecordOk, packs_to_nothing, packed, node_addr}
@@ -29,7 +27,7 @@ use Rattle.buffers.specs.PutLaws.{put_nil, put_next, length_put}
 use Rattle.admission_node.specs.Entries.{Kept}
 use Rattle.admission_node.specs.KeptLaws.{at_set, kept_none, kept_set}
 use Rattle.converting.specs.Converting.{new_addr, record_by, record_of, Laid, lay_out}
-use Rattle.converting.specs.Laws.LayLaws.{laid_next, lay_out_is, lay_out_grows, lay_out_stays, new_addr_here, packed_pos, packed_le, new_ok, record_ok_of, record_same}
+use Rattle.converting.specs.Laws.LayLaws.{lay_out_is, lay_out_grows, lay_out_stays, new_addr_here, packed_pos, packed_le, new_ok, record_ok_of, record_same}
 use Rattle.converting.specs.Laws.ConvertedLaws.{new_addr_off}
 use Rattle.node_compile.specs.Parts.{fits_of}
 use Rattle.convert_size.specs.Sizes.{entry_in, SizableAt, SizedAt}
@@ -37,7 +35,7 @@ use Rattle.convert_node.specs.Packs.{PackableAt, PackedAt}
 use Rattle.convert_marks.specs.Marks.{marked, Hops}
 use Rattle.convert_marks.specs.MarkLaws.{marked_zero, marked_on, marked_off, marked_gap, member_marked}
 use Rattle.convert_layout.specs.PartLaws.{placed, part_is, none_after}
-use Rattle.convert_layout.specs.Layout.{laid_to, addr_of, MarkedSound, Zeros, Layable, Entered, LaidOut, Writable}
+use Rattle.convert_layout.specs.Layout.{laid_to, addr_of, MarkedSound, Zeros, Layable, LaidOut, Writable}
 
 -- ---- one address more
 
@@ -169,23 +167,6 @@ laying_none f d s zeros =
       above = λ j _ l. zeros.each j l;
       kept = kept_none _ s;
     }
-
--- a table that is cleared
-module _ (n : ℕ) (s₀ : List ℕ) {s : List ℕ} (room : n ≤ length s₀) (is : s ≡ replicate n 0 ++ drop n s₀) where
-  pub cleared_zeros : Zeros n s
-  cleared_zeros =
-      record {
-        each = λ j l.
-            ap (λ (x : List ℕ). get_or x j 0) is
-            ∙ get_or-append (replicate n 0) (drop n s₀) 0 j (rw (length-replicate {A = ℕ} n 0) l) ∙ get_or-replicate n j 0 0 l;
-      }
-
-  pub cleared_kept : Kept n s₀ s
-  cleared_kept =
-      record {
-        long = ap (λ (x : List ℕ). length x) is ∙ omega (arith, length-append (replicate n 0) (drop n s₀), length-replicate {A = ℕ} n 0, length-drop n s₀, room);
-        beyond = ap (drop n) is ∙ drop_at (replicate n 0) (drop n s₀) n (length-replicate {A = ℕ} n 0);
-      }
 
 module _ {f : Fst} {d s₀ s : List ℕ} {next a limit : ℕ} (h : Laying f d s₀ s next a) (ok : Layable f d s₀ limit) where
   pub laying_over : limit < next + 16 → limit < 32 + length (laid_to f d (length f.bytes)).nodes

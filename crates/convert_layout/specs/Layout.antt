@@ -6,15 +6,12 @@
 --     Writable                what the second pass asks: the new addresses, and room for the new file
 --     Narrow, addr_of          what the table asks; a node's address, by its first byte and its length
 -- Assumes nothing.
-use Rattle.std.specs.Prelude.{◌≡◌, cond, List, ℕ, ◌+◌, ◌-◌, ◌≤◌, ◌<◌, eqb, length, get_or}
+use Rattle.std.specs.Prelude.{◌≡◌, cond, List, ℕ, ◌+◌, ◌-◌, ◌≤◌, ◌<◌, eqb, length, get_or, Option, Some, None}
 use Rattle.format.specs.Limits.{max_len}
 use Rattle.format.specs.Node.{Node, sound}
 use Rattle.format.specs.Paths.{Fst, node_in}
-use Rattle.admission_node.specs.Entries.{Kept}
 use Rattle.converting.specs.Converting.{new_addr, Laid, lay_out}
 use Rattle.convert_marks.specs.Marks.{marked, Hops}
-use Rattle.convert_layout.specs.declared.Layout.{Layout}
-use Rattle.convert_layout.specs.declared.Layout.TheVariants.{Ends, Over}
 
 abbrev pub laid_to : Fst → List ℕ → ℕ → Laid
 laid_to f d a = lay_out f (marked d a)
@@ -50,9 +47,9 @@ pub record LaidOut (f : Fst) (d s : List ℕ) (limit next : ℕ) : Type 0 where
   pub fits : next + 16 ≤ limit
   pub entered : Entered f d s
 
-abbrev pub Lays : Fst → List ℕ → List ℕ → ℕ → Layout → Type 0
-Lays f d s limit (Ends next) = LaidOut f d s limit next
-Lays f d s limit Over = limit < 32 + length (laid_to f d (length f.bytes)).nodes
+abbrev pub Lays : Fst → List ℕ → List ℕ → ℕ → Option ℕ → Type 0
+Lays f d s limit (Some next) = LaidOut f d s limit next
+Lays f d s limit None = limit < 32 + length (laid_to f d (length f.bytes)).nodes
 
 -- ---- the second pass
 

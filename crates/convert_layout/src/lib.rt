@@ -9,17 +9,9 @@ ghost use Rattle.buffers.specs.Put.{PutAt};
 ghost use Rattle.admission_node.specs.Entries.{Kept};
 ghost use Rattle.convert_layout.specs.Layout.{laid_to, addr_of, Zeros, Layable, Lays, Writable, Narrow};
 
-use admission::clear64;
 use convert_node::pack_at;
 use convert_size::len_at;
 use format::FIRST_NODE;
-
-// Where the nodes of the new file end: the place past them, or that the new file passes the limit.
-#[derive(Clone, Copy)]
-pub enum Layout {
-    Ends(usize),
-    Over,
-}
 
 // Key count and root, after the nodes.
 pub const TRAILER: usize = 16;
@@ -29,14 +21,18 @@ fn addr_of(next: usize, len: usize) -> u64
     requires { next + len ≤ max_len + 4619 }
     ensures { result ≡ addr_of next len }
 {
-    if len == 0 {
-        return 0;
-    }
-    (next + len - 1) as u64
+    if len == 0 { 0 } else { (next + len - 1) as u64 }
 }
 
 // The new address of each marked node, in the sums' table, which is cleared. A mark says how far above its node the next one lies.
-fn lay_marked(file: &[u8], root: usize, limit: usize, depths: &[u16], sums: &mut [u64]) -> Layout
+// Answers the place past the nodes of the new file, or None where that file passes the limit.
+fn lay_marked(
+    file: &[u8],
+    root: usize,
+    limit: usize,
+    depths: &[u16],
+    sums: &mut [u64],
+) -> Option<usize>
     requires { Layable (fst_with file.now 1 root) depths.now sums.old limit
         × Zeros (length file.now) sums.old }
     ensures kept { Kept (length file.now) sums.old sums.new }
@@ -45,6 +41,7 @@ fn lay_marked(file: &[u8], root: usize, limit: usize, depths: &[u16], sums: &mut
 {
     let mut next = FIRST_NODE;
     let mut a = 0;
+    // not by `for`: a step is one address, or as many as the mark says
     while a < file.len() {
         let hop = depths[a];
         if hop == 0 {
@@ -52,7 +49,7 @@ fn lay_marked(file: &[u8], root: usize, limit: usize, depths: &[u16], sums: &mut
             continue;
         }
         if limit < next + TRAILER {
-            return Layout::Over;
+            return None;
         }
         let len = len_at(file, root, a, next, sums);
         sums[a] = addr_of(next, len);
@@ -60,19 +57,26 @@ fn lay_marked(file: &[u8], root: usize, limit: usize, depths: &[u16], sums: &mut
         a += hop as usize;
     }
     if limit < next + TRAILER {
-        return Layout::Over;
+        return None;
     }
-    Layout::Ends(next)
+    Some(next)
 }
 
-// The new address of each marked node, in the sums' table; 0 at every other entry of the file.
-pub fn lay_out(file: &[u8], root: usize, limit: usize, depths: &[u16], sums: &mut [u64]) -> Layout
+// The new address of each marked node, in the sums' table; 0 at every other entry of the file. Answers the place past the nodes of the new
+// file, or None where that file passes the limit.
+pub fn lay_out(
+    file: &[u8],
+    root: usize,
+    limit: usize,
+    depths: &[u16],
+    sums: &mut [u64],
+) -> Option<usize>
     requires { Layable (fst_with file.now 1 root) depths.now sums.old limit }
     ensures kept { Kept (length file.now) sums.old sums.new }
     ensures lays { Lays (fst_with file.now 1 root) depths.now
         sums.new limit result }
 {
-    clear64(sums, file.len());
+    sums[..file.len()].fill(0);
     lay_marked(file, root, limit, depths, sums)
 }
 
@@ -88,6 +92,7 @@ pub fn write_out(file: &[u8], root: usize, depths: &[u16], sums: &[u64], out: &m
     let mut targets: [usize; 256] = [0; 256];
     let mut next = FIRST_NODE;
     let mut a = 0;
+    // not by `for`: a step is one address, or as many as the mark says
     while a < file.len() {
         let hop = depths[a];
         if hop == 0 {
@@ -115,9 +120,7 @@ pub fn put_table(sums: &[u64], n: usize, table: &mut [u32])
     requires { Narrow n sums.now table.old }
     ensures { table.new ≡ take n sums.now ++ drop n table.old }
 {
-    let mut i = 0;
-    while i < n {
+    for i in 0..n {
         table[i] = sums[i] as u32;
-        i += 1;
     }
 }

@@ -5,7 +5,7 @@
 --     cleared_marks, chain_marks                  the nodes that are laid out, where the root vanishes and where it does not
 -- Assumes nothing.
 use mathlib.Core.Path.{◌≡◌, refl, sym, ap, ◌∙◌, subst}
-use mathlib.Core.Bool.{Bool, true, false, cond}
+use mathlib.Core.Bool.{Bool, true, false}
 use mathlib.Core.Logic.{◌⊎◌, inl, inr, ⊎_elim}
 use mathlib.Core.List.Memᴰ
 use mathlib.Core.List.{List, [], ◌∷◌, ◌++◌, Memᴰ}
@@ -16,14 +16,14 @@ use lib.ListN.{length, get_or, set, drop, replicate, length-append, length-repli
 use lib.Seq.{drop_at}
 use Rattle.format.specs.Node.{Node, sound, empty_final, SoundAt}
 use Rattle.format.specs.Paths.{Fst, node_in}
-use Rattle.format.specs.Admitted.{Chain, RootChain}
+use Rattle.format.specs.Admitted.{Chain}
 use Rattle.format.specs.Laws.NodeLaws.{node_at_zero, node_at_cases}
 use Rattle.format.specs.Laws.NodeFacts.{node_inside, node_first_le, node_first_low}
-use Rattle.format.specs.Laws.ChainLaws.{ChainNext, ChainLast, chain_cases, chain_unique, chain_not_zero, chain_sound, chain_low, chain_le, chain_head, root_chain_cases, root_chain_unique, dec_mem}
+use Rattle.format.specs.Laws.ChainLaws.{ChainNext, ChainLast, chain_cases, chain_not_zero, chain_sound, chain_low, chain_le, chain_head, root_chain_cases, root_chain_unique, dec_mem}
 use Rattle.admission_node.specs.Entries.{Kept}
 use Rattle.admission_node.specs.KeptLaws.{at_set, kept_none, kept_set}
 use Rattle.converting.specs.Converting.{vanishes, chain_of}
-use Rattle.convert_marks.specs.Marks.{marked, FirstIs, Markable, HopAt, MarksList, MarksChain, MarksNodes}
+use Rattle.convert_marks.specs.Marks.{FirstIs, Markable, HopAt, MarksList, MarksChain, MarksNodes}
 use Rattle.convert_marks.specs.MarkLaws.{chain_falls, marked_list, marked_none}
 
 pub record Marking (f : Fst) (l d₀ d : List ℕ) (a up : ℕ) : Type 0 where

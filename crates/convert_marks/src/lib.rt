@@ -8,10 +8,8 @@ ghost use Rattle.format.specs.Paths.{fst_with};
 ghost use Rattle.converting.specs.Converting.{vanishes};
 ghost use Rattle.convert_marks.specs.Marks.{FirstIs, Markable, ChainMarkable, MarksChain, MarksNodes};
 
-use admission::clear16;
 use format::FIRST_NODE;
 use le_bytes::small;
-use node::Judged;
 
 // Final, with no transition, and adding nothing.
 fn nothing(is_final: bool, n: usize, final_output: u64) -> bool
@@ -26,8 +24,8 @@ fn becomes_zero(file: &[u8], root: usize, a: usize) -> bool
 {
     let judged = node::node_at(file, 1, root, a);
     match judged {
-        Judged::Sound(m) => nothing(m.is_final, m.ntrans, m.final_output),
-        Judged::Unsound => false,
+        Ok(m) => nothing(m.is_final, m.ntrans, m.final_output),
+        Err(_) => false,
     }
 }
 
@@ -93,7 +91,7 @@ pub fn mark(file: &[u8], root: usize, depths: &mut [u16])
         depths.new }
 {
     if becomes_zero(file, root, root) {
-        clear16(depths, file.len());
+        depths[..file.len()].fill(0);
         return;
     }
     mark_chain(file, root, depths);

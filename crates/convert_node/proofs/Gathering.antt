@@ -2,11 +2,11 @@
 --     Gathering .. i                                   the first i transitions stand at the fronts of the three buffers
 --     gathering_none, gathering_step, gathering_all    before the first turn, after a turn, after the last
 -- Assumes nothing.
-use mathlib.Core.Path.{◌≡◌, refl, sym, ap, ◌∙◌}
+use mathlib.Core.Path.{◌≡◌, sym, ap, ◌∙◌}
 use mathlib.Core.List.{List, ◌++◌, map}
 use Prim.Native.Nat.{ℕ, ◌+◌, ◌≤◌, ◌<◌}
 use native.Mathlib.Omega.{arith}
-use lib.ListN.{length, get_or, take, drop, set, length-map}
+use lib.ListN.{length, take, drop, set, length-map}
 use lib.Seq.{take_at, take_all}
 use Rattle.format.specs.declared.Transition.{Transition}
 use Rattle.format.specs.Node.{transition_at}

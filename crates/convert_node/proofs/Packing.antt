@@ -1,12 +1,12 @@
 -- What packing a gathered record answers: its bytes, and never a refusal.
 -- Assumes nothing.
-use mathlib.Core.Path.{◌≡◌, refl, sym, ap, ◌∙◌, subst}
-use mathlib.Core.List.{List, ◌++◌}
+use mathlib.Core.Path.{◌≡◌, sym, ap, ◌∙◌, subst}
+use mathlib.Core.List.{List}
 use Prim.Native.Nat.{ℕ, ◌≤◌}
 use native.Mathlib.Omega.{arith}
 use borrow.Author.Tests.{le-leb}
-use lib.ListN.{length, take, drop, length-take}
-use Rattle.buffers.specs.Put.{put, PutAt}
+use lib.ListN.{length, take, length-take}
+use Rattle.buffers.specs.Put.{PutAt}
 use Rattle.buffers.specs.PutLaws.{put_zero}
 use Rattle.format.specs.Node.{Node}
 use Rattle.format.specs.Packed.{BuilderNode, Packing, written, packed}

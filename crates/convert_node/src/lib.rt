@@ -32,14 +32,12 @@ fn gather(
         inputs.new outputs.new targets.new }
 {
     let n = node.ntrans;
-    let mut i = 0;
-    while i < n {
+    for i in 0..n {
         let t = node::transition(file, node, i);
         let to = t.addr;
         inputs[i] = t.inp;
         outputs[i] = t.out;
         targets[i] = new_target(moved, to);
-        i += 1;
     }
 }
 

@@ -5,9 +5,10 @@
 --     target_in, target_le     where a transition leads, and where that went
 --     judged-..                what the code read by the node's form is the node
 -- Assumes nothing.
+use Rattle.std.specs.Prelude.{Ok, Err}
 use Rattle.std.specs.Prelude.{◌≡◌, refl, Bool, true, false, ℕ, ◌+◌, ◌-◌, ◌/◌, ◌%◌, ◌≤◌, ◌<◌, ltb, length, get_or}
 use Rattle.std.proofs.Common.{sym, ap, ◌∙◌, subst, true≢false, ⊎_elim, arith, ltb-true, ltb-false}
-use mathlib.Core.List.{List, map, Memᴰ}
+use mathlib.Core.List.{List, map}
 use Rattle.std.proofs.lemmas.List.{length-map}
 use Rattle.format.specs.declared.Transition.{Transition}
 use Rattle.format.specs.declared.State.{State}
@@ -20,7 +21,6 @@ use Rattle.format.specs.Laws.TransitionLaws.{at_member}
 use Rattle.node_sound.specs.JudgingLaws.{sound_low}
 use Rattle.node_sound.specs.Shapes.{is_any}
 use Rattle.node.specs.declared.Node as N
-use Rattle.node.specs.declared.Judged.TheVariants.{Sound}
 use Rattle.node.specs.Read.{meaning, transitions_in, Judges}
 use Rattle.node.specs.ReadLaws.{answer_sound, length_node_transitions}
 use Rattle.converting.specs.Converting.{record_by}
@@ -111,7 +111,7 @@ module _ {m : Node} {first : ℕ} {moved : List ℕ} (ok : Sizable m first moved
 
 -- ---- a node that the code read by its form
 
-module _ {s : List ℕ} {root a : ℕ} {r : N.Node} (j : Judges s 1 root a (Sound r)) where
+module _ {s : List ℕ} {root a : ℕ} {r : N.Node} (j : Judges s 1 root a (Ok r)) where
   pub judged_at : node_in (fst_with s 1 root) a ≡ sound (meaning s r)
   judged_at = answer_sound j r refl
 

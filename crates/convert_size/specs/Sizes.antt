@@ -9,7 +9,7 @@ use mathlib.Core.List.{List, ◌∷◌, map, Memᴰ}
 use Rattle.format.specs.declared.Transition.{Transition}
 use Rattle.format.specs.Bytes.{pack_size, largest}
 use Rattle.format.specs.Node.{Node, sound}
-use Rattle.format.specs.Packed.{BuilderNode, delta_of, packed}
+use Rattle.format.specs.Packed.{delta_of, packed}
 use Rattle.format.specs.Paths.{Fst, node_in}
 use Rattle.node_compile.specs.Parts.{RecordFits}
 use Rattle.converting.specs.Converting.{record_by}

@@ -64,13 +64,6 @@ fn len_next(file: &[u8], root: usize, a: usize, first: usize, moved: &[u64]) -> 
 
 // ---- a node with any number of transitions
 
-// The larger of a number and the largest of those after it.
-fn larger(n: u64, rest: u64) -> u64
-    ensures { result ≡ cond (ltb n rest) rest n }
-{
-    if n < rest { rest } else { n }
-}
-
 // The bytes that each delta takes where n is the largest: none where there is no transition.
 fn delta_size(count: usize, n: u64) -> usize
     ensures { result ≡ delta_size_by count n }
@@ -118,17 +111,15 @@ fn most_of(file: &[u8], node: Node, first: usize, moved: &[u64]) -> Most
     let mut output: u64 = 0;
     let mut delta: u64 = 0;
     // the last transition first: those from i on have been seen
-    let mut i = node.ntrans;
-    while 0 < i {
-        i -= 1;
+    for i in (0..node.ntrans).rev() {
         let to = node::transition_addr(file, node, i);
         let out = node::output(file, node, i);
         let target = new_target(moved, to);
-        output = larger(out, output);
-        delta = larger(delta_of(first, target), delta);
+        output = out.max(output);
+        delta = delta_of(first, target).max(delta);
     }
     Most {
-        output: larger(node.final_output, output),
+        output: node.final_output.max(output),
         delta,
     }
 }

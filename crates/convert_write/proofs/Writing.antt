@@ -2,15 +2,15 @@
 -- Assumes nothing.
 use mathlib.Core.Path.{◌≡◌, refl, sym, ap, ◌∙◌}
 use mathlib.Core.List.{List, ◌++◌}
-use Prim.Native.Nat.{ℕ, ◌+◌, ◌-◌, ◌≤◌}
+use Prim.Native.Nat.{ℕ, ◌+◌, ◌≤◌}
 use native.Mathlib.Omega.{arith}
 use lib.ListN.{length, take, drop, length-append, length-take, length-drop}
 use Rattle.format.specs.Bytes.{bytes_of}
 use Rattle.format.specs.Laws.BytesLaws.{length_bytes_of}
 use Rattle.buffers.specs.Put.{put, PutAt}
 use Rattle.buffers.specs.PutLaws.{put_next}
-use Rattle.buffers.specs.WritingLaws.{Writing, writing_none, part_written, last_written}
-use Rattle.convert_layout.specs.PartLaws.{placed, part_is, none_after}
+use Rattle.buffers.specs.WritingLaws.{writing_none, part_written, last_written}
+use Rattle.convert_layout.specs.PartLaws.{placed}
 use Rattle.convert_write.specs.Written.{header_of, file_of}
 
 type_len : (s : List ℕ) → 16 ≤ length s → length (take 8 (drop 8 s)) ≡ 8
@@ -19,15 +19,13 @@ type_len s low = omega (arith, length-take 8 (drop 8 s), length-drop 8 s)
 pub header_len : (s : List ℕ) → 16 ≤ length s → length (header_of s) ≡ 16
 header_len s low = omega (arith, length-append (bytes_of 8 2) (take 8 (drop 8 s)), length_bytes_of 8 2, type_len s low)
 
-pub header_written : (s o₀ o₁ part o₂ : List ℕ) → 16 ≤ length s → 16 ≤ length o₀ → o₁ ≡ put o₀ 0 (bytes_of 8 2)
-    → part ≡ take 8 (take (length s - 8) (drop 8 s)) ++ drop 8 (take (length o₁ - 8) (drop 8 o₁))
-    → o₂ ≡ take 8 o₁ ++ (part ++ drop (length o₁ - 8) (drop 8 o₁)) → o₂ ≡ put o₀ 0 (header_of s)
+pub header_written : (s o₀ o₁ part o₂ : List ℕ) → 16 ≤ length s → 16 ≤ length o₀ → o₁ ≡ put o₀ 0 (bytes_of 8 2) → part ≡ take 8 (drop 8 s)
+    → o₂ ≡ take 8 o₁ ++ (part ++ drop 8 (drop 8 o₁)) → o₂ ≡ put o₀ 0 (header_of s)
 header_written s o₀ o₁ part o₂ low room first second whole =
     let n = type_len s low in
-    let is : part ≡ take 8 (drop 8 s) ++ drop (length (take 8 (drop 8 s))) (drop 8 o₁) =
-    second ∙ ap (λ (x : List ℕ). take 8 x ++ drop 8 (take (length o₁ - 8) (drop 8 o₁))) (part_is 8 s)
-    ∙ ap (λ (x : List ℕ). take 8 (drop 8 s) ++ drop 8 x) (part_is 8 o₁) ∙ ap (λ (k : ℕ). take 8 (drop 8 s) ++ drop k (drop 8 o₁)) (sym n) in
-    whole ∙ ap (λ (x : List ℕ). take 8 o₁ ++ x) (none_after 8 o₁ part) ∙ placed 8 o₁ (take 8 (drop 8 s)) (drop 8 o₁) part refl is
+    let is : part ++ drop 8 (drop 8 o₁) ≡ take 8 (drop 8 s) ++ drop (length (take 8 (drop 8 s))) (drop 8 o₁) =
+    ap (λ (x : List ℕ). x ++ drop 8 (drop 8 o₁)) second ∙ ap (λ (k : ℕ). take 8 (drop 8 s) ++ drop k (drop 8 o₁)) (sym n) in
+    whole ∙ placed 8 o₁ (take 8 (drop 8 s)) (drop 8 o₁) (part ++ drop 8 (drop 8 o₁)) refl is
     ∙ put_next o₀ 0 (bytes_of 8 2) (take 8 (drop 8 s)) first (omega (arith, length_bytes_of 8 2)) (omega (arith, n, length_bytes_of 8 2))
 
 -- header, nodes, count, root

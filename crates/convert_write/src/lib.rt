@@ -7,7 +7,6 @@ ghost use Rattle.buffers.specs.Put.{put};
 ghost use Rattle.convert_layout.specs.Layout.{laid_to};
 ghost use Rattle.convert_write.specs.Written.{header_of, file_of, FileWritable};
 
-use buffers::copy_front;
 use convert_layout::write_out;
 use le_bytes::pack_uint_in;
 
@@ -21,7 +20,7 @@ fn write_header(file: &[u8], out: &mut [u8])
 {
     let at = 8;
     pack_uint_in(out, 0, NEW, at);
-    copy_front(&file[at..], 8, &mut out[at..]);
+    out[at..16].copy_from_slice(&file[at..16]);
 }
 
 // The whole file; the rest of out stays.

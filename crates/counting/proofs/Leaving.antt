@@ -3,14 +3,14 @@
 -- cannot but be reached, and that is enough for each claim here, since each can be decided or denied.
 -- Assumes nothing.
 use mathlib.Core.Path.{◌≡◌, refl, sym, ap, ◌∙◌, subst}
-use mathlib.Core.Bool.{true, false}
+use mathlib.Core.Bool.{true}
 use mathlib.Core.Logic.{inl, inr, ⊎_elim}
 use mathlib.Core.List.{List}
 use Prim.Native.Nat.{ℕ, ◌≤◌, ◌<◌}
 use native.Mathlib.Decide.{ℕ_discrete, dec_le}
 use native.Mathlib.Omega.{arith}
 use lib.ListN.{length}
-use Rattle.format.specs.Limits.{max_sum, COUNT, SPACE}
+use Rattle.format.specs.Limits.{max_sum, SPACE}
 use Rattle.format.specs.Node.{Node, Judgement, sound, unsound, SoundAt}
 use Rattle.format.specs.Opening.{opening}
 use Rattle.format.specs.Paths.{Fst, fst_with, fst_of, node_in}
@@ -27,17 +27,11 @@ use Rattle.fst.specs.declared.Opened.TheVariants.{Meta as Read, Refused as Turne
 use Rattle.fst.specs.Open.{meta_is, opening_is}
 use Rattle.admission.specs.Outcome.{Wiped, RefusedFor, Admits, Opens}
 use Rattle.admission.specs.Outcome as Admission
-use Rattle.admission.specs.WipingLaws.{wiped_after}
 use Rattle.counting.specs.declared.Counting.{Counting}
 use Rattle.counting.specs.declared.Counting.TheVariants.{Counted, Refused}
 use Rattle.counting.specs.CountOutcomes.{FewKeys, ManyKeys, CountRefusedFor, not_opened, no_space, not_admitted, too_many, Counts, CountOutcome}
-use Rattle.counting.specs.CountPasses.{HasEntry, Countable, OverOne, Passed, NotCounted, Leaves}
+use Rattle.counting.specs.CountPasses.{HasEntry, Countable, OverOne, Passed, Leaves}
 use Rattle.counting.proofs.CountLaws.{root_many}
-
--- ---- the pass with its refusal
-
-pub over_leaves : {f : Fst} {d c₀ c c' : List ℕ} → Passed f d c₀ c false → Wiped (length f.bytes) c c' → NotCounted f d c₀ c' COUNT
-over_leaves p w = record { is = refl; one = p.found; wiped = wiped_after p.kept w }
 
 -- ---- the depths of an admitted file
 

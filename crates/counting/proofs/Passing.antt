@@ -3,11 +3,11 @@
 --     Passing f d c a     the entries below a are as they are to be
 --     AtNode f d c a      and the next address has an entry in the depths
 -- Assumes nothing.
-use mathlib.Core.Path.{◌≡◌, refl, sym, ap, ◌∙◌}
-use mathlib.Core.Bool.{Bool, true, false}
+use Rattle.std.specs.Prelude.{Option, Some, None}
+use mathlib.Core.Path.{◌≡◌, sym, ap, ◌∙◌}
 use mathlib.Core.List.{List}
 use Prim.Native.Nat.{ℕ, ◌+◌, ◌≤◌, ◌<◌}
-use native.Mathlib.Decide.{ℕ_discrete, dec_le}
+use native.Mathlib.Decide.{dec_le}
 use native.Mathlib.Omega.{arith}
 use lib.ListN.{length, get_or, set}
 use Rattle.format.specs.Node.{Node, sound, SoundAt, node_of}
@@ -15,9 +15,8 @@ use Rattle.format.specs.Paths.{Fst, node_in}
 use Rattle.format.specs.Tables.{keys_from}
 use Rattle.format.specs.Laws.NodeLaws.{node_at_sound}
 use Rattle.format.specs.Laws.NodeFacts.{node_target_lt}
-use Rattle.admission_node.specs.declared.Total.{Total}
-use Rattle.admission_node.specs.Entries.{Kept, total_as, entry_is, or_over}
-use Rattle.admission_node.specs.KeptLaws.{at_set, kept_none, kept_set, kept_lt}
+use Rattle.admission_node.specs.Entries.{Kept, total_as}
+use Rattle.admission_node.specs.KeptLaws.{at_set}
 use Rattle.admission_node.specs.TotalLaws.{total_cases}
 use Rattle.counting_node.specs.CountNodes.{CountedAt}
 use Rattle.counting.specs.CountPasses.{HasEntry, ZerosTo, Countable, KeysEntry, OverOne}
@@ -33,34 +32,6 @@ pub record Zeroing (d : List ℕ) (n from : ℕ) (c₀ c : List ℕ) (a : ℕ) :
   pub zeros : (j : ℕ) → from ≤ j → j < a → get_or c j 0 ≡ 0
   pub below : (j : ℕ) → j < from → get_or c j 0 ≡ get_or c₀ j 0
 
-pub zeroing_none : (d : List ℕ) {n from : ℕ} (c : List ℕ) → from ≤ n → Zeroing d n from c c from
-zeroing_none d {n} c l =
-    record {
-      low = omega arith;
-      high = l;
-      kept = kept_none n c;
-      none = λ j p q. absurd (omega arith);
-      zeros = λ j p q. absurd (omega arith);
-      below = λ j p. refl;
-    }
-
-pub zeroing_step : {d : List ℕ} {n from : ℕ} {c₀ c : List ℕ} {a : ℕ} → Zeroing d n from c₀ c a → n ≤ length c₀ → a < n → get_or d a 0 ≡ 0
-    → Zeroing d n from c₀ (set c a 0) (a + 1)
-zeroing_step {d} {n} {from} {c₀} {c} {a} h room l z =
-    let here = kept_lt h.kept room l in
-    record {
-      low = omega (arith, h.low);
-      high = omega arith;
-      kept = kept_set a 0 l h.kept;
-      none = λ j p q. elim (ℕ_discrete j a) [ yes e ↦ ap (λ i. get_or d i 0) e ∙ z | no e ↦ h.none j p (omega arith) ];
-      zeros = at_set (λ j x. from ≤ j → j < a + 1 → x ≡ 0) c a 0 here (λ p q. refl) (λ j ne p q. h.zeros j p (omega arith));
-      below = at_set (λ j x. j < from → x ≡ get_or c₀ j 0) c a 0 here (λ p. absurd (omega (arith, h.low))) (λ j ne p. h.below j p);
-    }
-
-pub zeroing_stops : {d : List ℕ} {n from : ℕ} {c₀ c : List ℕ} {a : ℕ} → Zeroing d n from c₀ c a → (a < n → HasEntry d a) → ZerosTo d n from c₀ c a
-zeroing_stops h next =
-    record { low = h.low; high = h.high; kept = h.kept; none = h.none; zeros = h.zeros; below = h.below; next = next }
-
 -- ---- the pass
 
 pub record Passing (f : Fst) (d c : List ℕ) (a : ℕ) : Type 0 where
@@ -70,9 +41,6 @@ pub record AtNode (f : Fst) (d c : List ℕ) (a : ℕ) : Type 0 where
   pub within : a ≤ length f.bytes
   pub passing : Passing f d c a
   pub next : a < length f.bytes → HasEntry d a
-
-pub passing_none : (f : Fst) (d c : List ℕ) → Passing f d c 0
-passing_none f d c = record { below = λ j l. absurd (omega arith) }
 
 -- the addresses without an entry in the depths are passed
 pub passing_zeros : {f : Fst} {d c₀ c : List ℕ} {from a : ℕ} → Passing f d c₀ from → ZerosTo d (length f.bytes) from c₀ c a → AtNode f d c a
@@ -88,17 +56,14 @@ passing_zeros {f} {d} {c₀} {c} {from} {a} h z =
           | no p ↦ rw (z.below j (omega arith)) (h.below j (omega arith))
         ]
 
-no_flag : {X : Type 0} → ◌≡◌ {A = Bool} false true → X
-no_flag e = let z : ◌≡◌ {A = ℕ} 0 1 = cc in absurd (omega arith)
-
 sound_node : (f : Fst) (a : ℕ) → SoundAt f.bytes f.version f.root a → (m : Node) × (node_in f a ≡ sound m)
 sound_node f a h = (node_of f.bytes f.version a, node_at_sound f.bytes f.version f.root a (λ z. omega (arith, h.above)) h)
 
 module _ {f : Fst} {d c₀ c : List ℕ} {a : ℕ} (h : AtNode f d c a) (ok : Countable f d c₀) (inside : a < length f.bytes) where
-  pub node_here : SoundAt f.bytes f.version f.root a
+  node_here : SoundAt f.bytes f.version f.root a
   node_here = ok.sounds a inside (h.next inside)
 
-  module _ (r : Total) (v : CountedAt f c a r) where
+  module _ (r : Option ℕ) (v : CountedAt f c a r) where
     -- the number of keys, or that it does not fit
     total_is : r ≡ total_as (keys_from f a)
     total_is =
@@ -110,24 +75,18 @@ module _ {f : Fst} {d c₀ c : List ℕ} {a : ℕ} (h : AtNode f d c a) (ok : Co
         (λ t mem ne.
         (h.passing.below t.addr (node_target_lt f a m n.1 t mem)).on (ok.targets a m t inside (h.next inside) n.1 mem ne)))
 
-    pub passing_over : or_over false r ≡ true → OverOne f d
-    passing_over up =
+    pub passing_over : r ≡ None → OverOne f d
+    passing_over is =
         total_cases (keys_from f a) r total_is
-        (λ p i. no_flag (sym (ap (or_over false) i) ∙ up))
+        (λ p i. let other : Some (keys_from f a) ≡ None = sym i ∙ is in absurd (cc))
         (λ p i. record { at = a; inside = inside; entered = h.next inside; over = p })
 
-    entry_here : or_over false r ≡ false → KeysEntry f d a (entry_is r)
-    entry_here down =
+    entry_here : (x : ℕ) → r ≡ Some x → KeysEntry f d a x
+    entry_here x is =
         total_cases (keys_from f a) r total_is
-        (λ p i. record { off = λ z. absurd (h.next inside z); on = λ _. ap entry_is i; low = λ _. p })
-        (λ p i. no_flag (sym (sym (ap (or_over false) i) ∙ down)))
+        (λ p i. record { off = λ z. absurd (h.next inside z); on = λ _. cc; low = λ _. p })
+        (λ p i. let other : Some x ≡ None = sym is ∙ i in absurd (cc))
 
-    pub passing_step : (x : ℕ) → a < length c → x ≡ entry_is r → or_over false r ≡ false → Passing f d (set c a x) (a + 1)
-    passing_step x room x_is down =
-        record {
-          below =
-              at_set (λ j y. j < a + 1 → KeysEntry f d j y) c a x room (λ _. rw x_is (entry_here down)) (λ j ne l. h.passing.below j (omega arith));
-        }
-
-pub passing_all : {f : Fst} {d c : List ℕ} {a : ℕ} → AtNode f d c a → length f.bytes ≤ a → (j : ℕ) → j < length f.bytes → KeysEntry f d j (get_or c j 0)
-passing_all h all j l = h.passing.below j (omega arith)
+    pub passing_step : (x : ℕ) → a < length c → r ≡ Some x → Passing f d (set c a x) (a + 1)
+    passing_step x room is =
+        record { below = at_set (λ j y. j < a + 1 → KeysEntry f d j y) c a x room (λ _. entry_here x is) (λ j ne l. h.passing.below j (omega arith)) }

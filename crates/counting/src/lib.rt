@@ -10,7 +10,6 @@ ghost use Rattle.counting.specs.CountPasses.{ZerosTo, Countable, Passed, Leaves}
 ghost use Rattle.counting.specs.CountOutcomes.{CountOutcome};
 
 use admission::Admission;
-use admission_node::{entry_of, or_over};
 use counting_node::count_at;
 use format::{COUNT, SPACE};
 use fst::Opened;
@@ -29,16 +28,14 @@ fn zeros_to(depths: &[u16], from: usize, n: usize, counts: &mut [u64]) -> usize
     ensures { ZerosTo depths.now n from counts.old
         counts.new result }
 {
-    let mut a = from;
-    while a < n {
+    for a in from..n {
         let reached = depths[a] != 0;
         if reached {
             return a;
         }
         counts[a] = 0;
-        a += 1;
     }
-    a
+    n
 }
 
 // Fills the table, in ascending order of addresses; false at the first node with more keys than an entry holds.
@@ -49,12 +46,12 @@ fn fill(file: &[u8], version: u64, root: usize, depths: &[u16], counts: &mut [u6
 {
     let n = file.len();
     let mut a = zeros_to(depths, 0, n, counts);
+    // not by `for`: `zeros_to` says where the next node lies
     while a < n {
-        let t = count_at(file, version, root, a, counts);
-        if or_over(false, t) {
+        let Some(keys) = count_at(file, version, root, a, counts) else {
             return false;
-        }
-        counts[a] = entry_of(t);
+        };
+        counts[a] = keys;
         a = zeros_to(depths, a + 1, n, counts);
     }
     true
@@ -76,7 +73,7 @@ fn count_nodes(
     if fill(file, version, root, depths, counts) {
         return Counting::Counted;
     }
-    admission::clear64(counts, n);
+    counts[..n].fill(0);
     Counting::Refused(COUNT)
 }
 

@@ -1,6 +1,7 @@
 -- One node, by the entries of its targets: what is known after the first i of its transitions.
 --     CountedTo ..        their keys and the node's own, as a total
 -- Assumes nothing.
+use Rattle.std.specs.Prelude.{Option, Some}
 use mathlib.Core.Path.{◌≡◌, sym, ap, ◌∙◌}
 use mathlib.Core.Bool.{Bool, true, false}
 use mathlib.Core.List.{List}
@@ -17,19 +18,11 @@ use Rattle.format.specs.Node.{transition_at}
 use Rattle.format.specs.Tables.{one, sum_of, keys_at}
 use Rattle.format.specs.Laws.TransitionLaws.{at_member}
 use Rattle.format.specs.Laws.KeysLaws.{sum_take_step}
-use Rattle.admission_node.specs.declared.Total.{Total}
-use Rattle.admission_node.specs.declared.Total.TheVariants.{Is, Over}
 use Rattle.admission_node.specs.Entries.{total_as}
 use Rattle.admission_node.specs.TotalLaws.{total_of_le}
 use Rattle.counting_node.specs.CountNodes.{added_to, keys_by, Inside}
 
 -- ---- a total and more
-
-pub added_over : (t : Total) (b x : ℕ) → t ≡ Is b → max_sum < b + x → Over ≡ added_to t x
-added_over t b x e h = sym (ap (λ u. added_to u x) e ∙ rw (lt-leb (b + x) max_sum h))
-
-pub added_is : (t : Total) (b x : ℕ) → t ≡ Is b → b + x ≤ max_sum → Is (b + x) ≡ added_to t x
-added_is t b x e h = sym (ap (λ u. added_to u x) e ∙ rw (le-leb (b + x) max_sum h))
 
 added_total : (n x : ℕ) → added_to (total_as n) x ≡ total_as (n + x)
 added_total n x =
@@ -49,26 +42,24 @@ one_low : (b : Bool) → one b ≤ 1
 one_low true = omega arith
 one_low false = omega arith
 
-pub record CountedTo (c : List ℕ) (final : Bool) (ts : List Transition) (i : ℕ) (total : Total) : Type 0 where
-  pub within : i ≤ length ts
+pub record CountedTo (c : List ℕ) (final : Bool) (ts : List Transition) (i : ℕ) (total : Option ℕ) : Type 0 where
   pub total_is : total ≡ total_as (keys_by c final (take i ts))
 
-pub counted_none : (c : List ℕ) (final : Bool) (ts : List Transition) (n : ℕ) → n ≡ one final → CountedTo c final ts 0 (Is n)
+pub counted_none : (c : List ℕ) (final : Bool) (ts : List Transition) (n : ℕ) → n ≡ one final → CountedTo c final ts 0 (Some n)
 unfolding keys_by sum_of
 counted_none c final ts n e =
     let same : n ≡ one final + 0 = omega arith in
-    record { within = omega arith; total_is = total_of_le n (omega (arith, one_low final)) ∙ ap total_as same }
+    record { total_is = total_of_le n (omega (arith, one_low final)) ∙ ap total_as same }
 
 module _ {c : List ℕ} {ts : List Transition} (i : ℕ) (l : i < length ts) (a : ℕ) (a_is : a ≡ (transition_at ts i).addr) where
   pub target_inside : Inside c ts → a < length c
   target_inside ok = rw a_is (ok.each (transition_at ts i) (at_member ts i l))
 
-  pub counted_step : {final : Bool} {total : Total} (k : ℕ) (total' : Total) → CountedTo c final ts i total → k ≡ keys_at c a → total' ≡ added_to total k
+  pub counted_step : {final : Bool} {total : Option ℕ} (k : ℕ) (total' : Option ℕ) → CountedTo c final ts i total → k ≡ keys_at c a → total' ≡ added_to total k
       → CountedTo c final ts (i + 1) total'
   counted_step {final} k total' before k_is now_is_lem =
       let child : k ≡ keys_at c (transition_at ts i).addr = k_is ∙ ap (keys_at c) a_is in
       record {
-        within = omega arith;
         total_is =
             now_is_lem
             ∙ ap (λ u. added_to u k) before.total_is
@@ -77,6 +68,6 @@ module _ {c : List ℕ} {ts : List Transition} (i : ℕ) (l : i < length ts) (a 
             ∙ ap total_as (sym (keys_more c final ts i l));
       }
 
-pub counted_all : {c : List ℕ} {final : Bool} {ts : List Transition} {i : ℕ} {total : Total} → CountedTo c final ts i total → length ts ≤ i
+pub counted_all : {c : List ℕ} {final : Bool} {ts : List Transition} {i : ℕ} {total : Option ℕ} → CountedTo c final ts i total → length ts ≤ i
     → total ≡ total_as (keys_by c final ts)
 counted_all {c} {final} {ts} {i} h l = h.total_is ∙ ap (λ u. total_as (keys_by c final u)) (take_all i ts l)

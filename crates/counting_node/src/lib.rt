@@ -9,15 +9,13 @@ ghost use Rattle.node.specs.Read.{transitions_in, Readable};
 ghost use Rattle.admission_node.specs.Entries.{total_as};
 ghost use Rattle.counting_node.specs.CountNodes.{added_to, keys_by, Inside, CountedAt};
 
-use admission_node::Total;
-use le_bytes::small;
 use node::Node;
 
 // The key that ends at a node.
 fn own_key(is_final: bool) -> u64
     ensures { result ≡ one is_final }
 {
-    if is_final { 1 } else { 0 }
+    u64::from(is_final)
 }
 
 // The keys from a target; address 0 has no entry and counts one.
@@ -25,48 +23,35 @@ fn child_keys(counts: &[u64], t: usize) -> u64
     requires { t < length counts.now }
     ensures { result ≡ keys_at counts.now t }
 {
-    if t == 0 {
-        return 1;
-    }
-    counts[t]
+    if t == 0 { 1 } else { counts[t] }
 }
 
-// A total and x more, or Over where that passes the limit. Nothing here wraps.
-fn added(t: Total, x: u64) -> Total
+// A total and x more, or None where that passes the limit.
+fn added(t: Option<u64>, x: u64) -> Option<u64>
     ensures { result ≡ added_to t x }
 {
-    match t {
-        Total::Over => Total::Over,
-        Total::Is(b) => {
-            if u64::MAX - x < b {
-                return Total::Over;
-            }
-            Total::Is(b + x)
-        }
-    }
+    t?.checked_add(x)
 }
 
 // The keys from a node, by the entries of its targets, in one pass over its transitions.
-fn count_any(file: &[u8], node: Node, counts: &[u64]) -> Total
+fn count_any(file: &[u8], node: Node, counts: &[u64]) -> Option<u64>
     requires { Readable file.now node
         × Inside counts.now (transitions_in file.now node) }
     ensures { result ≡ total_as (keys_by counts.now node.is_final
         (transitions_in file.now node)) }
 {
     let n = node.ntrans;
-    let mut total = Total::Is(own_key(node.is_final));
-    let mut i = 0;
-    while i < n {
+    let mut total = Some(own_key(node.is_final));
+    for i in 0..n {
         let t = node::transition_addr(file, node, i);
         let k = child_keys(counts, t);
         total = added(total, k);
-        i += 1;
     }
     total
 }
 
 // The same of a node with one transition.
-fn count_one(file: &[u8], node: Node, counts: &[u64]) -> Total
+fn count_one(file: &[u8], node: Node, counts: &[u64]) -> Option<u64>
     requires { Readable file.now node × (node.ntrans ≡ 1)
         × Inside counts.now (transitions_in file.now node) }
     ensures { result ≡ total_as (keys_by counts.now node.is_final
@@ -74,17 +59,17 @@ fn count_one(file: &[u8], node: Node, counts: &[u64]) -> Total
 {
     let t = node::transition_addr(file, node, 0);
     let k = child_keys(counts, t);
-    added(Total::Is(own_key(node.is_final)), k)
+    added(Some(own_key(node.is_final)), k)
 }
 
 // The same of the sound node at the address a.
-pub fn count_at(file: &[u8], version: u64, root: usize, a: usize, counts: &[u64]) -> Total
+pub fn count_at(file: &[u8], version: u64, root: usize, a: usize, counts: &[u64]) -> Option<u64>
     requires { SoundAt file.now version root a
         × (length file.now ≤ length counts.now) }
     ensures { CountedAt (fst_with file.now version root)
         counts.now a result }
 {
-    let state = small(file[a]);
+    let state = file[a];
     if state < 128 {
         let m = node::any_node(file, version, root, a);
         return count_any(file, m, counts);

@@ -72,8 +72,10 @@ module _ {s : List ℕ} {p : P.Pattern} {w : Page} {most : ℕ} {rows₀ values�
       subst (λ (q : Page). RangedBy q rows₀ rows values₀ values (record { count = count; stop = stop_as why })) (sym is)
       (record { count = g.count_is; stop = refl; rows_are = g.rows_are; values_are = g.values_are })
 
-  pub going_more : most ≤ count → RangedBy w rows₀ rows values₀ values (record { count = count; stop = More })
-  going_more full = stops more (by_more g.folded (omega arith))
+  pub going_more : most ≤ count → RangedBy w rows₀ rows values₀ values (record { count = most; stop = More })
+  going_more full =
+      let e : count ≡ most = omega (arith, g.within) in
+      subst (λ (j : ℕ). RangedBy w rows₀ rows values₀ values (record { count = j; stop = More })) e (stops more (by_more g.folded (omega arith)))
 
   -- a call of next
   module _ (left : count < most) {b : List ℕ} (same : length b ≡ max_path) {o : PatternedStep}

@@ -29,8 +29,7 @@ pub fn fill(
 {
     let mut key = [0u8; MAX_KEY];
     let mut here = first;
-    let mut count = 0;
-    while count < most {
+    for count in 0..most {
         let step = next(file, here, &mut key);
         let answer = step.answer;
         here = step.patterned;
@@ -50,12 +49,11 @@ pub fn fill(
             Answer::Key(n, value) => {
                 put_row(&key, n, count * ROW, rows);
                 values[count] = value;
-                count += 1;
             }
         }
     }
     Ranged {
-        count,
+        count: most,
         stop: Stop::More, // as many as asked for
     }
 }

@@ -1,26 +1,23 @@
 -- What opening reads is what the definition reads, and its tests are the definition's.
 -- Assumes nothing.
-use mathlib.Core.Path.{◌≡◌, refl, sym, ap, ◌∙◌}
-use mathlib.Core.Bool.{Bool, true, false, cond, ◌&&◌}
-use mathlib.Core.Option.{Option, none, some}
+use mathlib.Core.Path.{◌≡◌, sym, ◌∙◌}
+use mathlib.Core.Bool.{Bool, false, cond}
+use mathlib.Core.Option.{none, some}
 use mathlib.Core.List.{List, []}
 use Prim.Native.Nat.{ℕ, ◌+◌, ◌-◌, ◌≤◌, ◌<◌}
 use native.Mathlib.Decide.{ℕ_discrete}
 use native.Mathlib.Omega.{arith}
 use borrow.Author.Tests.{le-leb, lt-leb, eq-eqb, ne_eqb}
-use lib.Dec.{leb, eqb}
+use lib.Dec.{eqb}
 use lib.ListN.{length}
-use Rattle.buffers.specs.Decide.{Decides}
 use Rattle.buffers.specs.DecideLaws.{decides_eq, decides_iff, decides_same}
 use Rattle.format.specs.Limits.{min_len}
 use Rattle.format.specs.Opening.{trailer_len, least_len, number_at, meta_of, root_test, opened, refused, opening}
 use Rattle.format.specs.Laws.OpeningLaws.{blank_meta, opening_blank, opening_short, root_none, root_some}
-use Rattle.fst.specs.declared.Checksum.{Checksum}
-use Rattle.fst.specs.declared.Checksum.TheVariants.{Missing}
-use Rattle.fst.specs.declared.Meta.{Meta}
+use Rattle.std.specs.Prelude.{Option as Maybe, None}
 use Rattle.fst.specs.Open.{checksum_is, meta_is}
 
-pub meta_is_lem : (s : List ℕ) (version ty len root tl : ℕ) (c : Checksum) → version ≡ number_at s 0 8 → tl ≡ trailer_len version → ty ≡ number_at s 8 8
+pub meta_is_lem : (s : List ℕ) (version ty len root tl : ℕ) (c : Maybe ℕ) → version ≡ number_at s 0 8 → tl ≡ trailer_len version → ty ≡ number_at s 8 8
     → len ≡ number_at s (length s - tl) 8 → root ≡ number_at s (length s - tl + 8) 8
     → checksum_is c ≡ cond (eqb version 3) (some (number_at s (length s - 4) 4)) none
     → meta_is (record { version = version; ty = ty; len = len; root = root; checksum = c }) ≡ meta_of s
@@ -42,7 +39,7 @@ pub rule_is : (r : Bool) (v w root n len : ℕ) → v ≡ w → root ≡ n → r
 rule_is r v w root n len e f is = rw (← e, ← f) is
 
 -- no bytes
-pub blank_is_meta : meta_is (record { version = 0; ty = 0; len = 0; root = 0; checksum = Missing }) ≡ meta_of []
+pub blank_is_meta : meta_is (record { version = 0; ty = 0; len = 0; root = 0; checksum = None }) ≡ meta_of []
 blank_is_meta = sym blank_meta
 
 pub opening_of_few : (s : List ℕ) → length s < min_len → opening s ≡ cond (eqb (length s) 0) (opened (meta_of [])) (refused 1)
@@ -51,12 +48,6 @@ opening_of_few s few =
       | yes z ↦ opening_blank s z ∙ rw (eq-eqb (length s) 0 z)
       | no ne ↦ opening_short s ne few ∙ rw (ne_eqb (length s) 0 ne)
     ]
-
-pub few_none : (n : ℕ) (m : Meta) → n ≡ 0 → meta_is m ≡ meta_of [] → opened (meta_is m) ≡ cond (eqb n 0) (opened (meta_of [])) (refused 1)
-few_none n m z e = rw (eq-eqb n 0 z) (ap opened e)
-
-pub few_some : (n : ℕ) → ¬ (n ≡ 0) → refused 1 ≡ cond (eqb n 0) (opened (meta_of [])) (refused 1)
-few_some n ne = rw (ne_eqb n 0 ne)
 
 -- ---- the rule on roots, by the tests of the code
 

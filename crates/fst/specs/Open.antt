@@ -4,18 +4,16 @@
 --     opening_is r      what opening answered
 -- Assumes nothing.
 use Rattle.std.proofs.Math.Option.{Option, none, some}
-use Rattle.std.specs.Prelude.{ℕ}
+use Rattle.std.specs.Prelude.{Option as Maybe, Some, None, ℕ}
 use Rattle.format.specs.Opening as F
 use Rattle.format.specs.Opening.{Opening, opened, refused}
-use Rattle.fst.specs.declared.Checksum.{Checksum}
-use Rattle.fst.specs.declared.Checksum.TheVariants.{Stored, Missing}
 use Rattle.fst.specs.declared.Meta.{Meta}
 use Rattle.fst.specs.declared.Opened.{Opened}
 use Rattle.fst.specs.declared.Opened.TheVariants.{Meta as Read, Refused}
 
-abbrev pub checksum_is : Checksum → Option ℕ
-checksum_is (Stored n) = some n
-checksum_is Missing = none
+abbrev pub checksum_is : Maybe ℕ → Option ℕ
+checksum_is (Some n) = some n
+checksum_is None = none
 
 abbrev pub meta_is : Meta → F.Meta
 meta_is m = record { version = m.version; ty = m.ty; len = m.len; root = m.root; checksum = checksum_is m.checksum }

@@ -11,14 +11,6 @@ ghost use Rattle.fst.specs.Open.{opening_is, meta_is, checksum_is};
 
 use format::{FIRST_NODE, LARGE, MAX_LEN, MIN_LEN, NODE, ROOT, SHORT, SUM, VERSION};
 use le_bytes::{read_u32_le, read_u64_le};
-use node::Judged;
-
-// The checksum of version 3, read and not verified; versions 1 and 2 have none.
-#[derive(Clone, Copy)]
-pub enum Checksum {
-    Stored(u32),
-    Missing,
-}
 
 // What the header and the trailer say.
 #[derive(Clone, Copy)]
@@ -28,7 +20,8 @@ pub struct Meta {
     // the number of keys, read and not judged
     pub len: u64,
     pub root: usize,
-    pub checksum: Checksum,
+    // that of version 3, read and not verified; versions 1 and 2 have none
+    pub checksum: Option<u32>,
 }
 
 // What opening answers: what the file says, or the number of a refusal.
@@ -55,6 +48,7 @@ fn len_without_nodes(trailer: usize) -> usize
 }
 
 // The rule on roots.
+#[tactic(auto, using(crate::proofs::Opens::root_of_none, crate::proofs::Opens::root_too_low, crate::proofs::Opens::root_at_trailer))]
 fn root_right(version: u64, root: usize, len: usize) -> bool
     requires { least_len version ≤ len }
     ensures { result ≡ root_test version root len }
@@ -72,19 +66,20 @@ fn root_right(version: u64, root: usize, len: usize) -> bool
 }
 
 // The stored checksum, if the version has one.
-fn checksum_of(file: &[u8], version: u64) -> Checksum
+fn checksum_of(file: &[u8], version: u64) -> Option<u32>
     requires { 4 ≤ length file.now }
     ensures { checksum_is result ≡ cond (eqb version 3)
         (some (number_at file.now (length file.now - 4) 4)) none }
 {
     if version == 3 {
         let at = file.len() - 4;
-        return Checksum::Stored(read_u32_le(&file[at..]));
+        return Some(read_u32_le(&file[at..]));
     }
-    Checksum::Missing
+    None
 }
 
 // What a file without bytes says: version, type, count and root 0, and no checksum.
+#[tactic(auto, using(crate::proofs::Opens::blank_is_meta))]
 fn blank() -> Meta
     ensures { meta_is result ≡ meta_of [] }
 {
@@ -93,7 +88,7 @@ fn blank() -> Meta
         ty: 0,
         len: 0,
         root: 0,
-        checksum: Checksum::Missing,
+        checksum: None,
     }
 }
 
@@ -138,7 +133,7 @@ pub fn open(file: &[u8]) -> Opened
     let len_at = n - trailer;
     let root_at = len_at + 8;
     let root = read_u64_le(&file[root_at..]) as usize;
-    if root_right(version, root, n) {} else {
+    if !root_right(version, root, n) {
         return Opened::Refused(ROOT);
     }
     let ty = read_u64_le(&file[8..]);
@@ -157,9 +152,8 @@ pub fn open(file: &[u8]) -> Opened
 pub fn past_sum(file: &[u8], version: u64, root: usize, addr: usize) -> u8
     ensures { result ≡ past_sum (node_at file.now version root addr) }
 {
-    let judged = node::node_at(file, version, root, addr);
-    match judged {
-        Judged::Unsound => NODE,
-        Judged::Sound(_) => SUM,
+    match node::node_at(file, version, root, addr) {
+        Err(_) => NODE,
+        Ok(_) => SUM,
     }
 }

@@ -2,4 +2,3 @@
 mod Weights
 mod Writing
 mod SizeLaws
-mod Place

@@ -5,7 +5,7 @@
 --     cut_eight       eight bytes, shifted up and down again, are the lowest k of them
 --     le_padded       bytes before zeros stand for what they stand for alone
 -- Assumes nothing.
-use mathlib.Core.Path.{◌≡◌, refl, sym, ◌∙◌}
+use mathlib.Core.Path.{◌≡◌, sym, ◌∙◌}
 use mathlib.Core.List.{List, [], ◌∷◌, ◌++◌}
 use Prim.Native.Nat.{ℕ, zero, suc, ◌+◌, ◌-◌, ◌*◌, ◌/◌, ◌%◌, ◌^◌, ◌≤◌, ◌<◌}
 use native.Mathlib.Nat.{pow-suc, mul_assoc, mul_comm, mul-mod_left, mod-eq_of_lt, add-mul-mod_self_left, add-zero}

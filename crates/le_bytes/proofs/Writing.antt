@@ -1,36 +1,29 @@
--- A number written from its lowest byte up.
+-- A number written from its lowest byte up, over the bytes of a slice.
 -- Assumes nothing.
-use mathlib.Core.Path.{◌≡◌, ◌∙◌}
-use mathlib.Core.List.{List}
-use Prim.Native.Nat.{ℕ, ◌+◌, ◌-◌, ◌/◌, ◌%◌, ◌≤◌, ◌<◌}
-use native.Mathlib.Numerals.{add-one}
-use native.Mathlib.Omega.{arith}
-use lib.ListN.{length, set, length-set}
-use lib.Seq.{sets}
+use Rattle.std.specs.Prelude.{◌≡◌, List, ◌++◌, ℕ, ◌+◌, ◌-◌, ◌/◌, ◌%◌, ◌≤◌, ◌<◌, length, take, set}
+use Rattle.std.proofs.Common.{◌∙◌, append_assoc, append-nil, arith, length-set, take_all}
+use Rattle.std.proofs.lemmas.List.{take_more_set}
 use Rattle.format.specs.Bytes.{bytes_of}
-use Rattle.buffers.specs.Put.{put}
-use Rattle.buffers.specs.PutLaws.{sets_put}
-use Rattle.format.specs.Laws.BytesLaws.{bytes_of_step, length_bytes_of}
+use Rattle.format.specs.Laws.BytesLaws.{bytes_of_step}
 
--- what is left to write, m in k bytes from i on, makes of out what the whole makes of out₀
-pub record Writing (out₀ : List ℕ) (at n nbytes : ℕ) (out : List ℕ) (m i k : ℕ) : Type 0 where
-  pub len : length out ≡ length out₀
-  pub room : i + k ≤ length out
-  pub same : sets out i (bytes_of k m) ≡ sets out₀ at (bytes_of nbytes n)
+-- the first i of nbytes bytes are written, and what they leave of n is m
+pub record Writing (n nbytes : ℕ) (bytes : List ℕ) (m i : ℕ) : Type 0 where
+  pub len : length bytes ≡ nbytes
+  pub is : take i bytes ++ bytes_of (nbytes - i) m ≡ bytes_of nbytes n
 
-pub writing_step : {out₀ : List ℕ} {at n nbytes : ℕ} {out : List ℕ} {m i k : ℕ} → 0 < k → Writing out₀ at n nbytes out m i k
-    → Writing out₀ at n nbytes (set out i (m % 256)) (m / 256) (i + 1) (k - 1)
-writing_step {out₀} {at} {n} {nbytes} {out} {m} {i} {k} k0 w =
-    let r = w.room in
+pub writing_step : {n nbytes : ℕ} {bytes : List ℕ} {m i : ℕ} → i < length bytes → Writing n nbytes bytes m i
+    → Writing n nbytes (set bytes i (m % 256)) (m / 256) (i + 1)
+writing_step {n} {nbytes} {bytes} {m} {i} lt w =
+    let l = w.len in
+    let less : nbytes - (i + 1) ≡ nbytes - i - 1 = omega arith in
     record {
-      len = length-set out i (m % 256) ∙ w.len;
-      room = simp length-set (omega arith);
-      same = rw (add-one, ← w.same, bytes_of_step k m);
+      len = length-set bytes i (m % 256) ∙ w.len;
+      is = rw (take_more_set bytes i (m % 256) lt, less, append_assoc) (rw (bytes_of_step (nbytes - i) m (omega arith)) at w.is);
     }
 
-pub writing_all : {out₀ : List ℕ} {at n nbytes : ℕ} {out : List ℕ} {m i k : ℕ} → at + nbytes ≤ length out₀ → k ≤ 0
-    → Writing out₀ at n nbytes out m i k → out ≡ put out₀ at (bytes_of nbytes n)
+pub writing_all : {n nbytes : ℕ} {bytes : List ℕ} {m i : ℕ} → length bytes ≤ i → Writing n nbytes bytes m i → bytes ≡ bytes_of nbytes n
 unfolding bytes_of
-writing_all {out₀} {at} {n} {nbytes} {out} {m} {i} {k} h k0 w =
-    let z : k ≡ 0 = omega arith in
-    (rw z at w.same) ∙ sets_put out₀ at (bytes_of nbytes n) (rw length_bytes_of h)
+writing_all {n} {nbytes} {bytes} {m} {i} past w =
+    let l = w.len in
+    let none : nbytes - i ≡ 0 = omega arith in
+    rw (none, take_all i bytes past, append-nil) at w.is

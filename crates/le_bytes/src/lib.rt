@@ -71,21 +71,21 @@ fn load8(slice: &[u8]) -> u64
     requires { 8 ≤ length slice.now }
     ensures { result ≡ le (take 8 slice.now) }
 {
-    let mut n = wide(slice[0]);
+    let mut n = u64::from(slice[0]);
     let mut weight: u64 = 256;
-    n += wide(slice[1]) * weight;
+    n += u64::from(slice[1]) * weight;
     weight *= 256;
-    n += wide(slice[2]) * weight;
+    n += u64::from(slice[2]) * weight;
     weight *= 256;
-    n += wide(slice[3]) * weight;
+    n += u64::from(slice[3]) * weight;
     weight *= 256;
-    n += wide(slice[4]) * weight;
+    n += u64::from(slice[4]) * weight;
     weight *= 256;
-    n += wide(slice[5]) * weight;
+    n += u64::from(slice[5]) * weight;
     weight *= 256;
-    n += wide(slice[6]) * weight;
+    n += u64::from(slice[6]) * weight;
     weight *= 256;
-    n += wide(slice[7]) * weight;
+    n += u64::from(slice[7]) * weight;
     n
 }
 
@@ -115,13 +115,9 @@ pub fn pack_uint_in(out: &mut [u8], at: usize, n: u64, nbytes: usize)
     ensures { out.new ≡ put out.old at (bytes_of nbytes n) }
 {
     let mut m = n;
-    let mut i = at;
-    let mut left = nbytes;
-    while 0 < left {
-        out[i] = (m % 256) as u8;
+    for byte in &mut out[at..at + nbytes] {
+        *byte = (m % 256) as u8;
         m /= 256;
-        i += 1;
-        left -= 1;
     }
 }
 

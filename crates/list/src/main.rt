@@ -38,12 +38,12 @@ fn lines(rt: &impl Print, file: &[u8], first: Plain)
     let mut line = [0u8; LINE];
     let mut plain = first;
     let mut keys: u64 = 0;
+    // a loop: each line gives the reading that the next one is of
     loop {
         let listed = listing::next_line(file, plain, keys, &mut line);
-        let got = listed.line;
-        match got {
+        match listed.line {
             Line::Key(n) => {
-                if put(rt, &line, n) {} else {
+                if !put(rt, &line, n) {
                     return;
                 }
             }
@@ -51,9 +51,7 @@ fn lines(rt: &impl Print, file: &[u8], first: Plain)
                 put(rt, &line, n);
                 return;
             }
-            Line::Short => {
-                return;
-            }
+            Line::Short => return,
         }
         keys = listed.keys;
         plain = listed.plain;
@@ -66,8 +64,7 @@ fn list(rt: &impl Print, file: &[u8]) {
     let mut sums = [0u64; CELLS];
     let mut counts = [0u64; CELLS];
     let begun = listing_start::begin(file, &mut depths, &mut sums, &mut counts);
-    let answer = begun.answer;
-    match answer {
+    match begun.answer {
         Begins::Refused(why) => refuse(rt, why),
         Begins::Began => lines(rt, file, begun.plain),
     }

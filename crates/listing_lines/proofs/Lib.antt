@@ -1,5 +1,4 @@
 -- Lemmas on plain lists and numbers, for the proofs of this crate.
 mod LineParts
-mod Copying
 mod Hexes
 mod Digits

@@ -4,12 +4,20 @@ use mathlib.Core.Path.{◌≡◌, refl, sym, ap, ◌∙◌}
 use mathlib.Core.List.{List, [], ◌∷◌, ◌++◌, append_assoc}
 use Prim.Native.Nat.{ℕ, suc, ◌+◌, ◌≤◌, ◌<◌}
 use native.Mathlib.Omega.{arith}
+use borrow.Rule.Slice.PartMut.{put_mid}
+use Rattle.std.proofs.Common.{drop-drop}
 use lib.ListN.{length, take, drop, set, length-append, length-set}
 use lib.Seq.{drop_at, set_split, take-set-le, length-take-le}
 use Rattle.buffers.specs.Put.{put, PutAt}
 use Rattle.buffers.specs.PutLaws.{put_zero, put_next, set_put}
 use Rattle.buffers.specs.WritingLaws.{Writing, last_written}
 use Rattle.listing_lines.specs.Lines.{Written}
+
+-- a part of the line, lent on and back
+pub put_part : (at k : ℕ) (out part v : List ℕ) → part ≡ v → k ≡ length v → put_mid at k out part ≡ put out at v
+unfolding put
+put_part at k out part v holds l =
+    rw (holds, ← l) (ap (λ (rest : List ℕ). take at out ++ (v ++ rest)) (drop-drop k at out) ∙ sym (append_assoc (take at out) v (drop (at + k) out)))
 
 -- two bytes
 pub put_two_bytes : (o : List ℕ) (at a b : ℕ) → at + 2 ≤ length o → set (set o at a) (at + 1) b ≡ put o at (a ∷ b ∷ [])

@@ -22,12 +22,9 @@ fn put_text(line: &mut [u8], at: usize, text: &[u8]) -> usize
     requires { at + length text.now ≤ length line.old }
     ensures { PutAt line.old at text.now line.new result }
 {
-    let mut i = 0;
-    while i < text.len() {
-        line[at + i] = text[i];
-        i += 1;
-    }
-    at + i
+    let end = at + text.len();
+    line[at..end].copy_from_slice(text);
+    end
 }
 
 // Writes the first n bytes of key in hexadecimal from place at on; returns the place past them.
@@ -37,12 +34,10 @@ fn put_hex(line: &mut [u8], at: usize, key: &[u8], n: usize) -> usize
         line.new result }
 {
     let mut p = at;
-    let mut i = 0;
-    while i < n {
-        line[p] = hex_digit(key[i] / 16);
-        line[p + 1] = hex_digit(key[i] % 16);
+    for x in &key[..n] {
+        line[p] = hex_digit(*x / 16);
+        line[p + 1] = hex_digit(*x % 16);
         p += 2;
-        i += 1;
     }
     p
 }
@@ -80,11 +75,8 @@ fn put_number(line: &mut [u8], at: usize, n: u64) -> usize
 {
     let count = digit_count(n);
     let mut rest = n;
-    // the digits from place at + left on are written
-    let mut left = count;
-    while 0 < left {
-        left -= 1;
-        line[at + left] = 48 + (rest % 10) as u8;
+    for i in (0..count).rev() {
+        line[at + i] = 48 + (rest % 10) as u8;
         rest /= 10;
     }
     at + count

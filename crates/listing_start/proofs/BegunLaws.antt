@@ -1,8 +1,7 @@
 -- The beginning of a listing, case by case.
---     begins_counted                       the unbounded reading of a file whose keys are counted begins
---     outcome_refused, outcome_counted     the answer of counting, case by case
+--     begins_counted     the unbounded reading of a file whose keys are counted begins
 -- Assumes nothing.
-use mathlib.Core.Path.{◌≡◌, refl, sym, subst}
+use mathlib.Core.Path.{◌≡◌, refl, sym}
 use mathlib.Core.Logic.{inl, ⊎_elim}
 use mathlib.Core.List.{List}
 use Prim.Native.Nat.{ℕ, ◌≤◌, ◌<◌}
@@ -10,10 +9,8 @@ use native.Mathlib.Omega.{arith}
 use lib.ListN.{length}
 use Rattle.format.specs.Limits.{max_path}
 use Rattle.format.specs.Strings.{unbounded}
-use Rattle.counting.specs.CountOutcomes.{CountRefusedFor, Counts, CountOutcome}
+use Rattle.counting.specs.CountOutcomes.{Counts}
 use Rattle.counting.proofs.CountExactly.{counted_filled}
-use Rattle.counting.specs.declared.Counting.{Counting}
-use Rattle.counting.specs.declared.Counting.TheVariants.{Counted as Yes, Refused as NotCounted}
 use Rattle.plain.specs.Plain.{Plain, begun, start_plain}
 use Rattle.plain.proofs.PlainLaws.{start_plain_only}
 use Rattle.stream.specs.Plains.{began_is, begun_is}
@@ -36,9 +33,3 @@ begins_counted {s} {d₀} {s₀} {c₀} {d} {t} {c} r h a e = by r.answer refl e
     by : (b : Begins) → r.answer ≡ b → began_is b r.plain ≡ start_plain s unbounded unbounded c → BeginsAs s d₀ s₀ c₀ d t c r
     by Began is q = begins h is a (sym q)
     by (NotBegun n) is q = let w = (unbounded_begins a).1 in let z : ◌≡◌ {A = ℕ} 0 1 = cc in absurd (omega arith)
-
-pub outcome_refused : {s d₀ s₀ c₀ d t c : List ℕ} {r : Counting} (n : ℕ) → CountOutcome s d₀ s₀ c₀ d t c r → r ≡ NotCounted n → CountRefusedFor s d₀ s₀ c₀ d t c n
-outcome_refused {s} {d₀} {s₀} {c₀} {d} {t} {c} n o e = subst (λ x. CountOutcome s d₀ s₀ c₀ d t c x) e o
-
-pub outcome_counted : {s d₀ s₀ c₀ d t c : List ℕ} {r : Counting} → CountOutcome s d₀ s₀ c₀ d t c r → r ≡ Yes → Counts s d₀ s₀ c₀ d t c
-outcome_counted {s} {d₀} {s₀} {c₀} {d} {t} {c} o e = subst (λ x. CountOutcome s d₀ s₀ c₀ d t c x) e o

@@ -20,8 +20,7 @@ pub fn begin(file: &[u8], depths: &mut [u16], sums: &mut [u64], counts: &mut [u6
     if LARGEST < file.len() {
         return stream::refused(LARGE);
     }
-    let counted = counting::count_keys(file, depths, sums, counts);
-    match counted {
+    match counting::count_keys(file, depths, sums, counts) {
         Counting::Refused(why) => stream::refused(why),
         Counting::Counted => stream::start(
             file,

@@ -10,8 +10,6 @@ ghost use Rattle.format.specs.Paths.{fst_with};
 
 use format::{NODE, SUM};
 use fst::Opened;
-use node::Judged;
-use node_way::{Step, Way};
 
 // What a lookup by key answers: the key's value, that the key is not held, or the number of a refusal.
 #[derive(Clone, Copy)]
@@ -25,17 +23,16 @@ pub enum Answer {
 fn at_end(file: &[u8], version: u64, root: usize, last: usize, sum: u64) -> Answer
     ensures { answer_is result ≡ get_from (fst_with file.now version root) [] last sum }
 {
-    let Judged::Sound(m) = node::node_at(file, version, root, last) else {
+    let Ok(m) = node::node_at(file, version, root, last) else {
         return Answer::Refused(NODE);
     };
-    if m.is_final {
-        let end = m.final_output;
-        if u64::MAX - sum < end {
-            return Answer::Refused(SUM);
-        }
-        return Answer::Value(sum + end);
+    if !m.is_final {
+        return Answer::None;
     }
-    Answer::None
+    match sum.checked_add(m.final_output) {
+        Some(value) => Answer::Value(value),
+        None => Answer::Refused(SUM),
+    }
 }
 
 // Follows the key from the root of a file that opens.
@@ -45,22 +42,18 @@ fn get_from(file: &[u8], version: u64, root: usize, key: &[u8]) -> Answer
 {
     let mut addr = root;
     let mut sum: u64 = 0;
-    let mut i = 0;
-    while i < key.len() {
-        let b = key[i];
-        let Step::Sound(way) = node_step::step_at(file, version, root, addr, b) else {
+    for &b in key {
+        let Ok(way) = node_step::step_at(file, version, root, addr, b) else {
             return Answer::Refused(NODE);
         };
-        let Way::To(out, target) = way else {
+        let Ok((out, target)) = way else {
             return Answer::None;
         };
         addr = target;
-        let past = u64::MAX - sum < out;
-        if past {
+        let Some(total) = sum.checked_add(out) else {
             return Answer::Refused(fst::past_sum(file, version, root, addr));
-        }
-        sum += out;
-        i += 1;
+        };
+        sum = total;
     }
     at_end(file, version, root, addr, sum)
 }

@@ -1,17 +1,15 @@
 -- The answer and the key buffer of a search by value, for each answer of the definition.
 -- Assumes nothing.
-use mathlib.Core.Path.{◌≡◌, refl, sym, ap, ◌∙◌}
-use mathlib.Core.List.{List, [], ◌∷◌, ◌++◌}
+use mathlib.Core.Path.{◌≡◌, refl}
+use mathlib.Core.List.{List, ◌++◌}
 use Prim.Native.Nat.{ℕ, ◌≤◌}
-use native.Mathlib.Omega.{arith}
 use lib.ListN.{length, take, drop}
 use lib.Seq.{length-take-le}
 use Rattle.format.specs.Lookup as L
 use Rattle.format.specs.Lookup.{found}
 use Rattle.lookup_search.specs.declared.KeyAnswer.{KeyAnswer}
 use Rattle.lookup_search.specs.declared.KeyAnswer.TheVariants.{Key, None as NoKey, Refused as KeyRefused}
-use Rattle.format.specs.Limits.{max_path}
-use Rattle.lookup_search.specs.KeyAnswers.{key_is, key_len, KeyFits, KeyWritten}
+use Rattle.lookup_search.specs.KeyAnswers.{key_is, KeyWritten}
 
 pub written_none : (w : L.KeyAnswer) (buf : List ℕ) → w ≡ L.KeyAnswer.none → KeyWritten w buf buf NoKey
 written_none w buf e = record { answer = rw e; buffer = rw e }
@@ -24,6 +22,8 @@ written_key w path buf₀ buf n e fits is =
     let len = length-take-le n path fits in
     record { answer = rw (e, len); buffer = rw (e, len) is }
 
--- the length of a found key
-pub key_fits : (r : KeyAnswer) (path : List ℕ) (n : ℕ) → KeyFits r path → r ≡ Key n → n ≤ max_path
-key_fits r path n h e = rw (ap key_len e) at h.fits
+-- an answer that is no key stands for itself
+pub written_unfound : (w : L.KeyAnswer) (path buf : List ℕ) (r : KeyAnswer) → ((n : ℕ) → r ≡ Key n → ⊥) → w ≡ key_is r path → KeyWritten w buf buf r
+written_unfound w path buf (Key n) unlike e = absurd (unlike n refl)
+written_unfound w path buf NoKey unlike e = written_none w buf e
+written_unfound w path buf (KeyRefused n) unlike e = written_refused w buf n e

@@ -33,11 +33,10 @@ pub fn get_key(file: &[u8], value: u64, key: &mut [u8]) -> KeyAnswer
             let found = find_key(file, m.version, m.root, value, &mut path);
             match found {
                 KeyAnswer::Key(n) => {
-                    buffers::copy_front(&path, n, key);
+                    key[..n].copy_from_slice(&path[..n]);
                     KeyAnswer::Key(n)
                 }
-                KeyAnswer::None => KeyAnswer::None,
-                KeyAnswer::Refused(why) => KeyAnswer::Refused(why),
+                unfound => unfound,
             }
         }
     }

@@ -9,7 +9,7 @@ ghost use Rattle.format.specs.Paths.{fst_with};
 ghost use Rattle.lookup_search.specs.KeyAnswers.{key_is, KeyFits};
 
 use format::{DEEP, MAX_KEY, NODE};
-use node_choice::{Choice, Fit};
+use node_choice::Choice;
 
 // What a lookup by value answers: the length of the key that was found, that none was, or the number of a refusal.
 #[derive(Clone, Copy)]
@@ -35,17 +35,14 @@ pub fn find_key(
     let mut addr = root;
     let mut left = value;
     let mut n = 0;
+    // no for over the places of path: one node more than it has places is entered
     loop {
-        let Fit::Sound(choice) = node_fit::fit_at(file, version, root, addr, left) else {
+        let Ok(choice) = node_fit::fit_at(file, version, root, addr, left) else {
             return KeyAnswer::Refused(NODE);
         };
         match choice {
-            Choice::Ends => {
-                return KeyAnswer::Key(n);
-            }
-            Choice::Absent => {
-                return KeyAnswer::None;
-            }
+            Choice::Ends => return KeyAnswer::Key(n),
+            Choice::Absent => return KeyAnswer::None,
             Choice::To(inp, out, target) => {
                 // a key has at most 255 bytes
                 let too_deep = MAX_KEY <= n;

@@ -6,19 +6,19 @@
 --     marks_few                                   right marks are at most 16
 -- Assumes nothing.
 use mathlib.Core.Path.{◌≡◌, refl, sym, ap, ap₂, ◌∙◌, subst}
-use mathlib.Core.Bool.{Bool, true, false, cond, ◌&&◌, false≢true}
-use mathlib.Core.Option.{Option, some, none}
+use mathlib.Core.Bool.{Bool, true, false, cond, ◌&&◌}
+use mathlib.Core.Option.{some, none}
 use mathlib.Core.List.{List, [], ◌∷◌, ◌++◌, map}
 use Prim.Native.Nat.{ℕ, ◌+◌, ◌≤◌, ◌<◌}
 use native.Mathlib.Omega.{arith}
 use borrow.Author.Tests.{lt-leb, le-leb, leb-true}
 use lib.Dec.{leb}
 use lib.ListN.{length, get_or, set}
+use Rattle.std.specs.Prelude.{Some, None}
 use Rattle.format.specs.Limits.{STATE, NAME, FULL}
 use Rattle.format.specs.Opening as O
 use Rattle.format.specs.Opening.{opening}
-use Rattle.reading.specs.Reading as R
-use Rattle.reading.specs.Reading.{on_opened, state_test, written}
+use Rattle.reading.specs.Reading.{on_opened, state_test}
 use Rattle.plain.specs.Plain as P
 use Rattle.plain.specs.Plain.{next_plain}
 use Rattle.marking.specs.MarkCalls as M
@@ -34,8 +34,7 @@ use Rattle.stream.specs.declared.Step.{Step}
 use Rattle.stream.specs.Plains.{plain_is, PlainStepped}
 use Rattle.marks_held.specs.declared.Mark.{Mark}
 use Rattle.marks_held.specs.declared.Marks.{Marks}
-use Rattle.marks_held.specs.declared.Place.TheVariants.{At, Nowhere}
-use Rattle.marks_held.specs.MarkViews.{stated, no_mark, mark_is, marks_is, mark_at, SeekTold, put_at}
+use Rattle.marks_held.specs.MarkViews.{stated, no_mark, mark_is, marks_is, SeekTold, put_at}
 use Rattle.marks_held.specs.MarkViewsLaws.{stated_length, stated_set, stated_more, mark_at_lem, marked_place, put_place, place_lt, marked_nowhere}
 use Rattle.marks.specs.declared.Change.TheVariants as C
 use Rattle.marks.specs.declared.Marking.{Marking}
@@ -86,18 +85,18 @@ module _ (p : P.Plain) (ms : List M.Mark) (n : List ℕ) where
   set_long e h = marking_as_lem (set_no (name_long n e)) h
 
   module _ (ne : ¬ (length n ≡ 0)) (le : length n ≤ 8) where
-    set_at : (i : ℕ) → SeekTold n ms 0 (At i) → set_in p ms n ≡ M.has_marks (set ms i (named n p))
+    set_at : (i : ℕ) → SeekTold n ms 0 (Some i) → set_in p ms n ≡ M.has_marks (set ms i (named n p))
     set_at i t =
         let there : is_there (marked n ms) ≡ true = ap is_there (marked_place n ms i t) in
         rw (name_right_lem n ne le, there, put_place n ms p i t)
 
-    off : SeekTold n ms 0 Nowhere → is_there (marked n ms) ≡ false
+    off : SeekTold n ms 0 None → is_there (marked n ms) ≡ false
     off t = ap is_there (marked_nowhere n ms 0 t)
 
-    set_none_left : SeekTold n ms 0 Nowhere → 16 ≤ length ms → set_in p ms n ≡ M.Marking.refused FULL
+    set_none_left : SeekTold n ms 0 None → 16 ≤ length ms → set_in p ms n ≡ M.Marking.refused FULL
     set_none_left t h = rw (name_right_lem n ne le, off t, lt-leb (length ms) 15 (omega arith))
 
-    set_added : SeekTold n ms 0 Nowhere → length ms < 16 → set_in p ms n ≡ M.has_marks (ms ++ (named n p ∷ []))
+    set_added : SeekTold n ms 0 None → length ms < 16 → set_in p ms n ≡ M.has_marks (ms ++ (named n p ∷ []))
     set_added t h = rw (name_right_lem n ne le, off t, le-leb (length ms) 15 (omega arith), put_added n p ms (off t))
 
 -- of the code's marks
@@ -112,10 +111,10 @@ module _ (m : Marks) (sixteen : length m.marks ≡ 16) (few : m.count ≤ 16) (p
   long = stated_length m.count no_mark (map mark_is m.marks)
 
   module _ (ne : ¬ (length n ≡ 0)) (le : length n ≤ 8) (r : Marking) where
-    pub set_told : (i : ℕ) → SeekTold (stated (length n) 0 held) (marks_is m) 0 (At i) → r.answer ≡ C.Done → r.marks ≡ put_at m m.count i placed
+    pub set_told : (i : ℕ) → SeekTold (stated (length n) 0 held) (marks_is m) 0 (Some i) → r.answer ≡ C.Done → r.marks ≡ put_at m m.count i placed
         → MarkingTold (set_in (plain_is p) (marks_is m) n) (marks_is m) r
     set_told i t e is =
-        let told : SeekTold n (marks_is m) 0 (At i) = rw holds at t in
+        let told : SeekTold n (marks_is m) 0 (Some i) = rw holds at t in
         let lt = place_lt n (marks_is m) 0 i told in
         marking_as_lem (set_at (plain_is p) (marks_is m) n ne le i told)
         (record {
@@ -124,16 +123,16 @@ module _ (m : Marks) (sixteen : length m.marks ≡ 16) (few : m.count ≤ 16) (p
               ap marks_is is ∙ stated_set m.count m.marks i placed (omega (arith, long)) (omega arith) ∙ ap (set (marks_is m) i) placed_is;
         })
 
-    pub set_full : SeekTold (stated (length n) 0 held) (marks_is m) 0 Nowhere → 16 ≤ m.count → MarkingTold (M.Marking.refused FULL) (marks_is m) r
+    pub set_full : SeekTold (stated (length n) 0 held) (marks_is m) 0 None → 16 ≤ m.count → MarkingTold (M.Marking.refused FULL) (marks_is m) r
         → MarkingTold (set_in (plain_is p) (marks_is m) n) (marks_is m) r
     set_full t h q =
-        let told : SeekTold n (marks_is m) 0 Nowhere = rw holds at t in
+        let told : SeekTold n (marks_is m) 0 None = rw holds at t in
         marking_as_lem (set_none_left (plain_is p) (marks_is m) n ne le told (omega (arith, long))) q
 
-    pub set_more : SeekTold (stated (length n) 0 held) (marks_is m) 0 Nowhere → m.count < 16 → r.answer ≡ C.Done → r.marks ≡ put_at m (m.count + 1) m.count placed
+    pub set_more : SeekTold (stated (length n) 0 held) (marks_is m) 0 None → m.count < 16 → r.answer ≡ C.Done → r.marks ≡ put_at m (m.count + 1) m.count placed
         → MarkingTold (set_in (plain_is p) (marks_is m) n) (marks_is m) r
     set_more t h e is =
-        let told : SeekTold n (marks_is m) 0 Nowhere = rw holds at t in
+        let told : SeekTold n (marks_is m) 0 None = rw holds at t in
         marking_as_lem (set_added (plain_is p) (marks_is m) n ne le told (omega (arith, long)))
         (record {
           answer = e;
@@ -155,17 +154,17 @@ module _ (ms : List M.Mark) (n : List ℕ) (given : P.Plain) (r : Return) where
 
 module _ (m : Marks) (sixteen : length m.marks ≡ 16) (few : m.count ≤ 16) (n held : List ℕ) (holds : stated (length n) 0 held ≡ n) (ne : ¬ (length n ≡ 0)) (le : length n ≤ 8)
     (given : P.Plain) (r : Return) where
-  pub back_nowhere : SeekTold (stated (length n) 0 held) (marks_is m) 0 Nowhere → ReturnTold (M.Return.refused NAME) given r → ReturnTold (back_in (marks_is m) n) given r
+  pub back_nowhere : SeekTold (stated (length n) 0 held) (marks_is m) 0 None → ReturnTold (M.Return.refused NAME) given r → ReturnTold (back_in (marks_is m) n) given r
   back_nowhere t h =
-      let told : SeekTold n (marks_is m) 0 Nowhere = rw holds at t in
+      let told : SeekTold n (marks_is m) 0 None = rw holds at t in
       let none_there : marked n (marks_is m) ≡ none = marked_nowhere n (marks_is m) 0 told in
       let is : back_in (marks_is m) n ≡ M.Return.refused NAME = rw (name_right_lem n ne le, none_there) in
       return_as_lem is h
 
-  pub back_told : (i : ℕ) (d : Mark) → SeekTold (stated (length n) 0 held) (marks_is m) 0 (At i) → r.answer ≡ C.Done → r.reading ≡ (get_or m.marks i d).reading
+  pub back_told : (i : ℕ) (d : Mark) → SeekTold (stated (length n) 0 held) (marks_is m) 0 (Some i) → r.answer ≡ C.Done → r.reading ≡ (get_or m.marks i d).reading
       → ReturnTold (back_in (marks_is m) n) given r
   back_told i d t e is =
-      let told : SeekTold n (marks_is m) 0 (At i) = rw holds at t in
+      let told : SeekTold n (marks_is m) 0 (Some i) = rw holds at t in
       let lt : i < m.count = omega (arith, place_lt n (marks_is m) 0 i told, stated_length m.count no_mark (map mark_is m.marks)) in
       let held_there : marked n (marks_is m) ≡ some (plain_is (get_or m.marks i d).reading) =
       marked_place n (marks_is m) i told ∙ ap (λ (x : M.Mark). some x.held) (mark_at_lem m sixteen few i d lt) in
@@ -173,7 +172,7 @@ module _ (m : Marks) (sixteen : length m.marks ≡ 16) (few : m.count ≤ 16) (n
       return_as_lem back (record { answer = e; reading = ap plain_is is })
 
 -- a place that was found is one of the 16
-pub place_small : (m : Marks) → m.count ≤ 16 → (n : List ℕ) (i : ℕ) → SeekTold n (marks_is m) 0 (At i) → i < 16
+pub place_small : (m : Marks) → m.count ≤ 16 → (n : List ℕ) (i : ℕ) → SeekTold n (marks_is m) 0 (Some i) → i < 16
 place_small m few n i t = omega (arith, place_lt n (marks_is m) 0 i t, stated_length m.count no_mark (map mark_is m.marks))
 
 -- ---- the calls

@@ -10,7 +10,7 @@ ghost use Rattle.marks.specs.MarkAnswers.{both_test, set_in, back_in, MarkingTol
 
 use format::{FULL, NAME, STATE};
 use fst::Opened;
-use marks_held::{MARKS, MAX_NAME, Marks, Place};
+use marks_held::{MARKS, MAX_NAME, Marks};
 use stream::{Plain, Step};
 use stream_step::Answer;
 
@@ -47,11 +47,8 @@ pub fn state_right(reading: Plain, marks: Marks, len: usize) -> bool
     ensures { result ≡ both_test (plain_is reading) (marks_is marks) len }
 {
     let held = reading.reading;
-    if stream_bounds::state_right(held.levels, held.bound_len, held.len, len) {
-        marks_held::marks_right(marks, len)
-    } else {
-        false
-    }
+    stream_bounds::state_right(held.levels, held.bound_len, held.len, len)
+        && marks_held::marks_right(marks, len)
 }
 
 // ---- mark
@@ -87,11 +84,11 @@ pub fn set_mark(reading: Plain, marks: Marks, name: &[u8]) -> Marking
         reading,
     };
     match place {
-        Place::At(i) => Marking {
+        Some(i) => Marking {
             answer: Change::Done,
             marks: marks_held::put_mark(marks, marks.count, i, mark),
         },
-        Place::Nowhere => {
+        None => {
             if MARKS <= marks.count {
                 return refused(FULL, marks);
             }
@@ -113,7 +110,7 @@ pub fn mark(file: &[u8], reading: Plain, marks: Marks, name: &[u8]) -> Marking
     match opened {
         Opened::Refused(why) => refused(why, marks),
         Opened::Meta(_) => {
-            if state_right(reading, marks, file.len()) {} else {
+            if !state_right(reading, marks, file.len()) {
                 return refused(STATE, marks);
             }
             set_mark(reading, marks, name)
@@ -148,8 +145,8 @@ pub fn take_back(reading: Plain, marks: Marks, name: &[u8]) -> Return
     let held = marks_held::hold_name(name);
     let place = marks_held::name_from(marks, 0, held, len);
     match place {
-        Place::Nowhere => stay(NAME, reading),
-        Place::At(i) => {
+        None => stay(NAME, reading),
+        Some(i) => {
             let marked = marks.marks[i];
             let back = marked.reading;
             Return {
@@ -170,7 +167,7 @@ pub fn go_back(file: &[u8], reading: Plain, marks: Marks, name: &[u8]) -> Return
     match opened {
         Opened::Refused(why) => stay(why, reading),
         Opened::Meta(_) => {
-            if state_right(reading, marks, file.len()) {} else {
+            if !state_right(reading, marks, file.len()) {
                 return stay(STATE, reading);
             }
             take_back(reading, marks, name)
@@ -192,7 +189,7 @@ pub fn next_marked(file: &[u8], reading: Plain, marks: Marks, key: &mut [u8]) ->
             plain: reading,
         },
         Opened::Meta(_) => {
-            if marks_held::marks_right(marks, file.len()) {} else {
+            if !marks_held::marks_right(marks, file.len()) {
                 return Step {
                     answer: Answer::Refused(STATE),
                     plain: reading,

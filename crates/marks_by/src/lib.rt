@@ -39,7 +39,7 @@ pub fn mark_by(file: &[u8], patterned: Patterned, marks: Marks, name: &[u8]) -> 
     match opened {
         Opened::Refused(why) => marks::refused(why, marks),
         Opened::Meta(_) => {
-            if marks::state_right(plain, marks, file.len()) {} else {
+            if !marks::state_right(plain, marks, file.len()) {
                 return marks::refused(STATE, marks);
             }
             if MAX_KEY < pattern.len {
@@ -59,7 +59,7 @@ fn back_by(file: &[u8], plain: Plain, pattern: Pattern, marks: Marks, name: &[u8
     match opened {
         Opened::Refused(why) => marks::stay(why, plain),
         Opened::Meta(_) => {
-            if marks::state_right(plain, marks, file.len()) {} else {
+            if !marks::state_right(plain, marks, file.len()) {
                 return marks::stay(STATE, plain);
             }
             if MAX_KEY < pattern.len {
@@ -108,7 +108,7 @@ pub fn next_marked_by(
             patterned,
         },
         Opened::Meta(_) => {
-            if marks_held::marks_right(marks, file.len()) {} else {
+            if !marks_held::marks_right(marks, file.len()) {
                 return PatternedStep {
                     answer: Answer::Refused(STATE),
                     patterned,

@@ -1,23 +1,24 @@
 -- The loops over a name and over the marks: what is known after each turn.
---     names_differ, same_on, same_off, same_through     whether two names are the same
+--     names_differ, names_compared                       whether two names are the same
 --     name_none, name_over, name_again, name_once       whether the name of one mark is right
 --     head_test, head_state, head_name                   whether the mark is
 --     names_on, once_on, name_long, pair_is             the names by themselves
 --     each_on, each_wrong, each_through                 whether all are
 -- Assumes nothing.
 use mathlib.Core.Path.{◌≡◌, refl, sym, ap, ◌∙◌, subst}
-use mathlib.Core.Bool.{Bool, true, false, cond, ◌&&◌, not}
-use mathlib.Core.Option.{some, none}
+use mathlib.Core.Bool.{Bool, true, false, ◌&&◌, not}
+use mathlib.Core.Option.{none}
 use mathlib.Core.List.{List, [], ◌∷◌}
 use Prim.Native.Nat.{ℕ, zero, suc, ◌+◌, ◌≤◌, ◌<◌}
 use native.Mathlib.Omega.{arith}
 use native.Mathlib.Decide.{ℕ_discrete}
 use native.Mathlib.Numerals.{add-one}
-use borrow.Author.Tests.{lt-leb, le-leb, eq-eqb, ne_eqb}
-use lib.Dec.{leb, eqb}
-use lib.ListN.{length, get_or, set, take, drop, length-take, length-drop}
-use lib.Seq.{drop-cons, get_or-take, get_or-set_same, get_or-set_other}
-use Rattle.reading.specs.Reading.{View, state_test}
+use borrow.Author.Tests.{lt-leb, le-leb}
+use lib.Dec.{eqb}
+use lib.ListN.{length, get_or, set, take, drop}
+use lib.Seq.{drop-cons, get_or-set_same, get_or-set_other}
+use Rattle.std.specs.Cmp.Lexicographic.{pointwise}
+use Rattle.reading.specs.Reading.{state_test}
 use Rattle.stream_start.specs.declared.Reading.{Reading}
 use Rattle.stream_start.specs.Views.{view_is}
 use Rattle.stream_start.specs.StackLaws.{stack_length}
@@ -37,40 +38,17 @@ pub names_differ : (held name : List ℕ) (n m : ℕ) → ¬ (n ≡ m) → false
 names_differ held name n m ne =
     sym (same_not (stated n 0 held) (stated m 0 name) (λ e. ne (sym (stated_length n 0 held) ∙ ap length e ∙ stated_length m 0 name)))
 
-module _ (held name : List ℕ) (m : ℕ) (eight : length held ≡ 8) (eight' : length name ≡ 8) (small : m ≤ 8) where
-  both_at : (i : ℕ) → i < m
-      → same_name (drop i (take m held)) (drop i (take m name)) ≡ (eqb (get_or held i 0) (get_or name i 0) && same_name (drop (i + 1) (take m held)) (drop (i + 1) (take m name)))
-  unfolding same_name
-  both_at i h =
-      let a : i < length (take m held) = omega (arith, length-take m held) in
-      let b : i < length (take m name) = omega (arith, length-take m name) in
-      rw (add-one, drop-cons (take m held) i 0 a, drop-cons (take m name) i 0 b, get_or-take m held i 0 h, get_or-take m name i 0 h)
+same_bytes : (a b : List ℕ) → pointwise eqb a b ≡ same_name a b
+unfolding same_name
+same_bytes [] [] = refl
+same_bytes [] (y ∷ b) = refl
+same_bytes (x ∷ a) [] = refl
+same_bytes (x ∷ a) (y ∷ b) = ap (λ (r : Bool). eqb x y && r) (same_bytes a b)
 
-  -- the names are those from place i on
-  abbrev pub Same : ℕ → Type 0
-  Same i = same_name (stated m 0 held) (stated m 0 name) ≡ same_name (drop i (take m held)) (drop i (take m name))
-
-  pub same_none : Same 0
-  same_none = rw (stated_take m 0 held (omega arith), stated_take m 0 name (omega arith))
-
-  pub same_on : (i : ℕ) → i < m → get_or held i 0 ≡ get_or name i 0 → Same i → Same (i + 1)
-  same_on i h e s = s ∙ both_at i h ∙ rw (eq-eqb (get_or held i 0) (get_or name i 0) e)
-
-  pub same_off : (i : ℕ) → i < m → ¬ (get_or held i 0 ≡ get_or name i 0) → Same i → false ≡ same_name (stated m 0 held) (stated m 0 name)
-  same_off i h e s = sym (s ∙ both_at i h ∙ rw (ne_eqb (get_or held i 0) (get_or name i 0) e))
-
-  pub same_through : (i : ℕ) → m ≤ i → Same i → true ≡ same_name (stated m 0 held) (stated m 0 name)
-  unfolding same_name
-  same_through i h s =
-      let a : drop i (take m held) ≡ [] = all_dropped (take m held) i (omega (arith, length-take m held)) in
-      let b : drop i (take m name) ≡ [] = all_dropped (take m name) i (omega (arith, length-take m name)) in
-      sym (s ∙ rw (a, b))
-    where
-      all_dropped : (l : List ℕ) (i : ℕ) → length l ≤ i → drop i l ≡ []
-      all_dropped [] zero h = refl
-      all_dropped [] (suc i) h = refl
-      all_dropped (x ∷ l) zero h = absurd (omega arith)
-      all_dropped (x ∷ l) (suc i) h = all_dropped l i (omega arith)
+pub names_compared : (held name : List ℕ) (n m : ℕ) → length held ≡ 8 → length name ≡ 8 → m ≤ 8 → n ≡ m
+    → pointwise eqb (take m held) (take m name) ≡ same_name (stated n 0 held) (stated m 0 name)
+names_compared held name n m eight eight' small e =
+    rw (e, stated_take m 0 held (omega arith), stated_take m 0 name (omega arith)) (same_bytes (take m held) (take m name))
 
 -- ---- one mark
 

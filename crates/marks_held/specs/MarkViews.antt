@@ -7,8 +7,7 @@
 --     SeekTold            the first place of a name, from a place on
 --     no_marks, put_at      no marks; the marks with one put at a place
 -- Assumes nothing.
-use Rattle.std.specs.Prelude.{◌≡◌, Bool, true, false, ◌&&◌, not, List, [], ◌∷◌, map, ℕ, zero, suc, ◌+◌, ◌≤◌, ◌<◌, length, get_or, set, drop, replicate}
-use Rattle.reading.specs.Reading.{state_test}
+use Rattle.std.specs.Prelude.{◌≡◌, Bool, true, false, ◌&&◌, not, List, [], ◌∷◌, map, ℕ, zero, suc, ◌+◌, ◌≤◌, ◌<◌, length, get_or, set, drop, replicate, Option, Some, None}
 use Rattle.marking.specs.MarkCalls as M
 use Rattle.marking.specs.MarkCalls.{named, same_name, name_test, marked, is_there}
 use Rattle.stream_start.specs.Views.{no_reading}
@@ -17,8 +16,6 @@ use Rattle.stream.specs.Plains.{plain_is}
 use Rattle.marks_held.specs.declared.Mark.{Mark}
 use Rattle.marks_held.specs.declared.Marks.{Marks}
 use Rattle.marks_held.specs.declared.Name.{Name}
-use Rattle.marks_held.specs.declared.Place.{Place}
-use Rattle.marks_held.specs.declared.Place.TheVariants.{At, Nowhere}
 
 unfoldable pub stated : {A : Type 0} → ℕ → A → List A → List A
 stated zero d xs = []
@@ -51,10 +48,10 @@ abbrev pub NameTold : List Name → ℕ → ℕ → Bool → Type 0
 NameTold names count i r = (ms : List M.Mark) → length ms ≡ count → NamesAre ms names → r ≡ name_right ms i
 
 -- none before it, from a place on
-pub data SeekTold (n : List ℕ) (ms : List M.Mark) (from : ℕ) : Place → Type 0 where
+pub data SeekTold (n : List ℕ) (ms : List M.Mark) (from : ℕ) : Option ℕ → Type 0 where
   at_place : (i : ℕ) → from ≤ i → i < length ms → same_name (mark_at ms i).name n ≡ true → ((j : ℕ) → from ≤ j → j < i → same_name (mark_at ms j).name n ≡ false)
-      → SeekTold n ms from (At i)
-  nowhere : ((j : ℕ) → from ≤ j → j < length ms → same_name (mark_at ms j).name n ≡ false) → SeekTold n ms from Nowhere
+      → SeekTold n ms from (Some i)
+  nowhere : ((j : ℕ) → from ≤ j → j < length ms → same_name (mark_at ms j).name n ≡ false) → SeekTold n ms from None
 
 abbrev pub empty_mark : Mark
 empty_mark = record { name_len = 0; name = replicate 8 0; reading = no_plain }

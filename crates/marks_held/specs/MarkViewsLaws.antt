@@ -5,17 +5,15 @@
 --     marked_place, put_place                    what stands under a name, and a mark of it put, by the first place of the name
 --     marked_nowhere, there_place                a name that no mark has from a place on; one that some mark has
 -- Assumes nothing.
-use Rattle.std.specs.Prelude.{◌≡◌, refl, Bool, true, false, cond, List, [], ◌∷◌, ◌++◌, map, ℕ, zero, suc, ◌+◌, ◌-◌, ◌≤◌, ◌<◌, length, get_or, set, take, drop}
+use Rattle.std.specs.Prelude.{◌≡◌, refl, true, false, List, [], ◌∷◌, ◌++◌, map, ℕ, zero, suc, ◌+◌, ◌-◌, ◌≤◌, ◌<◌, length, get_or, set, take, drop, Some, None}
 use Rattle.std.proofs.Common.{sym, ap, ◌∙◌, subst, arith, add-one, length-drop, get_or-drop}
 use Rattle.std.proofs.Math.Option.{some, none}
 use Rattle.std.proofs.lemmas.List.{length-map}
 use Rattle.plain.specs.Plain as P
 use Rattle.marking.specs.MarkCalls as M
 use Rattle.marking.specs.MarkCalls.{named, same_name, marked, is_there, put}
-use Rattle.marking.proofs.NamedLaws.{same_is}
 use Rattle.marks_held.specs.declared.Mark.{Mark}
 use Rattle.marks_held.specs.declared.Marks.{Marks}
-use Rattle.marks_held.specs.declared.Place.TheVariants.{At, Nowhere}
 use Rattle.marks_held.specs.MarkViews.{stated, no_mark, mark_is, marks_is, mark_at, SeekTold, at_place, nowhere}
 
 -- ---- what is stated
@@ -94,21 +92,21 @@ none_marked n [] off = refl
 none_marked n (m ∷ l) off = let e : same_name m.name n ≡ false = off 0 (omega arith) in rw e (none_marked n l (λ j lt. off (suc j) (omega arith)))
 
 module _ (n : List ℕ) (ms : List M.Mark) where
-  pub marked_place : (i : ℕ) → SeekTold n ms 0 (At i) → marked n ms ≡ some (mark_at ms i).held
+  pub marked_place : (i : ℕ) → SeekTold n ms 0 (Some i) → marked n ms ≡ some (mark_at ms i).held
   marked_place i (at_place k le lt e before) = first_marked n ms k lt e (λ j l. before j (omega arith) l)
 
-  pub put_place : (p : P.Plain) (i : ℕ) → SeekTold n ms 0 (At i) → put n p ms ≡ set ms i (named n p)
+  pub put_place : (p : P.Plain) (i : ℕ) → SeekTold n ms 0 (Some i) → put n p ms ≡ set ms i (named n p)
   put_place p i (at_place k le lt e before) = first_put n p ms k lt e (λ j l. before j (omega arith) l)
 
-  pub place_lt : (from i : ℕ) → SeekTold n ms from (At i) → i < length ms
+  pub place_lt : (from i : ℕ) → SeekTold n ms from (Some i) → i < length ms
   place_lt from i (at_place k le lt e before) = lt
 
-  pub marked_nowhere : (from : ℕ) → SeekTold n ms from Nowhere → marked n (drop from ms) ≡ none
+  pub marked_nowhere : (from : ℕ) → SeekTold n ms from None → marked n (drop from ms) ≡ none
   marked_nowhere from (nowhere off) =
       none_marked n (drop from ms)
       (λ j lt. subst (λ (m : M.Mark). same_name m.name n ≡ false) (sym (get_or-drop from ms j no_mark)) (off (from + j) (omega arith) (omega (arith, length-drop from ms))))
 
-  pub there_place : (from i : ℕ) → SeekTold n ms from (At i) → is_there (marked n (drop from ms)) ≡ true
+  pub there_place : (from i : ℕ) → SeekTold n ms from (Some i) → is_there (marked n (drop from ms)) ≡ true
   there_place from i (at_place k le lt e before) =
       let at : from + (k - from) ≡ k = omega arith in
       ap is_there

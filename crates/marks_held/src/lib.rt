@@ -35,13 +35,6 @@ struct Name {
     bytes: [u8; MAX_NAME],
 }
 
-// The place of a name among the marks.
-#[derive(Clone, Copy)]
-pub enum Place {
-    At(usize),
-    Nowhere,
-}
-
 // No marks.
 pub fn no_marks() -> Marks
     ensures { result ≡ no_marks }
@@ -65,7 +58,7 @@ pub fn hold_name(name: &[u8]) -> [u8; MAX_NAME]
     ensures { stated (length name.now) 0 result ≡ name.now }
 {
     let mut held = [0u8; MAX_NAME];
-    buffers::copy_front(name, name.len(), &mut held);
+    held[..name.len()].copy_from_slice(name);
     held
 }
 
@@ -74,34 +67,21 @@ fn same_name(held: [u8; MAX_NAME], n: usize, name: [u8; MAX_NAME], m: usize) -> 
     requires { m ≤ 8 }
     ensures { result ≡ M.same_name (stated n 0 held) (stated m 0 name) }
 {
-    if n == m {} else {
-        return false;
-    }
-    let mut i = 0;
-    while i < m {
-        if held[i] == name[i] {} else {
-            return false;
-        }
-        i += 1;
-    }
-    true
+    n == m && held[..m] == name[..m]
 }
 
 // The first place of a name of the first len bytes, from a place on.
-pub fn name_from(marks: Marks, from: usize, name: [u8; MAX_NAME], len: usize) -> Place
+pub fn name_from(marks: Marks, from: usize, name: [u8; MAX_NAME], len: usize) -> Option<usize>
     requires { (marks.count ≤ 16) × (len ≤ 8) × (from ≤ marks.count) }
     ensures { SeekTold (stated len 0 name) (marks_is marks) from result }
 {
-    let mut i = from;
-    while i < marks.count {
-        let held = marks.marks[i];
-        let held_name = held.name;
-        if same_name(held_name, held.name_len, name, len) {
-            return Place::At(i);
+    for i in from..marks.count {
+        let held = &marks.marks[i];
+        if same_name(held.name, held.name_len, name, len) {
+            return Some(i);
         }
-        i += 1;
     }
-    Place::Nowhere
+    None
 }
 
 // The names of the marks, each in its place: to judge a name takes no reading, and a name is 16 bytes of a mark's 4,176.
@@ -114,15 +94,12 @@ fn names_of(marks: Marks) -> [Name; MARKS]
         bytes: [0; MAX_NAME],
     };
     let mut names = [none; MARKS];
-    let mut i = 0;
-    while i < marks.count {
-        let held = marks.marks[i];
-        let bytes = held.name;
+    for i in 0..marks.count {
+        let held = &marks.marks[i];
         names[i] = Name {
             len: held.name_len,
-            bytes,
+            bytes: held.name,
         };
-        i += 1;
     }
     names
 }
@@ -133,7 +110,6 @@ fn name_right(names: [Name; MARKS], count: usize, i: usize) -> bool
     ensures { NameTold names count i result }
 {
     let held = names[i];
-    let name = held.bytes;
     if held.len == 0 {
         return false;
     }
@@ -141,14 +117,11 @@ fn name_right(names: [Name; MARKS], count: usize, i: usize) -> bool
     if too_long {
         return false;
     }
-    let mut j = i + 1;
-    while j < count {
+    for j in i + 1..count {
         let later = names[j];
-        let later_name = later.bytes;
-        if same_name(later_name, later.len, name, held.len) {
+        if same_name(later.bytes, later.len, held.bytes, held.len) {
             return false;
         }
-        j += 1;
     }
     true
 }
@@ -161,18 +134,14 @@ pub fn marks_right(marks: Marks, len: usize) -> bool
         return false;
     }
     let names = names_of(marks);
-    let mut i = 0;
-    while i < marks.count {
-        let held = marks.marks[i];
-        let plain = held.reading;
-        let reading = plain.reading;
-        if stream_bounds::state_right(reading.levels, reading.bound_len, reading.len, len) {} else {
+    for i in 0..marks.count {
+        let reading = &marks.marks[i].reading.reading;
+        if !stream_bounds::state_right(reading.levels, reading.bound_len, reading.len, len) {
             return false;
         }
-        if name_right(names, marks.count, i) {} else {
+        if !name_right(names, marks.count, i) {
             return false;
         }
-        i += 1;
     }
     true
 }

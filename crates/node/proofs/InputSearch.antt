@@ -1,20 +1,20 @@
 -- The place of a byte among ascending inputs, by how many are above it.
 -- Assumes nothing.
-use mathlib.Core.Path.{◌≡◌, refl, sym, ap, ◌∙◌}
+use mathlib.Core.Path.{◌≡◌, sym, ◌∙◌}
 use mathlib.Core.Logic.{◌⊎◌, inl, inr}
 use mathlib.Core.List.{List}
-use Prim.Native.Nat.{ℕ, zero, suc, ◌+◌, ◌-◌, ◌*◌, ◌≤◌, ◌<◌}
+use Prim.Native.Nat.{ℕ, ◌+◌, ◌-◌, ◌≤◌, ◌<◌}
 use native.Mathlib.Nat.{le_refl, eq-or-lt_of_le}
 use native.Mathlib.Omega.{arith}
 use borrow.Author.Count.{below_more}
-use lib.ListN.{length, get_or, take, drop}
+use lib.ListN.{get_or, take, drop}
 use lib.Seq.{get_or-take, get_or-drop}
-use Rattle.format.specs.Node.{bytes_down, Ascending, Absent}
+use Rattle.format.specs.Node.{bytes_down, Ascending}
 use Rattle.format.specs.Laws.StoredLaws.{length_bytes_down, get_d_bytes_down}
-use Rattle.node.specs.declared.Found.TheVariants.{At, Absent as Missing}
+use Rattle.std.specs.Prelude.{Ok, Err}
 use Rattle.node.specs.Read.{Finds}
 use Rattle.node.specs.ReadLaws.{finds_at, finds_missing}
-use Rattle.node_inputs.specs.AscentLaws.{lt_or, falls_ascending, falls_by}
+use Rattle.node_inputs.specs.AscentLaws.{falls_ascending, falls_by}
 
 -- of the first j bytes from at on, `over` are above b, and they stand first
 pub record Over (s : List ℕ) (at n b over j : ℕ) : Type 0 where
@@ -66,18 +66,18 @@ module _ {s : List ℕ} {at n b over j : ℕ} (asc : Ascending (bytes_down s at 
       let by = falls_by 0 j (omega arith) (falls_ascending s at n asc) in
       omega (arith, rw z at by, bytes (at + 0))
 
-pub found_at : (s : List ℕ) (at n b i : ℕ) → i < n → get_or s (at + (n - 1 - i)) 0 ≡ b → Finds (bytes_down s at n) b (At i)
+pub found_at : (s : List ℕ) (at n b i : ℕ) → i < n → get_or s (at + (n - 1 - i)) 0 ≡ b → Finds (bytes_down s at n) b (Ok i)
 found_at s at n b i l e = finds_at i (omega (arith, length_bytes_down s at n)) (get_d_bytes_down s at n i l ∙ e)
 
 -- the first byte that is not above b is b itself
-pub over_found : (s : List ℕ) (at n b p : ℕ) → p < n → get_or s (at + p) 0 ≡ b → Finds (bytes_down s at n) b (At (n - 1 - p))
+pub over_found : (s : List ℕ) (at n b p : ℕ) → p < n → get_or s (at + p) 0 ≡ b → Finds (bytes_down s at n) b (Ok (n - 1 - p))
 over_found s at n b p l e =
     let back : n - 1 - (n - 1 - p) ≡ p = omega arith in
     found_at s at n b (n - 1 - p) (omega arith) (rw back e)
 
 -- b is none of the inputs: those that are not above it are below it
 pub over_missing : {s : List ℕ} {at n b over j : ℕ} (p : ℕ) → p ≡ over → Ascending (bytes_down s at n) → n ≤ j → Over s at n b over j
-    → (p < n → ¬ (get_or s (at + p) 0 ≡ b)) → Finds (bytes_down s at n) b (Missing (n - p))
+    → (p < n → ¬ (get_or s (at + p) 0 ≡ b)) → Finds (bytes_down s at n) b (Err (n - p))
 over_missing {s} {at} {n} {b} {over} {j} p is_p asc past o ne =
     finds_missing (n - p) (record {
       within = omega (arith, length_bytes_down s at n);

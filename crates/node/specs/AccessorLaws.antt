@@ -1,6 +1,6 @@
 -- The parts of a judged node's transition i, as the accessors read them.
 -- Assumes nothing.
-use Rattle.std.specs.Prelude.{◌≡◌, refl, false, List, ℕ, ◌+◌, ◌-◌, ◌≤◌, ◌<◌, get_or}
+use Rattle.std.specs.Prelude.{Result, ◌≡◌, refl, false, List, ℕ, ◌+◌, ◌-◌, ◌≤◌, ◌<◌, get_or}
 use Rattle.std.proofs.Common.{sym, ap, ◌∙◌, arith, eq-eqb, ne_eqb}
 use Rattle.format.specs.declared.State.{State}
 use Rattle.format.specs.declared.State.TheVariants.{OneTransNext, OneTrans, AnyTrans}
@@ -8,7 +8,6 @@ use Rattle.format.specs.declared.Transition.{Transition}
 use Rattle.format.specs.Node.{bytes_down, numbers_down, inputs_at, inputs_in, target_of, TargetsRight, transition_at}
 use Rattle.format.specs.Laws.StoredLaws.{get_d_bytes_down}
 use Rattle.node.specs.declared.Node.{Node}
-use Rattle.node.specs.declared.Found.{Found}
 use Rattle.node.specs.Read.{transitions_in, node_inputs, node_deltas, Readable, Searchable, Finds}
 use Rattle.node_sound.specs.Shapes.{is_any}
 use Rattle.node.specs.ReadLaws.{node_transition, length_node_deltas}
@@ -23,7 +22,7 @@ module _ (s : List ℕ) (m : Node) (r : Readable s m) where
     index = rw any at r.entries;
   }
 
-  pub any_finds : (b : ℕ) (f : Found) → m.state ≡ AnyTrans → Finds (bytes_down s (inputs_at m.outputs m.ntrans m.osize m.tsize) m.ntrans) b f
+  pub any_finds : (b : ℕ) (f : Result ℕ ℕ) → m.state ≡ AnyTrans → Finds (bytes_down s (inputs_at m.outputs m.ntrans m.osize m.tsize) m.ntrans) b f
       → Finds (node_inputs s m) b f
   any_finds b f any h = rw any h
 

@@ -1,6 +1,6 @@
 -- The two answers of judging a node, from its shape.
 -- Assumes nothing.
-use Rattle.std.specs.Prelude.{◌≡◌, refl, List, [], ℕ, ◌+◌, ◌-◌, ◌<◌, length, take, drop}
+use Rattle.std.specs.Prelude.{Ok, Err, ◌≡◌, refl, List, [], ℕ, ◌+◌, ◌-◌, ◌<◌, length, take, drop}
 use Rattle.std.proofs.Math.Path.{sym, ap}
 use Rattle.std.proofs.Common.{◌∙◌, arith}
 use Rattle.format.specs.Bytes.{le}
@@ -9,7 +9,6 @@ use Rattle.format.specs.Node.{end_len, shape_of, outputs_at, inputs_at, inputs_i
 use Rattle.format.specs.Laws.NodeLaws.{node_at_zero, node_at_blank, node_at_sound, node_at_unsound}
 use Rattle.node_sound.specs.JudgingLaws.{Parts, parts}
 use Rattle.node.specs.declared.Node.{Node}
-use Rattle.node.specs.declared.Judged.TheVariants.{Sound, Unsound}
 use Rattle.node.specs.Read.{meaning, Judges, empty_node}
 
 -- the answer for a sound node of the shape h
@@ -27,20 +26,20 @@ code_node h first fo inp outs = record {
   outputs = outs;
 }
 
-pub judged_unsound : (s : List ℕ) (v root a : ℕ) → ¬ (a ≡ 0) → ¬ SoundAt s v root a → Judges s v root a Unsound
+pub judged_unsound : (s : List ℕ) (v root a : ℕ) → ¬ (a ≡ 0) → ¬ SoundAt s v root a → Judges s v root a (Err (record {}))
 judged_unsound s v root a ne not_sound = record {
   answer = sym (node_at_unsound s v root a ne not_sound);
   readable = λ m e. absurd (let z : ◌≡◌ {A = ℕ} 0 1 = cc in omega arith);
 }
 
 -- no bytes, no node
-pub judged_blank : (s : List ℕ) (v root a : ℕ) → length s ≡ 0 → Judges s v root a Unsound
+pub judged_blank : (s : List ℕ) (v root a : ℕ) → length s ≡ 0 → Judges s v root a (Err (record {}))
 judged_blank s v root a z = record {
   answer = sym (node_at_blank s v root a z);
   readable = λ m e. absurd (let z : ◌≡◌ {A = ℕ} 0 1 = cc in omega arith);
 }
 
-pub judged_empty : (s : List ℕ) (v root : ℕ) → 0 < length s → Judges s v root 0 (Sound empty_node)
+pub judged_empty : (s : List ℕ) (v root : ℕ) → 0 < length s → Judges s v root 0 (Ok empty_node)
 unfolding F.transitions_of F.bytes_down F.down_from F.numbers_down F.Ascending F.TargetsRight
 judged_empty s v root pos = record {
   answer = sym (node_at_zero s v root pos);
@@ -68,7 +67,7 @@ module _ (s : List ℕ) (v root a : ℕ) (h : F.Shape) (is_h : h ≡ shape_of s 
 
   pub judged_yes : (fo inp outs : ℕ) → SoundShape s root a h (a + 1 - h.size) → fo ≡ le (take (end_len h.final h.osize) (drop (a + 1 - h.size) s))
       → inputs_in h.state s (inputs_at (outputs_at (a + 1 - h.size) h.final h.osize) h.ntrans h.osize h.tsize) h.ntrans inp ≡ shape_inputs s a h (a + 1 - h.size)
-      → outs ≡ outputs_at (a + 1 - h.size) h.final h.osize → Judges s v root a (Sound (code_node h (a + 1 - h.size) fo inp outs))
+      → outs ≡ outputs_at (a + 1 - h.size) h.final h.osize → Judges s v root a (Ok (code_node h (a + 1 - h.size) fo inp outs))
   unfolding node_of
   judged_yes fo inp outs is_sound is_fo is_inputs is_outs = rw is_outs (record {
     answer = ap sound same ∙ sym (node_at_sound s v root a ne (rw is_h at is_sound));

@@ -6,17 +6,14 @@
 --     search_is r              what an answer says of the place of an input
 --     Searchable, Finds       what finding an input asks and answers
 -- Assumes nothing.
-use Rattle.std.specs.Prelude.{◌≡◌, true, false, List, ℕ, ◌+◌, ◌≤◌, ◌<◌, length, get_or, take, drop}
+use Rattle.std.specs.Prelude.{Result, Ok, Err, ◌≡◌, true, false, List, ℕ, ◌+◌, ◌≤◌, ◌<◌, length, get_or, take, drop}
 use Rattle.format.specs.declared.State.TheVariants.{AnyTrans}
 use Rattle.format.specs.declared.Transition.{Transition}
 use Rattle.format.specs.Node as F
 use Rattle.format.specs.Node.{inputs_len, inputs_in, deltas_in, inputs_at, deltas_at, stored_transitions, Absent, Indexed, TargetsRight, Judgement, sound, unsound, node_at, Search, Gap}
 use Rattle.node_sound.specs.Shapes.{is_any}
 use Rattle.node.specs.declared.Node.{Node}
-use Rattle.node.specs.declared.Judged.{Judged}
-use Rattle.node.specs.declared.Judged.TheVariants.{Sound, Unsound}
-use Rattle.node.specs.declared.Found.{Found}
-use Rattle.node.specs.declared.Found.TheVariants.{At, Absent as Missing}
+use Rattle.node.specs.declared.Unsound.{Unsound}
 
 -- ---- what the answers say
 
@@ -31,13 +28,13 @@ meaning s m = record {
   transitions = transitions_in s m;
 }
 
-abbrev pub judged_is : List ℕ → Judged → Judgement
-judged_is s (Sound m) = sound (meaning s m)
-judged_is s Unsound = unsound
+abbrev pub judged_is : List ℕ → Result Node Unsound → Judgement
+judged_is s (Ok m) = sound (meaning s m)
+judged_is s (Err _) = unsound
 
-abbrev pub search_is : Found → Search
-search_is (At i) = Search.at i
-search_is (Missing p) = Search.absent p
+abbrev pub search_is : Result ℕ ℕ → Search
+search_is (Ok i) = Search.at i
+search_is (Err p) = Search.absent p
 
 -- ---- what reading a judged node leans on
 
@@ -60,9 +57,9 @@ pub record Readable (s : List ℕ) (m : Node) : Type 0 where
   pub entries_len : ¬ (m.index_len ≡ 0) → m.index_len ≡ 256
   pub entries : ¬ (m.index_len ≡ 0) → Indexed (node_inputs s m) (node_entries s m)
 
-pub record Judges (s : List ℕ) (v root a : ℕ) (r : Judged) : Type 0 where
+pub record Judges (s : List ℕ) (v root a : ℕ) (r : Result Node Unsound) : Type 0 where
   pub answer : judged_is s r ≡ node_at s v root a
-  pub readable : (m : Node) → r ≡ Sound m → Readable s m
+  pub readable : (m : Node) → r ≡ Ok m → Readable s m
 
 -- address 0
 abbrev pub empty_node : Node
@@ -89,6 +86,6 @@ pub record Searchable (s : List ℕ) (at n entries : ℕ) : Type 0 where
   pub index : ¬ (entries ≡ 0) → Indexed (F.bytes_down s at n) (take 256 (drop (at + n) s))
 
 -- a place of b in bs, or the place of the first that is above it
-pub record Finds (bs : List ℕ) (b : ℕ) (r : Found) : Type 0 where
-  pub found : (i : ℕ) → r ≡ At i → (i < length bs) × (get_or bs i 0 ≡ b)
-  pub missing : (p : ℕ) → r ≡ Missing p → Gap (length bs) (λ i. get_or bs i 0) b p
+pub record Finds (bs : List ℕ) (b : ℕ) (r : Result ℕ ℕ) : Type 0 where
+  pub found : (i : ℕ) → r ≡ Ok i → (i < length bs) × (get_or bs i 0 ≡ b)
+  pub missing : (p : ℕ) → r ≡ Err p → Gap (length bs) (λ i. get_or bs i 0) b p

@@ -1,6 +1,6 @@
 -- Laws of `Read`: what callers and the accessors' proofs use of a judged node, without opening a definition.
 -- Assumes nothing.
-use Rattle.std.specs.Prelude.{◌≡◌, refl, Bool, true, false, ◌⊎◌, List, [], ◌∷◌, map, ℕ, zero, suc, ◌≤◌, ◌<◌, eqb, length, get_or}
+use Rattle.std.specs.Prelude.{Result, Ok, Err, ◌≡◌, refl, Bool, true, false, ◌⊎◌, List, [], ◌∷◌, map, ℕ, zero, suc, ◌≤◌, ◌<◌, eqb, length, get_or}
 use Rattle.std.proofs.Common.{sym, ap, ◌∙◌, inl, inr, ⊎_elim, eq-or-lt_of_le, le_of_suc-le-suc, not-le_of_lt, arith, eqb-true}
 use Rattle.std.proofs.lemmas.Bool.{eqb-false}
 use Rattle.std.proofs.lemmas.List.{length-map}
@@ -11,32 +11,29 @@ use Rattle.format.specs.Node.{numbers_down, inputs_at, deltas_at, inputs_in, del
 use Rattle.format.specs.Laws.StoredLaws.{length_bytes_down, length_numbers_down}
 use Rattle.format.specs.Laws.TransitionLaws.{length_transitions_of, transition_at_of, find_input_at, find_input_absent, find_input_member, find_input_le}
 use Rattle.node.specs.declared.Node.{Node}
-use Rattle.node.specs.declared.Judged.{Judged}
-use Rattle.node.specs.declared.Judged.TheVariants.{Sound, Unsound}
-use Rattle.node.specs.declared.Found.{Found}
-use Rattle.node.specs.declared.Found.TheVariants.{At, Absent as Missing}
+use Rattle.node.specs.declared.Unsound.{Unsound}
 use Rattle.node.specs.Read.{meaning, judged_is, Judges, transitions_in, node_inputs, node_deltas, Readable, search_is, Finds}
 use Rattle.node_sound.specs.Shapes.{is_any}
 
 -- ---- a place or none
 
-pub finds_at : {bs : List ℕ} {b : ℕ} (i : ℕ) → i < length bs → get_or bs i 0 ≡ b → Finds bs b (At i)
+pub finds_at : {bs : List ℕ} {b : ℕ} (i : ℕ) → i < length bs → get_or bs i 0 ≡ b → Finds bs b (Ok i)
 finds_at {bs} {b} i l is = record {
   found = λ j e. let q : i ≡ j = cc in (rw (← q) l, rw (← q) is);
   missing = λ p e. absurd (let z : ◌≡◌ {A = ℕ} 0 1 = cc in omega arith);
 }
 
-pub finds_missing : {bs : List ℕ} {b : ℕ} (p : ℕ) → Gap (length bs) (λ i. get_or bs i 0) b p → Finds bs b (Missing p)
+pub finds_missing : {bs : List ℕ} {b : ℕ} (p : ℕ) → Gap (length bs) (λ i. get_or bs i 0) b p → Finds bs b (Err p)
 finds_missing {bs} {b} p gap = record {
   found = λ j e. absurd (let z : ◌≡◌ {A = ℕ} 0 1 = cc in omega arith);
   missing = λ q e. let same : p ≡ q = cc in rw (← same) gap;
 }
 
 -- the one input is b, below it, or above it
-pub single_here : {inp b : ℕ} → inp ≡ b → Finds (inp ∷ []) b (At 0)
+pub single_here : {inp b : ℕ} → inp ≡ b → Finds (inp ∷ []) b (Ok 0)
 single_here e = finds_at 0 (omega arith) e
 
-pub single_below : {inp b : ℕ} → inp < b → Finds (inp ∷ []) b (Missing 1)
+pub single_below : {inp b : ℕ} → inp < b → Finds (inp ∷ []) b (Err 1)
 single_below h =
     finds_missing 1 (record {
       within = omega arith;
@@ -44,7 +41,7 @@ single_below h =
       above = λ i l m. absurd (omega arith);
     })
 
-pub single_above : {inp b : ℕ} → b < inp → Finds (inp ∷ []) b (Missing 0)
+pub single_above : {inp b : ℕ} → b < inp → Finds (inp ∷ []) b (Err 0)
 single_above h =
     finds_missing 0 (record {
       within = omega arith;
@@ -64,7 +61,7 @@ find_or bs b (suc k) = go (eqb (get_or bs k 0) b) refl (find_or bs b k)
     go false e (inr none) = inr (λ j l. ⊎_elim (λ q is. eqb-false (get_or bs k 0) b e (rw (← q) is)) (λ m. none j m) (eq-or-lt_of_le (le_of_suc-le-suc l)))
 
 -- a right index: an entry below the count is the place of its byte
-pub entry_finds : (bs es : List ℕ) (b i : ℕ) → Indexed bs es → b < 256 → i < length bs → i ≡ get_or es b 0 → Finds bs b (At i)
+pub entry_finds : (bs es : List ℕ) (b i : ℕ) → Indexed bs es → b < 256 → i < length bs → i ≡ get_or es b 0 → Finds bs b (Ok i)
 unfolding Absent
 entry_finds bs es b i right byte lt is_i = finds_at i lt (⊎_elim here gone (find_or bs b (length bs)))
   where
@@ -121,28 +118,28 @@ module _ (s : List ℕ) (m : Node) (r : Readable s m) where
       (omega (arith, length_node_inputs))
       ∙ rw (get_or-map (target_of m.first) (node_deltas s m) i 0)
 
-  pub node_find : (b : ℕ) (f : Found) → Finds (node_inputs s m) b f → search_is f ≡ find_input (transitions_in s m) b
-  node_find b (At i) h =
+  pub node_find : (b : ℕ) (f : Result ℕ ℕ) → Finds (node_inputs s m) b f → search_is f ≡ find_input (transitions_in s m) b
+  node_find b (Ok i) h =
       sym (find_input_at (node_inputs s m) (numbers_down s m.outputs m.osize m.ntrans) (map (target_of m.first) (node_deltas s m)) b outputs_len targets_len
       r.ascending i (h.found i refl).0 (h.found i refl).1)
-  node_find b (Missing p) h =
+  node_find b (Err p) h =
       sym (find_input_absent (node_inputs s m) (numbers_down s m.outputs m.osize m.ntrans) (map (target_of m.first) (node_deltas s m)) b outputs_len targets_len
       r.ascending p (h.missing p refl))
 
 -- ---- what an answer says to a caller
 
-module _ {s : List ℕ} {v root a : ℕ} {r : Judged} (j : Judges s v root a r) where
-  pub answer_sound : (m : Node) → r ≡ Sound m → node_at s v root a ≡ sound (meaning s m)
+module _ {s : List ℕ} {v root a : ℕ} {r : Result Node Unsound} (j : Judges s v root a r) where
+  pub answer_sound : (m : Node) → r ≡ Ok m → node_at s v root a ≡ sound (meaning s m)
   answer_sound m e = sym j.answer ∙ ap (judged_is s) e
 
-  pub answer_unsound : r ≡ Unsound → node_at s v root a ≡ unsound
-  answer_unsound e = sym j.answer ∙ ap (judged_is s) e
+  pub answer_unsound : (e : Unsound) → r ≡ Err e → node_at s v root a ≡ unsound
+  answer_unsound _ e = sym j.answer ∙ ap (judged_is s) e
 
 -- the place that `find_input` answered
-pub search_is_lem : (q : Search) (f : Found) → search_is f ≡ q → (i : ℕ) → f ≡ At i → q ≡ Search.at i
+pub search_is_lem : (q : Search) (f : Result ℕ ℕ) → search_is f ≡ q → (i : ℕ) → f ≡ Ok i → q ≡ Search.at i
 search_is_lem q f e i is = sym e ∙ ap search_is is
 
-pub search_gone : (q : Search) (f : Found) → search_is f ≡ q → (p : ℕ) → f ≡ Missing p → q ≡ Search.absent p
+pub search_gone : (q : Search) (f : Result ℕ ℕ) → search_is f ≡ q → (p : ℕ) → f ≡ Err p → q ≡ Search.absent p
 search_gone q f e p is = sym e ∙ ap search_is is
 
 pub place_lt : (s : List ℕ) (m : Node) (r : Readable s m) (b i : ℕ) → find_input (transitions_in s m) b ≡ Search.at i → i < m.ntrans

@@ -3,11 +3,9 @@
 // a node that it answered, out of the same file. Nothing outside the lent file is read, whatever the numbers are.
 #![tactic(auto)]
 
-ghost use Rattle.std.specs.Prelude.{◌≡◌, ◌+◌, ◌≤◌, ◌<◌, length, get_or, take, drop, [], ◌∷◌};
+ghost use Rattle.std.specs.Prelude.{Ok, Err, ◌≡◌, ◌+◌, ◌≤◌, ◌<◌, length, get_or, take, drop, [], ◌∷◌};
 ghost use Rattle.format.specs.Node.{bytes_down, Ascending, SoundAt, transition_at, find_input};
 ghost use Rattle.node.specs.Read.{Searchable, empty_node, Judges, transitions_in, node_inputs, node_deltas, Readable, Finds, search_is};
-ghost use Rattle.node.specs.declared.Found.TheVariants.{Absent as Missing};
-ghost use Rattle.node.specs.declared.Judged.TheVariants.{Sound};
 ghost use Rattle.format.specs.declared.State.TheVariants.{OneTransNext, OneTrans, AnyTrans};
 
 use format::{State, Transition};
@@ -37,26 +35,16 @@ pub struct Node {
     pub outputs: usize,
 }
 
-// What judging a node says: its numbers, or refusal 5 to those who asked.
-#[derive(Clone, Copy)]
-pub enum Judged {
-    Sound(Node),
-    Unsound,
-}
-
-// The place of an input among a node's transitions, or the place of the first greater one.
-#[derive(Clone, Copy)]
-pub enum Found {
-    At(usize),
-    Absent(usize),
-}
+// That a node is not sound: refusal 5 to those who asked.
+#[derive(Clone, Copy, PartialEq, Eq)]
+pub struct Unsound;
 
 // ---- the numbers of a sound node
 
 // A node with any number of transitions.
 pub fn any_node(file: &[u8], version: u64, root: usize, addr: usize) -> Node
     requires { SoundAt file.now version root addr × (get_or file.now addr 0 < 128) }
-    ensures { Judges file.now version root addr (Sound result)
+    ensures { Judges file.now version root addr (Ok result)
         × (result.state ≡ AnyTrans) }
 {
     let shape = shape_of(file, version, addr);
@@ -88,7 +76,7 @@ pub fn any_node(file: &[u8], version: u64, root: usize, addr: usize) -> Node
 pub fn one_node(file: &[u8], version: u64, root: usize, addr: usize) -> Node
     requires { SoundAt file.now version root addr × (128 ≤ get_or file.now addr 0)
         × (get_or file.now addr 0 < 192) }
-    ensures { Judges file.now version root addr (Sound result)
+    ensures { Judges file.now version root addr (Ok result)
         × (result.state ≡ OneTrans) }
 {
     let len = head_len(file, addr);
@@ -114,7 +102,7 @@ pub fn one_node(file: &[u8], version: u64, root: usize, addr: usize) -> Node
 // A node with one transition to the node just below it.
 pub fn next_node(file: &[u8], version: u64, root: usize, addr: usize) -> Node
     requires { SoundAt file.now version root addr × (192 ≤ get_or file.now addr 0) }
-    ensures { Judges file.now version root addr (Sound result)
+    ensures { Judges file.now version root addr (Ok result)
         × (result.state ≡ OneTransNext) }
 {
     let first = addr + 1 - head_len(file, addr);
@@ -137,7 +125,7 @@ pub fn next_node(file: &[u8], version: u64, root: usize, addr: usize) -> Node
 // no more than a bool.
 fn node_of(file: &[u8], version: u64, root: usize, addr: usize) -> Node
     requires { SoundAt file.now version root addr }
-    ensures { Judges file.now version root addr (Sound result) }
+    ensures { Judges file.now version root addr (Ok result) }
 {
     let state = small(file[addr]);
     if state < 128 {
@@ -168,21 +156,21 @@ fn empty_final() -> Node
 }
 
 // The node at addr, in a file of this version and root: exactly `node_at`, for every file, version, root and address.
-pub fn node_at(file: &[u8], version: u64, root: usize, addr: usize) -> Judged
+pub fn node_at(file: &[u8], version: u64, root: usize, addr: usize) -> Result<Node, Unsound>
     ensures { Judges file.now version root addr result }
 {
     if addr == 0 {
         // a file without bytes has no node
         let has_bytes = 0 < file.len();
         if has_bytes {
-            return Judged::Sound(empty_final());
+            return Ok(empty_final());
         }
-        return Judged::Unsound;
+        return Err(Unsound);
     }
     if is_sound(file, version, root, addr) {
-        return Judged::Sound(node_of(file, version, root, addr));
+        return Ok(node_of(file, version, root, addr));
     }
-    Judged::Unsound
+    Err(Unsound)
 }
 
 // ---- reading a node that was judged
@@ -255,32 +243,28 @@ pub fn transition(file: &[u8], node: Node, i: usize) -> Transition
 
 // The place of b among n ascending inputs that stand last first from place at on: those above b
 // stand first.
-fn seek(file: &[u8], at: usize, n: usize, b: u8) -> Found
+fn seek(file: &[u8], at: usize, n: usize, b: u8) -> Result<usize, usize>
     requires { (at + n ≤ length file.now) × Ascending (bytes_down file.now at n) }
     ensures { Finds (bytes_down file.now at n) b result }
 {
     // a byte holds the count: fewer than 256 bytes are above b
     let mut over: u8 = 0;
-    let mut j = 0;
-    while j < n {
+    for j in 0..n {
         if b < file[at + j] {
             over += 1;
         }
-        j += 1;
     }
-    let p = small(over);
-    if p < n {
-        if file[at + p] == b {
-            return Found::At(n - 1 - p);
-        }
+    let p = over as usize;
+    if p < n && file[at + p] == b {
+        return Ok(n - 1 - p);
     }
-    Found::Absent(n - p)
+    Err(n - p)
 }
 
 // The place of b among n inputs from place at on, or of the first above it. An entry of the index, if
 // there is one, is the place of its byte where it is below the count, and otherwise says only that
 // the byte is absent.
-pub fn find_in(file: &[u8], at: usize, n: usize, index_len: usize, b: u8) -> Found
+pub fn find_in(file: &[u8], at: usize, n: usize, index_len: usize, b: u8) -> Result<usize, usize>
     requires { Searchable file.now at n index_len }
     ensures { Finds (bytes_down file.now at n) b result }
 {
@@ -288,14 +272,14 @@ pub fn find_in(file: &[u8], at: usize, n: usize, index_len: usize, b: u8) -> Fou
         let e = small(file[at + n + (b as usize)]);
         let is_place = e < n;
         if is_place {
-            return Found::At(e);
+            return Ok(e);
         }
     }
     seek(file, at, n, b)
 }
 
 // The place of b in a node with any number of transitions.
-fn find_any(file: &[u8], node: Node, b: u8) -> Found
+fn find_any(file: &[u8], node: Node, b: u8) -> Result<usize, usize>
     requires { Readable file.now node × (node.state ≡ AnyTrans) }
     ensures { Finds (node_inputs file.now node) b result }
 {
@@ -307,23 +291,23 @@ fn find_any(file: &[u8], node: Node, b: u8) -> Found
 // The place of the first input above b where there is one, and it is another.
 pub fn place_beside(input: u8, b: u8) -> usize
     requires { ¬ (input ≡ b) }
-    ensures { Finds (input ∷ []) b (Missing result) }
+    ensures { Finds (input ∷ []) b (Err result) }
 {
     if input < b { 1 } else { 0 }
 }
 
 // The place of b where there is one transition.
-fn find_one(input: u8, b: u8) -> Found
+fn find_one(input: u8, b: u8) -> Result<usize, usize>
     ensures { Finds (input ∷ []) b result }
 {
     if input == b {
-        return Found::At(0);
+        return Ok(0);
     }
-    Found::Absent(place_beside(input, b))
+    Err(place_beside(input, b))
 }
 
-// The place of the input b, or of the first greater one.
-pub fn find_input(file: &[u8], node: Node, b: u8) -> Found
+// The place of the input b, or `Err` with that of the first greater one, as `binary_search` of a slice answers.
+pub fn find_input(file: &[u8], node: Node, b: u8) -> Result<usize, usize>
     requires { Readable file.now node }
     ensures { search_is result ≡ find_input (transitions_in file.now node) b }
 {

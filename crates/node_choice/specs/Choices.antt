@@ -3,13 +3,12 @@
 --     fit_of j v               one step of a lookup by value, from what judging says
 --     Leading os v r          r of the leading numbers of os are not above v
 -- Assumes nothing.
-use Rattle.std.specs.Prelude.{◌≡◌, cond, ◌&&◌, ◌⊎◌, List, ℕ, ◌≤◌, ◌<◌, eqb, length, get_or}
+use Rattle.std.specs.Prelude.{Result, Ok, Err, ◌≡◌, cond, ◌&&◌, ◌⊎◌, List, ℕ, ◌≤◌, ◌<◌, eqb, length, get_or}
 use Rattle.format.specs.declared.Transition.{Transition}
 use Rattle.format.specs.Node as F
 use Rattle.format.specs.Node.{Judgement, sound, unsound, Place, at, absent}
 use Rattle.format.specs.Lookup.{last_fitting}
-use Rattle.node_choice.specs.declared.Fit.{Fit}
-use Rattle.node_choice.specs.declared.Fit.TheVariants.{Sound as Fitted, Unsound as Unfit}
+use Rattle.node.specs.declared.Unsound.{Unsound}
 use Rattle.node_choice.specs.declared.Choice.{Choice}
 use Rattle.node_choice.specs.declared.Choice.TheVariants.{Ends, To as Along, Absent as Missing}
 
@@ -26,9 +25,9 @@ abbrev pub choice_in : F.Node → ℕ → Choice
 choice_in m v = cond (eqb v 0 && m.final) Ends (fitting_in m.transitions v)
 
 -- one step of a lookup by value, from what judging says
-abbrev pub fit_of : Judgement → ℕ → Fit
-fit_of (sound m) v = Fitted (choice_in m v)
-fit_of unsound v = Unfit
+abbrev pub fit_of : Judgement → ℕ → Result Choice Unsound
+fit_of (sound m) v = Ok (choice_in m v)
+fit_of unsound v = Err (record {})
 
 -- r of the leading numbers of os are not above v, and no more
 pub record Leading (os : List ℕ) (v r : ℕ) : Type 0 where

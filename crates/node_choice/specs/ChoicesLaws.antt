@@ -1,20 +1,19 @@
 -- Laws of `Choices`: what a step says to a caller.
 -- Assumes nothing.
-use Rattle.std.specs.Prelude.{◌≡◌, refl, Bool, true, false, cond, ◌&&◌, ℕ, eqb}
+use Rattle.std.specs.Prelude.{Ok, Err, ◌≡◌, refl, Bool, true, false, cond, ◌&&◌, ℕ, eqb}
 use Rattle.std.proofs.Common.{arith}
 use Rattle.format.specs.Node as F
 use Rattle.format.specs.Node.{transition_at, Place, at, absent, Judgement, sound, unsound}
 use Rattle.format.specs.Lookup.{last_fitting}
-use Rattle.node_choice.specs.declared.Fit.TheVariants.{Sound as Fitted, Unsound as Unfit}
 use Rattle.node_choice.specs.declared.Choice.{Choice}
 use Rattle.node_choice.specs.declared.Choice.TheVariants.{Ends, To as Along, Absent as Missing}
 use Rattle.node_choice.specs.Choices.{choice_as, choice_in, fit_of}
 
-pub fit_sound : (j : Judgement) (v : ℕ) (c : Choice) → Fitted c ≡ fit_of j v → (m : F.Node) × ((j ≡ sound m) × (c ≡ choice_in m v))
+pub fit_sound : (j : Judgement) (v : ℕ) (c : Choice) → Ok c ≡ fit_of j v → (m : F.Node) × ((j ≡ sound m) × (c ≡ choice_in m v))
 fit_sound (sound m) v c e = (m, (refl, cc))
 fit_sound unsound v c e = absurd (let z : ◌≡◌ {A = ℕ} 0 1 = cc in omega arith)
 
-pub fit_stuck : (j : Judgement) (v : ℕ) → Unfit ≡ fit_of j v → j ≡ unsound
+pub fit_stuck : (j : Judgement) (v : ℕ) → Err (record {}) ≡ fit_of j v → j ≡ unsound
 fit_stuck (sound m) v e = absurd (let z : ◌≡◌ {A = ℕ} 0 1 = cc in omega arith)
 fit_stuck unsound v e = refl
 

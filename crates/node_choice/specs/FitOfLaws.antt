@@ -1,6 +1,6 @@
 -- One step of a lookup by value: which transition of a node fits what is left, and what each way out of the judging functions says.
 -- Assumes nothing.
-use Rattle.std.specs.Prelude.{◌≡◌, refl, true, false, ◌&&◌, ◌⊎◌, List, ℕ, ◌+◌, ◌-◌, ◌≤◌, ◌<◌, eqb, length, get_or}
+use Rattle.std.specs.Prelude.{Ok, Err, ◌≡◌, refl, true, false, ◌&&◌, ◌⊎◌, List, ℕ, ◌+◌, ◌-◌, ◌≤◌, ◌<◌, eqb, length, get_or}
 use Rattle.std.proofs.Common.{sym, ap, ◌∙◌, inl, inr, eq-or-lt_of_le, arith, below_more}
 use Rattle.format.specs.declared.Transition.{Transition}
 use Rattle.format.specs.Node as F
@@ -9,14 +9,12 @@ use Rattle.format.specs.Laws.NodeLaws.{node_at_unsound, node_at_blank}
 use Rattle.format.specs.Laws.StoredLaws.{length_numbers_down}
 use Rattle.format.specs.Laws.LookupLaws.{Scanned, fitting_last, fitting_none, key_goes_on_value}
 use Rattle.node.specs.declared.Node.{Node}
-use Rattle.node.specs.declared.Judged.TheVariants.{Sound}
 use Rattle.node.specs.Read.{Readable, Judges, meaning, transitions_in, node_deltas, empty_node}
 use Rattle.node.specs.ReadLaws.{node_transition, length_node_transitions}
 use Rattle.node.specs.AccessorLaws.{output_is}
 use Rattle.node.specs.JudgedLaws.{judged_empty}
 use Rattle.node_choice.specs.declared.Choice.{Choice}
 use Rattle.node_choice.specs.declared.Choice.TheVariants.{Ends, To as Along, Absent as Missing}
-use Rattle.node_choice.specs.declared.Fit.TheVariants.{Sound as Fitted, Unsound as Unfit}
 use Rattle.node_choice.specs.Choices.{Leading, fitting_in, choice_in, fit_of}
 
 -- ---- the loop: the first i numbers are not above v
@@ -100,21 +98,21 @@ pub choice_on : (m : F.Node) (v : ℕ) (c : Choice) → (eqb v 0 && m.final) ≡
 choice_on m v c e is_c = rw e is_c
 
 module _ (s : List ℕ) (v root a left : ℕ) where
-  pub fit_no : ¬ (a ≡ 0) → ¬ SoundAt s v root a → Unfit ≡ fit_of (node_at s v root a) left
+  pub fit_no : ¬ (a ≡ 0) → ¬ SoundAt s v root a → Err (record {}) ≡ fit_of (node_at s v root a) left
   fit_no ne not_sound = rw (node_at_unsound s v root a ne not_sound)
 
-  pub fit_yes : (m : Node) (c : Choice) → Judges s v root a (Sound m) → c ≡ choice_in (meaning s m) left → Fitted c ≡ fit_of (node_at s v root a) left
+  pub fit_yes : (m : Node) (c : Choice) → Judges s v root a (Ok m) → c ≡ choice_in (meaning s m) left → Ok c ≡ fit_of (node_at s v root a) left
   fit_yes m c j is_c = rw (← j.answer, is_c)
 
 -- no bytes, no node
-pub fit_blank : (s : List ℕ) (v root a left : ℕ) → length s ≡ 0 → Unfit ≡ fit_of (node_at s v root a) left
+pub fit_blank : (s : List ℕ) (v root a left : ℕ) → length s ≡ 0 → Err (record {}) ≡ fit_of (node_at s v root a) left
 fit_blank s v root a left z = rw (node_at_blank s v root a z)
 
 -- address 0 is final and has no transition
-pub fit_empty_ends : (s : List ℕ) (v root left : ℕ) → ¬ (length s ≡ 0) → left ≡ 0 → Fitted Ends ≡ fit_of (node_at s v root 0) left
+pub fit_empty_ends : (s : List ℕ) (v root left : ℕ) → ¬ (length s ≡ 0) → left ≡ 0 → Ok Ends ≡ fit_of (node_at s v root 0) left
 fit_empty_ends s v root left some z = fit_yes s v root 0 left empty_node Ends (judged_empty s v root (omega arith)) (rw z)
 
-pub fit_empty_none : (s : List ℕ) (v root left : ℕ) → ¬ (length s ≡ 0) → ¬ (left ≡ 0) → Fitted Missing ≡ fit_of (node_at s v root 0) left
+pub fit_empty_none : (s : List ℕ) (v root left : ℕ) → ¬ (length s ≡ 0) → ¬ (left ≡ 0) → Ok Missing ≡ fit_of (node_at s v root 0) left
 fit_empty_none s v root left some ne =
     let j = judged_empty s v root (omega arith) in
     let os : List ℕ = numbers_down s 0 0 0 in

@@ -1,14 +1,14 @@
 // Which transition of a sound node fits a value that is left: the part of a step of a lookup by value that comes after the judging.
 #![tactic(auto)]
 
-ghost use Rattle.std.specs.Prelude.{◌≡◌, ◌&&◌, ◌+◌, ◌*◌, ◌≤◌, ◌<◌, eqb, length, get_or};
+ghost use Rattle.std.specs.Prelude.{Ok, ◌≡◌, ◌&&◌, ◌+◌, ◌*◌, ◌≤◌, ◌<◌, eqb, length, get_or};
 ghost use Rattle.format.specs.Node.{numbers_down, SoundAt, node_at};
 ghost use Rattle.node.specs.Read.{transitions_in, Readable};
 ghost use Rattle.node_way.specs.Ways.{any_node};
 ghost use Rattle.node_choice.specs.Choices.{Leading, fitting_in, fit_of};
-ghost use Rattle.node_choice.specs.declared.Fit.TheVariants.{Sound as Fitted};
 
 use le_bytes::{number_of, small};
+use node::Unsound;
 use node_sound::{head_len, input_of};
 use node_way::target_of;
 
@@ -24,23 +24,17 @@ pub enum Choice {
 }
 
 // One step of a lookup by value: what a node that is judged as it is entered says of a value that is left.
-#[derive(Clone, Copy)]
-pub enum Fit {
-    Sound(Choice),
-    Unsound,
-}
+pub type Fit = Result<Choice, Unsound>;
 
 // How many of the leading numbers of n are not above what is left.
 fn fitting(file: &[u8], at: usize, size: usize, n: usize, left: u64) -> usize
     requires { (at + n * size ≤ length file.now) × (size ≤ 8) }
     ensures { Leading (numbers_down file.now at size n) left result }
 {
-    let mut i = 0;
-    while i < n {
+    for i in 0..n {
         if left < number_of(file, at, size, n, i) {
             return i;
         }
-        i += 1;
     }
     n
 }
@@ -77,14 +71,14 @@ pub fn any_choice(
 pub fn ends(left: u64, is_final: bool) -> bool
     ensures { result ≡ (eqb left 0 && is_final) }
 {
-    if left == 0 { is_final } else { false }
+    left == 0 && is_final
 }
 
 // The one transition of a sound node, where its output is not above what is left.
 pub fn one_choice(file: &[u8], version: u64, root: usize, addr: usize, left: u64) -> Choice
     requires { SoundAt file.now version root addr × (128 ≤ get_or file.now addr 0)
         × (get_or file.now addr 0 < 192) }
-    ensures { Fitted result ≡ fit_of (node_at file.now version root addr) left }
+    ensures { Ok result ≡ fit_of (node_at file.now version root addr) left }
 {
     let len = head_len(file, addr);
     let sizes = small(file[addr - len]);
@@ -103,7 +97,7 @@ pub fn one_choice(file: &[u8], version: u64, root: usize, addr: usize, left: u64
 // The one transition of a sound node to the node just below it: its output is 0, so it always fits.
 pub fn next_choice(file: &[u8], version: u64, root: usize, addr: usize, left: u64) -> Choice
     requires { SoundAt file.now version root addr × (192 ≤ get_or file.now addr 0) }
-    ensures { Fitted result ≡ fit_of (node_at file.now version root addr) left }
+    ensures { Ok result ≡ fit_of (node_at file.now version root addr) left }
 {
     let len = head_len(file, addr);
     let inp = input_of(file, addr);

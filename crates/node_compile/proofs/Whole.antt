@@ -1,10 +1,10 @@
 -- A node's parts, written one after the other from the buffer's first byte.
 -- Assumes nothing.
-use mathlib.Core.Path.{◌≡◌, refl, sym, ap, ◌∙◌}
-use mathlib.Core.List.{List, [], ◌∷◌, ◌++◌, append_assoc}
+use mathlib.Core.Path.{◌≡◌, refl, ◌∙◌}
+use mathlib.Core.List.{List, [], ◌∷◌, ◌++◌}
 use Prim.Native.Nat.{ℕ, ◌+◌, ◌≤◌}
 use native.Mathlib.Omega.{arith}
-use lib.ListN.{length, length-append}
+use lib.ListN.{length}
 use Rattle.format.specs.Bytes.{bytes_of, pack_size}
 use Rattle.format.specs.Laws.BytesLaws.{length_bytes_of}
 use Rattle.buffers.specs.Put.{put, PutAt}

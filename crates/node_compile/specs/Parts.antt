@@ -9,7 +9,6 @@
 -- Assumes nothing.
 use Rattle.std.specs.Prelude.{◌≡◌, Bool, cond, List, [], ◌∷◌, ◌++◌, map, ℕ, ◌+◌, ◌*◌, ◌≤◌, leb, length}
 use Rattle.format.specs.Limits.{first_node, max_trans, SPACE}
-use Rattle.buffers.specs.Put.{put}
 use Rattle.format.specs.Bytes.{largest}
 use Rattle.format.specs.CommonInputs.{common_idx}
 use Rattle.format.specs.Node.{Ascending, end_len, index_len}

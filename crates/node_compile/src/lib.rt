@@ -17,7 +17,7 @@ ghost use Rattle.buffers.specs.Put.{PutAt};
 
 use common_inputs::common_idx;
 use format::{FIRST_NODE, MAX_LEN, MAX_TRANS, RECORD, SPACE, TRANS_INDEX_THRESHOLD};
-use le_bytes::{pack_size, pack_uint_in, small};
+use le_bytes::{pack_size, pack_uint_in};
 use node_parts::{put_bytes, put_head, put_index};
 use node_record::{inputs_ascend, targets_ok};
 
@@ -44,50 +44,25 @@ fn record_ok(
     ensures { Decides result (RecordOk first
         (builder_with is_final final_output inputs.now outputs.now targets.now)) }
 {
-    if MAX_TRANS < inputs.len() {
-        return false;
-    }
-    if outputs.len() != inputs.len() {
-        return false;
-    }
-    if targets.len() != inputs.len() {
-        return false;
-    }
-    if first < FIRST_NODE {
-        return false;
-    }
-    let past_limit = MAX_LEN < first;
-    if past_limit {
-        return false;
-    }
-    if inputs_ascend(inputs) {} else {
-        return false;
-    }
-    if targets_ok(targets, first) {} else {
-        return false;
-    }
-    is_final || final_output == 0
+    inputs.len() <= MAX_TRANS
+        && outputs.len() == inputs.len()
+        && targets.len() == inputs.len()
+        && FIRST_NODE <= first
+        && first <= MAX_LEN
+        && inputs_ascend(inputs)
+        && targets_ok(targets, first)
+        && (is_final || final_output == 0)
 }
 
 // ---- sizes
-
-// The larger of a number and the largest of those after it.
-fn larger(n: u64, rest: u64) -> u64
-    ensures { result ≡ cond (ltb n rest) rest n }
-{
-    if n < rest { rest } else { n }
-}
 
 // The largest of the numbers, 0 for none.
 fn largest_of(numbers: &[u64]) -> u64
     ensures { result ≡ largest numbers.now }
 {
     let mut most: u64 = 0;
-    // the last number first: those from i on have been seen
-    let mut i = numbers.len();
-    while 0 < i {
-        i -= 1;
-        most = larger(numbers[i], most);
+    for n in numbers {
+        most = most.max(*n);
     }
     most
 }
@@ -109,22 +84,21 @@ fn largest_delta(first: usize, targets: &[usize]) -> u64
     ensures { result ≡ largest (map (delta_of first) targets.now) }
 {
     let mut most: u64 = 0;
-    let mut i = targets.len();
-    while 0 < i {
-        i -= 1;
-        most = larger(delta_of(first, targets[i]), most);
+    for target in targets {
+        most = most.max(delta_of(first, *target));
     }
     most
 }
 
 // The bytes that each output takes where n is the largest: none where all are 0.
+#[tactic(auto, unfolding(format::specs::Packed::output_size))]
 fn output_size(n: u64) -> usize
     ensures { result ≡ output_size n }
 {
     if n == 0 {
         return 0;
     }
-    small(pack_size(n))
+    pack_size(n) as usize
 }
 
 // The bytes that each delta takes: none where there is no transition.
@@ -132,10 +106,10 @@ fn delta_size(first: usize, targets: &[usize]) -> usize
     requires { TargetsOk first targets.now }
     ensures { result ≡ delta_size (map (delta_of first) targets.now) }
 {
-    if targets.len() == 0 {
+    if targets.is_empty() {
         return 0;
     }
-    small(pack_size(largest_delta(first, targets)))
+    pack_size(largest_delta(first, targets)) as usize
 }
 
 // The delta size in the high four bits, the output size in the low four.
@@ -155,9 +129,7 @@ fn put_numbers(out: &mut [u8], at: usize, numbers: &[u64], size: usize) -> usize
         out.new result }
 {
     let mut p = at;
-    let mut i = numbers.len();
-    while 0 < i {
-        i -= 1;
+    for i in (0..numbers.len()).rev() {
         pack_uint_in(out, p, numbers[i], size);
         p += size;
     }
@@ -175,9 +147,7 @@ fn put_deltas(out: &mut [u8], at: usize, targets: &[usize], first: usize, size: 
         out.new result }
 {
     let mut p = at;
-    let mut i = targets.len();
-    while 0 < i {
-        i -= 1;
+    for i in (0..targets.len()).rev() {
         pack_uint_in(out, p, delta_of(first, targets[i]), size);
         p += size;
     }
@@ -185,6 +155,7 @@ fn put_deltas(out: &mut [u8], at: usize, targets: &[usize], first: usize, size: 
 }
 
 // The bytes that the input takes before the state byte: none where the state byte keeps it.
+#[tactic(auto, unfolding(format::specs::Packed::input_bytes))]
 fn input_len(input: u8) -> usize
     ensures { result ≡ length (input_bytes input) }
 {
@@ -244,7 +215,7 @@ fn compile_one(first: usize, input: u8, output: u64, target: usize, out: &mut [u
 {
     let delta = delta_of(first, target);
     let osize = output_size(output);
-    let tsize = small(pack_size(delta));
+    let tsize = pack_size(delta) as usize;
     // output, delta, sizes byte, input, state
     let len = osize + tsize + 1 + input_len(input) + 1;
     if out.len() < len {
@@ -262,6 +233,7 @@ fn end_len(is_final: bool, osize: usize) -> usize
 }
 
 // The bytes of the index.
+#[tactic(auto, unfolding(format::specs::Node::index_len))]
 fn index_len(n: usize) -> usize
     ensures { result ≡ index_len 3 n }
 {
@@ -329,7 +301,7 @@ fn compile_any(
         (any_bytes first (builder_with is_final final_output inputs.now outputs.now targets.now))
         out.old out.new result }
 {
-    let osize = output_size(larger(final_output, largest_of(outputs)));
+    let osize = output_size(final_output.max(largest_of(outputs)));
     let tsize = delta_size(first, targets);
     let len = any_len(is_final, inputs.len(), osize, tsize);
     if out.len() < len {
@@ -428,7 +400,7 @@ pub fn compile(
         (builder_with is_final final_output inputs.now outputs.now targets.now) first
         out.old out.new result }
 {
-    if record_ok(is_final, final_output, inputs, outputs, targets, first) {} else {
+    if !record_ok(is_final, final_output, inputs, outputs, targets, first) {
         return Compiled::Refused(RECORD);
     }
     compile_record(is_final, final_output, inputs, outputs, targets, first, out)

@@ -1,18 +1,16 @@
 -- Deltas judged: one by one, or all at once by a bound of them.
 -- Assumes nothing.
-use mathlib.Core.Path.{◌≡◌, refl, sym, ap, ◌∙◌}
-use mathlib.Core.Bool.{Bool, true, false, cond}
+use mathlib.Core.Path.{◌≡◌, refl, sym}
+use mathlib.Core.Bool.{Bool, true, false}
 use mathlib.Core.List.{List}
-use Prim.Native.Nat.{ℕ, zero, suc, ◌+◌, ◌-◌, ◌*◌, ◌/◌, ◌^◌, ◌≤◌, ◌<◌}
+use Prim.Native.Nat.{ℕ, suc, ◌+◌, ◌-◌, ◌*◌, ◌/◌, ◌^◌, ◌≤◌, ◌<◌}
 use native.Mathlib.Nat.{le_trans, le_refl}
 use native.Mathlib.Omega.{arith}
 use borrow.Author.Count.{below_more}
-use borrow.Author.Tests.{eqb-true, eqb-false, ne_eqb}
+use borrow.Author.Tests.{eqb-true, eqb-false}
 use lib.Dec.{eqb}
 use lib.ListN.{length, get_or, take, drop, length-drop}
 use lib.Seq.{get_or-take, get_or-drop, drop-cons, length-take-le}
-use Rattle.buffers.specs.Decide.{Decides}
-use Rattle.buffers.specs.DecideLaws.{decides_eq, decides_iff}
 use Rattle.format.specs.Bytes.{le}
 use Rattle.format.specs.Laws.BytesLaws.{le_lt}
 use Rattle.format.specs.Node.{numbers_down, target_of, TargetRight, TargetsRight}
@@ -32,28 +30,6 @@ target_near first d low near = go (eqb d 0) refl
         let is : target_of first d ≡ first - d = rw e in
         let pos : ¬ (d ≡ 0) = eqb-false d 0 e in
         record { reach = omega arith; low = λ _. omega arith; high = λ _. omega arith }
-
--- beyond that, only the delta that leads to 0
-pub decides_far : (first d : ℕ) → 16 ≤ first → first - 16 < d → Decides (eqb d first) (TargetRight first d)
-decides_far first d low far = decides_iff to from (decides_eq d first)
-  where
-    is : target_of first d ≡ first - d
-    is = rw (ne_eqb d 0 (λ z. omega arith))
-
-    to : d ≡ first → TargetRight first d
-    to e =
-        let z : target_of first d ≡ 0 = is ∙ omega arith in
-        record { reach = omega arith; low = λ ne. absurd (ne z); high = λ ne. absurd (ne z) }
-
-    from : TargetRight first d → d ≡ first
-    from right = go (eqb (first - d) 0) refl
-      where
-        go : (t : Bool) → eqb (first - d) 0 ≡ t → d ≡ first
-        go true e = let z = eqb-true (first - d) 0 e in omega (arith, right.reach)
-        go false e =
-            let ne = eqb-false (first - d) 0 e in
-            let above = right.low (λ z. ne (sym is ∙ z)) in
-            absurd (omega (arith, is))
 
 -- ---- all deltas at once
 
@@ -120,8 +96,10 @@ number_four s p h =
     omega arith
 
 -- number i of one byte, and of two, as the code reads them
-pub byte_is : (s : List ℕ) (at i : ℕ) → at + i < length s → get_or s (at + i) 0 ≡ le (take 1 (drop (at + i * 1) s))
-byte_is s at i h = let e : at + i * 1 ≡ at + i = omega arith in rw e (sym (number_one s (at + i) (omega arith)))
+pub byte_is : (s : List ℕ) (at w i : ℕ) → i < w → at + i < length s → get_or (take w (drop at s)) i 0 ≡ le (take 1 (drop (at + i * 1) s))
+byte_is s at w i l h =
+    let e : at + i * 1 ≡ at + i = omega arith in
+    rw (get_or-take w (drop at s) i 0 l, get_or-drop, e) (sym (number_one s (at + i) (omega arith)))
 
 pub two_is : (s : List ℕ) (at i x y : ℕ) → at + i * 2 + 2 ≤ length s → x ≡ get_or s (at + i * 2) 0 → y ≡ get_or s (at + i * 2 + 1) 0
     → x + y * 256 ≡ le (take 2 (drop (at + i * 2) s))
@@ -129,59 +107,41 @@ two_is s at i x y h is_x is_y = omega (arith, number_two s (at + i * 2) h)
 
 -- ---- numbers of 3 bytes, each read with the byte before it
 
--- all but the last `left` numbers are at most most / 256, and p is the place before the next
-pub record Most3 (s : List ℕ) (at n most left p : ℕ) : Type 0 where
-  pub room : left ≤ n
-  pub place : p + 1 ≡ at + (n - left) * 3
-  pub each : (j : ℕ) → j < n - left → le (take 3 (drop (at + j * 3) s)) * 256 ≤ most
+-- the first n numbers are at most most / 256
+pub record Most3 (s : List ℕ) (at n most : ℕ) : Type 0 where
+  pub each : (j : ℕ) → j < n → le (take 3 (drop (at + j * 3) s)) * 256 ≤ most
 
-pub most3_none : (s : List ℕ) (at n p : ℕ) → p + 1 ≡ at → Most3 s at n 0 n p
-most3_none s at n p is_p = record { room = omega arith; place = omega arith; each = λ j l. absurd (omega arith) }
+pub most3_none : (s : List ℕ) (at n most : ℕ) → n ≡ 0 → Most3 s at n most
+most3_none s at n most z = record { each = λ j l. absurd (omega arith) }
 
-pub most3_more : {s : List ℕ} {at n most left p : ℕ} (x most' left' p' : ℕ) → at + n * 3 ≤ length s → left ≡ left' + 1 → p' ≡ p + 3
-    → x ≡ le (take 4 (drop p s)) → most ≤ most' → x ≤ most' → Most3 s at n most left p → Most3 s at n most' left' p'
-most3_more {s} {at} {n} {most} {left} {p} x most' left' p' h is_left is_p' is_x up over m =
-    record { room = omega arith; place = omega (arith, m.place); each = λ j l. each j l }
+-- one number more, which is read from the byte before it
+pub most3_more : {s : List ℕ} {at n most : ℕ} (p x most' : ℕ) → p + 1 ≡ at + n * 3 → p + 4 ≤ length s → x ≡ le (take 4 (drop p s)) → most ≤ most'
+    → x ≤ most' → Most3 s at n most → Most3 s at (n + 1) most'
+most3_more {s} {at} {n} {most} p x most' place room is_x up over m =
+    record { each = below_more (λ j. le (take 3 (drop (at + j * 3) s)) * 256 ≤ most') n (λ j l. le_trans (m.each j l) up) last }
   where
-    done : n - left + 1 ≡ n - left'
-    done = omega (arith, m.room)
+    last : le (take 3 (drop (at + n * 3) s)) * 256 ≤ most'
+    last = omega (arith, number_step s p (at + n * 3) 3 (omega arith) (omega arith))
 
-    last : le (take 3 (drop (at + (n - left) * 3) s)) * 256 ≤ most'
-    last = omega (arith, number_step s p (at + (n - left) * 3) 3 (omega (arith, m.room, m.place)) (omega (arith, m.place)))
-
-    each : (j : ℕ) → j < n - left' → le (take 3 (drop (at + j * 3) s)) * 256 ≤ most'
-    each = rw (← done) (below_more (λ j. le (take 3 (drop (at + j * 3) s)) * 256 ≤ most') (n - left) (λ j l. le_trans (m.each j l) up) last)
-
-pub most3_four : {s : List ℕ} {at n most left p : ℕ} (x y z w most' : ℕ) → at + n * 3 ≤ length s → 4 ≤ left → x ≡ le (take 4 (drop p s))
+pub most3_four : {s : List ℕ} {at n most : ℕ} (p x y z w most' : ℕ) → p + 1 ≡ at + n * 3 → p + 13 ≤ length s → x ≡ le (take 4 (drop p s))
     → y ≡ le (take 4 (drop (p + 3) s)) → z ≡ le (take 4 (drop (p + 6) s)) → w ≡ le (take 4 (drop (p + 9) s)) → most ≤ most' → x ≤ most' → y ≤ most'
-    → z ≤ most' → w ≤ most' → Most3 s at n most left p → Most3 s at n most' (left - 4) (p + 12)
-most3_four {s} {at} {n} {most} {left} {p} x y z w most' h four is_x is_y is_z is_w up ox oy oz ow m =
-    let a = most3_more x most' (left - 1) (p + 3) h (omega arith) (omega arith) is_x up ox m in
-    let b = most3_more y most' (left - 2) (p + 6) h (omega arith) (omega arith) is_y (le_refl most') oy a in
-    let c = most3_more z most' (left - 3) (p + 9) h (omega arith) (omega arith) is_z (le_refl most') oz b in
-    most3_more w most' (left - 4) (p + 12) h (omega arith) (omega arith) is_w (le_refl most') ow c
+    → z ≤ most' → w ≤ most' → Most3 s at n most → Most3 s at (n + 4) most'
+most3_four {s} {at} {n} {most} p x y z w most' place room is_x is_y is_z is_w up ox oy oz ow m =
+    let a = most3_more p x most' place (omega arith) is_x up ox m in
+    let b = most3_more (p + 3) y most' (omega arith) (omega arith) is_y (le_refl most') oy a in
+    let c = most3_more (p + 6) z most' (omega arith) (omega arith) is_z (le_refl most') oz b in
+    let e : n + 1 + 1 + 1 + 1 ≡ n + 4 = omega arith in
+    rw e at (most3_more (p + 9) w most' (omega arith) (omega arith) is_w (le_refl most') ow c)
 
-pub most3_all : {s : List ℕ} {at n most left p : ℕ} → left ≤ 0 → Most3 s at n most left p → AtMost s at 3 n (most / 256)
-most3_all {s} {at} {n} {most} {left} {p} none m = record { each = λ j l. omega (arith, m.each j (omega arith)) }
+pub most3_all : {s : List ℕ} {at n most : ℕ} → Most3 s at n most → AtMost s at 3 n (most / 256)
+most3_all {s} {at} {n} {most} m = record { each = λ j l. omega (arith, m.each j l) }
 
 -- ---- the loop
 
--- the first i deltas are right
-pub record RightTo (s : List ℕ) (at k n first i : ℕ) : Type 0 where
-  pub within : i ≤ n
-  pub right : (j : ℕ) → j < i → TargetRight first (get_or (numbers_down s at k n) j 0)
-
-pub right_none : (s : List ℕ) (at k n first : ℕ) → RightTo s at k n first 0
-right_none s at k n first = record { within = omega arith; right = λ j l. absurd (omega arith) }
-
-pub right_step : {s : List ℕ} {at k n first i : ℕ} (d : ℕ) → d ≡ get_or (numbers_down s at k n) i 0 → i < n → TargetRight first d
-    → RightTo s at k n first i → RightTo s at k n first (i + 1)
-right_step {s} {at} {k} {n} {first} {i} d is_d l here r =
-    record { within = omega arith; right = below_more _ i r.right (rw is_d at here) }
-
-pub right_all : {s : List ℕ} {at k n first i : ℕ} → n ≤ i → RightTo s at k n first i → TargetsRight first (numbers_down s at k n)
+pub right_all : (s : List ℕ) (at k n first i : ℕ) → n ≤ i → ((j : ℕ) → j < i → TargetRight first (get_or (numbers_down s at k n) j 0))
+    → TargetsRight first (numbers_down s at k n)
 unfolding TargetsRight
-right_all {s} {at} {k} {n} {first} {i} past r j l = r.right j (omega (arith, length_numbers_down s at k n))
+right_all s at k n first i past right j l = right j (omega (arith, length_numbers_down s at k n))
 
 pub not_right : (s : List ℕ) (at k n first i d : ℕ) → d ≡ get_or (numbers_down s at k n) i 0 → i < n → ¬ TargetRight first d
     → ¬ TargetsRight first (numbers_down s at k n)

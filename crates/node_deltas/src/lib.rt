@@ -9,7 +9,7 @@ ghost use Rattle.format.specs.Node.{numbers_down, TargetRight, TargetsRight};
 ghost use Rattle.node_deltas.specs.Deltas.{AtMost};
 
 use format::FIRST_NODE;
-use le_bytes::{number_of, small};
+use le_bytes::number_of;
 
 // Whether a delta leads from first to 0 or to a place from 16 to first - 1.
 pub fn target_right(first: usize, delta: u64) -> bool
@@ -17,11 +17,8 @@ pub fn target_right(first: usize, delta: u64) -> bool
     ensures { Decides result (TargetRight first delta) }
 {
     let d = delta as usize;
-    if d <= first - FIRST_NODE {
-        return true;
-    }
-    // the delta that leads to 0
-    d == first
+    // the delta that leads to 0 is first itself
+    d <= first - FIRST_NODE || d == first
 }
 
 // Whether each of n deltas of size bytes, stored last first from place at on, leads to a right target.
@@ -29,10 +26,7 @@ pub fn targets_right(file: &[u8], at: usize, size: usize, n: usize, first: usize
     requires { (at + n * size ≤ length file.now) × (size ≤ 8) × (first_node ≤ first) }
     ensures { Decides result (TargetsRight first (numbers_down file.now at size n)) }
 {
-    if near(file, at, size, n, first - FIRST_NODE) {
-        return true;
-    }
-    targets_slow(file, at, size, n, first)
+    near(file, at, size, n, first - FIRST_NODE) || targets_slow(file, at, size, n, first)
 }
 
 // The same, one delta after the other.
@@ -40,13 +34,10 @@ fn targets_slow(file: &[u8], at: usize, size: usize, n: usize, first: usize) -> 
     requires { (at + n * size ≤ length file.now) × (size ≤ 8) × (first_node ≤ first) }
     ensures { Decides result (TargetsRight first (numbers_down file.now at size n)) }
 {
-    let mut i = 0;
-    while i < n {
-        let d = number_of(file, at, size, n, i);
-        if target_right(first, d) {} else {
+    for i in 0..n {
+        if !target_right(first, number_of(file, at, size, n, i)) {
             return false;
         }
-        i += 1;
     }
     true
 }
@@ -59,63 +50,21 @@ fn near(file: &[u8], at: usize, size: usize, n: usize, reach: usize) -> bool
     requires { at + n * size ≤ length file.now }
     ensures { result ≡ true → AtMost file.now at size n reach }
 {
-    if size == 3 {
+    match size {
         // the byte before the first delta is read too
-        if at == 0 {
-            return false;
-        }
-        return most3(file, at, n) <= reach;
+        3 => at != 0 && most3(file, at, n) <= reach,
+        2 => 65535 <= reach || most2(file, at, n) <= reach,
+        1 => 255 <= reach || most1(file, at, n) <= reach,
+        _ => false,
     }
-    if size == 2 {
-        if 65535 <= reach {
-            return true;
-        }
-        return most2(file, at, n) <= reach;
-    }
-    if size == 1 {
-        if 255 <= reach {
-            return true;
-        }
-        return most1(file, at, n) <= reach;
-    }
-    false
 }
 
-// A byte as a number of 32 bits.
-fn word(x: u8) -> u32
-    ensures { result ≡ x }
-{
-    x as u32
-}
-
-// A number of 32 bits as a count or a place.
-fn plain(x: u32) -> usize
-    ensures { result ≡ x }
-{
-    x as usize
-}
-
-// The larger of two numbers.
-fn larger(x: u32, y: u32) -> u32
-    ensures { (x ≤ result) × (y ≤ result) }
-{
-    if x < y { y } else { x }
-}
-
-// The number of 4 bytes from place p on, in steps that compile to one load. The weight is not
-// multiplied after the last byte.
+// The number of 4 bytes from place p on.
 fn load4(file: &[u8], p: usize) -> u32
     requires { p + 4 ≤ length file.now }
     ensures { result ≡ le (take 4 (drop p file.now)) }
 {
-    let mut n = word(file[p]);
-    let mut weight: u32 = 256;
-    n += word(file[p + 1]) * weight;
-    weight *= 256;
-    n += word(file[p + 2]) * weight;
-    weight *= 256;
-    n += word(file[p + 3]) * weight;
-    n
+    u32::from_le_bytes([file[p], file[p + 1], file[p + 2], file[p + 3]])
 }
 
 // A bound of n numbers of 3 bytes: each is read with the byte before it, which stands for less than
@@ -125,21 +74,18 @@ fn most3(file: &[u8], at: usize, n: usize) -> usize
     ensures { AtMost file.now at 3 n result }
 {
     let mut most: u32 = 0;
-    let mut left = n;
-    let mut p = at - 1;
-    while 4 <= left {
-        let low = larger(load4(file, p), load4(file, p + 3));
-        let high = larger(load4(file, p + 6), load4(file, p + 9));
-        most = larger(most, larger(low, high));
-        p += 12;
-        left -= 4;
+    let start = at - 1;
+    // four at once, by two pairs that do not wait for each other
+    for i in 0..n / 4 {
+        let p = start + i * 12;
+        let low = load4(file, p).max(load4(file, p + 3));
+        let high = load4(file, p + 6).max(load4(file, p + 9));
+        most = most.max(low.max(high));
     }
-    while 0 < left {
-        most = larger(most, load4(file, p));
-        p += 3;
-        left -= 1;
+    for i in n / 4 * 4..n {
+        most = most.max(load4(file, start + i * 3));
     }
-    plain(most / 256)
+    (most / 256) as usize
 }
 
 // A bound of n numbers of 2 bytes.
@@ -148,18 +94,11 @@ fn most2(file: &[u8], at: usize, n: usize) -> usize
     ensures { AtMost file.now at 2 n result }
 {
     let mut most: u32 = 0;
-    let mut i = 0;
-    while i < n {
+    for i in 0..n {
         let p = at + i * 2;
-        let mut d = word(file[p]);
-        let weight: u32 = 256;
-        d += word(file[p + 1]) * weight;
-        if most < d {
-            most = d;
-        }
-        i += 1;
+        most = most.max(u32::from(file[p]) + u32::from(file[p + 1]) * 256);
     }
-    plain(most)
+    most as usize
 }
 
 // A bound of n bytes.
@@ -168,13 +107,8 @@ fn most1(file: &[u8], at: usize, n: usize) -> usize
     ensures { AtMost file.now at 1 n result }
 {
     let mut most: u8 = 0;
-    let mut i = 0;
-    while i < n {
-        let d = file[at + i];
-        if most < d {
-            most = d;
-        }
-        i += 1;
+    for d in &file[at..at + n] {
+        most = most.max(*d);
     }
-    small(most)
+    most as usize
 }

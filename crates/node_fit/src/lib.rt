@@ -9,6 +9,7 @@ ghost use Rattle.node_choice.specs.Choices.{fit_of};
 
 use format::FIRST_NODE;
 use le_bytes::small;
+use node::Unsound;
 use node_choice::{Choice, Fit, any_choice, ends, next_choice, one_choice};
 use node_sound::{next_sound, one_sound, parts_right, shape_of, sizes_right, useful};
 
@@ -22,17 +23,17 @@ fn any_fit(file: &[u8], version: u64, root: usize, addr: usize, left: u64) -> Fi
     let size = shape.size;
     // the first byte, addr + 1 - size, is 16 at least
     if addr - 15 < size {
-        return Fit::Unsound;
+        return Err(Unsound);
     }
     let is_final = shape.is_final;
     let ntrans = shape.ntrans;
     let tsize = shape.tsize;
     let osize = shape.osize;
-    if sizes_right(ntrans, tsize, osize) {} else {
-        return Fit::Unsound;
+    if !sizes_right(ntrans, tsize, osize) {
+        return Err(Unsound);
     }
-    if useful(is_final, ntrans, addr, root) {} else {
-        return Fit::Unsound;
+    if !useful(is_final, ntrans, addr, root) {
+        return Err(Unsound);
     }
     let first = addr + 1 - size;
     let end_len = shape.end_len;
@@ -40,13 +41,13 @@ fn any_fit(file: &[u8], version: u64, root: usize, addr: usize, left: u64) -> Fi
     let deltas = outputs + ntrans * osize;
     let inputs = deltas + ntrans * tsize;
     let index_len = shape.index_len;
-    if parts_right(file, first, deltas, tsize, inputs, ntrans, index_len) {} else {
-        return Fit::Unsound;
+    if !parts_right(file, first, deltas, tsize, inputs, ntrans, index_len) {
+        return Err(Unsound);
     }
     if ends(left, is_final) {
-        return Fit::Sound(Choice::Ends);
+        return Ok(Choice::Ends);
     }
-    Fit::Sound(any_choice(file, first, outputs, ntrans, tsize, osize, index_len, left))
+    Ok(any_choice(file, first, outputs, ntrans, tsize, osize, index_len, left))
 }
 
 // A node with one transition, judged and followed.
@@ -56,9 +57,9 @@ fn one_fit(file: &[u8], version: u64, root: usize, addr: usize, left: u64) -> Fi
     ensures { result ≡ fit_of (node_at file.now version root addr) left }
 {
     if one_sound(file, version, root, addr) {
-        return Fit::Sound(one_choice(file, version, root, addr, left));
+        return Ok(one_choice(file, version, root, addr, left));
     }
-    Fit::Unsound
+    Err(Unsound)
 }
 
 // A node with one transition to the node just below it, judged and followed.
@@ -67,22 +68,23 @@ fn next_fit(file: &[u8], version: u64, root: usize, addr: usize, left: u64) -> F
     ensures { result ≡ fit_of (node_at file.now version root addr) left }
 {
     if next_sound(file, version, root, addr) {
-        return Fit::Sound(next_choice(file, version, root, addr, left));
+        return Ok(next_choice(file, version, root, addr, left));
     }
-    Fit::Unsound
+    Err(Unsound)
 }
 
 // Address 0, which only a file with bytes has: final, and with no transition.
+#[tactic(auto, using(node_choice::specs::FitOfLaws::fit_blank, node_choice::specs::FitOfLaws::fit_empty_ends, node_choice::specs::FitOfLaws::fit_empty_none))]
 fn zero_fit(file: &[u8], version: u64, root: usize, left: u64) -> Fit
     ensures { result ≡ fit_of (node_at file.now version root 0) left }
 {
     if file.len() == 0 {
-        return Fit::Unsound;
+        return Err(Unsound);
     }
     if left == 0 {
-        return Fit::Sound(Choice::Ends);
+        return Ok(Choice::Ends);
     }
-    Fit::Sound(Choice::Absent)
+    Ok(Choice::Absent)
 }
 
 // Judges the node at addr and follows the transition from it that fits what is left: what `node_at`, `input`, `output` and
@@ -95,13 +97,13 @@ pub fn fit_at(file: &[u8], version: u64, root: usize, addr: usize, left: u64) ->
     }
     // the state byte itself lies from 16 to the root, and in the file
     if addr < FIRST_NODE {
-        return Fit::Unsound;
+        return Err(Unsound);
     }
     if root < addr {
-        return Fit::Unsound;
+        return Err(Unsound);
     }
     if file.len() <= addr {
-        return Fit::Unsound;
+        return Err(Unsound);
     }
     let state = small(file[addr]);
     if state < 128 {

@@ -1,20 +1,19 @@
 -- The index is right where each input's entry is its place and exactly as many entries as there are inputs are below their count.
 -- Assumes nothing.
-use mathlib.Core.Path.{◌≡◌, refl, sym, ap, ◌∙◌}
+use mathlib.Core.Path.{◌≡◌, refl, sym, ◌∙◌}
 use mathlib.Core.Bool.{Bool, true, false}
 use mathlib.Core.Logic.{◌⊎◌, inl, inr, ⊎_elim}
 use mathlib.Core.List.{List, [], ◌∷◌, ◌++◌}
 use Prim.Native.Nat.{ℕ, zero, suc, ◌+◌, ◌-◌, ◌≤◌, ◌<◌}
-use native.Mathlib.Nat.{le_refl, not-le_of_lt, eq-or-lt_of_le, le_of_suc-le-suc}
+use native.Mathlib.Nat.{le_refl, eq-or-lt_of_le, le_of_suc-le-suc}
 use native.Mathlib.Omega.{arith}
 use borrow.Author.Tests.{lt-ltb, le-ltb, ltb-true, ltb-false, eqb-true, eqb-false}
 use lib.Dec.{ltb, eqb}
-use lib.ListN.{length, get_or, take, drop, set, length-set, length-drop, drop_of_length-le}
-use native.Mathlib.Numerals.{add-one}
-use borrow.Author.Count.{below_more, below_none as below_no}
-use lib.Seq.{get_or-set_same, get_or-set_other, get_or-take, get_or-drop, drop-cons, drop-drop, take-add, length-take-le}
+use lib.ListN.{length, get_or, take, drop, set, length-set, length-drop}
+use Rattle.std.proofs.lemmas.List.{take_more}
+use lib.Seq.{get_or-set_same, get_or-set_other, get_or-take, get_or-drop, drop-drop, take-add, length-take-le}
 use Rattle.buffers.specs.Decide.{Decides}
-use Rattle.buffers.specs.DecideLaws.{decides_eq, decides_iff, decides_true, decides_false}
+use Rattle.buffers.specs.DecideLaws.{decides_eq, decides_iff}
 use Rattle.format.specs.Node.{bytes_down, Absent, Indexed}
 use Rattle.format.specs.Laws.StoredLaws.{length_bytes_down, get_d_bytes_down}
 use Rattle.node_inputs.specs.Inputs.{Probed, below}
@@ -142,20 +141,6 @@ entry_of s at n index i l byte = rw (get_d_bytes_down s at n i l, get_or-take 25
 pub record PlacedTo (s : List ℕ) (at n index j : ℕ) : Type 0 where
   pub right : (k : ℕ) → k < j → get_or s (index + get_or s (at + k) 0) 0 + k ≡ n - 1
 
-pub placed_none : (s : List ℕ) (at n index : ℕ) → Decides true (PlacedTo s at n index 0)
-placed_none s at n index = decides_true (record { right = below_no _ })
-
-module _ (s : List ℕ) (at n index j b e : ℕ) (is_b : b ≡ get_or s (at + j) 0) (is_e : e ≡ get_or s (index + b) 0) where
-  entry_at_j : e ≡ get_or s (index + get_or s (at + j) 0) 0
-  entry_at_j = rw (← is_b) is_e
-
-  pub placed_kept : {good : Bool} → e + j ≡ n - 1 → Decides good (PlacedTo s at n index j) → Decides good (PlacedTo s at n index (j + 1))
-  placed_kept here d =
-      decides_iff (λ p. record { right = below_more _ j p.right (rw (← entry_at_j) here) }) (λ p. record { right = λ k l. p.right k (omega arith) }) d
-
-  pub placed_lost : ¬ (e + j ≡ n - 1) → Decides false (PlacedTo s at n index (j + 1))
-  placed_lost ne = decides_false (λ p. ne (rw entry_at_j (p.right j (omega arith))))
-
 -- every byte has its entry where every input's entry is its place
 pub placed_all : {s : List ℕ} {at n index j : ℕ} {good : Bool} → j ≤ n → n ≤ j → ((i : ℕ) → get_or s i 0 < 256) → Decides good (PlacedTo s at n index j)
     → Decides good (Probed (bytes_down s at n) (entries_of s index))
@@ -192,49 +177,21 @@ probed_few s at n index many bytes p =
 length_entries_of : (s : List ℕ) (index : ℕ) → index + 256 ≤ length s → length (entries_of s index) ≡ 256
 length_entries_of s index h = length-take-le 256 (drop index s) (simp length-drop (omega arith))
 
--- of w bytes from at on the first j are looked at, and count of them are below n
-pub record Counted (s : List ℕ) (at w n count j : ℕ) : Type 0 where
-  pub within : j ≤ w
-  pub few : count ≤ j
-  pub rest : count + below n (drop j (take w (drop at s))) ≡ below n (take w (drop at s))
-
-pub counted_none : (s : List ℕ) (at w n : ℕ) → Counted s at w n 0 0
-counted_none s at w n = record { within = omega arith; few = omega arith; rest = omega arith }
-
-part_at : (s : List ℕ) (at w j : ℕ) → at + w ≤ length s → j < w
-    → drop j (take w (drop at s)) ≡ get_or s (at + j) 0 ∷ drop (j + 1) (take w (drop at s))
-part_at s at w j h l =
-    let len : length (take w (drop at s)) ≡ w = length-take-le w (drop at s) (simp length-drop (omega arith)) in
-    drop-cons (take w (drop at s)) j 0 (omega arith) ∙ rw (add-one, get_or-take w (drop at s) j 0 l, get_or-drop)
-
-module _ {s : List ℕ} {at w n count j : ℕ} (h : at + w ≤ length s) (l : j < w) (p : Counted s at w n count j) where
-  here : below n (drop j (take w (drop at s))) ≡ below n (get_or s (at + j) 0 ∷ drop (j + 1) (take w (drop at s)))
-  here = rw (part_at s at w j h l)
-
-  pub counted_below : get_or s (at + j) 0 < n → Counted s at w n (count + 1) (j + 1)
-  counted_below lt =
-      let one = below_lt {n = n} {e = get_or s (at + j) 0} (drop (j + 1) (take w (drop at s))) lt in
-      let same = here in
-      record { within = omega arith; few = omega (arith, p.few); rest = omega (arith, p.rest) }
-
-  pub counted_other : n ≤ get_or s (at + j) 0 → Counted s at w n count (j + 1)
-  counted_other ge =
-      let none = below_ge {n = n} {e = get_or s (at + j) 0} (drop (j + 1) (take w (drop at s))) ge in
-      let same = here in
-      record { within = omega arith; few = omega (arith, p.few); rest = omega (arith, p.rest) }
-
-pub counted_all : {s : List ℕ} {at w n count j : ℕ} → at + w ≤ length s → w ≤ j → Counted s at w n count j → count ≡ below n (take w (drop at s))
-unfolding below
-counted_all {s} {at} {w} {n} {count} {j} h past p =
-    let len : length (take w (drop at s)) ≡ w = length-take-le w (drop at s) (simp length-drop (omega arith)) in
-    let nil : drop j (take w (drop at s)) ≡ [] = drop_of_length-le (take w (drop at s)) {i = j} (omega arith) in
-    let z : below n (drop j (take w (drop at s))) ≡ 0 = rw nil in
-    omega (arith, p.rest)
-
 below_append : (n : ℕ) (xs ys : List ℕ) → below n (xs ++ ys) ≡ below n xs + below n ys
 unfolding below
 below_append n [] ys = omega arith
 below_append n (x ∷ xs) ys = omega (arith, below_append n xs ys)
+
+-- one entry more
+pub below_take : {n i count : ℕ} (es : List ℕ) → i < length es → count ≡ below n (take i es) → get_or es i 0 < n → count + 1 ≡ below n (take (i + 1) es)
+unfolding below
+below_take {n} {i} {count} es l e h =
+    rw (take_more es i 0 l, below_append n (take i es) (get_or es i 0 ∷ [])) (omega (arith, below_lt [] h))
+
+pub below_skip : {n i count : ℕ} (es : List ℕ) → i < length es → count ≡ below n (take i es) → n ≤ get_or es i 0 → count ≡ below n (take (i + 1) es)
+unfolding below
+below_skip {n} {i} {count} es l e h =
+    rw (take_more es i 0 l, below_append n (take i es) (get_or es i 0 ∷ [])) (omega (arith, below_ge [] h))
 
 -- the entries are two halves
 pub below_halves : (s : List ℕ) (index n : ℕ) → below n (entries_of s index) ≡ below n (take 128 (drop index s)) + below n (take 128 (drop (index + 128) s))

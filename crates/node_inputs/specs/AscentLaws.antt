@@ -1,9 +1,9 @@
 -- Inputs stored last first ascend where the stored bytes fall, pair by pair. Pairs may be tested in groups that overlap.
 -- Assumes nothing.
-use Rattle.std.specs.Prelude.{◌≡◌, refl, Bool, true, false, ◌&&◌, ◌⊎◌, List, ℕ, zero, suc, ◌+◌, ◌-◌, ◌≤◌, ◌<◌, eqb, ltb, get_or}
-use Rattle.std.proofs.Common.{◌∙◌, inl, inr, not-le_of_lt, arith, below_more, ltb-true, ltb-false}
+use Rattle.std.specs.Prelude.{◌≡◌, refl, Bool, true, false, ◌&&◌, ◌⊎◌, List, ℕ, zero, suc, ◌+◌, ◌-◌, ◌≤◌, ◌<◌, ltb, get_or}
+use Rattle.std.proofs.Common.{◌∙◌, inl, inr, arith, below_more, ltb-true, ltb-false}
 use Rattle.buffers.specs.Decide.{Decides}
-use Rattle.buffers.specs.DecideLaws.{decides_true, decides_false, decides_iff, decides_and}
+use Rattle.buffers.specs.DecideLaws.{decides_iff, decides_and}
 use Rattle.format.specs.Node.{Ascending, bytes_down}
 use Rattle.format.specs.Laws.StoredLaws.{length_bytes_down, get_d_bytes_down}
 use Rattle.node_inputs.specs.Inputs.{Falls}
@@ -19,25 +19,6 @@ falls_more {s} {at} {j} f last = record { down = below_more _ j f.down last }
 -- fewer pairs
 pub falls_less : {s : List ℕ} {at n : ℕ} (j : ℕ) → j ≤ n → Falls s at n → Falls s at j
 falls_less j h f = record { down = λ k l. f.down k (omega arith) }
-
-pub not_falls : {s : List ℕ} {at n : ℕ} (j : ℕ) → j < n → get_or s (at + j) 0 ≤ get_or s (at + j + 1) 0 → ¬ Falls s at n
-not_falls j l up f = not-le_of_lt (f.down j l) up
-
--- ---- a flag that a pair sets: 0 so long as none did
-
-pub flag_none : (s : List ℕ) (at : ℕ) → Decides (eqb 0 0) (Falls s at 0)
-flag_none s at = decides_true (falls_none s at)
-
-pub flag_kept : {s : List ℕ} {at j : ℕ} {r : Bool} → Decides r (Falls s at j) → get_or s (at + j + 1) 0 < get_or s (at + j) 0
-    → Decides r (Falls s at (j + 1))
-flag_kept {s} {at} {j} d last = decides_iff (λ f. falls_more f last) (λ f. falls_less j (omega arith) f) d
-
-pub flag_set : (s : List ℕ) (at j : ℕ) → get_or s (at + j) 0 ≤ get_or s (at + j + 1) 0 → Decides (eqb 1 0) (Falls s at (j + 1))
-flag_set s at j up = decides_false (not_falls j (omega arith) up)
-
--- the loop's end
-pub flag_all : {s : List ℕ} {at j : ℕ} {r : Bool} (n : ℕ) → j ≤ n → n ≤ j → Decides r (Falls s at j) → Decides r (Falls s at n)
-flag_all {s} {at} {j} n within past d = let e : j ≡ n = omega arith in rw (← e) d
 
 -- ---- groups of pairs
 

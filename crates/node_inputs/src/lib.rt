@@ -6,8 +6,6 @@ ghost use Rattle.buffers.specs.Decide.{Decides};
 ghost use Rattle.format.specs.Node.{bytes_down, Ascending, Indexed};
 ghost use Rattle.node_inputs.specs.Inputs.{Falls, Probed, below};
 
-use le_bytes::small;
-
 // ---- inputs
 
 // Whether n inputs, stored last first from place at on, ascend strictly: whether the stored bytes
@@ -25,26 +23,17 @@ pub fn ascends(file: &[u8], at: usize, n: usize) -> bool
         return falls(file, at, pairs);
     }
     if pairs < 8 {
-        return both(falls(file, at, 4), falls(file, at + pairs - 4, 4));
+        return falls(file, at, 4) & falls(file, at + pairs - 4, 4);
     }
     if pairs < 16 {
-        return both(falls(file, at, 8), falls(file, at + pairs - 8, 8));
+        return falls(file, at, 8) & falls(file, at + pairs - 8, 8);
     }
     let last = pairs - 16;
     let mut good = falls(file, at + last, 16);
-    let mut j = 0;
-    while j < last {
-        good = both(good, falls(file, at + j, 16));
-        j += 16;
+    for j in (0..last).step_by(16) {
+        good &= falls(file, at + j, 16);
     }
     good
-}
-
-// Both of two answers.
-fn both(a: bool, b: bool) -> bool
-    ensures { result ≡ (a && b) }
-{
-    if a { b } else { false }
 }
 
 // Whether each byte of some pairs from place at on is above the next. There is no way out of the
@@ -54,12 +43,10 @@ fn falls(file: &[u8], at: usize, pairs: usize) -> bool
     ensures { Decides result (Falls file.now at pairs) }
 {
     let mut bad: u8 = 0;
-    let mut j = 0;
-    while j < pairs {
+    for j in 0..pairs {
         if file[at + j] <= file[at + j + 1] {
             bad = 1;
         }
-        j += 1;
     }
     bad == 0
 }
@@ -79,14 +66,11 @@ fn probes(file: &[u8], at: usize, n: usize, index: usize) -> bool
     let mut good = true;
     // the inputs stand last first: from at on, n - 1 down to 0
     let mut i = n;
-    let mut p = at;
-    while 0 < i {
+    for b in &file[at..at + n] {
         i -= 1;
-        let b = small(file[p]);
-        if file[index + b] != (i as u8) {
+        if file[index + *b as usize] != i as u8 {
             good = false;
         }
-        p += 1;
     }
     good
 }
@@ -102,7 +86,7 @@ fn count_below(file: &[u8], index: usize, n: usize) -> usize
         return 256;
     }
     let m = n as u8;
-    small(below128(file, index, m)) + small(below128(file, index + 128, m))
+    below128(file, index, m) as usize + below128(file, index + 128, m) as usize
 }
 
 // How many of 128 bytes from place at on are below m, counted in a byte.
@@ -111,12 +95,10 @@ fn below128(file: &[u8], at: usize, m: u8) -> u8
     ensures { result ≡ below m (take 128 (drop at file.now)) }
 {
     let mut count: u8 = 0;
-    let mut j = 0;
-    while j < 128 {
-        if file[at + j] < m {
+    for entry in &file[at..at + 128] {
+        if *entry < m {
             count += 1;
         }
-        j += 1;
     }
     count
 }
@@ -127,10 +109,7 @@ fn index_right(file: &[u8], at: usize, n: usize, index: usize) -> bool
     ensures { Decides result (Indexed (bytes_down file.now at n)
         (take 256 (drop index file.now))) }
 {
-    if probes(file, at, n, index) {} else {
-        return false;
-    }
-    count_below(file, index, n) == n
+    probes(file, at, n, index) && count_below(file, index, n) == n
 }
 
 // Whether the index that follows n inputs is right, where there is one.

@@ -1,4 +1,4 @@
--- Bytes written last first, and in their order: what a turn of each loop knows.
+-- Bytes written last first: what a turn of the loop knows.
 -- Assumes nothing.
 use mathlib.Core.Path.{◌≡◌, refl, sym, ◌∙◌}
 use mathlib.Core.List.{List, [], ◌∷◌, ◌++◌}
@@ -58,34 +58,3 @@ pub bytes_all : {out₀ : List ℕ} {at : ℕ} {bytes out : List ℕ} {p i : ℕ
 bytes_all {out₀} {at} {bytes} {out} {p} {i} none w =
     let z : i ≡ 0 = omega arith in
     record { is = w.is ∙ rw z; next = omega (arith, w.place, length_stored_bytes bytes) }
-
--- ---- bytes in their order
-
--- the first i bytes are written
-pub record AllTo (out₀ : List ℕ) (at : ℕ) (bytes out : List ℕ) (i : ℕ) : Type 0 where
-  pub within : i ≤ length bytes
-  pub len : length out ≡ length out₀
-  pub is : out ≡ put out₀ at (take i bytes)
-
-pub all_none : (out₀ : List ℕ) (at : ℕ) (bytes : List ℕ) → AllTo out₀ at bytes out₀ 0
-all_none out₀ at bytes = record { within = omega arith; len = refl; is = sym (put_nil out₀ at) }
-
-pub all_step : {out₀ : List ℕ} {at : ℕ} {bytes out : List ℕ} {i : ℕ} → at + length bytes ≤ length out₀ → i < length bytes
-    → AllTo out₀ at bytes out i → AllTo out₀ at bytes (set out (at + i) (get_or bytes i 0)) (i + 1)
-all_step {out₀} {at} {bytes} {out} {i} room l w =
-    let len = w.len in
-    let x = get_or bytes i 0 in
-    let t : length (take i bytes) ≡ i = length-take-le i bytes (omega arith) in
-    let more : put out (at + i) (x ∷ []) ≡ put out₀ at (take i bytes ++ (x ∷ [])) =
-    put_next out₀ at (take i bytes) (x ∷ []) w.is (omega arith) (omega arith) in
-    record {
-      within = omega arith;
-      len = length-set out (at + i) x ∙ len;
-      is = set_put out (at + i) x (omega arith) ∙ more ∙ rw (add-one, take-suc bytes i 0 l);
-    }
-
-pub all_done : {out₀ : List ℕ} {at : ℕ} {bytes out : List ℕ} {i : ℕ} → length bytes ≤ i → AllTo out₀ at bytes out i
-    → PutAt out₀ at bytes out (at + i)
-all_done {out₀} {at} {bytes} {out} {i} past w =
-    let e : i ≡ length bytes = omega (arith, w.within) in
-    record { is = w.is ∙ rw (take_all i bytes past); next = rw e }

@@ -9,7 +9,6 @@ ghost use Rattle.format.specs.Packed.{stored_bytes, index_of, index_bytes, final
 ghost use Rattle.buffers.specs.Put.{PutAt};
 
 use format::{MAX_TRANS, TRANS_INDEX_THRESHOLD};
-use le_bytes::small;
 
 // Writes the bytes, last first, from place at on; returns the place past them.
 pub fn put_bytes(out: &mut [u8], at: usize, bytes: &[u8]) -> usize
@@ -18,9 +17,8 @@ pub fn put_bytes(out: &mut [u8], at: usize, bytes: &[u8]) -> usize
         out.new result }
 {
     let mut p = at;
-    let mut i = bytes.len();
-    while 0 < i {
-        i -= 1;
+    // byte by byte: the library's copy would have the C library call memmove, where it cannot see the two apart
+    for i in (0..bytes.len()).rev() {
         out[p] = bytes[i];
         p += 1;
     }
@@ -33,26 +31,10 @@ fn index_of(inputs: &[u8]) -> [u8; 256]
     ensures { result ≡ index_of inputs.now }
 {
     let mut index: [u8; 256] = [255; 256];
-    let mut i = 0;
-    while i < inputs.len() {
-        let input = small(inputs[i]);
-        index[input] = i as u8;
-        i += 1;
+    for (i, input) in inputs.iter().enumerate() {
+        index[*input as usize] = i as u8;
     }
     index
-}
-
-// Writes the bytes in their order from place at on; returns the place past them.
-fn put_all(out: &mut [u8], at: usize, bytes: &[u8]) -> usize
-    requires { at + length bytes.now ≤ length out.old }
-    ensures { PutAt out.old at bytes.now out.new result }
-{
-    let mut i = 0;
-    while i < bytes.len() {
-        out[at + i] = bytes[i];
-        i += 1;
-    }
-    at + i
 }
 
 // Writes the index of a node with more than 32 transitions from place at on; returns the place past
@@ -65,8 +47,9 @@ pub fn put_index(out: &mut [u8], at: usize, inputs: &[u8]) -> usize
         out.new result }
 {
     if TRANS_INDEX_THRESHOLD < inputs.len() {
-        let index = index_of(inputs);
-        return put_all(out, at, &index);
+        let end = at + 256;
+        out[at..end].copy_from_slice(&index_of(inputs));
+        return end;
     }
     at
 }

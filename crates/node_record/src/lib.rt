@@ -8,20 +8,15 @@ ghost use Rattle.format.specs.Packed.{TargetOk, TargetsOk};
 use format::FIRST_NODE;
 
 // Whether the inputs ascend strictly.
+#[tactic(auto, unfolding(format::specs::Node::Ascending))]
 pub fn inputs_ascend(inputs: &[u8]) -> bool
     ensures { Decides result (Ascending inputs.now) }
 {
-    let mut i = 1;
-    while i < inputs.len() {
-        if inputs[i] <= inputs[i - 1] {
-            return false;
-        }
-        i += 1;
-    }
-    true
+    inputs.windows(2).all(|pair| pair[0] < pair[1])
 }
 
 // Whether a target is 0 or from 16 to F - 1.
+#[tactic(auto, unfolding(format::specs::Packed::TargetOk))]
 fn target_ok(target: usize, first: usize) -> bool
     ensures { Decides result (TargetOk first target) }
 {
@@ -29,15 +24,9 @@ fn target_ok(target: usize, first: usize) -> bool
 }
 
 // Whether every target is 0 or from 16 to F - 1.
+#[tactic(auto, unfolding(format::specs::Packed::TargetsOk))]
 pub fn targets_ok(targets: &[usize], first: usize) -> bool
     ensures { Decides result (TargetsOk first targets.now) }
 {
-    let mut i = 0;
-    while i < targets.len() {
-        if target_ok(targets[i], first) {} else {
-            return false;
-        }
-        i += 1;
-    }
-    true
+    targets.iter().all(|target| target_ok(*target, first))
 }

@@ -10,7 +10,7 @@ ghost use Rattle.node_sound.specs.Shapes.{Head, shape_is, AtForm, PartsRight};
 
 use common_inputs::common_input;
 use format::{FIRST_NODE, MAX_TRANS, TRANS_INDEX_THRESHOLD};
-use le_bytes::{number_of, small};
+use le_bytes::number_of;
 use node_deltas::{target_right, targets_right};
 use node_inputs::{ascends, entries_right};
 
@@ -34,7 +34,7 @@ pub fn head_len(file: &[u8], addr: usize) -> usize
     requires { addr < length file.now }
     ensures { Head file.now addr result }
 {
-    if small(file[addr]) % 64 == 0 { 2 } else { 1 }
+    if file[addr] % 64 == 0 { 2 } else { 1 }
 }
 
 // The input of a node with one transition: a common one, or the byte below the state.
@@ -53,14 +53,15 @@ pub fn input_of(file: &[u8], addr: usize) -> u8
 // ---- the shape
 
 // The bytes of the index, which versions 2 and 3 have with more than 32 transitions.
+#[tactic(auto, unfolding(format::specs::Node::index_len))]
 fn index_len_of(version: u64, n: usize) -> usize
     ensures { (result ≡ index_len version n) × (result ≤ 256) }
 {
-    let before_indexes = version < 2;
-    if before_indexes {
-        return 0;
+    if 2 <= version && TRANS_INDEX_THRESHOLD < n {
+        256
+    } else {
+        0
     }
-    if TRANS_INDEX_THRESHOLD < n { 256 } else { 0 }
 }
 
 // How many transitions, from the low six bits of the state or from the count byte.
@@ -68,11 +69,11 @@ fn ntrans_of(file: &[u8], addr: usize) -> usize
     requires { (1 ≤ addr) × (addr < length file.now) }
     ensures { (result ≡ count_of file.now addr) × (result ≤ max_trans) }
 {
-    let low = small(file[addr]) % 64;
+    let low = file[addr] as usize % 64;
     if low != 0 {
         return low;
     }
-    let count = small(file[addr - 1]);
+    let count = file[addr - 1] as usize;
     // 1 stands for 256: one transition is never written here
     if count == 1 { MAX_TRANS } else { count }
 }
@@ -90,10 +91,10 @@ pub fn shape_of(file: &[u8], version: u64, addr: usize) -> Shape
     ensures { (shape_is result ≡ shape_of file.now version addr)
         × (result.end_len ≡ end_len result.is_final result.osize) }
 {
-    let is_final = 64 <= small(file[addr]);
+    let is_final = 64 <= file[addr];
     let len = head_len(file, addr);
     let ntrans = ntrans_of(file, addr);
-    let sizes = small(file[addr - len]);
+    let sizes = file[addr - len] as usize;
     let tsize = sizes / 16;
     let osize = sizes % 16;
     let end_len = end_len_of(is_final, osize);
@@ -117,29 +118,15 @@ pub fn shape_of(file: &[u8], version: u64, addr: usize) -> Shape
 pub fn sizes_right(n: usize, tsize: usize, osize: usize) -> bool
     ensures { Decides result ((tsize ≤ 8) × (osize ≤ 8) × (0 < n → 0 < tsize)) }
 {
-    if 8 < tsize {
-        return false;
-    }
-    if 8 < osize {
-        return false;
-    }
-    if n == 0 {
-        return true;
-    }
-    0 < tsize
+    tsize <= 8 && osize <= 8 && (n == 0 || 0 < tsize)
 }
 
 // Whether a node is final, has a transition, or is the root.
+#[tactic(auto, unfolding(format::specs::Node::Useful))]
 pub fn useful(is_final: bool, n: usize, addr: usize, root: usize) -> bool
     ensures { Decides result (Useful is_final n addr root) }
 {
-    if is_final {
-        return true;
-    }
-    if 0 < n {
-        return true;
-    }
-    addr == root
+    is_final || 0 < n || addr == root
 }
 
 // Whether the inputs ascend, each delta leads to a right target, and the index is right: what takes
@@ -159,13 +146,9 @@ pub fn parts_right(
     ensures { Decides result (PartsRight file.now first deltas tsize inputs n
         index_len) }
 {
-    if ascends(file, inputs, n) {} else {
-        return false;
-    }
-    if targets_right(file, deltas, tsize, n, first) {} else {
-        return false;
-    }
-    entries_right(file, inputs, n, index_len)
+    ascends(file, inputs, n)
+        && targets_right(file, deltas, tsize, n, first)
+        && entries_right(file, inputs, n, index_len)
 }
 
 // ---- judging
@@ -185,10 +168,10 @@ fn any_sound(file: &[u8], version: u64, root: usize, addr: usize) -> bool
     let ntrans = shape.ntrans;
     let tsize = shape.tsize;
     let osize = shape.osize;
-    if sizes_right(ntrans, tsize, osize) {} else {
+    if !sizes_right(ntrans, tsize, osize) {
         return false;
     }
-    if useful(is_final, ntrans, addr, root) {} else {
+    if !useful(is_final, ntrans, addr, root) {
         return false;
     }
     let first = addr + 1 - size;
@@ -208,10 +191,10 @@ pub fn one_sound(file: &[u8], version: u64, root: usize, addr: usize) -> bool
     ensures { Decides result (SoundAt file.now version root addr) }
 {
     let len = head_len(file, addr);
-    let sizes = small(file[addr - len]);
+    let sizes = file[addr - len] as usize;
     let tsize = sizes / 16;
     let osize = sizes % 16;
-    if sizes_right(1, tsize, osize) {} else {
+    if !sizes_right(1, tsize, osize) {
         return false;
     }
     let size = osize + tsize + 1 + len;
@@ -240,21 +223,12 @@ pub fn is_sound(file: &[u8], version: u64, root: usize, addr: usize) -> bool
     ensures { Decides result (SoundAt file.now version root addr) }
 {
     // the state byte itself lies from 16 to the root, and in the file
-    if addr < FIRST_NODE {
+    if addr < FIRST_NODE || root < addr || file.len() <= addr {
         return false;
     }
-    if root < addr {
-        return false;
+    match file[addr] {
+        0..=127 => any_sound(file, version, root, addr),
+        128..=191 => one_sound(file, version, root, addr),
+        _ => next_sound(file, version, root, addr),
     }
-    if file.len() <= addr {
-        return false;
-    }
-    let state = small(file[addr]);
-    if state < 128 {
-        return any_sound(file, version, root, addr);
-    }
-    if state < 192 {
-        return one_sound(file, version, root, addr);
-    }
-    next_sound(file, version, root, addr)
 }

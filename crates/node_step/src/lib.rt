@@ -8,8 +8,9 @@ ghost use Rattle.node_way.specs.Ways.{step_of};
 
 use format::FIRST_NODE;
 use le_bytes::small;
+use node::Unsound;
 use node_sound::{next_sound, one_sound, parts_right, shape_of, sizes_right, useful};
-use node_way::{Step, Way, any_way, next_way, one_way};
+use node_way::{Step, any_way, next_way, one_way};
 
 // A node with any number of transitions, judged as by `any_sound`. Its numbers go on to `any_way` one by
 // one: no node is made.
@@ -21,17 +22,17 @@ fn any_step(file: &[u8], version: u64, root: usize, addr: usize, b: u8) -> Step
     let size = shape.size;
     // the first byte, addr + 1 - size, is 16 at least
     if addr - 15 < size {
-        return Step::Unsound;
+        return Err(Unsound);
     }
     let is_final = shape.is_final;
     let ntrans = shape.ntrans;
     let tsize = shape.tsize;
     let osize = shape.osize;
-    if sizes_right(ntrans, tsize, osize) {} else {
-        return Step::Unsound;
+    if !sizes_right(ntrans, tsize, osize) {
+        return Err(Unsound);
     }
-    if useful(is_final, ntrans, addr, root) {} else {
-        return Step::Unsound;
+    if !useful(is_final, ntrans, addr, root) {
+        return Err(Unsound);
     }
     let first = addr + 1 - size;
     let end_len = shape.end_len;
@@ -39,10 +40,10 @@ fn any_step(file: &[u8], version: u64, root: usize, addr: usize, b: u8) -> Step
     let deltas = outputs + ntrans * osize;
     let inputs = deltas + ntrans * tsize;
     let index_len = shape.index_len;
-    if parts_right(file, first, deltas, tsize, inputs, ntrans, index_len) {} else {
-        return Step::Unsound;
+    if !parts_right(file, first, deltas, tsize, inputs, ntrans, index_len) {
+        return Err(Unsound);
     }
-    Step::Sound(any_way(file, first, outputs, ntrans, tsize, osize, index_len, b))
+    Ok(any_way(file, first, outputs, ntrans, tsize, osize, index_len, b))
 }
 
 // A node with one transition, judged and followed.
@@ -52,9 +53,9 @@ fn one_step(file: &[u8], version: u64, root: usize, addr: usize, b: u8) -> Step
     ensures { result ≡ step_of (node_at file.now version root addr) b }
 {
     if one_sound(file, version, root, addr) {
-        return Step::Sound(one_way(file, version, root, addr, b));
+        return Ok(one_way(file, version, root, addr, b));
     }
-    Step::Unsound
+    Err(Unsound)
 }
 
 // A node with one transition to the node just below it, judged and followed.
@@ -63,9 +64,9 @@ fn next_step(file: &[u8], version: u64, root: usize, addr: usize, b: u8) -> Step
     ensures { result ≡ step_of (node_at file.now version root addr) b }
 {
     if next_sound(file, version, root, addr) {
-        return Step::Sound(next_way(file, version, root, addr, b));
+        return Ok(next_way(file, version, root, addr, b));
     }
-    Step::Unsound
+    Err(Unsound)
 }
 
 // Judges the node at addr and follows b from it: what `node_at`, `find_input`, `output` and
@@ -76,19 +77,19 @@ pub fn step_at(file: &[u8], version: u64, root: usize, addr: usize, b: u8) -> St
     if addr == 0 {
         // a file without bytes has no node
         if file.len() == 0 {
-            return Step::Unsound;
+            return Err(Unsound);
         }
-        return Step::Sound(Way::Absent(0));
+        return Ok(Err(0));
     }
     // the state byte itself lies from 16 to the root, and in the file
     if addr < FIRST_NODE {
-        return Step::Unsound;
+        return Err(Unsound);
     }
     if root < addr {
-        return Step::Unsound;
+        return Err(Unsound);
     }
     if file.len() <= addr {
-        return Step::Unsound;
+        return Err(Unsound);
     }
     let state = small(file[addr]);
     if state < 128 {

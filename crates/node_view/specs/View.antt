@@ -3,26 +3,24 @@
 --     transition_in j i         transition i of the judged node, or none where it is not sound or has no transition i
 --     place_in j b              the place of the byte b among its inputs, or of the first greater one; a case of its own where it is not sound
 -- Assumes nothing.
-use Rattle.std.specs.Prelude.{cond, List, ℕ, ltb, length}
+use Rattle.std.specs.Prelude.{Option, Some, None, Result, Ok, Err, cond, List, ℕ, ltb, length}
 use Rattle.std.specs.Borrow.{Bor}
+use Rattle.format.specs.declared.Transition.{Transition}
 use Rattle.format.specs.Node.{Judgement, sound, unsound, Search, transition_at, find_input}
+use Rattle.node.specs.declared.Unsound.{Unsound}
 use Rattle.node_view.specs.declared.Node.{Node}
-use Rattle.node_view.specs.declared.TransitionAnswer.{TransitionAnswer}
-use Rattle.node_view.specs.declared.TransitionAnswer.TheVariants.{Is, None}
-use Rattle.node_view.specs.declared.SearchAnswer.{SearchAnswer}
-use Rattle.node_view.specs.declared.SearchAnswer.TheVariants.{At, Absent, Unsound}
 
 abbrev pub view_with : Bor (List ℕ) → ℕ → ℕ → ℕ → Node
 view_with file v root a = record { «data» = file; version = v; root = root; addr = a }
 
-abbrev pub transition_in : Judgement → ℕ → TransitionAnswer
-transition_in (sound m) i = cond (ltb i (length m.transitions)) (Is (transition_at m.transitions i)) None
+abbrev pub transition_in : Judgement → ℕ → Option Transition
+transition_in (sound m) i = cond (ltb i (length m.transitions)) (Some (transition_at m.transitions i)) None
 transition_in unsound i = None
 
-abbrev pub search_as : Search → SearchAnswer
-search_as (Search.at i) = At i
-search_as (Search.absent p) = Absent p
+abbrev pub search_as : Search → Result ℕ ℕ
+search_as (Search.at i) = Ok i
+search_as (Search.absent p) = Err p
 
-abbrev pub place_in : Judgement → ℕ → SearchAnswer
-place_in (sound m) b = search_as (find_input m.transitions b)
-place_in unsound b = Unsound
+abbrev pub place_in : Judgement → ℕ → Result (Result ℕ ℕ) Unsound
+place_in (sound m) b = Ok (search_as (find_input m.transitions b))
+place_in unsound b = Err (record {})

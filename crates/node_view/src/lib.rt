@@ -1,6 +1,5 @@
 // A node as a view over the lent file beside its numbers (src/raw/node.rs, `Node<'f>`).
-// The view judges nothing when it is made. Each function takes it apart and calls a plain one on the slice and the
-// numbers, which judges the node. `transition_at` has plain parameters, so that its callers need no view.
+// The view judges nothing when it is made: each question judges the node.
 // (In contracts the field is «data»: the word alone is a keyword there.)
 #![tactic(auto)]
 
@@ -10,7 +9,7 @@ ghost use Rattle.node.specs.Read.{Judges};
 ghost use Rattle.node_view.specs.View.{view_with, transition_in, place_in};
 
 use format::Transition;
-use node::{Found, Judged};
+use node::Unsound;
 
 // The node at addr, in a file of this version and root.
 #[derive(Clone, Copy)]
@@ -21,104 +20,58 @@ pub struct Node<'f> {
     pub addr: usize,
 }
 
-// What asking a node for transition i says.
-#[derive(Clone, Copy)]
-pub enum TransitionAnswer {
-    Is(Transition),
-    // the node is not sound, or it has no transition i
-    None,
-}
-
-// What asking a node for the input b says: its place, or the place of the first greater input.
-#[derive(Clone, Copy)]
-pub enum SearchAnswer {
-    At(usize),
-    Absent(usize),
-    // the node is not sound, and a place in it would mean nothing
-    Unsound,
-}
-
-// ---- the plain functions
-
-// Transition i of the node at addr.
-fn transition_in(file: &[u8], version: u64, root: usize, addr: usize, i: usize) -> TransitionAnswer
-    ensures { result ≡ transition_in (node_at file.now version root addr) i }
-{
-    let Judged::Sound(m) = node::node_at(file, version, root, addr) else {
-        return TransitionAnswer::None;
-    };
-    let n = m.ntrans;
-    if i < n {
-        return TransitionAnswer::Is(node::transition(file, m, i));
+impl<'f> Node<'f> {
+    // The view of the node at addr.
+    pub fn new(data: &'f [u8], version: u64, root: usize, addr: usize) -> Node<'f>
+        ensures { result ≡ view_with «data».entry version root addr }
+    {
+        Node {
+            data,
+            version,
+            root,
+            addr,
+        }
     }
-    TransitionAnswer::None
-}
 
-// The place of the input b in the node at addr.
-fn place_in(file: &[u8], version: u64, root: usize, addr: usize, b: u8) -> SearchAnswer
-    ensures { result ≡ place_in (node_at file.now version root addr) b }
-{
-    let Judged::Sound(m) = node::node_at(file, version, root, addr) else {
-        return SearchAnswer::Unsound;
-    };
-    let found = node::find_input(file, m, b);
-    match found {
-        Found::At(i) => SearchAnswer::At(i),
-        Found::Absent(p) => SearchAnswer::Absent(p),
+    // What judging the node says.
+    pub fn judged(self) -> Result<node::Node, Unsound>
+        ensures { Judges self.entry.«data».now self.entry.version self.entry.root self.entry.addr result }
+    {
+        node::node_at(self.data, self.version, self.root, self.addr)
+    }
+
+    // Transition i of the node, for any i: none where the node is not sound or has no transition i.
+    pub fn transition(self, i: usize) -> Option<Transition>
+        ensures { result ≡ transition_in
+            (node_at self.entry.«data».now self.entry.version self.entry.root self.entry.addr) i }
+    {
+        let m = self.judged().ok()?;
+        let n = m.ntrans;
+        if i < n {
+            return Some(node::transition(self.data, m, i));
+        }
+        None
+    }
+
+    // The place of the input b in the node, or `Err` with that of the first greater input. In a node that is not sound a place would mean nothing.
+    pub fn find_input(self, b: u8) -> Result<Result<usize, usize>, Unsound>
+        ensures { result ≡ place_in
+            (node_at self.entry.«data».now self.entry.version self.entry.root self.entry.addr) b }
+    {
+        let m = self.judged()?;
+        Ok(node::find_input(self.data, m, b))
     }
 }
 
-// ---- the view
-
-// The view of the node at addr.
-pub fn new<'f>(data: &'f [u8], version: u64, root: usize, addr: usize) -> Node<'f>
-    ensures { result ≡ view_with «data».entry version root addr }
-{
-    Node {
-        data,
-        version,
-        root,
-        addr,
-    }
-}
-
-// What judging the node says.
-pub fn judged<'f>(v: Node<'f>) -> Judged
-    ensures { Judges v.entry.«data».now v.entry.version v.entry.root
-        v.entry.addr result }
-{
-    node::node_at(v.data, v.version, v.root, v.addr)
-}
-
-// Transition i of the node, for any i.
-pub fn transition<'f>(v: Node<'f>, i: usize) -> TransitionAnswer
-    ensures { result ≡ transition_in
-        (node_at v.entry.«data».now v.entry.version v.entry.root v.entry.addr)
-        i }
-{
-    transition_in(v.data, v.version, v.root, v.addr, i)
-}
-
-// The place of the input b in the node.
-pub fn find_input<'f>(v: Node<'f>, b: u8) -> SearchAnswer
-    ensures { result ≡ place_in
-        (node_at v.entry.«data».now v.entry.version v.entry.root v.entry.addr)
-        b }
-{
-    place_in(v.data, v.version, v.root, v.addr, b)
-}
-
-// ---- for callers that have no view
-
-// Transition i of the node at addr.
+// Transition i of the node at addr, for callers that have no view.
 pub fn transition_at(
     file: &[u8],
     version: u64,
     root: usize,
     addr: usize,
     i: usize,
-) -> TransitionAnswer
+) -> Option<Transition>
     ensures { result ≡ transition_in (node_at file.now version root addr) i }
 {
-    transition(new(file, version, root, addr), i)
+    Node::new(file, version, root, addr).transition(i)
 }

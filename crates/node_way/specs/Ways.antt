@@ -4,41 +4,36 @@
 --     PlaceRight first ds n f  what is asked of it: a place is one of n, with a delta that is not above the first byte
 --     step_of j b              one step of a lookup by key, from what judging says
 -- Assumes nothing.
-use Rattle.std.specs.Prelude.{◌≡◌, false, List, ℕ, ◌≤◌, ◌<◌, get_or}
+use Rattle.std.specs.Prelude.{Result, Ok, Err, ◌≡◌, false, List, ℕ, ◌≤◌, ◌<◌, get_or}
 use Rattle.format.specs.declared.State.TheVariants.{AnyTrans}
 use Rattle.format.specs.declared.Transition.{Transition}
 use Rattle.format.specs.Node as F
 use Rattle.format.specs.Node.{Judgement, sound, unsound, Search}
-use Rattle.node.specs.declared.Found.{Found}
-use Rattle.node.specs.declared.Found.TheVariants.{At, Absent as Missing}
 use Rattle.node.specs.declared.Node.{Node}
-use Rattle.node_way.specs.declared.Step.{Step}
-use Rattle.node_way.specs.declared.Step.TheVariants.{Sound as Stepped, Unsound as Stuck}
-use Rattle.node_way.specs.declared.Way.{Way}
-use Rattle.node_way.specs.declared.Way.TheVariants.{To, Absent as Nowhere}
+use Rattle.node.specs.declared.Unsound.{Unsound}
 
 -- where b leads among these transitions
-abbrev pub way_as : List Transition → Search → Way
-way_as ts (Search.at i) = To (F.transition_at ts i).out (F.transition_at ts i).addr
-way_as ts (Search.absent p) = Nowhere p
+abbrev pub way_as : List Transition → Search → Result (ℕ × ℕ) ℕ
+way_as ts (Search.at i) = Ok ((F.transition_at ts i).out, (F.transition_at ts i).addr)
+way_as ts (Search.absent p) = Err p
 
-abbrev pub way_in : List Transition → ℕ → Way
+abbrev pub way_in : List Transition → ℕ → Result (ℕ × ℕ) ℕ
 way_in ts b = way_as ts (F.find_input ts b)
 
 -- where finding an input leads, by the outputs and the deltas of a node with this first byte
-abbrev pub way_at : ℕ → List ℕ → List ℕ → Found → Way
-way_at first outs deltas (At i) = To (get_or outs i 0) (F.target_of first (get_or deltas i 0))
-way_at first outs deltas (Missing p) = Nowhere p
+abbrev pub way_at : ℕ → List ℕ → List ℕ → Result ℕ ℕ → Result (ℕ × ℕ) ℕ
+way_at first outs deltas (Ok i) = Ok (get_or outs i 0, F.target_of first (get_or deltas i 0))
+way_at first outs deltas (Err p) = Err p
 
 -- a place that was found is one of n, and its delta is not above the first byte
-pub record PlaceRight (first : ℕ) (deltas : List ℕ) (n : ℕ) (f : Found) : Type 0 where
-  pub inside : (i : ℕ) → f ≡ At i → i < n
-  pub reach : (i : ℕ) → f ≡ At i → get_or deltas i 0 ≤ first
+pub record PlaceRight (first : ℕ) (deltas : List ℕ) (n : ℕ) (f : Result ℕ ℕ) : Type 0 where
+  pub inside : (i : ℕ) → f ≡ Ok i → i < n
+  pub reach : (i : ℕ) → f ≡ Ok i → get_or deltas i 0 ≤ first
 
 -- one step of a lookup by key, from what judging says
-abbrev pub step_of : Judgement → ℕ → Step
-step_of (sound m) b = Stepped (way_in m.transitions b)
-step_of unsound b = Stuck
+abbrev pub step_of : Judgement → ℕ → Result (Result (ℕ × ℕ) ℕ) Unsound
+step_of (sound m) b = Ok (way_in m.transitions b)
+step_of unsound b = Err (record {})
 
 -- ---- reading without a node
 

@@ -1,30 +1,21 @@
 // Where an input leads from a sound node: the part of a step of a lookup by key that comes after the judging.
 #![tactic(auto)]
 
-ghost use Rattle.std.specs.Prelude.{◌≡◌, ◌+◌, ◌*◌, ◌≤◌, ◌<◌, length, get_or};
+ghost use Rattle.std.specs.Prelude.{Ok, ◌≡◌, ◌+◌, ◌*◌, ◌≤◌, ◌<◌, length, get_or};
 ghost use Rattle.format.specs.Node.{SoundAt, node_at, numbers_down, target_of};
 ghost use Rattle.node.specs.Read.{transitions_in, Readable};
 ghost use Rattle.node_way.specs.Ways.{any_node, way_at, PlaceRight, way_in, step_of};
-ghost use Rattle.node_way.specs.declared.Step.TheVariants.{Sound as Stepped};
 
 use le_bytes::{number_of, small};
-use node::{Found, find_in, place_beside};
+use node::{Unsound, find_in, place_beside};
 use node_sound::{head_len, input_of};
 
 // Where an input leads from a sound node: the output and the target of its transition, or nowhere, and
 // then the place of the first greater input.
-#[derive(Clone, Copy)]
-pub enum Way {
-    To(u64, usize),
-    Absent(usize),
-}
+pub type Way = Result<(u64, usize), usize>;
 
 // One step of a lookup by key: what a node that is judged as it is entered says of an input.
-#[derive(Clone, Copy)]
-pub enum Step {
-    Sound(Way),
-    Unsound,
-}
+pub type Step = Result<Way, Unsound>;
 
 // The address that a right delta leads to.
 pub fn target_of(first: usize, delta: u64) -> usize
@@ -45,7 +36,7 @@ fn way_at(
     n: usize,
     tsize: usize,
     osize: usize,
-    found: Found,
+    found: Result<usize, usize>,
 ) -> Way
     requires { (outputs + n * osize ≤ length file.now) × (deltas + n * tsize ≤ length file.now)
         × (osize ≤ 8) × (tsize ≤ 8)
@@ -53,14 +44,10 @@ fn way_at(
     ensures { result ≡ way_at first (numbers_down file.now outputs osize n)
         (numbers_down file.now deltas tsize n) found }
 {
-    match found {
-        Found::Absent(p) => Way::Absent(p),
-        Found::At(i) => {
-            let out = number_of(file, outputs, osize, n, i);
-            let delta = number_of(file, deltas, tsize, n, i);
-            Way::To(out, target_of(first, delta))
-        }
-    }
+    let i = found?;
+    let out = number_of(file, outputs, osize, n, i);
+    let delta = number_of(file, deltas, tsize, n, i);
+    Ok((out, target_of(first, delta)))
 }
 
 // Where b leads from a node with any number of transitions, whose outputs start at this place.
@@ -88,7 +75,7 @@ pub fn any_way(
 pub fn one_way(file: &[u8], version: u64, root: usize, addr: usize, b: u8) -> Way
     requires { SoundAt file.now version root addr × (128 ≤ get_or file.now addr 0)
         × (get_or file.now addr 0 < 192) }
-    ensures { Stepped result ≡ step_of (node_at file.now version root addr) b }
+    ensures { Ok result ≡ step_of (node_at file.now version root addr) b }
 {
     let len = head_len(file, addr);
     let sizes = small(file[addr - len]);
@@ -97,22 +84,22 @@ pub fn one_way(file: &[u8], version: u64, root: usize, addr: usize, b: u8) -> Wa
     let first = addr + 1 - (osize + tsize + 1 + len);
     let input = input_of(file, addr);
     if input != b {
-        return Way::Absent(place_beside(input, b));
+        return Err(place_beside(input, b));
     }
     let out = number_of(file, first, osize, 1, 0);
     let delta = number_of(file, first + osize, tsize, 1, 0);
-    Way::To(out, target_of(first, delta))
+    Ok((out, target_of(first, delta)))
 }
 
 // Where b leads from a sound node with one transition to the node just below it.
 pub fn next_way(file: &[u8], version: u64, root: usize, addr: usize, b: u8) -> Way
     requires { SoundAt file.now version root addr × (192 ≤ get_or file.now addr 0) }
-    ensures { Stepped result ≡ step_of (node_at file.now version root addr) b }
+    ensures { Ok result ≡ step_of (node_at file.now version root addr) b }
 {
     let len = head_len(file, addr);
     let input = input_of(file, addr);
     if input != b {
-        return Way::Absent(place_beside(input, b));
+        return Err(place_beside(input, b));
     }
-    Way::To(0, addr - len)
+    Ok((0, addr - len))
 }

@@ -11,13 +11,13 @@ ghost use Rattle.ops_seen.specs.Sights.{Sees, Ready};
 ghost use Rattle.ops_decide.specs.Verdicts.{op_is, DecidedBy};
 
 use ops_item::{collect, least_key, use_up};
-use ops_keys::{KEYS, Order, Place, compare};
+use ops_keys::{KEYS, Place, compare};
 use ops_pairs::Pairs;
 use ops_round::Slot;
 use ops_seen::Seen;
 
 // Which keys an operation hands out.
-#[derive(Clone, Copy)]
+#[derive(Clone, Copy, PartialEq, Eq)]
 pub enum Op {
     Union,
     Intersection,
@@ -55,10 +55,7 @@ fn takes(op: Op, count: usize, pairs: Pairs) -> bool
         Op::Intersection => n == count,
         Op::Difference => {
             let alone = n == 1;
-            if alone {
-                return files[0] == 0;
-            }
-            false
+            alone && files[0] == 0
         }
         Op::SymmetricDifference => n % 2 == 1,
     }
@@ -72,16 +69,13 @@ fn at_key(op: Op, keys: &[u8; KEYS], count: usize, cards: [Seen; 8], key: Place)
 {
     let pairs = collect(keys, count, cards, key);
     let after = use_up(keys, count, cards, key, false);
-    if takes(op, count, pairs) {
-        return Decided {
-            verdict: Verdict::This,
-            key,
-            pairs,
-            cards: after,
-        };
-    }
+    let verdict = if takes(op, count, pairs) {
+        Verdict::This
+    } else {
+        Verdict::Another
+    };
     Decided {
-        verdict: Verdict::Another,
+        verdict,
         key,
         pairs,
         cards: after,
@@ -92,12 +86,10 @@ fn at_key(op: Op, keys: &[u8; KEYS], count: usize, cards: [Seen; 8], key: Place)
 fn no_more(cards: [Seen; 8]) -> Decided
     ensures { result.verdict ≡ Verdict.NoMore }
 {
-    let pairs = ops_pairs::none();
-    let key = Place { at: 0, levels: 0 };
     Decided {
         verdict: Verdict::NoMore,
-        key,
-        pairs,
+        key: Place { at: 0, levels: 0 },
+        pairs: ops_pairs::none(),
         cards,
     }
 }
@@ -108,13 +100,10 @@ fn at_least(op: Op, keys: &[u8; KEYS], count: usize, cards: [Seen; 8]) -> Decide
     ensures { (X : List O.Card) → Sees keys.now count cards X → DecidedBy keys.now cards X count (O.at_least (op_is op)
         (O.least_key X) X) result }
 {
-    let least = least_key(keys, count, cards);
-    let found = least.found;
-    let key = least.key;
-    if found {
-        return at_key(op, keys, count, cards, key);
+    match least_key(keys, count, cards) {
+        Some(key) => at_key(op, keys, count, cards, key),
+        None => no_more(cards),
     }
-    no_more(cards)
 }
 
 // By the first card's key: another round where a card holds a lesser one, which is used up.
@@ -123,27 +112,19 @@ fn at_first(keys: &[u8; KEYS], count: usize, cards: [Seen; 8], key: Place) -> De
     ensures { (X : List O.Card) → Sees keys.now count cards X → DecidedBy keys.now cards X count (O.at_first (place_key keys.now key)
         (O.least_key X) X) result }
 {
-    let least = least_key(keys, count, cards);
-    let found = least.found;
-    let lesser = least.key;
-    if !found {
+    let Some(lesser) = least_key(keys, count, cards) else {
         return no_more(cards);
-    }
+    };
     let order = compare(keys, lesser, key);
-    match order {
-        Order::Less => {
-            let pairs = ops_pairs::none();
-            let after = use_up(keys, count, cards, key, true);
-            Decided {
-                verdict: Verdict::Another,
-                key,
-                pairs,
-                cards: after,
-            }
-        }
-        Order::Equal => at_key(Op::Difference, keys, count, cards, key),
-        Order::Greater => at_key(Op::Difference, keys, count, cards, key),
+    if order.is_lt() {
+        return Decided {
+            verdict: Verdict::Another,
+            key,
+            pairs: ops_pairs::none(),
+            cards: use_up(keys, count, cards, key, true),
+        };
     }
+    at_key(Op::Difference, keys, count, cards, key)
 }
 
 // A difference: the end where the first reading has ended.
@@ -153,13 +134,10 @@ fn difference(keys: &[u8; KEYS], count: usize, cards: [Seen; 8]) -> Decided
         X) result }
 {
     let first = cards[0];
-    let slot = first.slot;
-    let key = first.key;
-    match slot {
-        Slot::Used => no_more(cards),
-        Slot::Ended => no_more(cards),
-        Slot::Holds => at_first(keys, count, cards, key),
+    if first.slot != Slot::Holds {
+        return no_more(cards);
     }
+    at_first(keys, count, cards, first.key)
 }
 
 // What a round comes to: an item, the end, or another round.
@@ -168,10 +146,8 @@ pub fn decide(op: Op, keys: &[u8; KEYS], count: usize, cards: [Seen; 8]) -> Deci
     ensures { (X : List O.Card) → Sees keys.now count cards X → DecidedBy keys.now cards X count (O.decide (op_is op) X)
         result }
 {
-    match op {
-        Op::Union => at_least(op, keys, count, cards),
-        Op::Intersection => at_least(op, keys, count, cards),
-        Op::Difference => difference(keys, count, cards),
-        Op::SymmetricDifference => at_least(op, keys, count, cards),
+    if op == Op::Difference {
+        return difference(keys, count, cards);
     }
+    at_least(op, keys, count, cards)
 }

@@ -6,6 +6,9 @@ use mathlib.Core.Path.{◌≡◌, refl, sym, ap, ap₂, ◌∙◌, subst}
 use mathlib.Core.Bool.{Bool, false, cond}
 use mathlib.Core.Option.{Option}
 use mathlib.Core.Logic.{⊎_elim}
+use Rattle.std.specs.Prelude as S
+use Rattle.std.specs.Prelude.{IfSome}
+use borrow.Author.Rules.{rules}
 use mathlib.Core.List.{List, [], ◌∷◌}
 use Prim.Native.Nat.{ℕ, zero, suc, ◌+◌, ◌-◌, ◌<◌, ◌≤◌}
 use native.Mathlib.Omega.{arith}
@@ -22,7 +25,6 @@ use Rattle.reading.proofs.RunLaws.{lt_or}
 use Rattle.ops_seen.specs.declared.Seen.{Seen}
 use Rattle.ops_seen.specs.Sights.{Shows, Sees, Few, Ready}
 use Rattle.ops_seen.specs.SightsLaws.{Front, front_is, used1, used_count, used_at}
-use Rattle.ops_item.specs.declared.Least.{Least}
 use Rattle.ops_item.specs.Items.{least_is, LesserBy, LeastBy, key_test, UsedBy, AllUsed, GatheredBy, CollectedBy}
 
 -- no card is left behind the last
@@ -48,16 +50,16 @@ cons_before ks n cs X i d S some within =
 
 -- ---- the least key
 
-pub record Leasting (ks : List ℕ) (n : ℕ) (cs : List Seen) (l : Least) (i : ℕ) : Type 0 where
+pub record Leasting (ks : List ℕ) (n : ℕ) (cs : List Seen) (l : S.Option Place) (i : ℕ) : Type 0 where
   pub within : i ≤ n
-  pub few : Within l.key
+  pub few : IfSome l Within
   pub is : (X : List O.Card) → Sees ks n cs X → least_key (drop i X) ≡ least_is ks l
 
-pub leasting_none : (ks : List ℕ) (n : ℕ) (cs : List Seen) (k : Place) → Within k → Leasting ks n cs (record { found = false; key = k }) n
+pub leasting_none : (ks : List ℕ) (n : ℕ) (cs : List Seen) → Leasting ks n cs S.None n
 unfolding least_key
-leasting_none ks n cs k few = record { within = omega arith; few = few; is = λ X S. ap least_key (none_behind ks n cs X S) }
+leasting_none ks n cs = record { within = omega arith; few = search rules; is = λ X S. ap least_key (none_behind ks n cs X S) }
 
-pub leasting_on : (ks : List ℕ) (n : ℕ) (cs : List Seen) (l : Least) (i : ℕ) (d : Seen) (r : Least) → 0 < i → Leasting ks n cs l i → LesserBy ks l (get_or cs (i - 1) d) r → Leasting ks n cs r (i - 1)
+pub leasting_on : (ks : List ℕ) (n : ℕ) (cs : List Seen) (l : S.Option Place) (i : ℕ) (d : Seen) (r : S.Option Place) → 0 < i → Leasting ks n cs l i → LesserBy ks l (get_or cs (i - 1) d) r → Leasting ks n cs r (i - 1)
 unfolding least_key
 leasting_on ks n cs l i d r some L by =
     let within = L.within in
@@ -72,7 +74,7 @@ leasting_on ks n cs l i d r some L by =
           ∙ by.is c B.shows;
     }
 
-pub leasting_all : (ks : List ℕ) (n : ℕ) (cs : List Seen) (l : Least) (i : ℕ) → i ≡ 0 → Leasting ks n cs l i → LeastBy ks n cs l
+pub leasting_all : (ks : List ℕ) (n : ℕ) (cs : List Seen) (l : S.Option Place) (i : ℕ) → i ≡ 0 → Leasting ks n cs l i → LeastBy ks n cs l
 leasting_all ks n cs l i z L = record { is = λ X S. ap (λ (j : ℕ). least_key (drop j X)) (sym z) ∙ L.is X S; few = L.few }
 
 -- ---- keys used up

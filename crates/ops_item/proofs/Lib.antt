@@ -1,2 +1,1 @@
-mod CardCases
 mod CardLoops

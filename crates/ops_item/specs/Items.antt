@@ -5,45 +5,39 @@
 --     UsedBy, AllUsed                  a card, and the cards, with those keys used up
 --     GatheredBy, CollectedBy          the values of a key, with one card's; of all
 -- Assumes nothing.
-use Rattle.std.specs.Prelude.{◌≡◌, Bool, true, false, cond, not, List, ℕ, length}
-use Rattle.std.proofs.Math.Option.{Option, none, some}
+use Rattle.std.specs.Prelude.{◌≡◌, Bool, false, cond, List, ℕ, length, Option, None, Some, IfSome}
+use Rattle.std.specs.declared.cmp.Ordering.{Ordering}
+use Rattle.std.specs.Ordering.{is_lt, is_eq}
+use Rattle.std.proofs.Math.Option as M
 use Rattle.format.specs.Strings.{before_test}
 use Rattle.ops_spec.specs.Ops as O
 use Rattle.ops_spec.specs.Ops.{Indexed, indexed, card_key, if_holds, least_key, same_test, insert, pairs_from, use_up}
 use Rattle.ops_keys.specs.declared.Place.{Place}
-use Rattle.ops_keys.specs.declared.Order.{Order}
-use Rattle.ops_keys.specs.declared.Order.TheVariants.{Less, Equal, Greater}
 use Rattle.ops_keys.specs.Heads.{place_key, Within}
 use Rattle.ops_pairs.specs.declared.Pairs.{Pairs}
 use Rattle.ops_pairs.specs.Pairs.{PairsAre}
 use Rattle.ops_seen.specs.declared.Seen.{Seen}
 use Rattle.ops_seen.specs.Sights.{Shows, Sees, Few, SameKeys}
 use Rattle.ops_seen.specs.SightsLaws.{used1}
-use Rattle.ops_item.specs.declared.Least.{Least}
 
 -- ---- the least key
 
-abbrev pub if_found : Bool → List ℕ → Option (List ℕ)
-if_found true k = some k
-if_found false k = none
+abbrev pub least_is : List ℕ → Option Place → M.Option (List ℕ)
+least_is ks (Some k) = M.some (place_key ks k)
+least_is ks None = M.none
 
-abbrev pub least_is : List ℕ → Least → Option (List ℕ)
-least_is ks l = if_found l.found (place_key ks l.key)
-
-pub record LesserBy (ks : List ℕ) (l : Least) (c : Seen) (r : Least) : Type 0 where
+pub record LesserBy (ks : List ℕ) (l : Option Place) (c : Seen) (r : Option Place) : Type 0 where
   pub is : (x : O.Card) → Shows ks c x → if_holds x.slot (λ v. O.lesser (card_key x) (least_is ks l)) (least_is ks l) ≡ least_is ks r
-  pub few : Within r.key
+  pub few : IfSome r Within
 
-pub record LeastBy (ks : List ℕ) (n : ℕ) (cs : List Seen) (r : Least) : Type 0 where
+pub record LeastBy (ks : List ℕ) (n : ℕ) (cs : List Seen) (r : Option Place) : Type 0 where
   pub is : (X : List O.Card) → Sees ks n cs X → least_key X ≡ least_is ks r
-  pub few : Within r.key
+  pub few : IfSome r Within
 
 -- ---- keys used up
 
-abbrev pub order_test : Bool → Order → Bool
-order_test less Less = less
-order_test less Equal = not less
-order_test less Greater = false
+abbrev pub order_test : Bool → Ordering → Bool
+order_test less o = cond less (is_lt o) (is_eq o)
 
 abbrev pub key_test : Bool → List ℕ → List ℕ → Bool
 key_test less k x = cond less (before_test x k) (same_test x k)

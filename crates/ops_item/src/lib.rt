@@ -2,85 +2,50 @@
 // cards one by one.
 #![tactic(auto)]
 
-ghost use Rattle.std.specs.Prelude.{◌≡◌, List, ℕ, ◌≤◌, ◌<◌, length};
+ghost use Rattle.std.specs.Prelude.{◌≡◌, ◌≤◌, ◌<◌, length, IfSome};
 ghost use Rattle.ops_keys.specs.Heads.{Within};
 ghost use Rattle.ops_seen.specs.Sights.{Few, Ready};
 ghost use Rattle.ops_item.specs.Items.{order_test, LesserBy, LeastBy, UsedBy, AllUsed, GatheredBy, CollectedBy};
 
-use ops_keys::{KEYS, Order, Place, compare};
+use ops_keys::{KEYS, Place, compare};
 use ops_pairs::Pairs;
 use ops_round::Slot;
 use ops_seen::Seen;
+use std::cmp::Ordering;
 
-// A key, if one was found, passed by value.
-#[derive(Clone, Copy)]
-pub struct Least {
-    pub found: bool,
-    pub key: Place,
-}
-
-// The lesser of a key and the one that a card holds.
-fn lesser(keys: &[u8; KEYS], least: Least, card: Seen) -> Least
-    requires { (length keys.now ≡ 2048) × Within least.key × Few card }
+// The lesser of a key, if one was found, and the one that a card holds.
+fn lesser(keys: &[u8; KEYS], least: Option<Place>, card: Seen) -> Option<Place>
+    requires { (length keys.now ≡ 2048) × IfSome least Within × Few card }
     ensures { LesserBy keys.now least card result }
 {
-    let slot = card.slot;
-    let found = least.found;
-    let key = least.key;
-    let held = card.key;
-    match slot {
-        Slot::Used => least,
-        Slot::Ended => least,
-        Slot::Holds => {
-            if !found {
-                return Least {
-                    found: true,
-                    key: held,
-                };
-            }
-            let order = compare(keys, key, held);
-            match order {
-                Order::Less => least,
-                Order::Equal => Least {
-                    found: true,
-                    key: held,
-                },
-                Order::Greater => Least {
-                    found: true,
-                    key: held,
-                },
-            }
-        }
+    if card.slot != Slot::Holds {
+        return least;
     }
+    let held = card.key;
+    let Some(key) = least else {
+        return Some(held);
+    };
+    let order = compare(keys, key, held);
+    if order.is_lt() { least } else { Some(held) }
 }
 
 // The least key that the first count cards hold.
-pub fn least_key(keys: &[u8; KEYS], count: usize, cards: [Seen; 8]) -> Least
+pub fn least_key(keys: &[u8; KEYS], count: usize, cards: [Seen; 8]) -> Option<Place>
     requires { (count ≤ 8) × Ready keys.now count cards }
     ensures { LeastBy keys.now count cards result }
 {
-    let mut least = Least {
-        found: false,
-        key: Place { at: 0, levels: 0 },
-    };
-    let mut i = count;
-    while 0 < i {
-        i -= 1;
-        let card = cards[i];
-        least = lesser(keys, least, card);
+    let mut least = None;
+    for i in (0..count).rev() {
+        least = lesser(keys, least, cards[i]);
     }
     least
 }
 
 // Whether a key that stands so to another is meant: one that is less, or else the same.
-fn is_meant(order: Order, less: bool) -> bool
+fn is_meant(order: Ordering, less: bool) -> bool
     ensures { result ≡ order_test less order }
 {
-    match order {
-        Order::Less => less,
-        Order::Equal => !less,
-        Order::Greater => false,
-    }
+    if less { order.is_lt() } else { order.is_eq() }
 }
 
 // A card that holds a key less than this one, or the same, is used up.
@@ -88,23 +53,18 @@ fn used_up(keys: &[u8; KEYS], card: Seen, key: Place, less: bool) -> Seen
     requires { (length keys.now ≡ 2048) × Within key × Few card }
     ensures { UsedBy keys.now card key less result }
 {
-    let slot = card.slot;
-    let held = card.key;
-    match slot {
-        Slot::Used => card,
-        Slot::Ended => card,
-        Slot::Holds => {
-            let order = compare(keys, held, key);
-            if is_meant(order, less) {
-                return Seen {
-                    key: held,
-                    slot: Slot::Used,
-                    value: 0,
-                };
-            }
-            card
-        }
+    if card.slot != Slot::Holds {
+        return card;
     }
+    let order = compare(keys, card.key, key);
+    if is_meant(order, less) {
+        return Seen {
+            slot: Slot::Used,
+            value: 0,
+            ..card
+        };
+    }
+    card
 }
 
 // The cards, where those of the first count that hold a key less than this one, or the same, are used up.
@@ -119,12 +79,8 @@ pub fn use_up(
     ensures { AllUsed keys.now count cards key less result }
 {
     let mut all = cards;
-    let mut i = 0;
-    while i < count {
-        let card = all[i];
-        let after = used_up(keys, card, key, less);
-        all[i] = after;
-        i += 1;
+    for i in 0..count {
+        all[i] = used_up(keys, all[i], key, less);
     }
     all
 }
@@ -134,19 +90,14 @@ fn gather(keys: &[u8; KEYS], pairs: Pairs, card: Seen, key: Place, file: u8) -> 
     requires { (length keys.now ≡ 2048) × Within key × Few card × (pairs.count < 8) }
     ensures { GatheredBy keys.now pairs card key file result }
 {
-    let slot = card.slot;
-    let held = card.key;
-    match slot {
-        Slot::Used => pairs,
-        Slot::Ended => pairs,
-        Slot::Holds => {
-            let order = compare(keys, held, key);
-            if is_meant(order, false) {
-                return ops_pairs::insert(pairs, card.value, file);
-            }
-            pairs
-        }
+    if card.slot != Slot::Holds {
+        return pairs;
     }
+    let order = compare(keys, card.key, key);
+    if is_meant(order, false) {
+        return ops_pairs::insert(pairs, card.value, file);
+    }
+    pairs
 }
 
 // The values that the first count cards have of a key, with the numbers of their files.
@@ -155,11 +106,8 @@ pub fn collect(keys: &[u8; KEYS], count: usize, cards: [Seen; 8], key: Place) ->
     ensures { CollectedBy keys.now count cards key result }
 {
     let mut pairs = ops_pairs::none();
-    let mut i = count;
-    while 0 < i {
-        i -= 1;
-        let card = cards[i];
-        pairs = gather(keys, pairs, card, key, i as u8);
+    for i in (0..count).rev() {
+        pairs = gather(keys, pairs, cards[i], key, i as u8);
     }
     pairs
 }

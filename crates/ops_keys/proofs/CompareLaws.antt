@@ -1,122 +1,44 @@
 -- Two keys, compared byte by byte.
---     Comparing xs ys j k i     the first i bytes are the same, so the rest decides
---     comparing-..              a turn, and each way out
+--     compared_cmp              the library's order of two lists of bytes is that of keys
+--     key_between               a key as a part of the bytes of eight
 --     head_key_lem                  the key of the levels stands in the bytes after the first
 -- Assumes nothing.
-use mathlib.Core.Path.{◌≡◌, refl, sym, ap, ◌∙◌}
+use mathlib.Core.Path.{◌≡◌, refl, sym, ap, ap₂, ◌∙◌}
 use mathlib.Core.Logic.{⊎_elim, ◌⊎◌, inl, inr}
-use mathlib.Core.List.{List, [], ◌∷◌}
-use Prim.Native.Nat.{ℕ, zero, suc, ◌+◌, ◌-◌, ◌<◌, ◌≤◌}
-use native.Mathlib.Nat.{add_comm}
+use mathlib.Core.List.{List}
+use Prim.Native.Nat.{ℕ, zero, suc, ◌+◌, ◌-◌, ◌*◌, ◌<◌, ◌≤◌}
 use native.Mathlib.Omega.{arith}
-use native.Mathlib.Numerals.{add-one}
-use borrow.Author.Tests.{lt-ltb, le-ltb}
-use lib.ListN.{length, get_or, take, drop, length-drop, drop_of_length-le}
-use lib.Seq.{drop-cons, get_or-take, get_or-drop, length-take-le}
+use lib.ListN.{length, take, drop}
+use lib.Seq.{drop-drop}
+use Rattle.std.proofs.Common.{Ordering}
+use Rattle.std.specs.List.{between}
+use Rattle.std.specs.Ordering.{nat_cmp, is_lt, is_gt}
+use Rattle.std.specs.Cmp.Lexicographic.{slice_cmp}
+use Rattle.std.proofs.lemmas.Cmp.{same_from_slice_cmp}
+use Rattle.std.proofs.lemmas.Bool.Decides.{nat_tests}
 use Rattle.format.specs.Strings.{before_test}
-use Rattle.ops_keys.specs.declared.Order.{Order}
-use Rattle.ops_keys.specs.declared.Order.TheVariants.{Less, Equal, Greater}
 use Rattle.reading.specs.Reading.{path_of, key_of}
 use Rattle.stream_start.specs.Views.{stack_is}
 use Rattle.stream_start.specs.StackLaws.{stack_none, stack_suc, key_stack}
-use Rattle.ops_keys.specs.Heads.{Compared}
+use Rattle.ops_keys.specs.declared.Place.{Place}
+use Rattle.ops_keys.specs.Heads.{place_key, Compared}
 
 -- ---- two strings
 
-ordered_same : Compared [] [] Equal
+lt_is : (k l : List ℕ) (r : Ordering) → r ≡ slice_cmp nat_cmp k l → is_lt r ≡ before_test k l
 unfolding before_test
-ordered_same = record { less = refl; greater = refl }
+lt_is = same_from_slice_cmp nat_cmp is_lt before_test refl (λ _ _. refl) (λ _ _. refl) (λ x y xs ys o h. grind (arith, nat_tests))
 
-ordered_short : (y : ℕ) (ys : List ℕ) → Compared [] (y ∷ ys) Less
+gt_is : (k l : List ℕ) (r : Ordering) → r ≡ slice_cmp nat_cmp k l → is_gt r ≡ before_test l k
 unfolding before_test
-ordered_short y ys = record { less = refl; greater = refl }
+gt_is = same_from_slice_cmp nat_cmp is_gt (λ (k l : List ℕ). before_test l k) refl (λ _ _. refl) (λ _ _. refl) (λ x y xs ys o h. grind (arith, nat_tests))
 
-ordered_long : (x : ℕ) (xs : List ℕ) → Compared (x ∷ xs) [] Greater
-unfolding before_test
-ordered_long x xs = record { less = refl; greater = refl }
+pub compared_cmp : (k l : List ℕ) (r : Ordering) → r ≡ slice_cmp nat_cmp k l → Compared k l r
+compared_cmp k l r e = record { less = sym (lt_is k l r e); greater = sym (gt_is k l r e) }
 
-module _ (x y : ℕ) (xs ys : List ℕ) where
-  ordered_low : x < y → Compared (x ∷ xs) (y ∷ ys) Less
-  unfolding before_test
-  ordered_low h =
-      let z = le-ltb y x (omega arith) in
-      record { less = rw (lt-ltb x y h); greater = rw (z, lt-ltb x y h) }
-
-  ordered_high : y < x → Compared (x ∷ xs) (y ∷ ys) Greater
-  unfolding before_test
-  ordered_high h =
-      let z = le-ltb x y (omega arith) in
-      record { less = rw (z, lt-ltb y x h); greater = rw (lt-ltb y x h) }
-
-  ordered_on : (r : Order) → y ≤ x → x ≤ y → Compared xs ys r → Compared (x ∷ xs) (y ∷ ys) r
-  unfolding before_test
-  ordered_on r p q h =
-      let a = le-ltb x y p in
-      let b = le-ltb y x q in
-      record { less = rw (a, b) h.less; greater = rw (b, a) h.greater }
-
--- ---- the bytes after the first
-
-pub room : (ks : List ℕ) (x j : ℕ) → length ks ≡ 2048 → x + j < 2048 → j < length (drop x ks)
-room ks x j len h = let d = length-drop x ks in omega arith
-
-abbrev pub key_bytes : List ℕ → ℕ → List ℕ
-key_bytes xs j = take j (drop 1 xs)
-
-pub record Comparing (xs ys : List ℕ) (j k i : ℕ) : Type 0 where
-  pub within : i ≤ j
-  pub below : i ≤ k
-  pub rest : (r : Order) → Compared (drop i (key_bytes xs j)) (drop i (key_bytes ys k)) r → Compared (key_bytes xs j) (key_bytes ys k) r
-
-pub comparing_none : (xs ys : List ℕ) (j k : ℕ) → Comparing xs ys j k 0
-comparing_none xs ys j k = record { within = omega arith; below = omega arith; rest = λ r h. h }
-
-module _ (xs : List ℕ) (j : ℕ) (hj : j < length xs) where
-  length_key : length (key_bytes xs j) ≡ j
-  length_key = length-take-le j (drop 1 xs) (simp length-drop (omega arith))
-
-  key_cons : (i : ℕ) → i < j → drop i (key_bytes xs j) ≡ get_or xs (i + 1) 0 ∷ drop (i + 1) (key_bytes xs j)
-  key_cons i h =
-      let e : get_or (key_bytes xs j) i 0 ≡ get_or xs (i + 1) 0 = get_or-take j (drop 1 xs) i 0 h ∙ get_or-drop 1 xs i 0 ∙ rw (add_comm 1 i) in
-      let l : i < length (key_bytes xs j) = rw length_key h in
-      drop-cons (key_bytes xs j) i 0 l ∙ rw (e, ← add-one i)
-
-  key_end : (i : ℕ) → j ≤ i → drop i (key_bytes xs j) ≡ []
-  key_end i h = drop_of_length-le (key_bytes xs j) {i = i} (rw length_key h)
-
-module _ (xs ys : List ℕ) (j k : ℕ) (hj : j < length xs) (hk : k < length ys) (i : ℕ) (c : Comparing xs ys j k i) where
-  pub comparing_long : i < j → k ≤ i → Compared (key_bytes xs j) (key_bytes ys k) Greater
-  comparing_long h g =
-      c.rest Greater (rw (key_cons xs j hj i h, key_end ys k hk i g) (ordered_long (get_or xs (i + 1) 0) (drop (i + 1) (key_bytes xs j))))
-
-  pub comparing_short : j ≤ i → i < k → Compared (key_bytes xs j) (key_bytes ys k) Less
-  comparing_short h g =
-      c.rest Less (rw (key_end xs j hj i h, key_cons ys k hk i g) (ordered_short (get_or ys (i + 1) 0) (drop (i + 1) (key_bytes ys k))))
-
-  pub comparing_same : j ≤ i → k ≤ i → Compared (key_bytes xs j) (key_bytes ys k) Equal
-  comparing_same h g = c.rest Equal (rw (key_end xs j hj i h, key_end ys k hk i g) ordered_same)
-
-  -- the next byte of each, as it was read
-  module _ (h : i < j) (g : i < k) (x y : ℕ) (ex : x ≡ get_or xs (i + 1) 0) (ey : y ≡ get_or ys (i + 1) 0) where
-    cons_x : drop i (key_bytes xs j) ≡ x ∷ drop (i + 1) (key_bytes xs j)
-    cons_x = key_cons xs j hj i h ∙ ap (λ (z : ℕ). z ∷ drop (i + 1) (key_bytes xs j)) (sym ex)
-
-    cons_y : drop i (key_bytes ys k) ≡ y ∷ drop (i + 1) (key_bytes ys k)
-    cons_y = key_cons ys k hk i g ∙ ap (λ (z : ℕ). z ∷ drop (i + 1) (key_bytes ys k)) (sym ey)
-
-    pub comparing_low : x < y → Compared (key_bytes xs j) (key_bytes ys k) Less
-    comparing_low l = c.rest Less (rw (cons_x, cons_y) (ordered_low x y (drop (i + 1) (key_bytes xs j)) (drop (i + 1) (key_bytes ys k)) l))
-
-    pub comparing_high : y < x → Compared (key_bytes xs j) (key_bytes ys k) Greater
-    comparing_high l = c.rest Greater (rw (cons_x, cons_y) (ordered_high x y (drop (i + 1) (key_bytes xs j)) (drop (i + 1) (key_bytes ys k)) l))
-
-    pub comparing_on : y ≤ x → x ≤ y → Comparing xs ys j k (i + 1)
-    comparing_on p q = record {
-      within = omega arith;
-      below = omega arith;
-      rest = λ r o.
-          c.rest r (rw (cons_x, cons_y) (ordered_on x y (drop (i + 1) (key_bytes xs j)) (drop (i + 1) (key_bytes ys k)) r p q o));
-    }
+-- the bytes after the first, as a part of all
+pub key_between : (ks : List ℕ) (p : Place) (j : ℕ) → j ≡ p.levels - 1 → between (p.at * 256 + 1) (p.at * 256 + 1 + j) ks ≡ place_key ks p
+key_between ks p j e = ap₂ take (omega arith) (sym (drop-drop 1 (p.at * 256) ks))
 
 -- ---- the key of the levels
 

@@ -1,18 +1,19 @@
--- The bytes of a key put among those of eight, and taken out again, byte by byte.
---     Putting, putting-..       the first j bytes are put, at the start, after a byte, and at the end
---     Taking, taking-..         the first i bytes are taken out, in the same way
+-- The bytes of a key put among those of eight, and taken out again.
+--     Putting, putting_mid, putting_all     a key's 256 bytes are put, the others stay
+--     taken_all                 a key's 256 bytes are taken out
 -- Assumes nothing.
 use mathlib.Core.Path.{◌≡◌, refl, sym, ap, ◌∙◌}
 use mathlib.Core.Logic.{⊎_elim}
-use mathlib.Core.List.{List}
+use mathlib.Core.List.{List, ◌++◌, append_assoc}
 use Prim.Native.Nat.{ℕ, ◌+◌, ◌-◌, ◌*◌, ◌<◌, ◌≤◌}
 use native.Mathlib.Omega.{arith}
-use lib.ListN.{length, get_or, take, drop, set, replicate, length-drop, length-set, length-replicate}
-use lib.Seq.{get_or-take, get_or-drop, get_or-set_same, get_or-set_other, length-take-le, ext_get_or}
+use lib.ListN.{length, get_or, take, drop, length-drop, length-append, get_or-append}
+use lib.Seq.{paste, get_or-take, get_or-drop, length-take-le, take-length, ext_get_or}
+use Rattle.std.proofs.lemmas.List.{get_or-append_right}
 use Rattle.reading.proofs.RunLaws.{lt_or}
 use Rattle.stream.specs.declared.Plain.{Plain}
 use Rattle.ops_keys.specs.declared.Place.{Place}
-use Rattle.ops_keys.specs.Heads.{place_key, Within, KeyAt, BytesPut}
+use Rattle.ops_keys.specs.Heads.{place_key, Within, BytesPut}
 use Rattle.ops_keys.proofs.CompareLaws.{head_key_lem}
 
 -- ---- a key by its bytes
@@ -47,41 +48,36 @@ same_bytes ks is p len long w same =
 
 -- ---- a key put
 
-pub record Putting (is : List ℕ) (from : ℕ) (ks₀ ks : List ℕ) (j : ℕ) : Type 0 where
-  pub within : j ≤ 256
+pub record Putting (is : List ℕ) (from : ℕ) (ks₀ ks : List ℕ) : Type 0 where
   pub long : length ks ≡ 2048
-  pub done : (m : ℕ) → m < j → get_or ks (from + m) 0 ≡ get_or is m 0
+  pub done : (m : ℕ) → m < 256 → get_or ks (from + m) 0 ≡ get_or is m 0
   pub front : (m : ℕ) → m < from → get_or ks m 0 ≡ get_or ks₀ m 0
-  pub behind : (m : ℕ) → from + j ≤ m → get_or ks m 0 ≡ get_or ks₀ m 0
+  pub behind : (m : ℕ) → from + 256 ≤ m → get_or ks m 0 ≡ get_or ks₀ m 0
 
-pub putting_none : (is : List ℕ) (from : ℕ) (ks : List ℕ) → length ks ≡ 2048 → Putting is from ks ks 0
-putting_none is from ks len =
-    record { within = omega arith; long = len; done = λ m h. absurd (omega arith); front = λ m h. refl; behind = λ m h. refl }
-
-pub putting_step : (is : List ℕ) (from : ℕ) (ks₀ ks : List ℕ) (j : ℕ) → from + 256 ≤ 2048 → j < 256 → Putting is from ks₀ ks j
-    → Putting is from ks₀ (set ks (from + j) (get_or is j 0)) (j + 1)
-putting_step is from ks₀ ks j room h P =
-    let long = P.long in
+pub putting_mid : (is : List ℕ) (from : ℕ) (ks₀ ks : List ℕ) → length is ≡ 256 → length ks₀ ≡ 2048 → from + 256 ≤ 2048
+    → ks ≡ paste ks₀ from is 256 → Putting is from ks₀ ks
+putting_mid is from ks₀ ks li lk room pasted =
+    let whole : take 256 is ≡ is = ap (λ (n : ℕ). take n is) (sym li) ∙ take-length is in
+    let q = rw whole at pasted in
+    let e : ks ≡ take from ks₀ ++ (is ++ drop (from + 256) ks₀) = q ∙ append_assoc (take from ks₀) is (drop (from + 256) ks₀) in
+    let head : length (take from ks₀) ≡ from = length-take-le from ks₀ (omega arith) in
+    let tail : length (drop (from + 256) ks₀) ≡ 2048 - (from + 256) = length-drop (from + 256) ks₀ ∙ omega arith in
     record {
-      within = omega arith;
-      long = length-set ks (from + j) (get_or is j 0) ∙ long;
-      done = λ m l. ⊎_elim (λ (z : m < j). earlier m z) (λ (z : j ≤ m). here m (omega arith)) (lt_or m j);
-      front = λ m l. get_or-set_other ks (from + j) m (get_or is j 0) 0 (λ e. omega arith) ∙ P.front m l;
-      behind = λ m l. get_or-set_other ks (from + j) m (get_or is j 0) 0 (λ e. omega arith) ∙ P.behind m (omega arith);
+      long = rw e (omega (arith, length-append (take from ks₀) (is ++ drop (from + 256) ks₀), length-append is (drop (from + 256) ks₀)));
+      done = λ m h.
+          rw e (get_or-append_right (take from ks₀) (is ++ drop (from + 256) ks₀) from (from + m) 0 head (omega arith)
+          ∙ ap (λ (x : ℕ). get_or (is ++ drop (from + 256) ks₀) x 0) (omega arith)
+          ∙ get_or-append is (drop (from + 256) ks₀) 0 m (omega arith));
+      front = λ m h. rw e (get_or-append (take from ks₀) (is ++ drop (from + 256) ks₀) 0 m (omega arith) ∙ get_or-take from ks₀ m 0 h);
+      behind = λ m h.
+          rw e (get_or-append_right (take from ks₀) (is ++ drop (from + 256) ks₀) from m 0 head (omega arith)
+          ∙ get_or-append_right is (drop (from + 256) ks₀) 256 (m - from) 0 li (omega arith)
+          ∙ get_or-drop (from + 256) ks₀ (m - from - 256) 0
+          ∙ ap (λ (x : ℕ). get_or ks₀ x 0) (omega arith));
     }
-  where
-    earlier : (m : ℕ) → m < j → get_or (set ks (from + j) (get_or is j 0)) (from + m) 0 ≡ get_or is m 0
-    earlier m z = get_or-set_other ks (from + j) (from + m) (get_or is j 0) 0 (λ e. omega arith) ∙ P.done m z
 
-    here : (m : ℕ) → m ≡ j → get_or (set ks (from + j) (get_or is j 0)) (from + m) 0 ≡ get_or is m 0
-    here m e =
-        let long = P.long in
-        ap (λ (x : ℕ). get_or (set ks (from + j) (get_or is j 0)) (from + x) 0) e
-        ∙ get_or-set_same ks (from + j) (get_or is j 0) 0 (omega arith)
-        ∙ ap (λ (x : ℕ). get_or is x 0) (sym e)
-
-module _ (p : Plain) (i : ℕ) (ks₀ ks : List ℕ) (j : ℕ) (eight : i < 8) (long : length p.reading.inps ≡ 256) (len : length ks₀ ≡ 2048) (all : 256 ≤ j)
-    (P : Putting p.reading.inps (i * 256) ks₀ ks j) where
+module _ (p : Plain) (i : ℕ) (ks₀ ks : List ℕ) (eight : i < 8) (long : length p.reading.inps ≡ 256) (len : length ks₀ ≡ 2048)
+    (P : Putting p.reading.inps (i * 256) ks₀ ks) where
   abbrev place : Place
   place = record { at = i; levels = p.reading.levels }
 
@@ -96,7 +92,6 @@ module _ (p : Plain) (i : ℕ) (ks₀ ks : List ℕ) (j : ℕ) (eight : i < 8) (
       byte : (m : ℕ) → m < q.levels - 1 → get_or ks (q.at * 256 + (1 + m)) 0 ≡ get_or ks₀ (q.at * 256 + (1 + m)) 0
       byte m h =
           let few = w.few in
-          let within = P.within in
           ⊎_elim (λ (z : q.at < i). P.front (q.at * 256 + (1 + m)) (omega arith))
           (λ (z : i ≤ q.at). ⊎_elim (λ (y : i < q.at). P.behind (q.at * 256 + (1 + m)) (omega arith)) (λ (y : q.at ≤ i). absurd (ne (omega arith))) (lt_or i q.at))
           (lt_or q.at i)
@@ -118,33 +113,9 @@ module _ (p : Plain) (i : ℕ) (ks₀ ks : List ℕ) (j : ℕ) (eight : i < 8) (
 
 -- ---- a key taken out
 
-pub record Taking (ks : List ℕ) (from : ℕ) (is : List ℕ) (i : ℕ) : Type 0 where
-  pub within : i ≤ 256
-  pub long : length is ≡ 256
-  pub done : (m : ℕ) → m < i → get_or ks (from + m) 0 ≡ get_or is m 0
-
-pub taking_none : (ks : List ℕ) (from : ℕ) → Taking ks from (replicate 256 0) 0
-taking_none ks from = record { within = omega arith; long = length-replicate {A = ℕ} 256 0; done = λ m h. absurd (omega arith) }
-
-pub taking_step : (ks : List ℕ) (from : ℕ) (is : List ℕ) (i : ℕ) → i < 256 → Taking ks from is i → Taking ks from (set is i (get_or ks (from + i) 0)) (i + 1)
-taking_step ks from is i h T =
-    let long = T.long in
-    record {
-      within = omega arith;
-      long = length-set is i (get_or ks (from + i) 0) ∙ long;
-      done = λ m l. ⊎_elim (λ (z : m < i). earlier m z) (λ (z : i ≤ m). here m (omega arith)) (lt_or m i);
-    }
-  where
-    earlier : (m : ℕ) → m < i → get_or ks (from + m) 0 ≡ get_or (set is i (get_or ks (from + i) 0)) m 0
-    earlier m z = T.done m z ∙ sym (get_or-set_other is i m (get_or ks (from + i) 0) 0 (λ e. omega arith))
-
-    here : (m : ℕ) → m ≡ i → get_or ks (from + m) 0 ≡ get_or (set is i (get_or ks (from + i) 0)) m 0
-    here m e =
-        let long = T.long in
-        ap (λ (x : ℕ). get_or ks (from + x) 0) e
-        ∙ sym (get_or-set_same is i (get_or ks (from + i) 0) 0 (omega arith))
-        ∙ ap (λ (x : ℕ). get_or (set is i (get_or ks (from + i) 0)) x 0) (sym e)
-
-pub taking_all : (ks : List ℕ) (p : Place) (is : List ℕ) (i : ℕ) → length ks ≡ 2048 → Within p → 256 ≤ i → Taking ks (p.at * 256) is i
+pub taken_all : (ks : List ℕ) (p : Place) (is : List ℕ) → length ks ≡ 2048 → Within p → is ≡ take 256 (drop (p.at * 256) ks)
     → take (p.levels - 1) (drop 1 is) ≡ place_key ks p
-taking_all ks p is i len w all T = sym (same_bytes ks is p len T.long w (λ m h. T.done m (omega arith)))
+taken_all ks p is len w e =
+    let eight = w.eight in
+    let long : length is ≡ 256 = rw e (length-take-le 256 (drop (p.at * 256) ks) (omega (arith, length-drop (p.at * 256) ks))) in
+    sym (same_bytes ks is p len long w (λ m h. rw e (sym (get_or-take 256 (drop (p.at * 256) ks) m 0 h ∙ get_or-drop (p.at * 256) ks m 0))))

@@ -6,7 +6,9 @@
 --     BytesPut p i ks₀ ks h     p's key was put among the eight, as number i
 --     Compared k l r        how the key k stands to the key l
 -- Assumes nothing.
-use Rattle.std.specs.Prelude.{◌≡◌, Bool, true, false, List, ℕ, ◌-◌, ◌*◌, ◌≤◌, ◌<◌, length, take, drop}
+use Rattle.std.specs.Prelude.{◌≡◌, List, ℕ, ◌-◌, ◌*◌, ◌≤◌, ◌<◌, length, take, drop}
+use Rattle.std.specs.declared.cmp.Ordering.{Ordering}
+use Rattle.std.specs.Ordering.{is_lt, is_gt}
 use Rattle.format.specs.Limits.{max_levels}
 use Rattle.format.specs.Strings.{before_test}
 use Rattle.reading.specs.Reading.{key_of}
@@ -14,8 +16,6 @@ use Rattle.stream.specs.Plains.{plain_is}
 use Rattle.stream.specs.declared.Plain.{Plain}
 use Rattle.ops_keys.specs.declared.Head.{Head}
 use Rattle.ops_keys.specs.declared.Place.{Place}
-use Rattle.ops_keys.specs.declared.Order.{Order}
-use Rattle.ops_keys.specs.declared.Order.TheVariants.{Less, Equal, Greater}
 
 abbrev pub head_key : Head → List ℕ
 head_key h = take (h.levels - 1) (drop 1 h.inps)
@@ -41,16 +41,6 @@ pub record BytesPut (p : Plain) (i : ℕ) (ks₀ ks : List ℕ) (h : Place) : Ty
 
 -- ---- the order
 
-abbrev pub less? : Order → Bool
-less? Less = true
-less? Equal = false
-less? Greater = false
-
-abbrev pub greater? : Order → Bool
-greater? Less = false
-greater? Equal = false
-greater? Greater = true
-
-pub record Compared (k l : List ℕ) (r : Order) : Type 0 where
-  pub less : before_test k l ≡ less? r
-  pub greater : before_test l k ≡ greater? r
+pub record Compared (k l : List ℕ) (r : Ordering) : Type 0 where
+  pub less : before_test k l ≡ is_lt r
+  pub greater : before_test l k ≡ is_gt r

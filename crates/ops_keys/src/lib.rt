@@ -1,22 +1,15 @@
 // The keys of readings, compared byte by byte: what an operation over several files orders its readings by.
 #![tactic(auto)]
 
-ghost use Rattle.std.specs.Prelude.{◌≡◌, ◌+◌, ◌-◌, ◌<◌, length, take, drop};
+ghost use Rattle.std.specs.Prelude.{◌≡◌, ◌-◌, ◌<◌, length};
 ghost use Rattle.ops_keys.specs.Heads.{head_key, place_key, Within, Compared, BytesPut};
 
 use format::LEVELS;
+use std::cmp::Ordering;
 use stream::Plain;
 
 // The bytes of the keys of eight readings.
 pub const KEYS: usize = 2_048;
-
-// How one key stands to another.
-#[derive(Clone, Copy)]
-pub enum Order {
-    Less,
-    Equal,
-    Greater,
-}
 
 // What a reading's key lies in, passed by value: the bytes of its levels after the first. Entries past the last level carry no meaning.
 #[derive(Clone, Copy)]
@@ -32,48 +25,25 @@ pub struct Place {
     pub levels: usize,
 }
 
-// How the j bytes after the first from place x on stand to the k bytes after the first from place y on.
-fn compare_bytes(keys: &[u8; KEYS], x: usize, j: usize, y: usize, k: usize) -> Order
-    requires { (length keys.now ≡ 2048) × (x + j < 2048) × (y + k < 2048) }
-    ensures { Compared (take j (drop 1 (drop x keys.now)))
-        (take k (drop 1 (drop y keys.now))) result }
-{
-    let mut i = 0;
-    while i < j {
-        if k <= i {
-            return Order::Greater;
-        }
-        let a = keys[x + (i + 1)];
-        let b = keys[y + (i + 1)];
-        if a < b {
-            return Order::Less;
-        }
-        if b < a {
-            return Order::Greater;
-        }
-        i += 1;
-    }
-    let shorter = j < k;
-    if shorter { Order::Less } else { Order::Equal }
-}
-
 // The length of the key of so many levels: a reading without levels has the empty key too.
 pub fn key_len(levels: usize) -> usize
     ensures { result ≡ levels - 1 }
 {
-    if levels == 0 { 0 } else { levels - 1 }
+    levels.saturating_sub(1)
 }
 
 // How one of eight keys stands to another.
-pub fn compare(keys: &[u8; KEYS], a: Place, b: Place) -> Order
+pub fn compare(keys: &[u8; KEYS], a: Place, b: Place) -> Ordering
     requires { (length keys.now ≡ 2048) × Within a × Within b }
     ensures { Compared (place_key keys.now a) (place_key keys.now b) result }
 {
     let j = key_len(a.levels);
     let k = key_len(b.levels);
-    let x = a.at * LEVELS;
-    let y = b.at * LEVELS;
-    compare_bytes(keys, x, j, y, k)
+    let x = a.at * LEVELS + 1;
+    let y = b.at * LEVELS + 1;
+    let first = &keys[x..x + j];
+    let second = &keys[y..y + k];
+    first.cmp(second)
 }
 
 // One of eight keys by itself, to be handed out.
@@ -83,11 +53,7 @@ pub fn head_at(keys: &[u8; KEYS], place: Place) -> Head
 {
     let from = place.at * LEVELS;
     let mut inps = [0u8; LEVELS];
-    let mut i = 0;
-    while i < LEVELS {
-        inps[i] = keys[from + i];
-        i += 1;
-    }
+    inps.copy_from_slice(&keys[from..from + LEVELS]);
     Head {
         levels: place.levels,
         inps,
@@ -103,10 +69,6 @@ pub fn put_bytes(plain: Plain, i: usize, keys: &mut [u8; KEYS]) -> Place
     let levels = reading.levels;
     let inps = reading.inps;
     let from = i * LEVELS;
-    let mut j = 0;
-    while j < LEVELS {
-        keys[from + j] = inps[j];
-        j += 1;
-    }
+    keys[from..from + LEVELS].copy_from_slice(&inps);
     Place { at: i, levels }
 }

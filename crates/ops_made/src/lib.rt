@@ -66,12 +66,9 @@ fn cards_in(
 ) -> [Card; 8] {
     let first = plain_at(0, heads, bounds, addrs, inps, trans, outs, keys);
     let mut all = [card(first, slots[0], values[0]); 8];
-    let mut i = 1;
-    while i < 8 {
+    for i in 1..8 {
         let reading = plain_at(i, heads, bounds, addrs, inps, trans, outs, keys);
-        let one = card(reading, slots[i], values[i]);
-        all[i] = one;
-        i += 1;
+        all[i] = card(reading, slots[i], values[i]);
     }
     all
 }
@@ -112,13 +109,10 @@ fn put_cards(
     outs: &mut [[u64; 256]; 8],
     keys: &mut [u64; 8],
 ) {
-    let mut i = 0;
-    while i < 8 {
-        let one = all[i];
+    for i in 0..8 {
         put_card(
-            one, i, slots, values, heads, bounds, addrs, inps, trans, outs, keys,
+            all[i], i, slots, values, heads, bounds, addrs, inps, trans, outs, keys,
         );
-        i += 1;
     }
 }
 

@@ -68,6 +68,7 @@ fn fill(
     let mut seen = see(count, cards, &mut keys);
     let mut done = 0;
     let mut i = 0;
+    // by `while`: a turn steps one card or writes one item, so no number goes up in each
     while done < most {
         if i < count {
             let one = seen[i];

@@ -3,7 +3,6 @@
 --     Inserting ..              the first j places are settled, and the rest decides
 --     inserting-..              at the start, after each of two turns, and at the end
 --     Placing .., placing-..    the same of two arrays
---     before-..                 whether a pair goes before another
 -- Assumes nothing.
 use mathlib.Core.Path.{◌≡◌, refl, sym, ap, ap₂, ◌∙◌}
 use mathlib.Core.Bool.{Bool, true, false, cond, ◌||◌}
@@ -190,15 +189,3 @@ module _ (value file n : ℕ) (vs₀ fs₀ vs fs : List ℕ) (v f : ℕ) (found 
         pairs = in_set vs fs n v f ∙ ap (λ (i : ℕ). set (pairs_in vs fs) i (indexed v f)) (sym same)
             ∙ inserting_all (indexed value file) ps (pairs_in vs fs) found (indexed v f) j (omega arith) I (same ∙ is);
       }
-
--- ---- whether a pair goes before another
-
-module _ (v f w g : ℕ) where
-  pub before_lower : v < w → true ≡ sooner (indexed v f) (indexed w g)
-  before_lower h = rw (lt-ltb v w h)
-
-  pub before_equal : w ≤ v → v ≡ w → ltb f g ≡ sooner (indexed v f) (indexed w g)
-  before_equal h e = let a = le-ltb v w h in let b = eq-eqb v w e in rw (a, b)
-
-  pub before_higher : w ≤ v → ¬ (v ≡ w) → false ≡ sooner (indexed v f) (indexed w g)
-  before_higher h ne = let a = le-ltb v w h in let b = ne_eqb v w ne in rw (a, b)

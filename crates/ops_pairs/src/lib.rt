@@ -29,16 +29,7 @@ pub fn none() -> Pairs
 fn goes_before(found: bool, value: u64, file: u8, other: u64, beside: u8) -> bool
     ensures { result ≡ (found || O.sooner (indexed value file) (indexed other beside)) }
 {
-    if found {
-        return true;
-    }
-    if value < other {
-        return true;
-    }
-    if value == other {
-        return file < beside;
-    }
-    false
+    found || value < other || (value == other && file < beside)
 }
 
 // A value more: from its place on, each is moved up by one.
@@ -53,8 +44,8 @@ pub fn insert(pairs: Pairs, value: u64, file: u8) -> Pairs
     let mut v = value;
     let mut f = file;
     let mut found = false;
-    let mut j = 0;
-    while j < n {
+    // by index: a place of both arrays moves at once
+    for j in 0..n {
         let other = values[j];
         let beside = files[j];
         if goes_before(found, v, f, other, beside) {
@@ -64,7 +55,6 @@ pub fn insert(pairs: Pairs, value: u64, file: u8) -> Pairs
             f = beside;
             found = true;
         }
-        j += 1;
     }
     values[n] = v;
     files[n] = f;

@@ -2,7 +2,7 @@
 --     HasPlace i rows counts numbers values     item i has its places in the buffers
 --     ItemPut h p i ..                          the key of the head h and the pairs p stand as item i, and every other place is as given
 -- Assumes nothing.
-use Rattle.std.specs.Prelude.{◌≡◌, List, [], ◌∷◌, ℕ, ◌+◌, ◌*◌, ◌≤◌, ◌<◌, length, set}
+use Rattle.std.specs.Prelude.{◌≡◌, List, ◌∷◌, ℕ, ◌+◌, ◌*◌, ◌≤◌, ◌<◌, length, set}
 use Rattle.buffers.specs.Put.{put}
 use Rattle.paging.specs.Paging.{row_len}
 use Rattle.ops_keys.specs.declared.Head.{Head}

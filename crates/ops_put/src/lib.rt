@@ -2,8 +2,7 @@
 // and eight places for the numbers of these files and eight for its values.
 #![tactic(auto)]
 
-ghost use Rattle.std.specs.Prelude.{◌≡◌, ◌+◌, ◌*◌, ◌≤◌, ◌<◌, length};
-ghost use Rattle.buffers.specs.Put.{put};
+ghost use Rattle.std.specs.Prelude.{◌≡◌, ◌≤◌};
 ghost use Rattle.format.specs.Limits.{max_levels};
 ghost use Rattle.ops_paging.specs.ItemPaging as P;
 ghost use Rattle.ops_put.specs.ItemPut.{HasPlace, ItemPut};
@@ -19,40 +18,7 @@ const PLACES: usize = 8;
 pub fn has_room(most: usize, rows: usize, counts: usize, numbers: usize, values: usize) -> bool
     ensures { result ≡ P.room_test most rows counts numbers values }
 {
-    if rows / ROW < most {
-        return false;
-    }
-    if counts < most {
-        return false;
-    }
-    if numbers / PLACES < most {
-        return false;
-    }
-    most <= values / PLACES
-}
-
-// Writes eight file numbers from place at on.
-fn put_numbers(from: [u8; 8], at: usize, out: &mut [u8])
-    requires { at + 8 ≤ length out.old }
-    ensures { out.new ≡ put out.old at from }
-{
-    let mut i = 0;
-    while i < PLACES {
-        out[at + i] = from[i];
-        i += 1;
-    }
-}
-
-// Writes eight values from place at on.
-fn put_values(from: [u64; 8], at: usize, out: &mut [u64])
-    requires { at + 8 ≤ length out.old }
-    ensures { out.new ≡ put out.old at from }
-{
-    let mut i = 0;
-    while i < PLACES {
-        out[at + i] = from[i];
-        i += 1;
-    }
+    most <= rows / ROW && most <= counts && most <= numbers / PLACES && most <= values / PLACES
 }
 
 // Writes an item, its key and its pairs, as item number `place`. Every other place stays as given.
@@ -75,8 +41,8 @@ pub fn put_item(
     let inps = head.inps;
     put_row(&inps[1..], n, place * ROW, rows);
     counts[place] = pairs.count as u8;
-    let from = pairs.files;
-    put_numbers(from, place * PLACES, numbers);
-    let held = pairs.values;
-    put_values(held, place * PLACES, values);
+    let numbers_at = place * PLACES;
+    numbers[numbers_at..numbers_at + PLACES].copy_from_slice(&pairs.files);
+    let values_at = place * PLACES;
+    values[values_at..values_at + PLACES].copy_from_slice(&pairs.values);
 }

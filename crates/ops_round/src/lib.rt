@@ -9,7 +9,7 @@ use format::MAX_KEY;
 use stream::{Plain, Step};
 
 // Whether a card's key is used up, whether it holds the key of its reading's levels, or whether its reading has ended.
-#[derive(Clone, Copy)]
+#[derive(Clone, Copy, PartialEq, Eq)]
 pub enum Slot {
     Used,
     Holds,

@@ -73,6 +73,7 @@ pub fn rounds(files: [&[u8]; 8], op: Op, count: usize, cards: [Card; 8], space: 
     let mut seen = see(count, cards, &mut keys);
     let mut moved = false;
     let mut i = 0;
+    // by `loop`: a turn looks at one card or decides, so no number goes up in each
     loop {
         if i < count {
             let one = seen[i];

@@ -1,2 +1,1 @@
 mod SeeLoops
-mod SlotTests

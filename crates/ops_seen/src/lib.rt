@@ -22,12 +22,10 @@ pub fn show(card: Card, i: usize, keys: &mut [u8; KEYS]) -> Seen
     requires { (length keys.old ≡ 2048) × (i < 8) }
     ensures { SeenOf card i keys.old keys.new result }
 {
-    let reading = card.reading;
-    let slot = card.slot;
-    let key = put_bytes(reading, i, keys);
+    let key = put_bytes(card.reading, i, keys);
     Seen {
         key,
-        slot,
+        slot: card.slot,
         value: card.value,
     }
 }
@@ -43,12 +41,8 @@ pub fn see(count: usize, cards: [Card; 8], keys: &mut [u8; KEYS]) -> [Seen; 8]
         value: 0,
     };
     let mut seen = [blank; 8];
-    let mut i = 0;
-    while i < count {
-        let card = cards[i];
-        let one = show(card, i, keys);
-        seen[i] = one;
-        i += 1;
+    for i in 0..count {
+        seen[i] = show(cards[i], i, keys);
     }
     seen
 }
@@ -57,37 +51,24 @@ pub fn see(count: usize, cards: [Card; 8], keys: &mut [u8; KEYS]) -> [Seen; 8]
 pub fn is_used(seen: Seen) -> bool
     ensures { UsedTest seen result }
 {
-    let slot = seen.slot;
-    match slot {
-        Slot::Used => true,
-        Slot::Holds => false,
-        Slot::Ended => false,
-    }
+    seen.slot == Slot::Used
 }
 
 // Whether a card holds a key of over 256 levels.
 pub fn is_long(seen: Seen) -> bool
     ensures { LongTest seen result }
 {
-    let slot = seen.slot;
-    let key = seen.key;
-    match slot {
-        Slot::Used => false,
-        Slot::Holds => LEVELS < key.levels,
-        Slot::Ended => false,
-    }
+    seen.slot == Slot::Holds && LEVELS < seen.key.levels
 }
 
 // A card with the slot and the value that are seen.
 fn dealt(card: Card, seen: Seen) -> Card
     ensures { result ≡ dealt_card card seen }
 {
-    let reading = card.reading;
-    let slot = seen.slot;
     Card {
-        reading,
-        slot,
+        slot: seen.slot,
         value: seen.value,
+        ..card
     }
 }
 
@@ -97,13 +78,8 @@ pub fn deal(count: usize, cards: [Card; 8], seen: [Seen; 8]) -> [Card; 8]
     ensures { AllDealt count cards seen result }
 {
     let mut all = cards;
-    let mut i = 0;
-    while i < count {
-        let card = all[i];
-        let one = seen[i];
-        let after = dealt(card, one);
-        all[i] = after;
-        i += 1;
+    for i in 0..count {
+        all[i] = dealt(all[i], seen[i]);
     }
     all
 }

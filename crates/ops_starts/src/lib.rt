@@ -11,7 +11,7 @@ use stream::Plain;
 use stream_start::{Begins, Bound, Reading};
 
 // As many keys may come as a number can say: a page is lent no table of keys.
-const ANY: u64 = 18_446_744_073_709_551_615;
+const ANY: u64 = u64::MAX;
 
 // The cards of the starts beside the answer, in the form of stream_start::Started. After a refusal they carry no meaning.
 #[derive(Clone, Copy)]
@@ -24,9 +24,8 @@ pub struct StartedCards {
 fn wide(reading: Reading) -> Card
     ensures { result ≡ wide_is reading }
 {
-    let plain = Plain { reading, keys: ANY };
     Card {
-        reading: plain,
+        reading: Plain { reading, keys: ANY },
         slot: Slot::Used,
         value: 0,
     }
@@ -49,13 +48,9 @@ pub fn starts(
 {
     let blank = wide(stream_start::no_reading());
     let mut cards = [blank; 8];
-    let mut i = 0;
-    while i < count {
-        let file = files[i];
-        let started = stream_start::start(file, lower_kind, lower, upper_kind, upper);
-        let answer = started.answer;
-        let reading = started.reading;
-        match answer {
+    for i in 0..count {
+        let started = stream_start::start(files[i], lower_kind, lower, upper_kind, upper);
+        match started.answer {
             Begins::Refused(why) => {
                 return StartedCards {
                     answer: Begins::Refused(why),
@@ -63,10 +58,9 @@ pub fn starts(
                 };
             }
             Begins::Began => {
-                cards[i] = wide(reading);
+                cards[i] = wide(started.reading);
             }
         }
-        i += 1;
     }
     StartedCards {
         answer: Begins::Began,

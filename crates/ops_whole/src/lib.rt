@@ -31,52 +31,27 @@ const ENDED: u64 = 1;
 
 // Any number from 3 on stands for the symmetric difference.
 fn op_of(n: u64) -> Op {
-    if n == 0 {
-        return Op::Union;
+    match n {
+        0 => Op::Union,
+        1 => Op::Intersection,
+        2 => Op::Difference,
+        _ => Op::SymmetricDifference,
     }
-    if n == 1 {
-        return Op::Intersection;
-    }
-    if n == 2 {
-        return Op::Difference;
-    }
-    Op::SymmetricDifference
 }
 
 // ---- the arguments taken apart
 
-// The bytes from one place to another, and none where they are not there.
-fn part(bytes: &[u8], from: usize, to: usize) -> &[u8] {
-    if from <= to {
-        if to <= bytes.len() {
-            return &bytes[from..to];
-        }
+// What stands from one place to another, and nothing where they are not there.
+fn part<T>(items: &[T], from: usize, to: usize) -> &[T] {
+    if from <= to && to <= items.len() {
+        return &items[from..to];
     }
-    &bytes[..0]
-}
-
-// The same of a table's entries.
-fn entries(table: &[u64], from: usize, to: usize) -> &[u64] {
-    if from <= to {
-        if to <= table.len() {
-            return &table[from..to];
-        }
-    }
-    &table[..0]
+    &items[..0]
 }
 
 // Whether parts that end there follow one another in so many bytes.
 fn is_ordered(ends: [u64; 8], len: usize) -> bool {
-    let mut last = len as u64;
-    let mut i = 8;
-    while 0 < i {
-        i -= 1;
-        if last < ends[i] {
-            return false;
-        }
-        last = ends[i];
-    }
-    true
+    ends.is_sorted() && ends[7] <= len as u64
 }
 
 // A bound's bytes: so many from its place on, at most 255.
@@ -223,26 +198,21 @@ fn items(
     followed: &mut [u64; 8],
 ) -> u64 {
     let mut cards = first;
-    let mut at = 0;
-    let mut to = 0;
-    let mut n: u64 = 0;
-    while ROW <= rows.len() - at {
-        if numbers.len() - to < ITEM {
-            return NO_ROOM;
-        }
-        let called = call(files, cards, &mut rows[at..], &mut numbers[to..]);
+    for (n, (row, item)) in rows
+        .chunks_exact_mut(ROW)
+        .zip(numbers.chunks_exact_mut(ITEM))
+        .enumerate()
+    {
+        let called = call(files, cards, row, item);
         let came = called.came;
         cards = called.cards;
         if came == ENDED {
             *followed = totals(cards);
-            return n;
+            return n as u64;
         }
         if came != ITEM_PUT {
             return came;
         }
-        at += ROW;
-        to += ITEM;
-        n += 1;
     }
     NO_ROOM
 }
@@ -280,7 +250,7 @@ fn start_at(
     let upper_kind = stated[4 * i + 2];
     let upper_len = stated[4 * i + 3];
     let file = part(blob, from, to);
-    let counts = entries(tables, from, to);
+    let counts = part(tables, from, to);
     let lower = bound_at(bounds, 510 * i, lower_len);
     let upper = bound_at(bounds, 510 * i + 255, upper_len);
     start(file, counts, lower_kind, lower, upper_kind, upper)
@@ -297,14 +267,11 @@ fn refusal(started: Started) -> u64 {
 
 // The first refusal, or 0.
 fn first_refusal(starts: [Started; 8]) -> u64 {
-    let mut i = 0;
-    while i < 8 {
-        let started = starts[i];
-        let why = refusal(started);
+    for started in starts.iter() {
+        let why = refusal(*started);
         if why != 0 {
             return why;
         }
-        i += 1;
     }
     0
 }

@@ -13,20 +13,17 @@ ghost use Rattle.oracle_fst.specs.FstTells.{front, checksum_number, OpenTold, ad
 
 use admission::Admission;
 use counting::Counting;
-use fst::{Checksum, Opened};
+use fst::Opened;
 use lookup::Answer;
 use lookup_search::KeyAnswer;
 
 // ---- opening
 
 // A checksum as a number: 2^32 where there is none.
-fn checksum_number(c: Checksum) -> u64
+fn checksum_number(c: Option<u32>) -> u64
     ensures { result ≡ checksum_number (checksum_is c) }
 {
-    match c {
-        Checksum::Stored(n) => n as u64,
-        Checksum::Missing => 4_294_967_296,
-    }
+    c.map_or(4_294_967_296, u64::from)
 }
 
 // Puts five numbers at the front of out where it has room for them.

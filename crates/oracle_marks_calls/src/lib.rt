@@ -108,12 +108,11 @@ fn mark_of(file: &[u8], by: u64, held: Held, name: &[u8]) -> Ran {
     let pattern = held.pattern;
     let marks = held.marks;
     let reading = plain.reading;
-    let mut marking = marks::refused(0, marks);
-    if by == 0 {
-        marking = marks::mark(file, plain, marks, name);
+    let marking = if by == 0 {
+        marks::mark(file, plain, marks, name)
     } else {
-        marking = marks_by::mark_by(file, Patterned { reading, pattern }, marks, name);
-    }
+        marks_by::mark_by(file, Patterned { reading, pattern }, marks, name)
+    };
     let answer = marking.answer;
     let marks = marking.marks;
     done(

@@ -72,107 +72,62 @@ pub fn nothing() -> Held {
 
 // The levels, the bound's length or the file's length of a reading: 4, 5, 6.
 fn changed_plain(plain: Plain, change: u64, value: usize) -> Plain {
-    let held = plain.reading;
-    let mut levels = held.levels;
-    let mut bound_len = held.bound_len;
-    let mut len = held.len;
-    let kind = held.kind;
-    let bound = held.bound;
-    let empty_output = held.empty_output;
-    let addrs = held.addrs;
-    let inps = held.inps;
-    let trans = held.trans;
-    let outs = held.outs;
-    if change == 4 {
-        levels = value;
+    let mut made = plain;
+    match change {
+        4 => made.reading.levels = value,
+        5 => made.reading.bound_len = value,
+        6 => made.reading.len = value,
+        _ => {}
     }
-    if change == 5 {
-        bound_len = value;
-    }
-    if change == 6 {
-        len = value;
-    }
-    let reading = Reading {
-        len,
-        kind,
-        bound_len,
-        bound,
-        empty_output,
-        total: held.total,
-        levels,
-        addrs,
-        inps,
-        trans,
-        outs,
-    };
-    Plain {
-        reading,
-        keys: plain.keys,
-    }
+    made
 }
 
 // The length of a mark's name, the whole name, or the mark's reading: 2 to 6.
 fn changed_mark(mark: Mark, other: Mark, change: u64, value: usize) -> Mark {
-    let mut name_len = mark.name_len;
-    let mut name = mark.name;
-    let plain = mark.reading;
-    if change == 2 {
-        name_len = value;
+    let mut made = mark;
+    match change {
+        2 => made.name_len = value,
+        3 => {
+            made.name_len = other.name_len;
+            let name = other.name;
+            made.name = name;
+        }
+        _ => made.reading = changed_plain(mark.reading, change, value),
     }
-    if change == 3 {
-        name_len = other.name_len;
-        name = other.name;
-    }
-    Mark {
-        name_len,
-        name,
-        reading: changed_plain(plain, change, value),
-    }
+    made
 }
 
 // The marks: 1 to 6.
 fn changed_marks(marks: Marks, change: u64, place: usize, value: usize) -> Marks {
     if change == 1 {
-        let all = marks.marks;
         return Marks {
             count: value,
-            marks: all,
+            ..marks
         };
     }
     if MARKS <= place {
         return marks;
     }
     let mark = marks.marks[place];
-    let mut other = mark;
-    if value < MARKS {
-        other = marks.marks[value];
-    }
+    let other = if value < MARKS {
+        marks.marks[value]
+    } else {
+        mark
+    };
     let made = changed_mark(mark, other, change, value);
     marks_held::put_mark(marks, marks.count, place, made)
 }
 
 // What is held, changed.
 pub fn changed(held: Held, change: u64, place: usize, value: usize) -> Held {
-    let mut plain = held.plain;
-    let given = held.pattern;
-    let mut pattern = given;
-    let mut marks = held.marks;
+    let mut made = held;
     if change == 10 {
-        let positions = given.positions;
-        pattern = Pattern {
-            len: value,
-            rest: given.rest,
-            positions,
-        };
+        made.pattern.len = value;
     }
     if 6 < change {
-        plain = changed_plain(plain, change - 3, value);
+        made.plain = changed_plain(held.plain, change - 3, value);
     } else {
-        marks = changed_marks(marks, change, place, value);
+        made.marks = changed_marks(held.marks, change, place, value);
     }
-    Held {
-        plain,
-        pattern,
-        marks,
-    }
+    made
 }

@@ -142,55 +142,6 @@ fn operation_of(
     )
 }
 
-// An answer at its place, where there is one.
-fn put_answer(answers: &mut [[u64; 6]], i: usize, answer: [u64; 6]) {
-    if i < answers.len() {
-        answers[i] = answer;
-    }
-}
-
-// One operation, whose answer goes to place i and whose row begins at at; none where one of them does not lie within what is lent.
-fn put_operation(
-    file: &[u8],
-    table: &[u64],
-    other: &[u8],
-    other_table: &[u64],
-    by: u64,
-    positions: &[u16],
-    rest: bool,
-    bytes: &[u8],
-    op: [u64; 10],
-    held: Held,
-    i: usize,
-    answers: &mut [[u64; 6]],
-    at: usize,
-    next: usize,
-    rows: &mut [u8],
-) -> Held {
-    if rows.len() < next {
-        return held;
-    }
-    if next < at {
-        return held;
-    }
-    let ran = operation_of(
-        file,
-        table,
-        other,
-        other_table,
-        by,
-        positions,
-        rest,
-        bytes,
-        op,
-        held,
-        &mut rows[at..next],
-    );
-    let answer = ran.told;
-    put_answer(answers, i, answer);
-    ran.held
-}
-
 // Runs the operations one after the other from no reading and no marks, as far as there is room for answers and rows; how many were run.
 pub fn run_operations(
     file: &[u8],
@@ -205,41 +156,30 @@ pub fn run_operations(
     answers: &mut [[u64; 6]],
     rows: &mut [u8],
 ) -> u64 {
+    let count = operations.len().min(answers.len()).min(rows.len() / ROW);
+    let by_pattern = rest != 0;
     let mut held = nothing();
-    let mut at = 0;
-    let mut i = 0;
-    while i < operations.len() {
-        if answers.len() <= i {
-            return i as u64;
-        }
-        if rows.len() < ROW {
-            return i as u64;
-        }
-        if rows.len() - ROW < at {
-            return i as u64;
-        }
-        let here = i;
-        let op = operations[here];
-        let next = at + ROW;
-        i += 1;
-        held = put_operation(
+    // by index: the operations, the answers and the rows zipped are no chain that the borrow checker covers
+    for i in 0..count {
+        let at = i * ROW;
+        let op = operations[i];
+        let row = &mut rows[at..at + ROW];
+        let ran = operation_of(
             file,
             table,
             other,
             other_table,
             by,
             positions,
-            rest != 0,
+            by_pattern,
             bytes,
             op,
             held,
-            here,
-            answers,
-            at,
-            next,
-            rows,
+            row,
         );
-        at = next;
+        let answer = ran.told;
+        answers[i] = answer;
+        held = ran.held;
     }
-    i as u64
+    count as u64
 }

@@ -1,5 +1,6 @@
 -- What the exported functions tell, from what judging the node answered.
 -- Assumes nothing.
+use Rattle.std.specs.Prelude.{Result, Ok, Err}
 use mathlib.Core.Path.{◌≡◌, refl, sym, ap, ◌∙◌}
 use mathlib.Core.Bool.{Bool, true, false, cond, ◌&&◌}
 use mathlib.Core.List.{List, [], ◌∷◌}
@@ -13,10 +14,7 @@ use Rattle.format.specs.Bytes.{le}
 use Rattle.format.specs.Node.{Judgement, sound, unsound, node_at, transition_at, find_input, Search}
 use Rattle.format.specs.Packed.{BuilderNode, Packing, written, refused, packing}
 use Rattle.node.specs.declared.Node.{Node}
-use Rattle.node.specs.declared.Judged.{Judged}
-use Rattle.node.specs.declared.Judged.TheVariants.{Sound, Unsound}
-use Rattle.node.specs.declared.Found.{Found}
-use Rattle.node.specs.declared.Found.TheVariants.{At, Absent as Missing}
+use Rattle.node.specs.declared.Unsound.{Unsound}
 use Rattle.node.specs.Read.{transitions_in, meaning, judged_is, search_is, Readable, Judges}
 use Rattle.node.specs.ReadLaws.{length_node_transitions}
 use Rattle.node_compile.specs.declared.Compiled.{Compiled}
@@ -68,52 +66,52 @@ module _ {b : BuilderNode} {first : ℕ} {out₀ out : List ℕ} {r : Compiled} 
 
 -- ---- a judged node
 
-module _ {s : List ℕ} {v root a : ℕ} {j : Judged} (judged : Judges s v root a j) where
-  is_unsound : j ≡ Unsound → node_at s v root a ≡ unsound
+module _ {s : List ℕ} {v root a : ℕ} {j : Result Node Unsound} (judged : Judges s v root a j) where
+  is_unsound : {u : Unsound} → j ≡ Err u → node_at s v root a ≡ unsound
   is_unsound e = sym judged.answer ∙ rw e
 
-  is_sound : (m : Node) → j ≡ Sound m → node_at s v root a ≡ sound (meaning s m)
+  is_sound : (m : Node) → j ≡ Ok m → node_at s v root a ≡ sound (meaning s m)
   is_sound m e = sym judged.answer ∙ rw e
 
-  pub node_unsound : (out : List ℕ) → j ≡ Unsound → NodeTold (node_at s v root a) out out 0
+  pub node_unsound : {u : Unsound} (out : List ℕ) → j ≡ Err u → NodeTold (node_at s v root a) out out 0
   node_unsound out e = rw (is_unsound e) (record { answer = refl; buffer = refl })
 
-  pub node_sound : (m : Node) (flag : ℕ) (out₀ out : List ℕ) → j ≡ Sound m → flag ≡ flag_as m.is_final
+  pub node_sound : (m : Node) (flag : ℕ) (out₀ out : List ℕ) → j ≡ Ok m → flag ≡ flag_as m.is_final
       → out ≡ front (m.first ∷ (flag ∷ (m.final_output ∷ (m.ntrans ∷ [])))) out₀
       → NodeTold (node_at s v root a) out₀ out 1
   node_sound m flag out₀ out e is_flag is =
       let count = length_node_transitions s m (judged.readable m e) in
       rw (is_sound m e) (record { answer = refl; buffer = is ∙ rw (count, is_flag) })
 
-  pub transition_unsound : (i : ℕ) (out : List ℕ) → j ≡ Unsound → TransitionTold (node_at s v root a) i out out 0
+  pub transition_unsound : {u : Unsound} (i : ℕ) (out : List ℕ) → j ≡ Err u → TransitionTold (node_at s v root a) i out out 0
   transition_unsound i out e = rw (is_unsound e) (record { answer = refl; buffer = refl })
 
-  pub transition_none : (m : Node) (i : ℕ) (out : List ℕ) → j ≡ Sound m → m.ntrans ≤ i → TransitionTold (node_at s v root a) i out out 0
+  pub transition_none : (m : Node) (i : ℕ) (out : List ℕ) → j ≡ Ok m → m.ntrans ≤ i → TransitionTold (node_at s v root a) i out out 0
   transition_none m i out e past =
       let count = length_node_transitions s m (judged.readable m e) in
       let no = le-ltb i (length (transitions_in s m)) (omega arith) in
       rw (is_sound m e) (record { answer = rw no; buffer = rw no })
 
-  pub transition_no_room : (m : Node) (i : ℕ) (out : List ℕ) → j ≡ Sound m → i < m.ntrans → length out < 3
+  pub transition_no_room : (m : Node) (i : ℕ) (out : List ℕ) → j ≡ Ok m → i < m.ntrans → length out < 3
       → TransitionTold (node_at s v root a) i out out 0
   transition_no_room m i out e l short =
       let count = length_node_transitions s m (judged.readable m e) in
       let is_one = lt-ltb i (length (transitions_in s m)) (omega arith) in
       rw (is_sound m e) (record { answer = rw (is_one, lt-leb 3 (length out) short); buffer = rw is_one (front_short (transition_numbers (transition_at (transitions_in s m) i)) out short) })
 
-  pub transition_told : (m : Node) (i : ℕ) (t : Transition) (out₀ out : List ℕ) → j ≡ Sound m → i < m.ntrans → 3 ≤ length out₀
+  pub transition_told : (m : Node) (i : ℕ) (t : Transition) (out₀ out : List ℕ) → j ≡ Ok m → i < m.ntrans → 3 ≤ length out₀
       → t ≡ transition_at (transitions_in s m) i → out ≡ front (transition_numbers t) out₀ → TransitionTold (node_at s v root a) i out₀ out 1
   transition_told m i t out₀ out e l room is_t is =
       let count = length_node_transitions s m (judged.readable m e) in
       let is_one = lt-ltb i (length (transitions_in s m)) (omega arith) in
       rw (is_sound m e) (record { answer = rw (is_one, le-leb 3 (length out₀) room); buffer = rw is_one (is ∙ rw is_t) })
 
-  pub found_unsound : (b : ℕ) → j ≡ Unsound → 513 ≡ found_as (node_at s v root a) b
+  pub found_unsound : {u : Unsound} (b : ℕ) → j ≡ Err u → 513 ≡ found_as (node_at s v root a) b
   found_unsound b e = rw (is_unsound e)
 
-  pub found_absent : (m : Node) (b : ℕ) (f : Found) (p : ℕ) → j ≡ Sound m → f ≡ Missing p → search_is f ≡ find_input (transitions_in s m) b
+  pub found_absent : (m : Node) (b : ℕ) (f : Result ℕ ℕ) (p : ℕ) → j ≡ Ok m → f ≡ Err p → search_is f ≡ find_input (transitions_in s m) b
       → 256 + p ≡ found_as (node_at s v root a) b
   found_absent m b f p e none is = rw (is_sound m e) (ap place_number ((rw none at is)))
 
-  pub found_at : (m : Node) (b : ℕ) (f : Found) (i : ℕ) → j ≡ Sound m → f ≡ At i → search_is f ≡ find_input (transitions_in s m) b → i ≡ found_as (node_at s v root a) b
+  pub found_at : (m : Node) (b : ℕ) (f : Result ℕ ℕ) (i : ℕ) → j ≡ Ok m → f ≡ Ok i → search_is f ≡ find_input (transitions_in s m) b → i ≡ found_as (node_at s v root a) b
   found_at m b f i e one is = rw (is_sound m e) (ap place_number ((rw one at is)))

@@ -11,7 +11,6 @@ ghost use Rattle.format.specs.Packed.{packing};
 ghost use Rattle.node_compile.specs.Compile.{builder_with};
 ghost use Rattle.oracle_node.specs.NodeTells.{unpacked, flag_as, is_set, PackingTold, front, NodeTold, TransitionTold, found_as};
 
-use node::{Found, Judged};
 use node_compile::Compiled;
 
 // ---- stored numbers (src/bytes.rs)
@@ -142,7 +141,7 @@ pub extern "C" fn oracle_node(
     ensures { NodeTold (node_at file.now version root addr) out.old
         out.new result }
 {
-    let Judged::Sound(n) = node::node_at(file, version, root, addr) else {
+    let Ok(n) = node::node_at(file, version, root, addr) else {
         return 0;
     };
     let is_final = flag(n.is_final);
@@ -170,7 +169,7 @@ pub extern "C" fn oracle_transition(
     ensures { TransitionTold (node_at file.now version root addr) i
         out.old out.new result }
 {
-    let Judged::Sound(n) = node::node_at(file, version, root, addr) else {
+    let Ok(n) = node::node_at(file, version, root, addr) else {
         return 0;
     };
     if n.ntrans <= i {
@@ -196,12 +195,12 @@ pub extern "C" fn oracle_find_input(
 ) -> u64
     ensures { result ≡ found_as (node_at file.now version root addr) b }
 {
-    let Judged::Sound(n) = node::node_at(file, version, root, addr) else {
+    let Ok(n) = node::node_at(file, version, root, addr) else {
         return 513;
     };
     let found = node::find_input(file, n, b);
     match found {
-        Found::At(i) => i as u64,
-        Found::Absent(p) => 256 + (p as u64),
+        Ok(i) => i as u64,
+        Err(p) => 256 + (p as u64),
     }
 }

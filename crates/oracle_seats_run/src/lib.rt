@@ -185,45 +185,6 @@ fn event_of(
     event_with(other, other_table, bounds, event, seats, key)
 }
 
-// One event, whose answer goes to place i and whose row begins at at; none where one of them does not lie within what is lent.
-fn put_event(
-    file: &[u8],
-    table: &[u64],
-    other: &[u8],
-    other_table: &[u64],
-    bounds: &[u8],
-    event: [u64; 8],
-    seats: Seats,
-    i: usize,
-    answers: &mut [[u64; 4]],
-    at: usize,
-    next: usize,
-    rows: &mut [u8],
-) -> Seats {
-    if answers.len() <= i {
-        return seats;
-    }
-    if rows.len() < next {
-        return seats;
-    }
-    if next < at {
-        return seats;
-    }
-    let ran = event_of(
-        file,
-        table,
-        other,
-        other_table,
-        bounds,
-        event,
-        seats,
-        &mut rows[at..next],
-    );
-    let answer = ran.told;
-    answers[i] = answer;
-    ran.seats
-}
-
 // Runs the events one after the other from no readings, as far as there is room for answers and rows; how many were run.
 pub fn run_events(
     file: &[u8],
@@ -235,38 +196,25 @@ pub fn run_events(
     answers: &mut [[u64; 4]],
     rows: &mut [u8],
 ) -> u64 {
+    let count = events.len().min(answers.len()).min(rows.len() / ROW);
     let mut seats = seats::new();
-    let mut at = 0;
-    let mut i = 0;
-    while i < events.len() {
-        if answers.len() <= i {
-            return i as u64;
-        }
-        if rows.len() < ROW {
-            return i as u64;
-        }
-        if rows.len() - ROW < at {
-            return i as u64;
-        }
-        let here = i;
-        let event = events[here];
-        let next = at + ROW;
-        i += 1;
-        seats = put_event(
+    // by index: the events, the answers and the rows zipped are no chain that the borrow checker covers
+    for i in 0..count {
+        let at = i * ROW;
+        let row = &mut rows[at..at + ROW];
+        let ran = event_of(
             file,
             table,
             other,
             other_table,
             bounds,
-            event,
+            events[i],
             seats,
-            here,
-            answers,
-            at,
-            next,
-            rows,
+            row,
         );
-        at = next;
+        let answer = ran.told;
+        answers[i] = answer;
+        seats = ran.seats;
     }
-    i as u64
+    count as u64
 }

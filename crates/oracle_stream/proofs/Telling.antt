@@ -1,9 +1,9 @@
 -- What the exported functions tell, from what start and next answered.
 -- Assumes nothing.
 use mathlib.Core.Path.{◌≡◌, refl, sym, ap, ◌∙◌, subst}
-use mathlib.Core.Bool.{Bool, true, false}
+use mathlib.Core.Bool.{true, false}
 use mathlib.Core.List.{List, [], ◌∷◌}
-use Prim.Native.Nat.{ℕ, zero, suc, ◌+◌, ◌-◌, ◌≤◌, ◌<◌}
+use Prim.Native.Nat.{ℕ, suc, ◌+◌, ◌-◌, ◌≤◌, ◌<◌}
 use lib.ListN.{length}
 use native.Mathlib.Omega.{arith}
 use Rattle.reading.specs.Reading as R
@@ -11,19 +11,17 @@ use Rattle.reading.specs.Reading.{View, key, end, written}
 use Rattle.plain.specs.Plain as P
 use Rattle.stream_start.specs.declared.Bound.{Bound}
 use Rattle.stream_start.specs.declared.Started.{Started}
-use Rattle.stream_start.specs.declared.Begins.{Begins}
 use Rattle.stream_start.specs.declared.Begins.TheVariants.{Began, Refused as NotStarted}
 use Rattle.stream_step.specs.declared.Answer.{Answer}
 use Rattle.stream_step.specs.declared.Answer.TheVariants.{Key, End, Refused}
 use Rattle.stream_step.specs.declared.Step.{Step}
-use Rattle.stream.specs.declared.Plain.{Plain}
 use Rattle.stream.specs.declared.Started.{Started as Begun}
 use Rattle.stream.specs.declared.Step.{Step as PlainStep}
 use Rattle.stream_start.specs.Views.{bound_is, view_is, started_is, began_is}
 use Rattle.stream_step.specs.Stepped.{answer_as, Stepped}
 use Rattle.stream.specs.Plains.{plain_is, begun_is, PlainStepped}
 use Rattle.stream.specs.Plains as Plains
-use Rattle.stream_arrays.specs.Arrays.{kind_is, Held, held_plain, PlainPut}
+use Rattle.stream_arrays.specs.Arrays.{kind_is, Held, PlainPut}
 use Rattle.stream_arrays.specs.ArraysLaws.{plain_back, bounds_of}
 use Rattle.oracle_stream.specs.StreamTells.{StartTold, answer_number, answer_value, Told, NextTold}
 use Rattle.oracle_stream.specs.StreamTellsLaws.{number_is, value_is}
@@ -163,12 +161,12 @@ module _ {S : Type 0} (c : Calls S) (m : ℕ) {v₀ : S} {k₀ : List ℕ} (v : 
       record { answer = omega (arith, q); buffer = sym (buffer_left ∙ buffer_off c v st (m - (n + 1)) e) }
 
 pub reached_end : {S : Type 0} (c : Calls S) (m : ℕ) {v₀ : S} {k₀ : List ℕ} (v : S) {k : List ℕ} (n : ℕ) → m ≤ n → Reached c m v₀ k₀ v k n
-    → RunTold c m v₀ k₀ k n
+    → RunTold c m v₀ k₀ k m
 unfolding keys_by buffer_by
 reached_end c m {v₀} {k₀} v {k} n h r =
     let none : m - n ≡ 0 = omega (arith, h) in
     let q : keys_by c m v₀ k₀ ≡ n + 0 = r.keys ∙ ap (λ x. n + keys_by c x v k) none in
-    record { answer = omega (arith, q); buffer = sym (r.buffer ∙ ap (λ x. buffer_by c x v k) none) }
+    record { answer = omega (arith, h, q, r.at_most); buffer = sym (r.buffer ∙ ap (λ x. buffer_by c x v k) none) }
 
 module _ (m : ℕ) (f : List ℕ) {w : R.Started} (s : Started) (e : started_is s ≡ w) where
   pub bare_refused : (n : ℕ) (k : List ℕ) → s.answer ≡ NotStarted n → BareKeysTold m f w k k 0

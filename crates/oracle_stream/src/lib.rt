@@ -119,11 +119,7 @@ pub fn oracle_next(
 fn is_key(answer: Answer) -> bool
     ensures { result ≡ key_test answer }
 {
-    match answer {
-        Answer::Key(_, _) => true,
-        Answer::End => false,
-        Answer::Refused(_) => false,
-    }
+    matches!(answer, Answer::Key(..))
 }
 
 // How many calls hand out a key, from this reading on, up to the first that does not and at most so many.
@@ -132,17 +128,14 @@ fn keys_from(file: &[u8], plain: Plain, most: u64, key: &mut [u8]) -> u64
         key.new result }
 {
     let mut here = plain;
-    let mut n: u64 = 0;
-    while n < most {
+    for n in 0..most {
         let step = stream::next(file, here, key);
-        let answer = step.answer;
-        if is_key(answer) {} else {
+        if !is_key(step.answer) {
             return n;
         }
         here = step.plain;
-        n += 1;
     }
-    n
+    most
 }
 
 // How many calls after a start with this table hand out a key, up to the first that does not and at most so many; none where the start is
@@ -181,17 +174,14 @@ fn bare_keys_from(file: &[u8], reading: Reading, most: u64, key: &mut [u8]) -> u
         key.new result }
 {
     let mut here = reading;
-    let mut n: u64 = 0;
-    while n < most {
+    for n in 0..most {
         let step = stream_next::next(file, here, key);
-        let answer = step.answer;
-        if is_key(answer) {} else {
+        if !is_key(step.answer) {
             return n;
         }
         here = step.reading;
-        n += 1;
     }
-    n
+    most
 }
 
 // As oracle_keys, by readings without the number, which take no table.

@@ -9,7 +9,7 @@
 --     gone_none, gone_from, gone_open  the loop over the keys
 --     row_asked, row_given, row_next_is, record_next   the row of the node to be finished
 -- Assumes nothing.
-use Rattle.std.specs.Prelude.{◌≡◌, refl, Bool, true, false, cond, List, [], ◌∷◌, ℕ, zero, suc, ◌+◌, ◌-◌, ◌*◌, ◌/◌, ◌%◌, ◌≤◌, ◌<◌, eqb, length, get_or, take, drop, replicate}
+use Rattle.std.specs.Prelude.{◌≡◌, Option, None, refl, Bool, true, false, cond, List, [], ◌∷◌, ℕ, zero, suc, ◌+◌, ◌-◌, ◌*◌, ◌/◌, ◌%◌, ◌≤◌, ◌<◌, eqb, length, get_or, take, drop, replicate}
 use Rattle.std.proofs.Common.{sym, ap, ◌∙◌, subst, inl, arith, ne_eqb, length-take, get_or-take, get_or-drop}
 use Rattle.std.proofs.Math.Decide.{ℕ_discrete}
 use Rattle.std.proofs.lemmas.List.{length-replicate}
@@ -24,12 +24,10 @@ use Rattle.pack_intern.specs.Interning.{cells_is, build_is, InternIs}
 use Rattle.pack_intern.specs.declared.Placed.{Placed}
 use Rattle.pack_finish.specs.FinishRow.{row_node, Finishable}
 use Rattle.pack_finish.specs.LeastLaws.{from_each, from_value}
-use Rattle.pack_close.specs.declared.Closed.TheVariants as closed
 use Rattle.pack_close.specs.Closing.{closed_to, StepTo, JoinedAt, ClosesTo}
 use Rattle.pack_close.specs.ClosingLaws.{closing_none, closing_step, closing_full, closing_all, step_done, step_no_room}
 use Rattle.pack_insert.specs.Inserting.{CommonIs, Opened, state_of, Between}
 use Rattle.pack_insert.specs.InsertingLaws.{inserted, insert_done, insert_full}
-use Rattle.pack_keys.specs.declared.Built.TheVariants as built
 use Rattle.pack_keys.specs.AddKeys.{BuildsTo, Builds, Building}
 use Rattle.pack_keys.specs.AddKeysLaws.{cut_is, cut_length, cut_short, building_none, insertable, building_step, building_full, building_all}
 use Rattle.pack_run.specs.Running.{Blank, Runs}
@@ -133,7 +131,7 @@ module _ (cells : ℕ) (two : 2 ≤ cells) where
   whole_is s inputs leasts targets =
       ap (λ (x : State). insert_all x (pairs_of s)) (start_is zeros empties blank inputs leasts targets ∙ ap (λ (n : ℕ). start (replicate n empty_cell)) empties_length)
 
-  run_as : (s : List ℕ) {out : List ℕ} {table : List (List ℕ)} {r : Placed} → Runs (pack_nodes (pairs_of s) (length empties)) out table r → Runs (pack_nodes (pairs_of s) cells) out table r
+  run_as : (s : List ℕ) {out : List ℕ} {table : List (List ℕ)} {r : Option Placed} → Runs (pack_nodes (pairs_of s) (length empties)) out table r → Runs (pack_nodes (pairs_of s) cells) out table r
   run_as s {out} {table} {r} w = subst (λ (n : ℕ). Runs (pack_nodes (pairs_of s) n) out table r) empties_length w
 
 -- ---- a key opened, a node finished
@@ -210,7 +208,7 @@ module _ {s : List ℕ} {cells : ℕ} {out : List ℕ} {table : List (List ℕ)}
         elim (ℕ_discrete (count_in s - w.keys) 0) [
           | yes z ↦
               let m0 : w.to ≡ 0 = u.leaves.last (omega arith) in
-              let c₀ = subst (λ (m : ℕ). ClosesTo (closed_to (build_is u.out₀ u.next₀ u.table₀) u.T₀ m u.k) u.T₀ m out' table T closed.NoRoom) m0 c in
+              let c₀ = subst (λ (m : ℕ). ClosesTo (closed_to (build_is u.out₀ u.next₀ u.table₀) u.T₀ m u.k) u.T₀ m out' table T None) m0 c in
               (run_as cells two s (run_closed_full (zeros cells two) (empties cells two) (blank cells two) T.inputs T.leasts T.targets S.inputs_long S.leasts_long S.targets_long (pairs_of s) (all_open (omega arith)) c₀ refl)).full refl
           | no z ↦
               let l : w.keys < count_in s = omega arith in
@@ -218,7 +216,7 @@ module _ {s : List ℕ} {cells : ℕ} {out : List ℕ} {table : List (List ℕ)}
               let v : ℕ = value_at s w.keys in
               let short : length key < 256 = key_short s ok w.keys l in
               let I = insertable u.building ok l key refl short v refl in
-              let i = insert_full u.out₀ u.next₀ u.table₀ u.T₀ u.k key v I w.to (u.leaves.on l) out' table T T closed.NoRoom c refl in
+              let i = insert_full u.out₀ u.next₀ u.table₀ u.T₀ u.k key v I w.to (u.leaves.on l) out' table T T None c refl in
               let b = building_full u.building ok l key refl short v refl i refl in
               (run_as cells two s (run_full (zeros cells two) (empties cells two) (blank cells two) T.inputs T.leasts T.targets S.inputs_long S.leasts_long S.targets_long (pairs_of s) (builds b) refl)).full refl
         ]
@@ -241,7 +239,7 @@ module _ {s : List ℕ} {cells : ℕ} {out : List ℕ} {table : List (List ℕ)}
       root_asked =
           root_finishable (zeros cells two) (empties cells two) (blank cells two) T.inputs T.leasts T.targets S.inputs_long S.leasts_long S.targets_long (pairs_of s) (all_open none_left) joined_root
 
-      pub root_done : {out' : List ℕ} {table' : List (List ℕ)} {r : Placed} → InternIs (intern (build_is out next table) root_node) next out' table' r → Runs (pack_nodes (pairs_of s) cells) out' table' r
+      pub root_done : {out' : List ℕ} {table' : List (List ℕ)} {r : Option Placed} → InternIs (intern (build_is out next table) root_node) next out' table' r → Runs (pack_nodes (pairs_of s) cells) out' table' r
       root_done i =
           run_as cells two s (run_done (zeros cells two) (empties cells two) (blank cells two) T.inputs T.leasts T.targets S.inputs_long S.leasts_long S.targets_long (pairs_of s) (all_open none_left) joined_root i)
 

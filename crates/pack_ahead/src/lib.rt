@@ -80,8 +80,7 @@ pub fn ahead(
 {
     let mut depth = way.depth;
     let mut to = way.to;
-    let mut i = way.keys;
-    while i < n {
+    for i in way.keys..n {
         let finishes = to < depth;
         if finishes {
             return Way { depth, to, keys: i };
@@ -89,9 +88,8 @@ pub fn ahead(
         let more = open_one(list, n, i, to, counts, led, finals, values);
         depth = more.depth;
         to = more.to;
-        i += 1;
     }
-    Way { depth, to, keys: i }
+    Way { depth, to, keys: n }
 }
 
 // ---- the row of the node to be finished

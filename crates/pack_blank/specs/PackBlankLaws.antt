@@ -2,18 +2,18 @@
 --     answer_refused           a refusal
 --     full_answer, short_answer, over_answer, done_answer      the answers after the run
 -- Assumes nothing.
-use Rattle.std.specs.Prelude.{◌≡◌, Bool, true, false, cond, ◌&&◌, leb, take, drop}
+use Rattle.std.specs.Prelude.{◌≡◌, Option, None, Bool, true, false, ◌&&◌, leb, drop}
 use Rattle.std.proofs.Math.Path.{refl, ap, ap₂}
-use Rattle.std.proofs.Common.{sym, ◌∙◌, subst, arith, take_at, drop_at}
-use mathlib.Core.List.{List, [], ◌∷◌, ◌++◌, map, append_assoc}
+use Rattle.std.proofs.Common.{sym, ◌∙◌, arith, take_at}
+use mathlib.Core.List.{List, [], ◌∷◌, ◌++◌, append_assoc}
 use Prim.Native.Nat.{ℕ, zero, suc, ◌+◌, ◌-◌, ◌≤◌, ◌<◌}
-use borrow.Author.Tests.{le-leb, lt-leb, leb-true}
+use borrow.Author.Tests.{le-leb, leb-true}
 use Rattle.std.proofs.Math.ListN.{length, replicate, length-append}
 use Rattle.std.proofs.lemmas.List.{length-replicate}
 use Rattle.std.proofs.Math.Seq.{drop-append-add}
 use Rattle.buffers.specs.Put.{put}
 use Rattle.buffers.specs.PutLaws.{put_zero}
-use Rattle.buffers.specs.DecideLaws.{true_of, false_of}
+use Rattle.buffers.specs.DecideLaws.{true_of}
 use Rattle.format.specs.Limits.{LARGE, SPACE}
 use Rattle.format.specs.Bytes.{bytes_of}
 use Rattle.format.specs.Laws.BytesLaws.{length_bytes_of}
@@ -23,10 +23,9 @@ use Rattle.packing.specs.Packing.{pack_nodes, file_of, pack_file, pack_cells, An
 use Rattle.packing.proofs.ListLaws.{decides_list, length_pairs}
 use Rattle.packing.proofs.ListedLaws.{answer_room, answer_over}
 use Rattle.packing.proofs.TrailerLaws.{length_file}
-use Rattle.pack_intern.specs.Interning.{nodes_in, cell_of, cells_is, build_is, Laid, interned_with}
+use Rattle.pack_intern.specs.Interning.{nodes_in, cells_is}
 use Rattle.pack_intern.specs.InterningLaws.{nodes_length, laid_is}
 use Rattle.pack_intern.specs.declared.Placed.{Placed}
-use Rattle.pack_intern.specs.declared.Placed.TheVariants.{At, Full}
 use Rattle.pack_run.specs.Running.{Blank, RunAt, Runs}
 use Rattle.pack_blank.specs.declared.Packed.{Packed}
 use Rattle.pack_blank.specs.declared.Packed.TheVariants.{Len, Refused}
@@ -126,7 +125,7 @@ module _ (limit : ℕ) (s : List ℕ) (tables : Bool) (n room : ℕ) (ok : IsLis
   pub small_answer : room < 32 → (out : List ℕ) (cells : List (List ℕ)) → Answers A out cells (Refused SPACE)
   small_answer h out cells = answer_refused (answer_room limit s tables n room ok fit two (omega (arith, size))) out cells
 
-  pub full_answer : {out : List ℕ} {cells : List (List ℕ)} {r : Placed} → Runs R out cells r → r ≡ Full → length out ≡ room → Answers A out cells (Refused SPACE)
+  pub full_answer : {out : List ℕ} {cells : List (List ℕ)} {r : Option Placed} → Runs R out cells r → r ≡ None → length out ≡ room → Answers A out cells (Refused SPACE)
   full_answer {out} {cells} w e len = answer_refused (answer_room limit s tables n room ok fit two (omega (arith, size, w.full e))) out cells
 
   module _ {out : List ℕ} {cells : List (List ℕ)} {a next : ℕ} (w : RunAt R out cells a next) (len : length out ≡ room) where

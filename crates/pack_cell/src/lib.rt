@@ -46,11 +46,7 @@ pub fn promote(cells: &mut [Cell], i: usize)
 fn fill_cells(cells: &mut [Cell], c: Cell)
     ensures { cells.new ≡ replicate (length cells.old) c }
 {
-    let mut at = 0;
-    while at < cells.len() {
-        cells[at] = c;
-        at += 1;
-    }
+    cells.fill(c);
 }
 
 // An empty cell.

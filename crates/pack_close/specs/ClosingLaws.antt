@@ -3,23 +3,20 @@
 --     step_at, step_full   the deepest node is finished, or has no room
 --     closing_none, -step, -full, -all     the loop that closes down to a depth
 -- Assumes nothing.
-use Rattle.std.specs.Prelude.{◌≡◌, refl, Bool, true, false, cond, ◌⊎◌, List, [], ◌∷◌, ◌++◌, map, ℕ, zero, suc, ◌+◌, ◌-◌, ◌*◌, ◌≤◌, ◌<◌, length, get_or, take, drop, set}
-use Rattle.std.proofs.Common.{sym, ap₂, ◌∙◌, subst, inl, inr, arith, length-append, get_or-take, get_or-drop}
+use Rattle.std.specs.Prelude.{◌≡◌, Option, None, Some, refl, false, List, ℕ, suc, ◌+◌, ◌-◌, ◌*◌, ◌≤◌, ◌<◌, length, get_or, drop, set}
+use Rattle.std.proofs.Common.{sym, ◌∙◌, subst, arith, length-append, get_or-take, get_or-drop}
 use Rattle.std.proofs.Math.Path.{ap}
 use Rattle.format.specs.Packed.{BuilderNode}
 use Rattle.node_compile.specs.Parts.{RecordFits}
-use Rattle.packing.specs.Registry.{Build, Interned, intern}
-use Rattle.packing.specs.Packing.{Arc, Open, least_at, record_of, with_arc, finish, closed_as}
-use Rattle.packing.proofs.CloseLaws.{Grows}
-use Rattle.packing_rows.specs.WorkTables.{Tables, tables_with, row_in, arc_with, count_at, open_at, levels, least_from, Joined, joined, close_into, Sized, Orderly, SameAbove}
-use Rattle.packing_rows.specs.OpenLaws.{closed_with, close_deepest, close_into_grows, finish_into_grows}
+use Rattle.packing.specs.Registry.{Build, intern}
+use Rattle.packing.specs.Packing.{Open, least_at, record_of, with_arc, finish, closed_as}
+use Rattle.packing_rows.specs.WorkTables.{Tables, tables_with, row_in, arc_with, count_at, open_at, levels, least_from, Joined, close_into, Sized, Orderly, SameAbove}
+use Rattle.packing_rows.specs.OpenLaws.{closed_with, close_deepest, finish_into_grows}
 use Rattle.packing_rows.specs.WorkTableLaws.{length_row, open_least, record_row, open_same, with_entry, open_more, same_more, sized_more, room_for_one, orderly_more}
-use Rattle.pack_intern.specs.Interning.{build_is, Ready, interned_with, AtIs}
-use Rattle.pack_close.specs.declared.Closed.{Closed}
-use Rattle.pack_close.specs.declared.Closed.TheVariants.{Done, NoRoom}
-use Rattle.pack_finish.specs.FinishRow.{Lessened, AllAtLeast, row_node, Finishable}
+use Rattle.pack_intern.specs.Interning.{build_is, AtIs}
+use Rattle.pack_finish.specs.FinishRow.{Lessened, row_node, Finishable}
 use Rattle.pack_close.specs.Closing.{Closable, closed_to, StepTo, StepIs, JoinedAt, ClosesTo, ClosingTo}
-use Rattle.pack_finish.specs.LeastLaws.{from_each, from_value, length_less, lessened_row, lessened_above}
+use Rattle.pack_finish.specs.LeastLaws.{from_each, from_value, length_less, lessened_above}
 
 -- ---- the deepest node
 
@@ -178,19 +175,16 @@ module _ (out : List ℕ) (first : ℕ) (cells : List (List ℕ)) (T : Tables) (
         → StepTo B first T e out' cells' (tables_with inputs'' leasts'' targets'' counts'' T.led T.finals T.values) next
     step_at inputs'' leasts'' targets'' counts'' p q r t = rw (p, q, r, t) step_two
 
-done_not : {n : ℕ} → ¬ (◌≡◌ {A = Closed} (Done n) NoRoom)
-done_not e = let z : ◌≡◌ {A = ℕ} 0 1 = cc in omega arith
-
 pub step_done : {B : Build} {first : ℕ} {T : Tables} {e : ℕ} {out : List ℕ} {cells : List (List ℕ)} {T' : Tables} {next : ℕ} → StepTo B first T e out cells T' next
-    → StepIs B first T e out cells T' (Done next)
+    → StepIs B first T e out cells T' (Some next)
 step_done {B} {first} {T} {e} {out} {cells} {T'} {next} s = record {
   at = λ k z. let p : next ≡ k = cc in subst (λ (x : ℕ). StepTo B first T e out cells T' x) p s;
-  full = λ z. absurd (done_not z);
+  full = λ z. cc;
 }
 
 pub step_no_room : {B : Build} {first : ℕ} {T : Tables} {e : ℕ} {out : List ℕ} {cells : List (List ℕ)} {T' : Tables}
-    → ((m : ℕ) → m ≤ e → length out < 16 + length (closed_to B T m (e + 1)).build.nodes) → StepIs B first T e out cells T' NoRoom
-step_no_room f = record { at = λ k z. absurd (done_not (sym z)); full = λ z. f }
+    → ((m : ℕ) → m ≤ e → length out < 16 + length (closed_to B T m (e + 1)).build.nodes) → StepIs B first T e out cells T' None
+step_no_room f = record { at = λ k z. cc; full = λ z. f }
 
 -- ---- the loop
 
@@ -199,22 +193,22 @@ pub closing_none : (out : List ℕ) (first : ℕ) (cells : List (List ℕ)) (T :
 closing_none out first cells T k m C le = record { is = refl; same = λ j l. refl; closable = C; low = le }
 
 pub closing_step : {J : Joined} {T₀ : Tables} {m : ℕ} {out : List ℕ} {cells : List (List ℕ)} {T : Tables} {next d e : ℕ} → ClosingTo J T₀ m out cells T next d → d ≡ e + 1 → m ≤ e
-    → {out' : List ℕ} {cells' : List (List ℕ)} {T' : Tables} {r : Closed} {after : ℕ} → StepIs (build_is out next cells) next T e out' cells' T' r → r ≡ Done after
+    → {out' : List ℕ} {cells' : List (List ℕ)} {T' : Tables} {r : Option ℕ} {after : ℕ} → StepIs (build_is out next cells) next T e out' cells' T' r → r ≡ Some after
     → ClosingTo J T₀ m out' cells' T' after e
 closing_step {m = m} {out} {cells} {T} {next} {d} {e} c de le s z =
     let t = s.at _ z in
     record { is = c.is ∙ ap (closed_to (build_is out next cells) T m) de ∙ t.is m le; same = λ j l. t.same j (omega arith) ∙ c.same j l; closable = t.closable; low = le }
 
 pub closing_full : {J : Joined} {T₀ : Tables} {m : ℕ} {out : List ℕ} {cells : List (List ℕ)} {T : Tables} {next d e : ℕ} → ClosingTo J T₀ m out cells T next d → d ≡ e + 1 → m ≤ e
-    → {out' : List ℕ} {cells' : List (List ℕ)} {T' : Tables} {r : Closed} → StepIs (build_is out next cells) next T e out' cells' T' r → r ≡ NoRoom
-    → ClosesTo J T₀ m out' cells' T' NoRoom
+    → {out' : List ℕ} {cells' : List (List ℕ)} {T' : Tables} {r : Option ℕ} → StepIs (build_is out next cells) next T e out' cells' T' r → r ≡ None
+    → ClosesTo J T₀ m out' cells' T' None
 closing_full {m = m} {out} {cells} {T} {next} c de le s z = record {
-  at = λ k q. absurd (done_not (sym q));
+  at = λ k q. cc;
   full = λ q. omega (arith, s.full z m le, ap (λ (j : Joined). length j.build.nodes) (c.is ∙ ap (closed_to (build_is out next cells) T m) de));
 }
 
 pub closing_all : {J : Joined} {T₀ : Tables} {m : ℕ} {out : List ℕ} {cells : List (List ℕ)} {T : Tables} {next e : ℕ} → ClosingTo J T₀ m out cells T next e → e ≤ m
-    → ClosesTo J T₀ m out cells T (Done next)
+    → ClosesTo J T₀ m out cells T (Some next)
 unfolding levels
 closing_all {J} {T₀} {m} {out} {cells} {T} {next} {e} c le =
     let z : e ≡ m = omega (arith, c.low) in
@@ -226,5 +220,5 @@ closing_all {J} {T₀} {m} {out} {cells} {T} {next} {e} c le =
     } in
     record {
       at = λ k q. let p : next ≡ k = cc in subst (λ (x : ℕ). JoinedAt J T₀ m out cells T x) p w;
-      full = λ q. absurd (done_not q);
+      full = λ q. cc;
     }

@@ -8,16 +8,7 @@ ghost use Rattle.packing_rows.specs.WorkTables.{tables_with};
 ghost use Rattle.pack_intern.specs.Interning.{build_is};
 ghost use Rattle.pack_close.specs.Closing.{Closable, StepIs, closed_to, ClosesTo};
 
-use pack_intern::Placed;
-
-// How finishing open nodes ends.
-#[derive(Clone, Copy)]
-pub enum Closed {
-    // the place past the nodes
-    Done(usize),
-    // the output has no room
-    NoRoom,
-}
+// Finishing open nodes gives the place past the nodes, or nothing where the output has no room.
 
 // ---- one node
 
@@ -59,7 +50,7 @@ fn close_one(
     led: &[u8; 256],
     finals: &[bool; 256],
     values: &[u64; 256],
-) -> Closed
+) -> Option<usize>
     requires { Closable output.old first cells.old
         (tables_with inputs.old leasts.old targets.old counts.old led.now finals.now values.now) (e + 1) }
     ensures { StepIs (build_is output.old first cells.old) first
@@ -76,16 +67,11 @@ fn close_one(
     let value = values[d];
     let input = led[d];
     let base = pack_finish::least_in(is_final, value, &leasts[at..end]);
-    let done = pack_finish::finish_row(
+    let placed = pack_finish::finish_row(
         output, cells, first, d, n, base, is_final, value, inputs, leasts, targets,
-    );
-    match done {
-        Placed::At(addr, next) => {
-            add_arc(inputs, leasts, targets, counts, e, input, base, addr);
-            Closed::Done(next)
-        }
-        Placed::Full => Closed::NoRoom,
-    }
+    )?;
+    add_arc(inputs, leasts, targets, counts, e, input, base, placed.addr);
+    Some(placed.next)
 }
 
 // ---- down to a depth
@@ -104,7 +90,7 @@ pub fn close_to(
     led: &[u8; 256],
     finals: &[bool; 256],
     values: &[u64; 256],
-) -> Closed
+) -> Option<usize>
     requires { Closable output.old first cells.old
         (tables_with inputs.old leasts.old targets.old counts.old led.now finals.now values.now) k × (m ≤ k) }
     ensures { ClosesTo (closed_to (build_is output.old first cells.old)
@@ -116,16 +102,10 @@ pub fn close_to(
         result }
 {
     let mut next = first;
-    let mut e = k;
-    while m < e {
-        e -= 1;
-        let done = close_one(
+    for e in (m..k).rev() {
+        next = close_one(
             output, cells, next, e, inputs, leasts, targets, counts, led, finals, values,
-        );
-        let Closed::Done(after) = done else {
-            return Closed::NoRoom;
-        };
-        next = after;
+        )?;
     }
-    Closed::Done(next)
+    Some(next)
 }

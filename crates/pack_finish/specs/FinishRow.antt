@@ -15,7 +15,11 @@ pub record Lessened (d₀ d : List ℕ) (at n base : ℕ) : Type 0 where
   pub done : (j : ℕ) → at ≤ j → j < at + n → get_or d j 0 ≡ get_or d₀ j 0 - base
   pub rest : (j : ℕ) → (j < at) ⊎ (at + n ≤ j) → get_or d j 0 ≡ get_or d₀ j 0
 
--- what subtracting asks
+-- no number is less than base
+pub record EachAtLeast (base : ℕ) (numbers : List ℕ) : Type 0 where
+  pub high : (j : ℕ) → j < length numbers → base ≤ get_or numbers j 0
+
+-- nor is one of the n numbers from place at on
 pub record AllAtLeast (base : ℕ) (d : List ℕ) (at n : ℕ) : Type 0 where
   pub within : at + n ≤ length d
   pub high : (j : ℕ) → at ≤ j → j < at + n → base ≤ get_or d j 0

@@ -2,9 +2,12 @@
 --     from_each, from_value    a least value is below each
 --     lessened_none, -step     a loop that subtracts
 --     lessened_row, -above     a row after it; the rows above
+--     lessened_all, -part      the whole of a list; a part of one
 -- Assumes nothing.
-use Rattle.std.specs.Prelude.{◌≡◌, refl, Bool, true, false, cond, ◌⊎◌, List, [], ◌∷◌, map, ℕ, zero, suc, ◌+◌, ◌-◌, ◌*◌, ◌≤◌, ◌<◌, min, length, get_or, take, drop, set}
-use Rattle.std.proofs.Common.{sym, ap, ◌∙◌, subst, inl, inr, ⊎_elim, arith, length-set, length-drop, length-take-le, get_or-set_same, get_or-set_other, get_or-take, get_or-drop, ext_get_or, drop-cons}
+use Rattle.std.specs.Prelude.{◌≡◌, refl, Bool, true, false, List, [], ◌∷◌, ◌++◌, map, ℕ, zero, suc, ◌+◌, ◌-◌, ◌*◌, ◌≤◌, ◌<◌, min, length, get_or, take, drop, set}
+use Rattle.std.proofs.Common.{sym, ap, ◌∙◌, subst, inl, inr, ⊎_elim, arith, take_all, length-append, length-set, length-drop, length-take-le, get_or-set_same, get_or-set_other, get_or-take, get_or-drop, ext_get_or}
+use Rattle.std.proofs.lemmas.List.{length-map, get_or-map, get_or_append_left, get_or-append_right}
+use Rattle.std.specs.List.{fold}
 use Rattle.std.proofs.Math.Decide.{ℕ_discrete}
 use Rattle.packing_rows.specs.WorkTables.{row_in, least_num, least_from}
 use Rattle.packing_rows.specs.WorkTableLaws.{length_row}
@@ -33,31 +36,10 @@ pub from_value : (final : Bool) (v : ℕ) (ms : List ℕ) → final ≡ true →
 from_value true v ms e = num_le ms v
 from_value false v ms e = absurd (let z : ◌≡◌ {A = ℕ} 0 1 = cc in omega arith)
 
--- one number more
-pub num_step : (ms : List ℕ) (i v : ℕ) → i < length ms → least_num (drop i ms) v ≡ least_num (drop (i + 1) ms) (min v (get_or ms i 0))
+pub num_fold : (ms : List ℕ) (v : ℕ) → fold min v ms ≡ least_num ms v
 unfolding least_num
-num_step ms i v l = let e : i + 1 ≡ suc i = omega arith in rw (drop-cons ms i 0 l, e)
-
-pub num_end : (ms : List ℕ) (i v : ℕ) → length ms ≤ i → least_num (drop i ms) v ≡ v
-unfolding least_num
-num_end [] zero v l = refl
-num_end [] (suc i) v l = refl
-num_end (m ∷ ms) zero v l = absurd (omega arith)
-num_end (m ∷ ms) (suc i) v l = num_end ms i v (omega arith)
-
-pub from_final : (final : Bool) (v : ℕ) (ms : List ℕ) → final ≡ true → least_num (drop 0 ms) v ≡ least_from final v ms
-from_final true v ms e = refl
-from_final false v ms e = absurd (let z : ◌≡◌ {A = ℕ} 0 1 = cc in omega arith)
-
-pub from_none : (final : Bool) (v : ℕ) (ms : List ℕ) → final ≡ false → length ms ≡ 0 → 0 ≡ least_from final v ms
-from_none true v ms e l = absurd (let z : ◌≡◌ {A = ℕ} 0 1 = cc in omega arith)
-from_none false v [] e l = refl
-from_none false v (m ∷ ms) e l = absurd (omega arith)
-
-pub from_some : (final : Bool) (v : ℕ) (ms : List ℕ) → final ≡ false → ¬ (length ms ≡ 0) → least_num (drop 1 ms) (get_or ms 0 0) ≡ least_from final v ms
-from_some true v ms e l = absurd (let z : ◌≡◌ {A = ℕ} 0 1 = cc in omega arith)
-from_some false v [] e l = absurd (l refl)
-from_some false v (m ∷ ms) e l = refl
+num_fold [] v = refl
+num_fold (m ∷ ms) v = num_fold ms (min v m)
 
 -- ---- a row loses a number
 
@@ -81,17 +63,8 @@ lessened_step {d₀} {d} {at} {i} {base} s l = record {
 get_d_row : (t : List ℕ) (d n i : ℕ) → i < n → get_or (row_in t d n) i 0 ≡ get_or t (256 * d + i) 0
 get_d_row t d n i l = get_or-take n (drop (256 * d) t) i 0 l ∙ get_or-drop (256 * d) t i 0
 
-get_d_map : (f : ℕ → ℕ) (l : List ℕ) (i : ℕ) → i < length l → get_or (map f l) i 0 ≡ f (get_or l i 0)
-get_d_map f [] i h = absurd (omega arith)
-get_d_map f (x ∷ l) zero h = refl
-get_d_map f (x ∷ l) (suc i) h = get_d_map f l i (omega arith)
-
-length-map : (f : ℕ → ℕ) (l : List ℕ) → length (map f l) ≡ length l
-length-map f [] = refl
-length-map f (x ∷ l) = ap suc (length-map f l)
-
 pub length_less : (base : ℕ) (l : List ℕ) → length (map (λ (m : ℕ). m - base) l) ≡ length l
-length_less base l = length-map (λ (m : ℕ). m - base) l
+length_less base l = length-map l (λ (m : ℕ). m - base)
 
 pub lessened_row : {d₀ d : List ℕ} {n base : ℕ} (k : ℕ) → Lessened d₀ d (256 * k) n base → 256 * k + n ≤ length d₀
     → row_in d k n ≡ map (λ (m : ℕ). m - base) (row_in d₀ k n)
@@ -101,7 +74,7 @@ lessened_row {d₀} {d} {n} {base} k s room =
     ext_get_or 0 (row_in d k n) (map (λ (m : ℕ). m - base) (row_in d₀ k n)) (l ∙ sym (length_less base (row_in d₀ k n) ∙ l₀))
     (λ i h.
     get_d_row d k n i (omega (arith, l)) ∙ s.done (256 * k + i) (omega arith) (omega (arith, l)) ∙ ap (λ (x : ℕ). x - base) (sym (get_d_row d₀ k n i (omega (arith, l))))
-    ∙ sym (get_d_map (λ (m : ℕ). m - base) (row_in d₀ k n) i (omega (arith, l, l₀))))
+    ∙ sym (get_or-map (λ (m : ℕ). m - base) (row_in d₀ k n) i 0 0 (omega (arith, l, l₀))))
 
 pub lessened_above : {d₀ d : List ℕ} {at n base : ℕ} → Lessened d₀ d at n base → at ≤ length d₀ → (k : ℕ) → k ≤ at → take k d ≡ take k d₀
 lessened_above {d₀} {d} {at} {n} {base} s room k le =
@@ -109,3 +82,33 @@ lessened_above {d₀} {d} {at} {n} {base} s room k le =
     let l = length-take-le k d (omega (arith, s.long)) in
     ext_get_or 0 (take k d) (take k d₀) (l ∙ sym l₀)
     (λ i h. get_or-take k d i 0 (omega (arith, l)) ∙ s.rest i (inl (omega (arith, l))) ∙ sym (get_or-take k d₀ i 0 (omega (arith, l))))
+
+-- the whole of it
+pub lessened_all : {d₀ d : List ℕ} {n base : ℕ} → n ≡ length d₀ → Lessened d₀ d 0 n base → d ≡ map (λ (m : ℕ). m - base) d₀
+lessened_all {d₀} {d} {n} {base} e s =
+    sym (take_all n d (omega (arith, s.long))) ∙ lessened_row 0 s (omega arith) ∙ ap (map (λ (m : ℕ). m - base)) (take_all n d₀ (omega arith))
+
+-- a part of it, n' being the length by its ends
+pub lessened_part : (d₀ part : List ℕ) (at n n' base : ℕ) → n' ≡ n → at + n ≤ length d₀ → part ≡ map (λ (m : ℕ). m - base) (take n' (drop at d₀))
+    → Lessened d₀ (take at d₀ ++ (part ++ drop n' (drop at d₀))) at n base
+lessened_part d₀ part at n n' base e room is =
+    let front : length (take at d₀) ≡ at = length-take-le at d₀ (omega arith) in
+    let back : length (drop at d₀) ≡ length d₀ - at = length-drop at d₀ in
+    let middle : length part ≡ n = ap length is ∙ length_less base (take n' (drop at d₀)) ∙ length-take-le n' (drop at d₀) (omega arith) ∙ e in
+    record {
+      long = length-append (take at d₀) (part ++ drop n' (drop at d₀)) ∙ (omega (arith, length-append part (drop n' (drop at d₀)), length-drop n' (drop at d₀)));
+      done = λ j low high.
+          let place : at + (j - at) ≡ j = omega arith in
+          get_or-append_right (take at d₀) (part ++ drop n' (drop at d₀)) at j 0 front low
+          ∙ get_or_append_left part (drop n' (drop at d₀)) 0 (j - at) (omega arith)
+          ∙ ap (λ (l : List ℕ). get_or l (j - at) 0) is
+          ∙ get_or-map (λ (m : ℕ). m - base) (take n' (drop at d₀)) (j - at) 0 0 (omega (arith, length-take-le n' (drop at d₀) (omega arith)))
+          ∙ ap (λ (x : ℕ). x - base) (get_or-take n' (drop at d₀) (j - at) 0 (omega arith) ∙ get_or-drop at d₀ (j - at) 0 ∙ ap (λ (i : ℕ). get_or d₀ i 0) place);
+      rest = λ j.
+          ⊎_elim (λ l. get_or_append_left (take at d₀) (part ++ drop n' (drop at d₀)) 0 j (omega arith) ∙ get_or-take at d₀ j 0 l)
+          (λ h.
+          let place : at + (n' + (j - at - n)) ≡ j = omega arith in
+          get_or-append_right (take at d₀) (part ++ drop n' (drop at d₀)) at j 0 front (omega arith)
+          ∙ get_or-append_right part (drop n' (drop at d₀)) n (j - at) 0 middle (omega arith)
+          ∙ get_or-drop n' (drop at d₀) (j - at - n) 0 ∙ get_or-drop at d₀ (n' + (j - at - n)) 0 ∙ ap (λ (i : ℕ). get_or d₀ i 0) place);
+    }

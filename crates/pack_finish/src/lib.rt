@@ -2,34 +2,21 @@
 // Row d of the three tables, 256 entries from 256 d on, has the finished transitions of the open node at depth d.
 #![tactic(auto)]
 
-ghost use Rattle.std.specs.Prelude.{◌≡◌, true, cond, ◌-◌, ◌*◌, ◌≤◌, min, drop};
+ghost use Rattle.std.specs.Prelude.{◌≡◌, true, cond, map, ℕ, ◌-◌, ◌*◌, ◌≤◌};
 ghost use Rattle.packing.specs.Registry.{intern};
 ghost use Rattle.packing_rows.specs.WorkTables.{least_num, least_from};
 ghost use Rattle.pack_intern.specs.Interning.{build_is, InternIs};
-ghost use Rattle.pack_finish.specs.FinishRow.{Lessened, AllAtLeast, row_node, Finishable};
+ghost use Rattle.pack_finish.specs.FinishRow.{Lessened, EachAtLeast, row_node, Finishable};
 
 use pack_intern::Placed;
 
 // ---- least values
 
-// The smaller of two numbers.
-fn smaller(a: u64, b: u64) -> u64
-    ensures { result ≡ min a b }
+// The least of v and the numbers.
+fn least_num(numbers: &[u64], v: u64) -> u64
+    ensures { result ≡ least_num numbers.now v }
 {
-    if a < b { a } else { b }
-}
-
-// The least of v and the numbers from place from on.
-fn least_from(leasts: &[u64], from: usize, v: u64) -> u64
-    ensures { result ≡ least_num (drop from leasts.now) v }
-{
-    let mut least = v;
-    let mut i = from;
-    while i < leasts.len() {
-        least = smaller(least, leasts[i]);
-        i += 1;
-    }
-    least
+    numbers.iter().fold(v, |least, number| least.min(*number))
 }
 
 // The least value of the keys at a node: its own where a key ends there, and those of its transitions; 0 where there is none.
@@ -37,28 +24,26 @@ pub fn least_in(is_final: bool, value: u64, leasts: &[u64]) -> u64
     ensures { result ≡ least_from is_final value leasts.now }
 {
     if is_final {
-        return least_from(leasts, 0, value);
+        return least_num(leasts, value);
     }
-    if leasts.len() == 0 {
-        return 0;
+    match leasts.split_first() {
+        Some((first, rest)) => least_num(rest, *first),
+        None => 0,
     }
-    least_from(leasts, 1, leasts[0])
 }
 
-// Takes base from the n numbers from place at on.
-fn subtract(leasts: &mut [u64], at: usize, n: usize, base: u64)
-    requires { AllAtLeast base leasts.old at n }
-    ensures { Lessened leasts.old leasts.new at n base }
+// Takes base from every number.
+fn subtract(numbers: &mut [u64], base: u64)
+    requires { EachAtLeast base numbers.old }
+    ensures { numbers.new ≡ map (λ (m : ℕ). m - base) numbers.old }
 {
-    let mut i = 0;
-    while i < n {
-        leasts[at + i] = leasts[at + i] - base;
-        i += 1;
+    for number in numbers.iter_mut() {
+        *number -= base;
     }
 }
 
 // The final output of a node whose outputs are counted from base.
-fn final_out(is_final: bool, value: u64, base: u64) -> u64
+pub fn final_out(is_final: bool, value: u64, base: u64) -> u64
     requires { is_final ≡ true → base ≤ value }
     ensures { result ≡ cond is_final (value - base) 0 }
 {
@@ -80,7 +65,7 @@ pub fn finish_row(
     inputs: &[u8],
     leasts: &mut [u64],
     targets: &[usize],
-) -> Placed
+) -> Option<Placed>
     requires { Finishable output.old first cells.old is_final value inputs.now leasts.old targets.now d n base }
     ensures less { Lessened leasts.old leasts.new (256 * d) n base }
     ensures interned { InternIs
@@ -90,7 +75,7 @@ pub fn finish_row(
 {
     let at = 256 * d;
     let end = at + n;
-    subtract(leasts, at, n, base);
+    subtract(&mut leasts[at..end], base);
     let final_output = final_out(is_final, value, base);
     pack_intern::intern(
         output,

@@ -5,15 +5,13 @@
 --     state_of B T k            the definition's state
 --     Insertable, Inserts      what adding a key asks, and what it leaves
 -- Assumes nothing.
-use Rattle.std.specs.Prelude.{◌≡◌, Bool, true, false, ◌⊎◌, List, [], ℕ, ◌+◌, ◌-◌, ◌≤◌, ◌<◌, length, get_or, take, drop}
+use Rattle.std.specs.Prelude.{◌≡◌, Option, None, Some, Bool, true, false, ◌⊎◌, List, [], ℕ, ◌+◌, ◌-◌, ◌≤◌, ◌<◌, length, get_or, take, drop}
 use Rattle.format.specs.Strings.{Before}
 use Rattle.packing.specs.Registry.{Build}
 use Rattle.packing.specs.Packing.{State, state_with}
 use Rattle.packing_rows.specs.WorkTables.{Tables, count_at, open_at, levels}
 use Rattle.pack_intern.specs.Interning.{build_is}
 use Rattle.pack_close.specs.Closing.{Closable}
-use Rattle.pack_close.specs.declared.Closed.{Closed}
-use Rattle.pack_close.specs.declared.Closed.TheVariants.{Done, NoRoom}
 
 pub record CommonIs (key led : List ℕ) (k m : ℕ) : Type 0 where
   pub low : m ≤ k
@@ -74,6 +72,6 @@ pub record InsertedAt (t : State) (key : List ℕ) (out : List ℕ) (cells : Lis
   pub between : Between out next cells T (length key)
   pub last : last_key T.led (length key) ≡ key
 
-pub record Inserts (t : State) (key : List ℕ) (out : List ℕ) (cells : List (List ℕ)) (T : Tables) (r : Closed) : Type 0 where
-  pub at : (next : ℕ) → r ≡ Done next → InsertedAt t key out cells T next
-  pub full : r ≡ NoRoom → length out < 16 + length t.build.nodes
+pub record Inserts (t : State) (key : List ℕ) (out : List ℕ) (cells : List (List ℕ)) (T : Tables) (r : Option ℕ) : Type 0 where
+  pub at : (next : ℕ) → r ≡ Some next → InsertedAt t key out cells T next
+  pub full : r ≡ None → length out < 16 + length t.build.nodes

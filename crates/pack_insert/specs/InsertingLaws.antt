@@ -1,12 +1,11 @@
 -- Laws of a key more: from the tables to the definition's `insert`.
 --     insert_done, insert_full     what adding a key leaves
 -- Assumes nothing.
-use Prim.{Unit}
-use Rattle.std.specs.Prelude.{◌≡◌, refl, Bool, true, cond, ◌⊎◌, eqb, length, take, drop}
+use Rattle.std.specs.Prelude as std
+use Rattle.std.specs.Prelude.{◌≡◌, None, Some, refl, Bool, true, cond, ◌⊎◌, eqb, length, take, drop}
 use Rattle.std.proofs.Math.Path.{sym, ap, ap₂, subst}
 use Rattle.std.proofs.Common.{◌∙◌, inl, inr, ⊎_elim, suc-add, length-append, length-drop, length-take-le, get_or-take, get_or-drop, ext_get_or}
 use Rattle.std.proofs.Math.Bool.{false}
-use Rattle.std.proofs.Math.Option.{Option, none, some}
 use mathlib.Core.List.{List, [], ◌∷◌, ◌++◌, map}
 use Prim.Native.Nat.{ℕ, zero, suc, ◌+◌, ◌-◌, ◌*◌, ◌≤◌, ◌<◌}
 use Rattle.std.proofs.Math.Decide.{ℕ_discrete}
@@ -15,19 +14,15 @@ use borrow.Author.Tests.{eq-eqb, ne_eqb}
 use Rattle.std.proofs.Math.ListN.{get_or}
 use Rattle.format.specs.Node.{Ascending}
 use Rattle.format.specs.Packed.{TargetsOk}
-use Rattle.format.specs.Strings.{Before}
 use Rattle.packing.specs.Registry.{Build}
-use Rattle.packing.specs.Packing.{Arc, Open, with_arc, with_value, close, State, state_with, insert}
-use Rattle.packing.proofs.CloseLaws.{Grows}
+use Rattle.packing.specs.Packing.{Arc, Open, with_value, close, State, state_with, insert}
 use Rattle.packing.proofs.InsertLaws.{insert_grows}
-use Rattle.packing_rows.specs.WorkTables.{Tables, row_in, zip_arcs, count_at, open_at, levels, Joined, joined, join, close_into, Sized, Orderly, SameAbove}
+use Rattle.packing_rows.specs.WorkTables.{Tables, row_in, zip_arcs, count_at, open_at, levels, Joined, joined, close_into, Sized, Orderly, SameAbove}
 use Rattle.packing_rows.specs.OpenLaws.{new_open, levels_new, insert_levels, insert_build}
-use Rattle.packing_rows.specs.WorkTableLaws.{length_row, open_inputs, open_same, row_above}
-use Rattle.pack_intern.specs.Interning.{build_is, Ready}
-use Rattle.pack_close.specs.declared.Closed.{Closed}
-use Rattle.pack_close.specs.declared.Closed.TheVariants.{Done, NoRoom}
+use Rattle.packing_rows.specs.WorkTableLaws.{length_row, open_inputs, open_same}
+use Rattle.pack_intern.specs.Interning.{build_is}
 use Rattle.pack_close.specs.Closing.{Closable, closed_to, JoinedAt, ClosesTo}
-use Rattle.pack_insert.specs.Inserting.{CommonIs, OpenedTo, Opened, last_key, state_of, Between, Follows, Insertable, InsertedAt, Inserts}
+use Rattle.pack_insert.specs.Inserting.{CommonIs, OpenedTo, Opened, last_key, state_of, Follows, Insertable, InsertedAt, Inserts}
 use Rattle.pack_insert.specs.OpenKeyLaws.{before_rises, before_ends}
 
 -- ---- lists that ascend
@@ -338,14 +333,11 @@ module _ (out : List ℕ) (first : ℕ) (cells : List (List ℕ)) (T : Tables) (
         omega (arith, ap (λ (b : Build). length b.nodes) e)
   ]
 
-  pub insert_full : (out' : List ℕ) (cells' : List (List ℕ)) (T₁ T₂ : Tables) (r : Closed) → ClosesTo (closed_to B T m k) T m out' cells' T₁ r → r ≡ NoRoom → Inserts t key out' cells' T₂ NoRoom
-  insert_full out' cells' T₁ T₂ r c e = record { at = λ n q. absurd (no_room_not q); full = λ q. omega (arith, c.full e, insert_grown) }
-    where
-      no_room_not : {n : ℕ} → ¬ (◌≡◌ {A = Closed} NoRoom (Done n))
-      no_room_not q = let z : ◌≡◌ {A = ℕ} 0 1 = cc in omega arith
+  pub insert_full : (out' : List ℕ) (cells' : List (List ℕ)) (T₁ T₂ : Tables) (r : std.Option ℕ) → ClosesTo (closed_to B T m k) T m out' cells' T₁ r → r ≡ None → Inserts t key out' cells' T₂ None
+  insert_full out' cells' T₁ T₂ r c e = record { at = λ n q. cc; full = λ q. omega (arith, c.full e, insert_grown) }
 
-pub insert_done : {t : State} {key out : List ℕ} {cells : List (List ℕ)} {T : Tables} {next : ℕ} → InsertedAt t key out cells T next → Inserts t key out cells T (Done next)
+pub insert_done : {t : State} {key out : List ℕ} {cells : List (List ℕ)} {T : Tables} {next : ℕ} → InsertedAt t key out cells T next → Inserts t key out cells T (Some next)
 insert_done {t} {key} {out} {cells} {T} {next} w = record {
   at = λ n q. let p : next ≡ n = cc in subst (λ (x : ℕ). InsertedAt t key out cells T x) p w;
-  full = λ q. absurd (let z : ◌≡◌ {A = ℕ} 0 1 = cc in omega arith);
+  full = λ q. cc;
 }

@@ -3,11 +3,11 @@
 --     opened_none, -step   the loop of `open_key`
 --     before_rises, before_ends    what the order of two keys says where they part
 -- Assumes nothing.
-use Rattle.std.specs.Prelude.{◌≡◌, refl, Bool, true, false, ◌⊎◌, List, [], ◌∷◌, ℕ, zero, suc, ◌+◌, ◌-◌, ◌≤◌, ◌<◌, length, get_or, set}
-use Rattle.std.proofs.Common.{sym, ap, ◌∙◌, subst, inl, inr, ⊎_elim, arith, length-set, get_or-set_same, get_or-set_other}
+use Rattle.std.specs.Prelude.{◌≡◌, refl, Bool, true, false, ◌⊎◌, List, ℕ, zero, suc, ◌+◌, ◌-◌, ◌≤◌, ◌<◌, length, get_or, set}
+use Rattle.std.proofs.Common.{sym, ap, ◌∙◌, subst, inl, inr, arith, length-set, get_or-set_same, get_or-set_other}
 use Rattle.std.proofs.Math.Decide.{ℕ_discrete}
 use Rattle.format.specs.Strings.{Before, shorter, lower, later}
-use Rattle.packing_rows.specs.WorkTables.{Tables, tables_with}
+use Rattle.packing_rows.specs.WorkTables.{tables_with}
 use Rattle.pack_insert.specs.Inserting.{CommonIs, OpenedTo, Opened}
 
 -- ---- how far

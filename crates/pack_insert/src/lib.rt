@@ -10,17 +10,15 @@ pub fn common(key: &[u8], led: &[u8; 256], k: usize) -> usize
     requires { k < 256 }
     ensures { CommonIs key.now led.now k result }
 {
-    let mut m = 0;
-    while m < k {
-        if m == key.len() {
+    for (m, input) in key.iter().enumerate() {
+        if m == k {
+            return k;
+        }
+        if *input != led[m + 1] {
             return m;
         }
-        if key[m] != led[m + 1] {
-            return m;
-        }
-        m += 1;
     }
-    m
+    key.len()
 }
 
 // Opens the nodes along the key below depth m; the key ends at the deepest, with this value.
@@ -40,12 +38,10 @@ pub fn open_key(
         (tables_with inputs leasts targets counts.new led.new finals.new values.new) }
 {
     let n = key.len();
-    let mut d = m;
-    while d < n {
+    for d in m..n {
         led[d + 1] = key[d];
         counts[d + 1] = 0;
         finals[d + 1] = false;
-        d += 1;
     }
     finals[n] = true;
     values[n] = value;

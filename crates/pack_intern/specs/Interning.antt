@@ -7,13 +7,12 @@
 --     Ready                    what interning asks of output, cells and record
 --     InternIs                 what it answers and leaves, where the definition gives R
 -- Assumes nothing.
-use Rattle.std.specs.Prelude.{◌≡◌, ◌⊎◌, false, List, ◌++◌, map, ℕ, ◌+◌, ◌-◌, ◌≤◌, ◌<◌, length, get_or, take, drop, replicate}
+use Rattle.std.specs.Prelude.{◌≡◌, Option, None, Some, ◌⊎◌, false, List, ◌++◌, map, ℕ, ◌+◌, ◌-◌, ◌≤◌, ◌<◌, length, get_or, take, drop, replicate}
 use Rattle.format.specs.Packed.{BuilderNode, TargetOk, packed, packs_to_nothing}
 use Rattle.node_compile.specs.Parts.{RecordFits}
 use Rattle.packing.specs.Registry.{hash_of, Cell, Build, cell_at, row_of, Interned, write_node}
 use Rattle.registry.specs.Matching.{cell_with}
 use Rattle.pack_intern.specs.declared.Placed.{Placed}
-use Rattle.pack_intern.specs.declared.Placed.TheVariants.{At, Full}
 
 abbrev pub nodes_in : List ℕ → ℕ → List ℕ
 nodes_in out first = take (first - 16) (drop 16 out)
@@ -61,6 +60,9 @@ write_of B b = write_node B b (B.nodes ++ packed (16 + length B.nodes) b)
 abbrev pub interned_with : Build → ℕ → Interned
 interned_with B a = record { build = B; addr = a }
 
+abbrev pub placed : ℕ → ℕ → Placed
+placed a n = record { addr = a; next = n }
+
 -- the record's address, and the place past the nodes
 pub record AtIs (R : Interned) (first : ℕ) (out : List ℕ) (cells : List (List ℕ)) (a next : ℕ) : Type 0 where
   pub is : R ≡ interned_with (build_is out next cells) a
@@ -68,7 +70,7 @@ pub record AtIs (R : Interned) (first : ℕ) (out : List ℕ) (cells : List (Lis
   pub grown : first ≤ next
   pub target : TargetOk next a
 
-pub record InternIs (R : Interned) (first : ℕ) (out : List ℕ) (cells : List (List ℕ)) (r : Placed) : Type 0 where
-  pub at : (a next : ℕ) → r ≡ At a next → AtIs R first out cells a next
+pub record InternIs (R : Interned) (first : ℕ) (out : List ℕ) (cells : List (List ℕ)) (r : Option Placed) : Type 0 where
+  pub at : (p : Placed) → r ≡ Some p → AtIs R first out cells p.addr p.next
   -- the nodes have no room
-  pub full : r ≡ Full → length out < 16 + length R.build.nodes
+  pub full : r ≡ None → length out < 16 + length R.build.nodes

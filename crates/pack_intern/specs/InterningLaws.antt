@@ -4,30 +4,29 @@
 --     cell_at_lem              a lent cell
 --     found_nothing, found_first, found_second, written, no_room    what each way of the code leaves
 -- Assumes nothing.
-use Rattle.std.specs.Prelude.{◌≡◌, Bool, true, false, cond, ◌&&◌, not, ◌⊎◌, eqb, leb, get_or, take, drop, set, replicate}
+use Rattle.std.specs.Prelude.{◌≡◌, Option, None, Some, Bool, true, false, cond, ◌&&◌, not, eqb, leb, get_or, take, drop, set, replicate}
 use Rattle.std.proofs.Math.Path.{refl, ap, ap₂, subst}
-use Rattle.std.proofs.Common.{sym, ◌∙◌, ⊎_elim, eq-eqb, leb-true, leb-false, length-take, length-drop, length-set, take-append-drop, drop_of_length-le, length-take-le, take_all, take_at, drop_at, take-add}
+use Rattle.std.proofs.Common.{sym, ◌∙◌, eq-eqb, leb-true, leb-false, length-drop, take-append-drop, drop_of_length-le, length-take-le, take_all, take_at, drop_at, take-add}
 use Rattle.std.proofs.Math.Logic.{inl, inr}
-use mathlib.Core.List.{List, [], ◌∷◌, ◌++◌, map, append_assoc, append-nil}
+use mathlib.Core.List.{List, [], ◌∷◌, ◌++◌, append_assoc, append-nil}
 use Prim.Native.Nat.{ℕ, zero, suc, ◌+◌, ◌-◌, ◌*◌, ◌/◌, ◌%◌, ◌≤◌, ◌<◌}
 use native.Mathlib.Omega.{arith}
 use Rattle.std.proofs.Math.ListN.{length, length-append}
 use Rattle.std.proofs.lemmas.List.{length-replicate}
 use Rattle.format.specs.Limits.{SPACE}
-use Rattle.format.specs.Packed.{BuilderNode, TargetOk, packed, packs_to_nothing, Packing, written, refused}
+use Rattle.format.specs.Packed.{BuilderNode, TargetOk, packed, packs_to_nothing, written, refused}
 use Rattle.node_compile.specs.declared.Compiled.{Compiled}
 use Rattle.node_compile.specs.declared.Compiled.TheVariants.{Len, Refused}
 use Rattle.node_compile.specs.Compile.{answer_as, buffer_after}
 use Rattle.node_compile.specs.Parts.{Fitted}
-use Rattle.packing.specs.Registry.{hash_of, Cell, empty_cell, Build, cell_at, row_of, same_node, matches, Interned, row_set, write_node, promote, intern}
+use Rattle.packing.specs.Registry.{hash_of, Cell, Build, cell_at, row_of, matches, Interned, row_set, write_node, promote, intern}
 use Rattle.packing.proofs.FileLaws.{packed_some}
-use Rattle.packing.proofs.BuildLaws.{row_set_lem, length_row_set}
+use Rattle.packing.proofs.BuildLaws.{row_set_lem}
 use Rattle.registry.specs.Matching.{cell_with, matches_in, matches_in_lem, chosen, intern_by, intern_chosen}
 use Rattle.registry.specs.declared.Choice.{Choice}
 use Rattle.registry.specs.declared.Choice.TheVariants.{First, Second, Write}
 use Rattle.pack_intern.specs.declared.Placed.{Placed}
-use Rattle.pack_intern.specs.declared.Placed.TheVariants.{At, Full}
-use Rattle.pack_intern.specs.Interning.{nodes_in, cell_of, cells_is, build_is, Laid, CellFit, CellsFit, Ready, Writable, write_of, interned_with, AtIs, InternIs}
+use Rattle.pack_intern.specs.Interning.{nodes_in, cell_of, cells_is, build_is, Laid, CellFit, CellsFit, Ready, Writable, write_of, interned_with, placed, AtIs, InternIs}
 
 -- ---- the output
 
@@ -137,24 +136,18 @@ chosen_second false false e = absurd (let z : ◌≡◌ {A = ℕ} 0 1 = cc in om
 
 -- ---- what each way leaves
 
-at_not_full : {a n : ℕ} → ¬ (◌≡◌ {A = Placed} (At a n) Full)
-at_not_full e = let z : ◌≡◌ {A = ℕ} 0 1 = cc in omega arith
-
 -- an answer with an address
-pub answered : {R : Interned} {first : ℕ} {out : List ℕ} {cells : List (List ℕ)} {a next : ℕ} → AtIs R first out cells a next → InternIs R first out cells (At a next)
+pub answered : {R : Interned} {first : ℕ} {out : List ℕ} {cells : List (List ℕ)} {a next : ℕ} → AtIs R first out cells a next → InternIs R first out cells (Some (placed a next))
 answered {R} {first} {out} {cells} {a} {next} w = record {
-  at = λ a' next' e.
-      let p : a ≡ a' = cc in
-      let q : next ≡ next' = cc in
-      subst (λ (n : ℕ). AtIs R first out cells a' n) q (subst (λ (x : ℕ). AtIs R first out cells x next) p w);
-  full = λ e. absurd (at_not_full e);
+  at = λ p e. let same : placed a next ≡ p = cc in subst (λ (q : Placed). AtIs R first out cells q.addr q.next) same w;
+  full = λ e. cc;
 }
 
 module _ (out : List ℕ) (first : ℕ) (cells : List (List ℕ)) (ready : Ready out first cells) (b : BuilderNode) where
   abbrev B : Build
   B = build_is out first cells
 
-  pub found_nothing : packs_to_nothing b ≡ true → InternIs (intern B b) first out cells (At 0 first)
+  pub found_nothing : packs_to_nothing b ≡ true → InternIs (intern B b) first out cells (Some (placed 0 first))
   unfolding intern TargetOk
   found_nothing e = answered (record { is = rw e; ready = ready; grown = omega arith; target = inl refl })
 
@@ -174,7 +167,7 @@ module _ (out : List ℕ) (first : ℕ) (cells : List (List ℕ)) (ready : Ready
         ∙ ap (intern_by B b) (ap₂ chosen (sym (match_is i (omega arith) ∙ ap (λ (j : ℕ). matches B.nodes b (cell_at (cells_is cells) j)) row))
         (sym (match_is (i + 1) low ∙ ap (λ (j : ℕ). matches B.nodes b (cell_at (cells_is cells) (j + 1))) row)) ∙ sym is)
 
-    pub found_first : choice ≡ First → InternIs (intern B b) first out cells (At (get_or (get_or cells i []) 0 0) first)
+    pub found_first : choice ≡ First → InternIs (intern B b) first out cells (Some (placed (get_or (get_or cells i []) 0 0) first))
     found_first e = answered (record {
       is = by_choice ∙ ap (intern_by B b) e ∙ ap (λ (a : ℕ). interned_with B a) (ap (λ (j : ℕ). (cell_at (cells_is cells) j).addr) (sym row) ∙ ap (λ (c : Cell). c.addr) (cell_at_lem cells i (omega arith)));
       ready = ready;
@@ -185,7 +178,7 @@ module _ (out : List ℕ) (first : ℕ) (cells : List (List ℕ)) (ready : Ready
 
     pub found_second : choice ≡ Second → (cells' : List (List ℕ)) → length cells' ≡ length cells
         → cells_is cells' ≡ row_set (cells_is cells) i (cell_of (get_or cells (i + 1) [])) (cell_of (get_or cells i []))
-        → InternIs (intern B b) first out cells' (At (get_or (get_or cells (i + 1) []) 0 0) first)
+        → InternIs (intern B b) first out cells' (Some (placed (get_or (get_or cells (i + 1) []) 0 0) first))
     found_second e cells' len stored =
         let c₀ = cell_at_lem cells i (omega arith) in
         let c₁ = cell_at_lem cells (i + 1) low in
@@ -204,7 +197,7 @@ module _ (out : List ℕ) (first : ℕ) (cells : List (List ℕ)) (ready : Ready
           target = match_target (take first out) b (cell_of (get_or cells (i + 1) [])) first (chosen_second (M i) (M (i + 1)) (sym is ∙ e)) fit₁;
         })
 
-    pub by_write : choice ≡ Write → (out' : List ℕ) (cells' : List (List ℕ)) (r : Placed) → InternIs (write_of B b) first out' cells' r → InternIs (intern B b) first out' cells' r
+    pub by_write : choice ≡ Write → (out' : List ℕ) (cells' : List (List ℕ)) (r : Option Placed) → InternIs (write_of B b) first out' cells' r → InternIs (intern B b) first out' cells' r
     by_write e out' cells' r w = subst (λ (x : Interned). InternIs x first out' cells' r) (sym (by_choice ∙ ap (intern_by B b) e)) w
 
   pub row_is : (hash i : ℕ) → hash ≡ hash_of b → i ≡ 2 * (hash % (length cells / 2)) → i ≡ row_of (cells_is cells) b
@@ -321,7 +314,7 @@ module _ (out : List ℕ) (first : ℕ) (cells : List (List ℕ)) (ready : Ready
 
   pub wrote : (i hash : ℕ) → Writable out first cells i hash b → (part : List ℕ) (r : Compiled) (len : ℕ) → Fitted (packed first b) part₀ part r → r ≡ Len len
       → (cells' : List (List ℕ)) → length cells' ≡ length cells → cells_is cells' ≡ row_set (cells_is cells) i (cell_with (first + len - 1) hash) (cell_of (get_or cells i []))
-      → InternIs (write_of B b) first (out_after part) cells' (At (first + len - 1) (first + len))
+      → InternIs (write_of B b) first (out_after part) cells' (Some (placed (first + len - 1) (first + len)))
   wrote i hash w part r len f e cells' long stored =
       let p = fitted_len part r len f e in
       let at = written_at w.some i w.row w.low p.0 part p.2 cells' long
@@ -329,12 +322,12 @@ module _ (out : List ℕ) (first : ℕ) (cells : List (List ℕ)) (ready : Ready
       answered (subst (λ (l : List ℕ). AtIs R first l cells' (first + len - 1) (first + len)) (sym (out_after_lem part))
       (subst (λ (n : ℕ). AtIs R first (grown_out part) cells' (first + n - 1) (first + n)) (sym p.1) at))
 
-  pub has_no_room : (part : List ℕ) (r : Compiled) (k : ℕ) → Fitted (packed first b) part₀ part r → r ≡ Refused k → InternIs (write_of B b) first (out_after part) cells Full
+  pub has_no_room : (part : List ℕ) (r : Compiled) (k : ℕ) → Fitted (packed first b) part₀ part r → r ≡ Refused k → InternIs (write_of B b) first (out_after part) cells None
   has_no_room part r k f e =
       let p = fitted_not part r k f e in
       let same : out_after part ≡ out =
       out_after_lem part ∙ ap (λ (l : List ℕ). take first out ++ l) (p.1 ∙ part_whole) ∙ take-append-drop first out in
       record {
-        at = λ a next q. absurd (at_not_full (sym q));
+        at = λ p q. cc;
         full = λ q. omega (arith, no_room p.0, ap length same);
       }

@@ -11,17 +11,17 @@ ghost use Rattle.pack_intern.specs.Interning.{cell_of, cells_is, build_is, Ready
 use node_compile::Compiled;
 use registry::Choice;
 
-// Where a record is.
+// Where a record is. There is none where it would have to be written, and the output has no room.
 #[derive(Clone, Copy)]
-pub enum Placed {
-    // its address, and the place past the nodes
-    At(usize, usize),
-    // it would have to be written, and the output has no room
-    Full,
+pub struct Placed {
+    // its address
+    pub addr: usize,
+    // the place past the nodes
+    pub next: usize,
 }
 
 // The first cell of the row of a hash, with so many cells.
-fn row_of(own_hash: u64, n: usize) -> usize
+pub fn row_of(own_hash: u64, n: usize) -> usize
     requires { 2 ≤ n }
     ensures { (result ≡ 2 * (own_hash % (n / 2))) × (result + 1 < n) }
 {
@@ -49,7 +49,7 @@ fn write_node(
     inputs: &[u8],
     outputs: &[u64],
     targets: &[usize],
-) -> Placed
+) -> Option<Placed>
     requires { Writable output.old first cells.old i own_hash
         (builder_with is_final final_output inputs.now outputs.now targets.now) }
     ensures { InternIs
@@ -70,11 +70,11 @@ fn write_node(
         Compiled::Len(len) => {
             let next = first + len;
             let old = cells[i];
-            let new: [u64; 2] = [(next - 1) as u64, own_hash];
-            put_row(cells, i, new, old);
-            Placed::At(next - 1, next)
+            let addr = next - 1;
+            put_row(cells, i, [addr as u64, own_hash], old);
+            Some(Placed { addr, next })
         }
-        Compiled::Refused(_) => Placed::Full,
+        Compiled::Refused(_) => None,
     }
 }
 
@@ -89,7 +89,7 @@ pub fn intern(
     inputs: &[u8],
     outputs: &[u64],
     targets: &[usize],
-) -> Placed
+) -> Option<Placed>
     requires { Ready output.old first cells.old
         × RecordFits first (builder_with is_final final_output inputs.now outputs.now targets.now) }
     ensures { InternIs
@@ -98,7 +98,10 @@ pub fn intern(
         first output.new cells.new result }
 {
     if node_compile::packs_to_nothing(is_final, inputs.len(), final_output) {
-        return Placed::At(0, first);
+        return Some(Placed {
+            addr: 0,
+            next: first,
+        });
     }
     let own_hash = registry::hash(is_final, final_output, inputs, outputs, targets);
     let i = row_of(own_hash, cells.len());
@@ -118,11 +121,17 @@ pub fn intern(
         targets,
     );
     match choice {
-        Choice::First => Placed::At(one[0] as usize, first),
+        Choice::First => Some(Placed {
+            addr: one[0] as usize,
+            next: first,
+        }),
         // the cell that matched goes first
         Choice::Second => {
             put_row(cells, i, two, one);
-            Placed::At(two[0] as usize, first)
+            Some(Placed {
+                addr: two[0] as usize,
+                next: first,
+            })
         }
         Choice::Write => write_node(
             output,

@@ -2,38 +2,21 @@
 --     key_within, key_is_lem       a key of the list as a part of its bytes
 --     building_none, -step, -full, -all    the loop over the keys
 -- Assumes nothing.
-use Rattle.std.specs.Prelude.{◌≡◌, refl, Bool, true, false, cond, ◌⊎◌, eqb, length, get_or, take, drop, replicate}
-use Rattle.std.proofs.Common.{sym, ◌∙◌, subst, inl, inr, ⊎_elim, ne_eqb, length-append, length-drop, length-take-le}
+use Rattle.std.specs.Prelude.{◌≡◌, Option, None, Some, refl, length, take, drop}
+use Rattle.std.proofs.Common.{sym, ◌∙◌, subst, inl, inr, ne_eqb, length-append, length-drop, length-take-le}
 use Rattle.std.proofs.Math.Path.{ap, ap₂}
-use Rattle.std.proofs.Math.Option.{none}
-use mathlib.Core.List.{List, [], ◌∷◌, ◌++◌, map}
+use mathlib.Core.List.{List, [], ◌∷◌}
 use Prim.Native.Nat.{ℕ, zero, suc, ◌+◌, ◌-◌, ◌*◌, ◌≤◌, ◌<◌}
 use Rattle.std.proofs.Math.Decide.{ℕ_discrete}
 use Rattle.std.proofs.Math.Nat.{sub-zero}
 use native.Mathlib.Omega.{arith}
-use Rattle.std.proofs.lemmas.List.{length-replicate, get_or-replicate, replicate-append-replicate}
-use Rattle.format.specs.Node.{Ascending}
-use Rattle.format.specs.Packed.{BuilderNode, TargetsOk}
 use Rattle.format.specs.Strings.{Before, shorter}
-use Rattle.packing.specs.Lists.{Pair, count_in, total_in, end_at, begin_at, key_at, value_at, IsList, pair_at, pairs_from, pairs_of}
-use Rattle.packing.specs.Registry.{Cell, empty_cell, Build, cell_at, Interned, intern}
-use Rattle.packing.specs.Packing.{Open, record_of, State, state_with, insert, insert_pair, insert_all, close_all, start, pack_nodes}
-use Rattle.packing.proofs.CloseLaws.{Grows, grows_trans, intern_grows}
+use Rattle.packing.specs.Lists.{count_in, total_in, end_at, begin_at, key_at, value_at, IsList, pairs_from, pairs_of}
+use Rattle.packing.specs.Packing.{State, insert, insert_all}
 use Rattle.packing.proofs.InsertLaws.{insert_all_grows}
-use Rattle.packing.proofs.RootLaws.{cell_empty}
-use Rattle.packing_rows.specs.WorkTables.{Tables, tables_with, row_in, zip_arcs, count_at, open_at, levels, Joined, joined, close_into, Sized, Orderly}
-use Rattle.packing_rows.specs.OpenLaws.{close_into_grows}
-use Rattle.packing_rows.specs.WorkTableLaws.{length_row, record_row}
-use Rattle.pack_intern.specs.Interning.{cells_is, build_is, Laid, CellsFit, Ready, interned_with, AtIs, InternIs}
-use Rattle.pack_intern.specs.InterningLaws.{laid_of}
-use Rattle.pack_intern.specs.declared.Placed.{Placed}
-use Rattle.pack_intern.specs.declared.Placed.TheVariants.{At, Full}
-use Rattle.pack_close.specs.declared.Closed as closing
-use Rattle.pack_close.specs.declared.Closed.TheVariants as closed
-use Rattle.pack_close.specs.Closing.{Closable, closed_to, JoinedAt, ClosesTo}
+use Rattle.packing_rows.specs.WorkTables.{Tables, open_at, levels}
+use Rattle.pack_intern.specs.Interning.{build_is}
 use Rattle.pack_insert.specs.Inserting.{last_key, state_of, Between, Follows, Insertable, Inserts}
-use Rattle.pack_keys.specs.declared.Built.{Built}
-use Rattle.pack_keys.specs.declared.Built.TheVariants as built
 use Rattle.pack_keys.specs.AddKeys.{BuildsTo, Builds, Building}
 
 -- ---- keys of the list
@@ -113,7 +96,7 @@ module _ {t : State} {s out : List ℕ} {cells : List (List ℕ)} {T : Tables} {
       w.is ∙ ap (λ (n : ℕ). insert_all (state_of (build_is out next cells) T k) (pairs_from s i n)) e
       ∙ ap₂ (λ (x : List ℕ) (y : ℕ). insert_all (insert (build_is out next cells) (open_at T 0) (levels (open_at T) 1 k) x y) (pairs_from s (i + 1) (count_in s - (i + 1)))) (sym key_is_lem) (sym v_is)
 
-  pub building_step : {out' : List ℕ} {cells' : List (List ℕ)} {T' : Tables} {r : closing.Closed} {after k' : ℕ} → Inserts t₁ key out' cells' T' r → r ≡ closed.Done after
+  pub building_step : {out' : List ℕ} {cells' : List (List ℕ)} {T' : Tables} {r : Option ℕ} {after k' : ℕ} → Inserts t₁ key out' cells' T' r → r ≡ Some after
       → length key ≡ k' → Building t s out' cells' T' after k' (i + 1)
   building_step {out'} {cells'} {T'} {r} {after} {k'} ins e len =
       let a = ins.at after e in
@@ -126,16 +109,19 @@ module _ {t : State} {s out : List ℕ} {cells : List (List ℕ)} {T : Tables} {
         last = λ h. a.last ∙ key_is_lem ∙ ap (key_at s) (sym q);
       })
 
-  pub building_full : {out' : List ℕ} {cells' : List (List ℕ)} {T' : Tables} {r : closing.Closed} → Inserts t₁ key out' cells' T' r → r ≡ closed.NoRoom → Builds t out' cells' T' built.NoRoom
+  pub building_full : {out' : List ℕ} {cells' : List (List ℕ)} {T' : Tables} {r : Option ℕ} → Inserts t₁ key out' cells' T' r → r ≡ None → Builds t out' cells' T' None
   building_full {out'} ins e = record {
-    at = λ n d q. absurd (let z : ◌≡◌ {A = ℕ} 0 1 = cc in omega arith);
+    at = λ n d q. cc;
     full = λ q.
         let g = insert_all_grows t₁ (pairs_from s (i + 1) (count_in s - (i + 1))) in
         omega (arith, ins.full e, ap length g.is, length-append t₁.build.nodes g.added, ap (λ (x : State). length x.build.nodes) one_more);
   }
 
+same_pair : {x y : ℕ × ℕ} → ◌≡◌ {A = Option (ℕ × ℕ)} (Some x) (Some y) → x ≡ y
+same_pair e = cc
+
 pub building_all : {t : State} {s out : List ℕ} {cells : List (List ℕ)} {T : Tables} {next k i : ℕ} → Building t s out cells T next k i → count_in s ≤ i
-    → Builds t out cells T (built.Open next k)
+    → Builds t out cells T (Some (next, k))
 unfolding insert_all pairs_from
 building_all {t} {s} {out} {cells} {T} {next} {k} {i} w le =
     let e : count_in s - i ≡ 0 = omega arith in
@@ -144,9 +130,6 @@ building_all {t} {s} {out} {cells} {T} {next} {k} {i} w le =
       closable = w.between.closable;
     } in
     record {
-      at = λ n d q.
-          let p : next ≡ n = cc in
-          let r : k ≡ d = cc in
-          subst (λ (x : ℕ). BuildsTo t out cells T n x) r (subst (λ (x : ℕ). BuildsTo t out cells T x k) p b);
-      full = λ q. absurd (let z : ◌≡◌ {A = ℕ} 0 1 = cc in omega arith);
+      at = λ n d q. subst (λ (p : ℕ × ℕ). BuildsTo t out cells T p.0 p.1) (same_pair q) b;
+      full = λ q. cc;
     }

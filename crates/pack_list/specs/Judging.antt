@@ -3,10 +3,10 @@
 --     Ascend s n           each of the n keys comes before the next
 --     Sized s n total      the list has the length that its numbers say
 -- Assumes nothing.
-use Rattle.std.specs.Prelude.{◌≡◌, List, ℕ, ◌+◌, ◌-◌, ◌*◌, ◌≤◌, ◌<◌, length, take, drop}
+use Rattle.std.specs.Prelude.{◌≡◌, List, ℕ, ◌+◌, ◌-◌, ◌*◌, ◌≤◌, ◌<◌, length}
 use Rattle.format.specs.Limits.{max_path}
 use Rattle.format.specs.Strings.{Before}
-use Rattle.packing.specs.Lists.{count_in, total_in, end_at, begin_at, key_at}
+use Rattle.packing.specs.Lists.{count_in, end_at, begin_at, key_at}
 
 pub record EndsOk (s : List ℕ) (n total : ℕ) : Type 0 where
   pub rise : (i : ℕ) → i < n → begin_at s i ≤ end_at s i

@@ -64,24 +64,11 @@ pub fn value_at(list: &[u8], n: usize, i: usize) -> u64
 }
 
 // Whether the string a comes before the string b.
+#[tactic(auto, using(crate::proofs::KeyComparing::less_is_before))]
 fn comes_before(a: &[u8], b: &[u8]) -> bool
     ensures { result ≡ before_test a.now b.now }
 {
-    let mut i = 0;
-    while i < a.len() {
-        if i == b.len() {
-            return false;
-        }
-        if a[i] < b[i] {
-            return true;
-        }
-        if b[i] < a[i] {
-            return false;
-        }
-        i += 1;
-    }
-    // all of a stands in b: it comes before where b goes on
-    i < b.len()
+    a < b
 }
 
 // Whether no end is less than the one before, no key is too long, and the last end, 0 with no keys, is the total.
@@ -90,8 +77,7 @@ fn ends_ok(list: &[u8], n: usize, total: usize) -> bool
     ensures { Decides result (EndsOk list.now n total) }
 {
     let mut last = 0;
-    let mut i = 0;
-    while i < n {
+    for i in 0..n {
         let end = end_at(list, i);
         if end < last {
             return false;
@@ -100,7 +86,6 @@ fn ends_ok(list: &[u8], n: usize, total: usize) -> bool
             return false;
         }
         last = end;
-        i += 1;
     }
     last == total
 }
@@ -111,18 +96,16 @@ fn keys_ascend(list: &[u8], n: usize, total: usize) -> bool
     ensures { Decides result (Ascend list.now n) }
 {
     let keys = 8 + 12 * n;
-    let mut i = 1;
-    while i < n {
+    for i in 1..n {
         let from = begin_at(list, i - 1);
         let middle = end_at(list, i - 1);
         let to = end_at(list, i);
-        if comes_before(
+        if !comes_before(
             &list[keys + from..keys + middle],
             &list[keys + middle..keys + to],
-        ) {} else {
+        ) {
             return false;
         }
-        i += 1;
     }
     true
 }
@@ -139,8 +122,5 @@ pub fn judge_list(list: &[u8]) -> bool
     if list.len() != 8 + 12 * n + total {
         return false;
     }
-    if ends_ok(list, n, total) {} else {
-        return false;
-    }
-    keys_ascend(list, n, total)
+    ends_ok(list, n, total) && keys_ascend(list, n, total)
 }

@@ -4,7 +4,7 @@
 --     node_asked, node_full, node_started, node_next, node_at      what the code asks and leaves
 --     steps_full, steps_done   what it answers
 -- Assumes nothing.
-use Rattle.std.specs.Prelude.{◌≡◌, Bool, true, false, List, [], ℕ, ◌+◌, ◌*◌, ◌/◌, ◌%◌, ◌≤◌, ◌<◌, length, get_or, set}
+use Rattle.std.specs.Prelude.{◌≡◌, None, Some, Bool, true, false, List, [], ℕ, ◌+◌, ◌*◌, ◌/◌, ◌%◌, ◌≤◌, ◌<◌, length, get_or, set}
 use Rattle.std.proofs.Common.{sym, ap, ◌∙◌, subst, ⊎_elim, arith, length-set}
 use Rattle.std.proofs.Math.Path.{ap₂}
 use Rattle.format.specs.Packed.{BuilderNode}
@@ -55,12 +55,12 @@ module _ {s : List ℕ} {cells : ℕ} {out : List ℕ} {table : List (List ℕ)}
       abbrev table' : List (List ℕ)
       table' = put_pair table i (pair_of r.one r.two)
 
-      pub node_full : r.done ≡ false → length out' < 16 + length (pack_nodes (pairs_of s) cells).build.nodes
+      pub node_full : r.next ≡ None → length out' < 16 + length (pack_nodes (pairs_of s) cells).build.nodes
       node_full d = underway_full G.underway G.list G.two e deep low out' ((node_step out next table T e i (pair_of one two) C taken at_row c).1 d)
 
-      module _ (d : r.done ≡ true) (led_same : T₁.led ≡ T.led) where
-        node_on : Underway s cells out' table' T₁ r.next (way_with e w.to w.keys)
-        node_on = underway_close G.underway G.list e deep low ((node_step out next table T e i (pair_of one two) C taken at_row c).0 d) led_same
+      module _ (after : ℕ) (d : r.next ≡ Some after) (led_same : T₁.led ≡ T.led) where
+        node_on : Underway s cells out' table' T₁ after (way_with e w.to w.keys)
+        node_on = underway_close G.underway G.list e deep low ((node_step out next table T e i (pair_of one two) C taken at_row c).0 after d) led_same
 
         pub node_started : Started s T₁.counts T₁.led T₁.finals T₁.values (way_with e w.to w.keys)
         node_started = record {
@@ -70,7 +70,7 @@ module _ {s : List ℕ} {cells : ℕ} {out : List ℕ} {table : List (List ℕ)}
           inputs = T₁.inputs;
           leasts = T₁.leasts;
           targets = T₁.targets;
-          next = r.next;
+          next = after;
           underway = node_on;
         }
 
@@ -79,13 +79,13 @@ module _ {s : List ℕ} {cells : ℕ} {out : List ℕ} {table : List (List ℕ)}
           abbrev T₂ : Tables
           T₂ = tables_with T₁.inputs T₁.leasts T₁.targets counts' led' finals' values'
 
-          node_after : Underway s cells out' table' T₂ r.next v
-          node_after = go.gone.on cells out' table' T₁.inputs T₁.leasts T₁.targets r.next node_on
+          node_after : Underway s cells out' table' T₂ after v
+          node_after = go.gone.on cells out' table' T₁.inputs T₁.leasts T₁.targets after node_on
 
           pub node_next : RowAsked cells v.depth T₁.inputs T₁.leasts T₁.targets counts'
           node_next = row_asked node_after G.two
 
-          pub node_at : {row : ℕ} → (row ≡ 2 * (hash_next T₂ v.depth % (cells / 2))) × (row + 1 < cells) → NodeAt s cells out' table' T₂ r.next v row
+          pub node_at : {row : ℕ} → (row ≡ 2 * (hash_next T₂ v.depth % (cells / 2))) × (row + 1 < cells) → NodeAt s cells out' table' T₂ after v row
           node_at row = record {
             list = G.list;
             two = G.two;

@@ -54,17 +54,16 @@ pub fn node_in_row(
     );
     let c = done.one;
     let f = done.two;
-    let next = done.next;
-    if done.done {} else {
+    let Some(next) = done.next else {
         return NodeStep {
             done: false,
-            next,
+            next: first,
             way,
             row: 0,
             one: c,
             two: f,
         };
-    }
+    };
     let n = pack_list::key_count(list);
     let from = Way {
         depth: e,

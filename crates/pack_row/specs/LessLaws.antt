@@ -1,16 +1,16 @@
 -- Laws of numbers that are written less a base.
 --     Less base ms outs i      the first i numbers stand in outs, each less base
---     part_length, part_high, row_node_lem     the parts of a row, and the record that they make
+--     part_length, row_node_lem     the parts of a row, and the record that they make
 -- Assumes nothing.
-use Rattle.std.specs.Prelude.{◌≡◌, refl, Bool, cond, List, [], ◌∷◌, map, ℕ, zero, suc, ◌+◌, ◌-◌, ◌*◌, ◌≤◌, ◌<◌, length, get_or, set, take, drop}
-use Rattle.std.proofs.Common.{sym, ap, ap₂, ◌∙◌, arith, length-set, get_or-take, get_or-drop, length-take-le, get_or-set_same, get_or-set_other, ext_get_or}
+use Rattle.std.specs.Prelude.{◌≡◌, Bool, cond, List, map, ℕ, ◌+◌, ◌-◌, ◌*◌, ◌≤◌, ◌<◌, length, get_or, set, take, drop}
+use Rattle.std.proofs.Common.{sym, ap, ap₂, ◌∙◌, arith, length-set, get_or-take, length-take-le, get_or-set_same, get_or-set_other, ext_get_or}
+use Rattle.std.proofs.lemmas.List.{get_or-map}
 use Rattle.std.proofs.Math.Decide.{ℕ_discrete}
 use Rattle.node_compile.specs.Compile.{builder_with}
 use Rattle.packing_rows.specs.WorkTables.{row_in}
 use Rattle.packing_rows.specs.WorkTableLaws.{length_row}
-use Rattle.pack_finish.specs.FinishRow.{AllAtLeast, row_node}
+use Rattle.pack_finish.specs.FinishRow.{row_node}
 use Rattle.pack_finish.specs.LeastLaws.{length_less}
-use Rattle.pack_row.specs.Row.{EachAtLeast}
 
 pub record Less (base : ℕ) (ms outs : List ℕ) (i : ℕ) : Type 0 where
   pub within : i ≤ length ms
@@ -30,16 +30,11 @@ less_step {base} {ms} {outs} {i} f few l = record {
   ];
 }
 
-map_at : (base : ℕ) (ms : List ℕ) (j : ℕ) → j < length ms → get_or (map (λ (m : ℕ). m - base) ms) j 0 ≡ get_or ms j 0 - base
-map_at base [] j l = absurd (omega arith)
-map_at base (x ∷ ms) zero l = refl
-map_at base (x ∷ ms) (suc j) l = map_at base ms j (omega arith)
-
 pub less_all : {base : ℕ} {ms outs : List ℕ} {i : ℕ} → Less base ms outs i → length ms ≤ 256 → length ms ≤ i → take (length ms) outs ≡ map (λ (m : ℕ). m - base) ms
 less_all {base} {ms} {outs} {i} f few l =
     let n = length-take-le (length ms) outs (omega (arith, f.long)) in
     ext_get_or 0 (take (length ms) outs) (map (λ (m : ℕ). m - base) ms) (n ∙ sym (length_less base ms))
-    (λ j h. get_or-take (length ms) outs j 0 (omega (arith, n)) ∙ f.is j (omega (arith, n)) ∙ sym (map_at base ms j (omega (arith, n))))
+    (λ j h. get_or-take (length ms) outs j 0 (omega (arith, n)) ∙ f.is j (omega (arith, n)) ∙ sym (get_or-map (λ (m : ℕ). m - base) ms j 0 0 (omega (arith, n))))
 
 -- ---- the parts of a row as the code has them, n' being the length by its ends
 
@@ -52,14 +47,6 @@ module _ (d n n' : ℕ) (same : n' ≡ n) where
 
   pub part_length : (t : List ℕ) → 256 * d + n ≤ length t → length (part t) ≡ n
   part_length t l = ap length (part_is t) ∙ length_row t d n l
-
-  pub part_high : {base : ℕ} (leasts : List ℕ) → AllAtLeast base leasts (256 * d) n → EachAtLeast base (part leasts)
-  part_high {base} leasts h = record {
-    high = λ j l.
-        let len = part_length leasts h.within in
-        let e = get_or-take n' (drop (256 * d) leasts) j 0 (omega (arith, len, same)) ∙ get_or-drop (256 * d) leasts j 0 in
-        omega (arith, e, h.high (256 * d + j) (omega arith) (omega (arith, len)));
-  }
 
   pub row_node_lem : (final : Bool) (v base fo : ℕ) (inputs leasts targets outs : List ℕ) → fo ≡ cond final (v - base) 0 → 256 * d + n ≤ length leasts
       → take (length (part leasts)) outs ≡ map (λ (m : ℕ). m - base) (part leasts) → builder_with final fo (part inputs) (take n outs) (part targets) ≡ row_node final v inputs leasts targets d n base

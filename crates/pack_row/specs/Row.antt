@@ -3,7 +3,7 @@
 --     put_pair cells i row  the first two cells of the table row are stored there
 --     back_in cells i R     what interning in the row alone gave, seen in the whole table
 --     TakenFrom            a table of one row is the row at i of the table cells
---     EachAtLeast, RowGiven    what finding a node's row asks
+--     RowGiven             what finding a node's row asks
 -- Assumes nothing.
 use Rattle.std.specs.Prelude.{◌≡◌, List, [], ◌∷◌, Bool, true, ℕ, ◌+◌, ◌*◌, ◌≤◌, ◌<◌, length, get_or, set}
 use Rattle.packing.specs.Registry.{Cell, cell_at, row_set, Interned}
@@ -27,9 +27,6 @@ pub record TakenFrom (cells : List (List ℕ)) (i : ℕ) (row : List (List ℕ))
   pub is : row ≡ get_or cells i [] ∷ get_or cells (i + 1) [] ∷ []
 
 -- ---- the row of a node
-
-pub record EachAtLeast (base : ℕ) (numbers : List ℕ) : Type 0 where
-  pub high : (j : ℕ) → j < length numbers → base ≤ get_or numbers j 0
 
 pub record RowGiven (cells d n base : ℕ) (final : Bool) (v : ℕ) (inputs leasts targets : List ℕ) : Type 0 where
   pub two : 2 ≤ cells

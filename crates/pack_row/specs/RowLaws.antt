@@ -4,7 +4,7 @@
 --     row_ready, row_closable  what interning a record, and finishing a node, asks, in its row alone
 --     step_in_row, step_full   the deepest node finished in its row alone, or the output is full
 -- Assumes nothing.
-use Rattle.std.specs.Prelude.{◌≡◌, refl, Bool, true, false, cond, ◌⊎◌, List, [], ◌∷◌, ◌++◌, ℕ, zero, suc, ◌+◌, ◌-◌, ◌*◌, ◌/◌, ◌%◌, ◌≤◌, ◌<◌, length, get_or, set}
+use Rattle.std.specs.Prelude.{◌≡◌, Option, refl, Bool, true, false, cond, List, [], ◌∷◌, ◌++◌, ℕ, zero, suc, ◌+◌, ◌-◌, ◌*◌, ◌≤◌, ◌<◌, length, get_or, set}
 use Rattle.std.proofs.Common.{sym, ap₂, ◌∙◌, subst, inl, inr, length-set, length-append, get_or-set_same, get_or-set_other}
 use Rattle.std.proofs.Math.Path.{ap}
 use Rattle.std.proofs.Math.Decide.{ℕ_discrete}
@@ -14,7 +14,7 @@ use Rattle.std.proofs.lemmas.List.{set-get_or}
 use Rattle.format.specs.Packed.{BuilderNode, packed, packs_to_nothing}
 use Rattle.packing.specs.Registry.{hash_of, Cell, empty_cell, Build, cell_at, row_of, matches, Interned, row_set, promote, intern}
 use Rattle.packing.specs.Packing.{Arc, Open, least_at, record_of, close, finish, closed_as}
-use Rattle.packing.proofs.CloseLaws.{Grows, intern_grows}
+use Rattle.packing.proofs.CloseLaws.{intern_grows}
 use Rattle.packing_rows.specs.WorkTables.{Tables, open_at, levels, Joined, joined, join, close_into}
 use Rattle.packing_rows.specs.OpenLaws.{closed_with, close_deepest, finish_into_grows}
 use Rattle.pack_intern.specs.Interning.{nodes_in, cells_is, build_is, Laid, CellFit, CellsFit, Ready, interned_with, InternIs}
@@ -133,13 +133,13 @@ module _ (out : List ℕ) (first : ℕ) (cells : List (List ℕ)) (i : ℕ) (row
       ∙ ap (λ (t : List Cell). back_in (cells_is cells) i (intern (record { nodes = nodes_in out first; cells = t }) b)) (sym (ap cells_is taken.is ∙ cell_of_row cells i taken.within))
 
   -- what interning in the row alone answers and leaves is what interning in the whole table does
-  pub row_interned : {out' : List ℕ} {row' : List (List ℕ)} {r : Placed} → InternIs (intern (build_is out first row) b) first out' row' r → length row' ≡ 2
+  pub row_interned : {out' : List ℕ} {row' : List (List ℕ)} {r : Option Placed} → InternIs (intern (build_is out first row) b) first out' row' r → length row' ≡ 2
       → InternIs (intern (build_is out first cells) b) first out' (put_pair cells i row') r
   row_interned {out'} {row'} w two = record {
-    at = λ a next e.
-        let g = w.at a next e in
+    at = λ p e.
+        let g = w.at p e in
         record {
-          is = interned_as ∙ ap (back_in (cells_is cells) i) g.is ∙ ap (λ (t : List Cell). interned_with (record { nodes = nodes_in out' next; cells = t }) a) (cells_after_lem cells i row' two);
+          is = interned_as ∙ ap (back_in (cells_is cells) i) g.is ∙ ap (λ (t : List Cell). interned_with (record { nodes = nodes_in out' p.next; cells = t }) p.addr) (cells_after_lem cells i row' two);
           ready = ready_after out first cells i ready taken.within g.grown g.ready.laid g.ready.cells_fit two;
           grown = g.grown;
           target = g.target;
@@ -148,16 +148,16 @@ module _ (out : List ℕ) (first : ℕ) (cells : List (List ℕ)) (i : ℕ) (row
   }
 
 -- cells of which each is the same cell
-pub same_cells : {R : Interned} {first : ℕ} {out : List ℕ} {cells cells' : List (List ℕ)} {r : Placed} → InternIs R first out cells r → cells_is cells ≡ cells_is cells' → length cells ≡ length cells'
+pub same_cells : {R : Interned} {first : ℕ} {out : List ℕ} {cells cells' : List (List ℕ)} {r : Option Placed} → InternIs R first out cells r → cells_is cells ≡ cells_is cells' → length cells ≡ length cells'
     → InternIs R first out cells' r
 same_cells {R} {first} {out} {cells} {cells'} w e l = record {
-  at = λ a next q.
-      let g = w.at a next q in
+  at = λ p q.
+      let g = w.at p q in
       record {
-        is = g.is ∙ ap (λ (t : List Cell). interned_with (record { nodes = nodes_in out next; cells = t }) a) e;
+        is = g.is ∙ ap (λ (t : List Cell). interned_with (record { nodes = nodes_in out p.next; cells = t }) p.addr) e;
         ready = record {
           laid = g.ready.laid;
-          cells_fit = record { fit = λ k. subst (λ (t : List Cell). CellFit next (cell_at t k)) e (g.ready.cells_fit.fit k) };
+          cells_fit = record { fit = λ k. subst (λ (t : List Cell). CellFit p.next (cell_at t k)) e (g.ready.cells_fit.fit k) };
           two = omega (arith, g.ready.two, l);
         };
         grown = g.grown;

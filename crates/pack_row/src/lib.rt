@@ -2,10 +2,10 @@
 // That finishing it there alone is finishing it in the whole table is said in specs/.
 #![tactic(auto)]
 
-ghost use Rattle.std.specs.Prelude.{◌≡◌, true, cond, map, ℕ, ◌+◌, ◌-◌, ◌*◌, ◌/◌, ◌%◌, ◌≤◌, ◌<◌, length, take, get_or};
+ghost use Rattle.std.specs.Prelude.{◌≡◌, map, ℕ, ◌+◌, ◌-◌, ◌*◌, ◌/◌, ◌%◌, ◌≤◌, ◌<◌, length, take};
 ghost use Rattle.packing.specs.Registry.{hash_of};
-ghost use Rattle.pack_finish.specs.FinishRow.{row_node};
-ghost use Rattle.pack_row.specs.Row.{EachAtLeast, RowGiven};
+ghost use Rattle.pack_finish.specs.FinishRow.{EachAtLeast, row_node};
+ghost use Rattle.pack_row.specs.Row.{RowGiven};
 
 // Writes the numbers less base to the front of outs.
 fn less_into(outs: &mut [u64; 256], numbers: &[u64], base: u64)
@@ -13,27 +13,9 @@ fn less_into(outs: &mut [u64; 256], numbers: &[u64], base: u64)
     ensures { (take (length numbers.now) outs.new ≡ map (λ (m : ℕ). m - base) numbers.now)
         × (length outs.new ≡ 256) }
 {
-    let mut i = 0;
-    while i < numbers.len() {
-        outs[i] = numbers[i] - base;
-        i += 1;
+    for (i, number) in numbers.iter().enumerate() {
+        outs[i] = *number - base;
     }
-}
-
-// The final output of a node whose outputs are counted from base.
-fn final_less(is_final: bool, value: u64, base: u64) -> u64
-    requires { is_final ≡ true → base ≤ value }
-    ensures { result ≡ cond is_final (value - base) 0 }
-{
-    if is_final { value - base } else { 0 }
-}
-
-// The first cell of the row of a hash, with so many cells.
-fn row_of(own_hash: u64, cells: usize) -> usize
-    requires { 2 ≤ cells }
-    ensures { (result ≡ 2 * (own_hash % (cells / 2))) × (result + 1 < cells) }
-{
-    2 * (own_hash as usize % (cells / 2))
 }
 
 // The first cell of the row of the node that the first n entries of row d make, with its outputs counted from base.
@@ -56,7 +38,7 @@ pub fn row_at(
     let end = at + n;
     let mut outs: [u64; 256] = [0; 256];
     less_into(&mut outs, &leasts[at..end], base);
-    let final_output = final_less(is_final, value, base);
+    let final_output = pack_finish::final_out(is_final, value, base);
     let own_hash = registry::hash(
         is_final,
         final_output,
@@ -64,5 +46,5 @@ pub fn row_at(
         &outs[..n],
         &targets[at..end],
     );
-    row_of(own_hash, cells)
+    pack_intern::row_of(own_hash, cells)
 }

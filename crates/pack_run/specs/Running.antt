@@ -2,11 +2,10 @@
 --     Blank                what the run asks of output and cells
 --     RunAt, Runs          what the run leaves, where the definition gives R
 -- Assumes nothing.
-use Rattle.std.specs.Prelude.{◌≡◌, List, ℕ, ◌+◌, ◌≤◌, ◌<◌, length, replicate}
+use Rattle.std.specs.Prelude.{◌≡◌, Option, None, Some, List, ℕ, ◌+◌, ◌≤◌, ◌<◌, length, replicate}
 use Rattle.packing.specs.Registry.{empty_cell, Interned}
 use Rattle.pack_intern.specs.Interning.{cells_is, build_is, Laid, interned_with}
 use Rattle.pack_intern.specs.declared.Placed.{Placed}
-use Rattle.pack_intern.specs.declared.Placed.TheVariants.{At, Full}
 
 -- all zeros, and every cell empty
 pub record Blank (out : List ℕ) (cells : List (List ℕ)) : Type 0 where
@@ -19,6 +18,6 @@ pub record RunAt (R : Interned) (out : List ℕ) (cells : List (List ℕ)) (a ne
   pub is : R ≡ interned_with (build_is out next cells) a
   pub laid : Laid out next
 
-pub record Runs (R : Interned) (out : List ℕ) (cells : List (List ℕ)) (r : Placed) : Type 0 where
-  pub at : (a next : ℕ) → r ≡ At a next → RunAt R out cells a next
-  pub full : r ≡ Full → length out < 16 + length R.build.nodes
+pub record Runs (R : Interned) (out : List ℕ) (cells : List (List ℕ)) (r : Option Placed) : Type 0 where
+  pub at : (p : Placed) → r ≡ Some p → RunAt R out cells p.addr p.next
+  pub full : r ≡ None → length out < 16 + length R.build.nodes

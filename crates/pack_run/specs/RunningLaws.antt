@@ -2,39 +2,30 @@
 --     fresh                    the tables at the start
 --     run_full, run_closed_full, run_done  the root
 -- Assumes nothing.
-use Rattle.std.specs.Prelude.{◌≡◌, refl, Bool, true, false, cond, ◌⊎◌, List, [], ◌∷◌, ◌++◌, map, ℕ, zero, suc, ◌+◌, ◌-◌, ◌*◌, ◌≤◌, ◌<◌, eqb, length, get_or, take, drop, replicate}
-use Rattle.std.proofs.Common.{sym, ap₂, ◌∙◌, subst, inl, inr, ⊎_elim, arith, ne_eqb, length-append, length-drop, length-take-le}
+use Rattle.std.specs.Prelude.{◌≡◌, Option, None, refl, Bool, false, List, [], ◌∷◌, ◌++◌, ℕ, ◌+◌, ◌-◌, ◌≤◌, ◌<◌, length, get_or, replicate}
+use Rattle.std.proofs.Common.{sym, ◌∙◌, subst, inl, arith, length-append}
 use Rattle.std.proofs.Math.Path.{ap}
-use Rattle.std.proofs.Math.Option.{none}
-use Rattle.std.proofs.Math.Decide.{ℕ_discrete}
 use Rattle.std.proofs.Math.Nat.{sub-zero}
 use Rattle.std.proofs.lemmas.List.{length-replicate, get_or-replicate, replicate-append-replicate}
 use Rattle.format.specs.Node.{Ascending}
 use Rattle.format.specs.Packed.{BuilderNode, TargetsOk}
-use Rattle.format.specs.Strings.{Before, shorter}
-use Rattle.packing.specs.Lists.{Pair, count_in, total_in, end_at, begin_at, key_at, value_at, IsList, pair_at, pairs_from, pairs_of}
+use Rattle.packing.specs.Lists.{Pair}
 use Rattle.packing.specs.Registry.{Cell, empty_cell, Build, cell_at, Interned, intern}
-use Rattle.packing.specs.Packing.{Open, record_of, State, state_with, insert, insert_pair, insert_all, close_all, start, pack_nodes}
-use Rattle.packing.proofs.CloseLaws.{Grows, grows_trans, intern_grows}
-use Rattle.packing.proofs.InsertLaws.{insert_all_grows}
+use Rattle.packing.specs.Packing.{Open, record_of, State, state_with, insert_all, close_all, start, pack_nodes}
+use Rattle.packing.proofs.CloseLaws.{intern_grows}
 use Rattle.packing.proofs.RootLaws.{cell_empty}
-use Rattle.packing_rows.specs.WorkTables.{Tables, tables_with, row_in, zip_arcs, count_at, open_at, levels, Joined, joined, close_into, Sized, Orderly}
+use Rattle.packing_rows.specs.WorkTables.{Tables, tables_with, row_in, zip_arcs, count_at, open_at, levels, Joined, close_into}
 use Rattle.packing_rows.specs.OpenLaws.{close_into_grows}
 use Rattle.packing_rows.specs.WorkTableLaws.{length_row, record_row}
-use Rattle.pack_intern.specs.Interning.{cells_is, build_is, Laid, CellsFit, Ready, interned_with, AtIs, InternIs}
+use Rattle.pack_intern.specs.Interning.{build_is, Laid, InternIs}
 use Rattle.pack_intern.specs.InterningLaws.{laid_of}
 use Rattle.pack_intern.specs.declared.Placed.{Placed}
-use Rattle.pack_intern.specs.declared.Placed.TheVariants.{At, Full}
-use Rattle.pack_close.specs.declared.Closed as closing
-use Rattle.pack_close.specs.declared.Closed.TheVariants as closed
 use Rattle.pack_finish.specs.FinishRow.{row_node, Finishable}
 use Rattle.pack_finish.specs.LeastLaws.{length_less}
 use Rattle.pack_close.specs.Closing.{Closable, closed_to, JoinedAt, ClosesTo}
-use Rattle.pack_insert.specs.Inserting.{last_key, state_of, Between, Follows, Insertable, Inserts}
-use Rattle.pack_keys.specs.declared.Built.{Built}
-use Rattle.pack_keys.specs.declared.Built.TheVariants as built
+use Rattle.pack_insert.specs.Inserting.{state_of, Between}
 use Rattle.pack_keys.specs.AddKeys.{BuildsTo, Builds}
-use Rattle.pack_run.specs.Running.{Blank, RunAt, Runs}
+use Rattle.pack_run.specs.Running.{Blank, Runs}
 
 -- ---- the start
 
@@ -121,10 +112,10 @@ module _ (out : List ℕ) (cells : List (List ℕ)) (blank : Blank out cells) (i
         let g = intern_grows (J t₀).build (record_of (J t₀).top 0) in
         omega (arith, ap length g.is, length-append (J t₀).build.nodes g.added, ap (λ (x : Interned). length x.build.nodes) root_is)
 
-    full_runs : (out' : List ℕ) (cells' : List (List ℕ)) → length out' < 16 + length R.build.nodes → Runs R out' cells' Full
-    full_runs out' cells' h = record { at = λ a n q. absurd (let z : ◌≡◌ {A = ℕ} 0 1 = cc in omega arith); full = λ q. h }
+    full_runs : (out' : List ℕ) (cells' : List (List ℕ)) → length out' < 16 + length R.build.nodes → Runs R out' cells' None
+    full_runs out' cells' h = record { at = λ p q. cc; full = λ q. h }
 
-    pub run_full : {out' : List ℕ} {cells' : List (List ℕ)} {T : Tables} {r : Built} → Builds t₀ out' cells' T r → r ≡ built.NoRoom → Runs R out' cells' Full
+    pub run_full : {out' : List ℕ} {cells' : List (List ℕ)} {T : Tables} {r : Option (ℕ × ℕ)} → Builds t₀ out' cells' T r → r ≡ None → Runs R out' cells' None
     run_full {out'} {cells'} b e =
         let g = close_into_grows t₀.build t₀.top t₀.below in
         full_runs out' cells' (omega (arith, b.full e, joined_le, ap length g.is, length-append t₀.build.nodes g.added))
@@ -133,8 +124,8 @@ module _ (out : List ℕ) (cells : List (List ℕ)) (blank : Blank out cells) (i
       joined_is : J t₀ ≡ closed_to (build_is out₁ next cells₁) T₁ 0 k
       joined_is = ap J b.is ∙ ap (λ (n : ℕ). close_into (build_is out₁ next cells₁) (open_at T₁ 0) (levels (open_at T₁) 1 n)) (sym (sub-zero k))
 
-      pub run_closed_full : {out₂ : List ℕ} {cells₂ : List (List ℕ)} {T₂ : Tables} {r : closing.Closed} → ClosesTo (closed_to (build_is out₁ next cells₁) T₁ 0 k) T₁ 0 out₂ cells₂ T₂ r
-          → r ≡ closed.NoRoom → Runs R out₂ cells₂ Full
+      pub run_closed_full : {out₂ : List ℕ} {cells₂ : List (List ℕ)} {T₂ : Tables} {r : Option ℕ} → ClosesTo (closed_to (build_is out₁ next cells₁) T₁ 0 k) T₁ 0 out₂ cells₂ T₂ r
+          → r ≡ None → Runs R out₂ cells₂ None
       run_closed_full {out₂} {cells₂} c e = full_runs out₂ cells₂ (omega (arith, c.full e, joined_le, ap (λ (j : Joined). length j.build.nodes) joined_is))
 
       module _ {out₂ : List ℕ} {cells₂ : List (List ℕ)} {T₂ : Tables} {last : ℕ} (j : JoinedAt (closed_to (build_is out₁ next cells₁) T₁ 0 k) T₁ 0 out₂ cells₂ T₂ last) where
@@ -178,8 +169,8 @@ module _ (out : List ℕ) (cells : List (List ℕ)) (blank : Blank out cells) (i
             root_is ∙ ap (λ (x : Joined). intern x.build (record_of x.top 0)) (joined_is ∙ j.is)
             ∙ ap (intern (build_is out₂ last cells₂)) (record_row T₂ C.sized 0 (omega arith) (C.orderly.few 0 (omega arith)) 0)
 
-        pub run_done : {out₃ : List ℕ} {cells₃ : List (List ℕ)} {r : Placed} → InternIs (intern (build_is out₂ last cells₂) node) last out₃ cells₃ r → Runs R out₃ cells₃ r
+        pub run_done : {out₃ : List ℕ} {cells₃ : List (List ℕ)} {r : Option Placed} → InternIs (intern (build_is out₂ last cells₂) node) last out₃ cells₃ r → Runs R out₃ cells₃ r
         run_done w = record {
-          at = λ a m e. let p = w.at a m e in record { is = root_row ∙ p.is; laid = p.ready.laid };
+          at = λ q e. let p = w.at q e in record { is = root_row ∙ p.is; laid = p.ready.laid };
           full = λ e. omega (arith, w.full e, ap (λ (x : Interned). length x.build.nodes) root_row);
         }

@@ -6,7 +6,7 @@
 --     node_of_turn, node_asked_of, steps_node, after_full, after_done      a node that is not the root
 --     root_in_pair, root_stands, root_full             the root
 -- Assumes nothing.
-use Rattle.std.specs.Prelude.{◌≡◌, refl, Bool, true, false, ◌⊎◌, List, [], ◌∷◌, ℕ, ◌+◌, ◌-◌, ◌*◌, ◌/◌, ◌%◌, ◌≤◌, ◌<◌, length, get_or, replicate}
+use Rattle.std.specs.Prelude.{◌≡◌, Option, None, Some, refl, Bool, true, false, List, [], ◌∷◌, ℕ, ◌+◌, ◌*◌, ◌/◌, ◌%◌, ◌≤◌, ◌<◌, length, get_or, replicate}
 use Rattle.std.proofs.Common.{sym, ap, ◌∙◌, subst, ⊎_elim, arith}
 use Rattle.std.proofs.lemmas.List.{length-replicate}
 use Rattle.format.specs.Packed.{BuilderNode}
@@ -19,7 +19,6 @@ use Rattle.packing.proofs.TrailerLaws.{length_file}
 use Rattle.packing_rows.specs.WorkTables.{Tables, tables_with, count_at}
 use Rattle.pack_intern.specs.Interning.{cells_is, build_is, InternIs}
 use Rattle.pack_intern.specs.declared.Placed.{Placed}
-use Rattle.pack_intern.specs.declared.Placed.TheVariants.{At, Full}
 use Rattle.pack_finish.specs.FinishRow.{row_node, Finishable}
 use Rattle.pack_cell.specs.declared.Cell.{Cell}
 use Rattle.pack_row.specs.Row.{put_pair, TakenFrom}
@@ -199,20 +198,20 @@ module _ {s : List ℕ} {cells : ℕ} {out : List ℕ} {one two : Cell} {T : Tab
     root_row : t.row ≡ row_of (cells_is table) node
     root_row = row_of_record node_of_turn node (ap (row_next T.inputs T.leasts T.targets T.counts T.finals T.values) top)
 
-    module _ {out' : List ℕ} {c d : Cell} {p : Placed} (w : InternIs (intern (build_is out t.next (pair_of one two)) node) t.next out' (pair_of c d) p) (same : length out' ≡ length out) where
+    module _ {out' : List ℕ} {c d : Cell} {p : Option Placed} (w : InternIs (intern (build_is out t.next (pair_of one two)) node) t.next out' (pair_of c d) p) (same : length out' ≡ length out) where
       runs : Runs (pack_nodes (pairs_of s) cells) out' (put_pair table t.row (pair_of c d)) p
       runs = root_done u G.sound.list G.sound.two top none_left (row_interned out t.next table t.row (pair_of one two) F.ready taken node root_row w refl)
 
-      pub root_stands : {T' : Tables} (q : Turn) (a n : ℕ) → p ≡ At a n → q.going ≡ false → q.placed ≡ true → q.root ≡ a → q.next ≡ n
+      pub root_stands : {T' : Tables} (q : Turn) (at : Placed) → p ≡ Some at → q.going ≡ false → q.placed ≡ true → q.root ≡ at.addr → q.next ≡ at.next
           → Standing s tables cells (length out) out' (put_pair table t.row (pair_of c d)) T' q
-      root_stands q a n p_is g y a_is n_is = record {
+      root_stands q at p_is g y a_is n_is = record {
         long = same;
         count = put_length table t.row (pair_of c d) ∙ st.count;
         on = λ z. absurd (false_true (sym g ∙ z));
-        ended = λ z. record { done = λ k. (G.sound, rw (a_is, n_is) (runs.at a n p_is)); refuses = λ k. absurd (false_true (sym k ∙ y)) };
+        ended = λ z. record { done = λ k. (G.sound, rw (a_is, n_is) (runs.at at p_is)); refuses = λ k. absurd (false_true (sym k ∙ y)) };
       }
 
-      pub root_full : {T' : Tables} (q : Turn) → p ≡ Full → q.going ≡ false → q.placed ≡ false → q.why ≡ SPACE
+      pub root_full : {T' : Tables} (q : Turn) → p ≡ None → q.going ≡ false → q.placed ≡ false → q.why ≡ SPACE
           → Standing s tables cells (length out) out' (put_pair table t.row (pair_of c d)) T' q
       root_full q f g y k =
           stands_refused s tables cells (length out) q same (put_length table t.row (pair_of c d) ∙ st.count) g y

@@ -10,7 +10,6 @@ ghost use Rattle.pack_step.specs.Standing.{Judged, Standing, RootAsked, StepAske
 use format::{FIRST_NODE, LIST, SPACE};
 use pack_ahead::Way;
 use pack_cell::Cell;
-use pack_intern::Placed;
 use pack_node::NodeStep;
 
 // Where packing stands between two nodes.
@@ -197,7 +196,7 @@ fn step_root(
     let c = done.one;
     let f = done.two;
     let placed = done.placed;
-    let Placed::At(root, next) = placed else {
+    let Some(at) = placed else {
         return Stepped {
             turn: refusal(SPACE),
             one: c,
@@ -209,10 +208,10 @@ fn step_root(
             going: false,
             placed: true,
             why: 0,
-            next,
+            next: at.next,
             way,
             row: 0,
-            root,
+            root: at.addr,
         },
         one: c,
         two: f,

@@ -2,7 +2,7 @@
 --     pair_of               two cells as a table of one row
 --     ClosesInRow          what finishing the node leaves
 -- Assumes nothing.
-use Rattle.std.specs.Prelude.{◌≡◌, true, false, List, [], ◌∷◌, ℕ, ◌+◌, ◌<◌, length}
+use Rattle.std.specs.Prelude.{◌≡◌, None, Some, List, [], ◌∷◌, ℕ, ◌+◌, ◌<◌, length}
 use Rattle.packing_rows.specs.WorkTables.{Tables}
 use Rattle.pack_cell.specs.declared.Cell.{Cell}
 use Rattle.pack_intern.specs.Interning.{build_is}
@@ -13,5 +13,5 @@ abbrev pub pair_of : Cell → Cell → List (List ℕ)
 pair_of c d = (c.addr ∷ c.hash ∷ []) ∷ (d.addr ∷ d.hash ∷ []) ∷ []
 
 pub record ClosesInRow (out : List ℕ) (first : ℕ) (row : List (List ℕ)) (T : Tables) (e : ℕ) (out' : List ℕ) (T' : Tables) (r : RowClosed) : Type 0 where
-  pub at : r.done ≡ true → JoinedAt (closed_to (build_is out first row) T e (e + 1)) T e out' (pair_of r.one r.two) T' r.next
-  pub full : r.done ≡ false → length out' < 16 + length (closed_to (build_is out first row) T e (e + 1)).build.nodes
+  pub at : (next : ℕ) → r.next ≡ Some next → JoinedAt (closed_to (build_is out first row) T e (e + 1)) T e out' (pair_of r.one r.two) T' next
+  pub full : r.next ≡ None → length out' < 16 + length (closed_to (build_is out first row) T e (e + 1)).build.nodes

@@ -10,16 +10,13 @@ ghost use Rattle.pack_close.specs.Closing.{Closable};
 ghost use Rattle.pack_turn.specs.RowClosing.{pair_of, ClosesInRow};
 
 use pack_cell::Cell;
-use pack_close::Closed;
 use pack_intern::Placed;
 
 // What finishing a node leaves.
 #[derive(Clone, Copy)]
 pub struct RowClosed {
-    // whether the output had room
-    pub done: bool,
-    // the place past the nodes
-    pub next: usize,
+    // the place past the nodes, where the output had room
+    pub next: Option<usize>,
     // the row afterwards
     pub one: Cell,
     pub two: Cell,
@@ -52,21 +49,12 @@ pub fn close_in_row(
     let b: [u64; 2] = [two.addr, two.hash];
     let mut row: [[u64; 2]; 2] = [a, b];
     let d = e + 1;
-    let done = pack_close::close_to(
+    let next = pack_close::close_to(
         output, &mut row, first, d, e, inputs, leasts, targets, counts, led, finals, values,
     );
-    let Closed::Done(next) = done else {
-        return RowClosed {
-            done: false,
-            next: first,
-            one,
-            two,
-        };
-    };
     let c = row[0];
     let f = row[1];
     RowClosed {
-        done: true,
         next,
         one: Cell {
             addr: c[0],
@@ -82,8 +70,8 @@ pub fn close_in_row(
 // What finishing the root leaves.
 #[derive(Clone, Copy)]
 pub struct RowPlaced {
-    // where it is
-    pub placed: Placed,
+    // where it is, where the output had room
+    pub placed: Option<Placed>,
     // the row afterwards
     pub one: Cell,
     pub two: Cell,

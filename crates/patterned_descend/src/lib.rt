@@ -12,11 +12,10 @@ ghost use Rattle.patterned_fit.specs.Positions.{positions_is, pattern_is};
 ghost use Rattle.patterned_descend.specs.Descents.{Follows, found_at, DescendsBy};
 
 use format::{DEEP, LEVELS, MAX_KEY, NODE, SUM};
-use node::{Judged, Node};
+use node::Node;
 use patterned_fit::{fit_after, is_key, live};
 use stream_bounds::exceeded;
-use stream_descend::{Added, add, counted};
-use stream_pop::wide_place;
+use stream_descend::counted;
 use stream_start::Bound;
 
 // What following one transition gives: the target's node, whose level is written, or the number of a refusal.
@@ -58,13 +57,13 @@ fn follow(
         outs.old) addrs.new inps.new trans.new
         outs.new result }
 {
-    let i = wide_place(trans[k]);
+    let i = usize::from(trans[k]);
     let out = node::output(file, node, i);
-    let Added::Within(sum) = add(outs[k], out) else {
+    let Some(sum) = outs[k].checked_add(out) else {
         return Followed::Halted(SUM);
     };
     let target = node::transition_addr(file, node, i);
-    let Judged::Sound(n) = node::node_at(file, version, root, target) else {
+    let Ok(n) = node::node_at(file, version, root, target) else {
         return Followed::Halted(NODE);
     };
     let inp = node::input(file, node, i);
@@ -81,10 +80,10 @@ fn follow(
 fn found(k: usize, sum: u64, end: u64, total: u64) -> Down
     ensures { result ≡ found_at k sum end total }
 {
-    if u64::MAX - sum < end {
+    let Some(value) = sum.checked_add(end) else {
         return Down::Halted(SUM);
-    }
-    Down::Found(k, sum + end, total)
+    };
+    Down::Found(k, value, total)
 }
 
 // From the level at top, which can go on and whose node is judged, down by each level's next transition: to a key that fits, or to a level
@@ -122,29 +121,26 @@ pub fn descend_by(
         trans.old outs.old) total addrs.new inps.new
         trans.new outs.new result }
 {
-    let mut k = top;
     let mut m = node;
     let mut t = total;
     // a reading has at most 256 levels
-    while k < MAX_KEY {
+    for k in top..MAX_KEY {
         let followed = follow(file, version, root, k, m, addrs, inps, trans, outs);
         match followed {
-            Followed::Halted(why) => {
-                return Down::Halted(why);
-            }
+            Followed::Halted(why) => return Down::Halted(why),
             Followed::To(n) => {
-                let b = inps[k + 1];
+                let next = k + 1;
+                let b = inps[next];
                 let fit = fit_after(positions, len, k, b);
-                k += 1;
                 t = counted(t);
-                if exceeded(inps, k, bound, bound_len, kind) {
+                if exceeded(inps, next, bound, bound_len, kind) {
                     return Down::Passed(t);
                 }
-                if is_key(n.is_final, k, fit, len, rest) {
-                    return found(k, outs[k], n.final_output, t);
+                if is_key(n.is_final, next, fit, len, rest) {
+                    return found(next, outs[next], n.final_output, t);
                 }
-                if live(0, n.ntrans, k, fit, len, rest) {} else {
-                    return Down::Stuck(k, t);
+                if !live(0, n.ntrans, next, fit, len, rest) {
+                    return Down::Stuck(next, t);
                 }
                 m = n;
             }

@@ -1,6 +1,6 @@
 -- The count of the leading bytes that fit, byte by byte.
 --     Fitted ps key i      the first i bytes of key fit
---     fitted-..            none is looked at yet; one more fits; one does not; all do
+--     fitted-..            none is looked at yet; one more fits; one does not
 -- Assumes nothing.
 use mathlib.Core.Path.{◌≡◌, refl, sym, ◌∙◌, ap}
 use mathlib.Core.Bool.{Bool, true, false, cond}
@@ -11,9 +11,9 @@ use native.Mathlib.Omega.{arith}
 use native.Mathlib.Numerals.{add-one}
 use lib.Dec.{leb}
 use lib.ListN.{length, take, drop, get_or, length-drop}
-use lib.Seq.{length-take-le, take-suc, take-take, get_or-drop, get_or-take, take_all}
+use lib.Seq.{length-take-le, take-suc, get_or-drop, get_or-take}
 use Rattle.pattern.specs.FitCount.{fit_count, place_test}
-use Rattle.pattern.proofs.CountLaws.{count_le, count_snoc_on, count_take}
+use Rattle.pattern.proofs.CountLaws.{count_snoc_on, count_take}
 
 pub record Fitted (ps : List (Option ℕ)) (key : List ℕ) (i : ℕ) : Type 0 where
   pub within : i ≤ length key
@@ -24,11 +24,6 @@ unfolding fit_count
 fitted_none ps key = record { within = omega arith; all = refl }
 
 module _ {ps : List (Option ℕ)} {key : List ℕ} {i : ℕ} (w : Fitted ps key i) where
-  pub fitted_all : length key ≤ i → length key ≡ fit_count ps key
-  fitted_all h =
-      let e : length key ≡ i = omega (arith, w.within) in
-      e ∙ sym w.all ∙ ap (fit_count ps) (take_all i key h)
-
   module _ (more : i < length key) (b : ℕ) (eb : b ≡ get_or key i 0) where
     one_more : fit_count ps (take (suc i) key) ≡ cond (place_test ps i b) (suc i) i
     one_more =

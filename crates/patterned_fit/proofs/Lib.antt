@@ -1,3 +1,2 @@
--- Lemmas on the tests and on the count, for the proofs of this crate.
-mod TestLaws
+-- Lemmas on the count, for the proofs of this crate.
 mod CountOfLaws

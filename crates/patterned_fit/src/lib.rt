@@ -38,12 +38,10 @@ fn count_of(inps: &[u8; LEVELS], k: usize, positions: &[u16; MAX_KEY], len: usiz
     ensures { result ≡ fit_count (positions_is len positions.now)
         (take k (drop 1 inps.now)) }
 {
-    let mut i = 0;
-    while i < k {
-        if fits_place(positions, len, i, inps[i + 1]) {} else {
+    for i in 0..k {
+        if !fits_place(positions, len, i, inps[i + 1]) {
             return i;
         }
-        i += 1;
     }
     k
 }
@@ -90,21 +88,12 @@ fn goes_on(k: usize, fit: usize, len: usize, rest: bool) -> bool
 pub fn live(place: usize, ntrans: usize, k: usize, fit: usize, len: usize, rest: bool) -> bool
     ensures { result ≡ (ltb place ntrans && goes_on fit len rest k) }
 {
-    if ntrans <= place {
-        return false;
-    }
-    goes_on(k, fit, len, rest)
+    place < ntrans && goes_on(k, fit, len, rest)
 }
 
 // Whether a key is handed out: its node is final, and it fits.
 pub fn is_key(is_final: bool, k: usize, fit: usize, len: usize, rest: bool) -> bool
     ensures { result ≡ (is_final && key_fits fit len rest k) }
 {
-    if is_final {} else {
-        return false;
-    }
-    if k < len {
-        return false;
-    }
-    goes_on(k, fit, len, rest)
+    is_final && len <= k && goes_on(k, fit, len, rest)
 }

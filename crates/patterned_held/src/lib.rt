@@ -24,11 +24,7 @@ pub fn hold(positions: &[u16], rest: bool) -> Pattern
 {
     let mut held = [0u16; MAX_KEY];
     let len = positions.len();
-    let mut i = 0;
-    while i < len {
-        held[i] = positions[i];
-        i += 1;
-    }
+    held[..len].copy_from_slice(positions);
     Pattern {
         len,
         rest,

@@ -5,30 +5,26 @@
 --     pending-..          the pending empty key
 --     fits-..             whether the empty key fits
 -- Assumes nothing.
-use mathlib.Core.Path.{◌≡◌, refl, sym, ◌∙◌, ap}
+use mathlib.Core.Path.{◌≡◌, refl, ◌∙◌, ap}
 use mathlib.Core.Bool.{Bool, true, false}
 use mathlib.Core.Option.{some}
 use mathlib.Core.List.{List, [], ◌∷◌, ◌++◌}
-use Prim.Native.Nat.{ℕ, zero, suc, ◌+◌, ◌<◌, ◌≤◌}
+use Prim.Native.Nat.{ℕ, zero, suc, ◌+◌, ◌≤◌}
 use native.Mathlib.Omega.{arith}
 use lib.ListN.{length, take, drop, length-drop}
-use lib.Seq.{length-take-le, take-take}
-use Rattle.format.specs.Limits.{max_path, max_levels}
+use lib.Seq.{length-take-le}
 use Rattle.format.specs.Paths.{Fst}
 use Rattle.reading.specs.Reading.{Level, passes_test, moved}
 use Rattle.stream_start.specs.declared.Reading.{Reading}
 use Rattle.stream_start.specs.Views.{level_at, stack_is, view_is}
 use Rattle.stream_start.specs.StackLaws.{stack_more, key_stack}
-use Rattle.stream_step.specs.declared.Answer.TheVariants.{Key, Refused}
+use Rattle.stream_step.specs.declared.Answer.TheVariants.{Key}
 use Rattle.stream_step.specs.declared.Step.{Step}
 use Rattle.stream_step.specs.Stepped.{Stepped}
 use Rattle.stream_step.specs.Steps.{placed_at, ended_at}
 use Rattle.pattern.specs.Pattern as P
 use Rattle.pattern.specs.Pattern.{fits_test, WentBy, found, ended, halted, after_walk, pending_by}
 use Rattle.patterned_fit.specs.Positions.{positions_is}
-use Rattle.patterned_walk.specs.declared.Walked.{Walked}
-use Rattle.patterned_walk.specs.declared.Walked.TheVariants as Walk
-use Rattle.patterned_walk.specs.Walks.{walked_seen, walked_at, WalksBy}
 use Rattle.patterned_pending.specs.PendingWalks.{walk_of}
 
 -- ---- the reading after a call
@@ -53,16 +49,7 @@ filled_view r q k t e xs is ps os = ap (λ (x : Reading). view_is (filled x xs i
 
 -- ---- the walk
 
-pub walks_is : {want : WentBy} {xs is ps os : List ℕ} {d d' : Walked} → WalksBy want xs is ps os d → d ≡ d' → want ≡ walked_seen xs is ps os d'
-walks_is {want} {xs} {is} {ps} {os} h e = sym h.seen ∙ ap (walked_seen xs is ps os) e
-
-pub walks_low : {want : WentBy} {xs is ps os : List ℕ} {d : Walked} {k v t : ℕ} → WalksBy want xs is ps os d → d ≡ Walk.Found k v t → k < 256
-walks_low h e = rw (ap walked_at e) at h.low
-
 module _ (r : Reading) (w : WentBy) where
-  pub after_halted : (buf : List ℕ) (n : ℕ) → w ≡ halted n → Stepped (after_walk (view_is r) w) buf buf (record { answer = Refused n; reading = r })
-  after_halted buf n e = rw e (record { answer = refl; reading = refl; buffer = refl })
-
   pub after_ended : (buf : List ℕ) (t : ℕ) → w ≡ ended t → (x : Step) → Stepped (ended_at (view_is r) t) buf buf x → Stepped (after_walk (view_is r) w) buf buf x
   after_ended buf t e x h = rw e h
 
@@ -80,12 +67,8 @@ module _ (r : Reading) (w : WentBy) where
 
 -- ---- the key goes to the buffer, out of the inputs after the first
 
-pub inputs_hold : {want : WentBy} {xs is ps os : List ℕ} {r : Walked} → WalksBy want xs is ps os r → (k : ℕ) → k < max_levels → k ≤ length (take max_path (drop 1 is))
-inputs_hold {is = is} h k low = rw (length-take-le max_path (drop 1 is) (simp length-drop (omega (arith, h.inps_len)))) (omega arith)
-
-pub inputs_copied : {want : WentBy} {xs is ps os : List ℕ} {r : Walked} → WalksBy want xs is ps os r → (k : ℕ) (buf₀ buf : List ℕ) → k < max_levels
-    → buf ≡ take k (take max_path (drop 1 is)) ++ drop k buf₀ → buf ≡ take k (drop 1 is) ++ drop k buf₀
-inputs_copied {is = is} h k buf₀ buf low copy = copy ∙ ap (λ (l : List ℕ). l ++ drop k buf₀) (take-take k max_path (drop 1 is) (omega arith))
+pub inputs_copied : (is copied : List ℕ) (n k : ℕ) (buf : List ℕ) → n ≡ k → copied ≡ take n (drop 1 is) → copied ++ drop k buf ≡ take k (drop 1 is) ++ drop k buf
+inputs_copied is copied n k buf same e = rw (e, same)
 
 -- ---- the pending empty key
 

@@ -14,7 +14,7 @@ ghost use Rattle.patterned_pending.specs.PendingWalks.{walk_of};
 use patterned_held::Pattern;
 use patterned_walk::{Walked, walk_by};
 use stream_bounds::exceeded;
-use stream_start::{EmptyOutput, Reading};
+use stream_start::Reading;
 use stream_step::{Answer, Step, ended, placed};
 
 // The walk, where no empty key is pending or it is dropped. The arrays are copies, so that a refusal gives the reading back as it was.
@@ -61,13 +61,13 @@ pub fn walk(
         },
         Walked::Ended(total) => ended(reading, total),
         Walked::Found(k, value, total) => {
-            buffers::copy_front(&inps[1..], k, key);
+            key[..k].copy_from_slice(&inps[1..k + 1]);
             let after = Reading {
                 len: reading.len,
                 kind,
                 bound_len: reading.bound_len,
                 bound,
-                empty_output: EmptyOutput::Absent,
+                empty_output: None,
                 total,
                 levels: k + 1,
                 addrs,

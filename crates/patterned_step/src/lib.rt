@@ -12,7 +12,7 @@ use fst::Opened;
 use patterned_held::Pattern;
 use patterned_pending::{pending, walk};
 use stream_bounds::state_right;
-use stream_start::{EmptyOutput, Reading};
+use stream_start::Reading;
 use stream_step::{Answer, Step};
 
 // A call of next on a reading and a pattern.
@@ -48,10 +48,8 @@ pub fn step(file: &[u8], reading: Reading, pattern: Pattern, key: &mut [u8]) -> 
             }
             let empty = reading.empty_output;
             match empty {
-                EmptyOutput::Pending(value) => pending(
-                    file, m.version, m.root, reading, value, pattern, key,
-                ),
-                EmptyOutput::Absent => walk(file, m.version, m.root, reading, pattern, key),
+                Some(value) => pending(file, m.version, m.root, reading, value, pattern, key),
+                None => walk(file, m.version, m.root, reading, pattern, key),
             }
         }
     }

@@ -11,10 +11,10 @@ ghost use Rattle.patterned_fit.specs.Positions.{pattern_is};
 ghost use Rattle.patterned_walk.specs.Walks.{PopsBy, WalksBy};
 
 use format::{LEVELS, MAX_KEY, NODE};
-use node::{Judged, Node};
+use node::Node;
 use patterned_descend::{Down, descend_by};
 use patterned_fit::{fit_of, live};
-use stream_pop::{Popped, wide_place};
+use stream_pop::Popped;
 use stream_start::Bound;
 
 // What the walk finds: the place of the level where a key ends, the key's value and the total; the total at the end; or the number of a
@@ -24,13 +24,6 @@ pub enum Walked {
     Found(usize, u64, u64),
     Ended(u64),
     Halted(u8),
-}
-
-// A held address as a place in the file.
-fn wide_addr(addr: u32) -> usize
-    ensures { result ≡ addr }
-{
-    addr as usize
 }
 
 // The highest of the first levels that can go on: it has a transition left, and its bytes fit the pattern's start. Each level that is
@@ -50,17 +43,13 @@ fn pop_by(
     ensures { PopsBy file.now version root len rest addrs.now
         trans.now levels fit result }
 {
-    let mut k = levels;
-    while 0 < k {
-        let top = k - 1;
-        let addr = wide_addr(addrs[top]);
-        let Judged::Sound(m) = node::node_at(file, version, root, addr) else {
+    for top in (0..levels).rev() {
+        let Ok(m) = node::node_at(file, version, root, addrs[top] as usize) else {
             return Popped::Bad;
         };
-        if live(wide_place(trans[top]), m.ntrans, top, fit, len, rest) {
+        if live(usize::from(trans[top]), m.ntrans, top, fit, len, rest) {
             return Popped::At(top, m);
         }
-        k = top;
     }
     Popped::Empty
 }
@@ -98,6 +87,7 @@ pub fn walk_by(
     let mut n = levels;
     let mut t = total;
     let mut fit = fit_of(inps, levels, positions, len);
+    // by hand: where a descent cannot go on, the walk goes on from the levels that it left
     while 0 < n {
         let popped = pop_by(file, version, root, addrs, trans, n, fit, len, rest);
         match popped {

@@ -10,7 +10,7 @@ use format::{LEVELS, MAX_KEY};
 use range_fill::{Ranged, Stop, fill};
 use range_rows::put_row;
 use stream_bounds::exceeded;
-use stream_start::{Bound, EmptyOutput};
+use stream_start::Bound;
 
 // The keys after the levels in the arrays, up to `most`: a pending empty key comes first, or ends the range where it passes the upper bound.
 pub fn fill_all(
@@ -25,7 +25,7 @@ pub fn fill_all(
     bound: &[u8; MAX_KEY],
     bound_len: usize,
     kind: Bound,
-    empty: EmptyOutput,
+    empty: Option<u64>,
     most: usize,
     rows: &mut [u8],
     values: &mut [u64],
@@ -46,11 +46,11 @@ pub fn fill_all(
         };
     }
     match empty {
-        EmptyOutput::Absent => fill(
+        None => fill(
             file, version, root, levels, addrs, inps, trans, outs, bound, bound_len, kind, 0, most,
             rows, values,
         ),
-        EmptyOutput::Pending(value) => {
+        Some(value) => {
             if exceeded(inps, 0, bound, bound_len, kind) {
                 return Ranged {
                     count: 0,

@@ -6,14 +6,12 @@
 --     Followed hi b path k over r    the same after one byte more
 --     CutTo same over top ..         the same of fewer bytes
 -- Assumes nothing.
-use Rattle.std.specs.Prelude.{◌≡◌, Bool, true, false, cond, List, [], ◌∷◌, ◌++◌, ℕ, ◌+◌, ◌≤◌, ◌<◌, length, get_or, take}
+use Rattle.std.specs.Prelude.{◌≡◌, Bool, true, false, cond, Option, Some, None, List, [], ◌∷◌, ◌++◌, ℕ, ◌+◌, ◌≤◌, ◌<◌, length, get_or, take}
 use Rattle.format.specs.Strings as S
 use Rattle.format.specs.Strings.{included, excluded}
 use Rattle.reading.specs.Reading.{passes_test}
 use Rattle.range_bound.specs.declared.Side.{Side}
 use Rattle.range_bound.specs.declared.Side.TheVariants.{Below, Along, Past}
-use Rattle.range_bound.specs.declared.Reach.{Reach}
-use Rattle.range_bound.specs.declared.Reach.TheVariants as Next
 
 abbrev pub end_at : Bool → List ℕ → S.Bound
 end_at x b = cond x (excluded b) (included b)
@@ -29,9 +27,9 @@ pub record Beside (hi : S.Bound) (b path : List ℕ) (k same : ℕ) (over : Bool
   pub decided : same < k → (more : List ℕ) → passes_test hi (take (same + 1) path ++ more) ≡ over
   pub undecided : same ≡ k → over ≡ false
 
-pub record Followed (hi : S.Bound) (b path : List ℕ) (k : ℕ) (over : Bool) (r : Reach) : Type 0 where
-  pub past : r ≡ Next.Past → passes_test hi (take k path) ≡ true
-  pub within : (s : ℕ) → r ≡ Next.Within s → (passes_test hi (take k path) ≡ false) × Beside hi b path k s over
+pub record Followed (hi : S.Bound) (b path : List ℕ) (k : ℕ) (over : Bool) (r : Option ℕ) : Type 0 where
+  pub past : r ≡ None → passes_test hi (take k path) ≡ true
+  pub within : (s : ℕ) → r ≡ Some s → (passes_test hi (take k path) ≡ false) × Beside hi b path k s over
 
 -- whatever the bound and the key were
 abbrev pub CutTo : ℕ → Bool → ℕ → ℕ → Bool → Type 0

@@ -25,13 +25,6 @@ pub struct Standing {
     pub over: bool,
 }
 
-// A key after one byte more: how many leading bytes agree, or that it passes the bound.
-#[derive(Clone, Copy)]
-pub enum Reach {
-    Within(usize),
-    Past,
-}
-
 // A byte x after k bytes that agree with the n bytes of a bound, which is excluded or not.
 fn against(x: u8, k: usize, bound: &[u8; MAX_KEY], n: usize, excluded: bool) -> Side
     requires { (length bound.now ≡ max_path) × (n ≤ max_path) }
@@ -70,7 +63,8 @@ fn side_of(x: u8, k: usize, bound: &[u8; MAX_KEY], n: usize, kind: Bound) -> Sid
     }
 }
 
-// A byte x after k bytes, of which the first `same` agree with a bound. No byte before it is looked at again.
+// A byte x after k bytes, of which the first `same` agree with a bound: how many leading bytes agree now, or none where the key passes the bound. No byte
+// before x is looked at again.
 pub fn follow(
     same: usize,
     over: bool,
@@ -79,7 +73,7 @@ pub fn follow(
     bound: &[u8; MAX_KEY],
     n: usize,
     kind: Bound,
-) -> Reach
+) -> Option<usize>
     requires { (length bound.now ≡ max_path) × (n ≤ max_path) × (k < max_levels) }
     ensures { (is : List ℕ) → k + 1 < length is
         → Beside (bound_is kind (take n bound.now)) (take n bound.now) (drop 1 is) k same over
@@ -88,14 +82,14 @@ pub fn follow(
 {
     if same < k {
         if over {
-            return Reach::Past;
+            return None;
         }
-        return Reach::Within(same);
+        return Some(same);
     }
     match side_of(x, k, bound, n, kind) {
-        Side::Below => Reach::Within(same),
-        Side::Along => Reach::Within(k + 1),
-        Side::Past => Reach::Past,
+        Side::Below => Some(same),
+        Side::Along => Some(k + 1),
+        Side::Past => None,
     }
 }
 
@@ -125,10 +119,8 @@ pub fn stand(
     ensures { Beside (bound_is kind (take n bound.now)) (take n bound.now)
         (drop 1 inps.now) k result.same result.over }
 {
-    let mut i = 0;
-    while i < k {
-        let x = inps[i + 1];
-        match side_of(x, i, bound, n, kind) {
+    for (i, x) in inps[1..=k].iter().enumerate() {
+        match side_of(*x, i, bound, n, kind) {
             Side::Below => {
                 return Standing {
                     same: i,
@@ -143,10 +135,9 @@ pub fn stand(
             }
             Side::Along => {}
         }
-        i += 1;
     }
     Standing {
-        same: i,
+        same: k,
         over: false,
     }
 }

@@ -24,7 +24,7 @@ use Rattle.reading.specs.Reading as R
 use Rattle.reading.specs.Reading.{Level, passes_test, key_of, counted, next_trans, child, stepped, descend, on_node}
 use Rattle.stream_start.specs.Views.{Arrays, level_at, stack_is}
 use Rattle.stream_start.specs.StackLaws.{key_stack, pushed_top, pushed_below}
-use Rattle.range_bound.specs.declared.Reach.{Reach}
+use Rattle.std.specs.Prelude.{Option}
 use Rattle.range_bound.specs.Besides.{Beside, Followed}
 use Rattle.range_bound.specs.BesideLaws.{beside_within}
 use Rattle.range_node.specs.Entries.{Leads, SoundTo}
@@ -218,7 +218,7 @@ module _ {f : Fst} {hi : Bound} {b : List ℕ} {want : ℕ → R.Went} {xs is ps
                 ∙ key_stack (k + 1) xs⁺ is⁺ ps⁺ os⁺ (omega (arith, len⁺))
 
             -- the bound, with one input more
-            pub further : {r : Reach}
+            pub further : {r : Option ℕ}
                 → ((path : List ℕ) → k + 1 < length path → Beside hi b (drop 1 path) k same over → Followed hi b (drop 1 (set path (k + 1) e.inp)) (k + 1) over r)
                 → Followed hi b (drop 1 is⁺) (k + 1) over r
             further follows = follows is (omega (arith, g.arrays.inps_len)) g.beside

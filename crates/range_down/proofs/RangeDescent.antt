@@ -1,9 +1,7 @@
 -- The descent: what the definition says of each way out of a turn.
---     adds_within, adds_past      a sum
---     found_by, found_past        a key's value with the final output
 --     down-..                     the definition, one law for each way out of a turn
 -- Assumes nothing.
-use mathlib.Core.Path.{◌≡◌, sym, ◌∙◌}
+use mathlib.Core.Path.{◌≡◌}
 use mathlib.Core.Bool.{true, false, cond}
 use mathlib.Core.List.{List, ◌∷◌}
 use Prim.Native.Nat.{ℕ, suc, ◌+◌, ◌-◌, ◌<◌, ◌≤◌}
@@ -15,29 +13,6 @@ use Rattle.format.specs.Node.{Node, sound, unsound}
 use Rattle.format.specs.Paths.{Fst, node_in}
 use Rattle.format.specs.Strings.{Bound}
 use Rattle.reading.specs.Reading.{Level, passes_test, key_of, counted, Went, found, passed, next_trans, child, stepped, descend}
-use Rattle.range_down.specs.declared.Went.TheVariants.{Found, Halted}
-use Rattle.stream_descend.specs.declared.Added.TheVariants.{Within, Past}
-use Rattle.stream_descend.specs.Descent.{Adds}
-use Rattle.range_down.specs.Downs.{found_at}
-
--- ---- sums
-
-pub adds_within : (sum out : ℕ) → sum + out ≤ max_sum → Adds sum out (Within (sum + out))
-adds_within sum out h = record {
-  within = λ n e. let q : sum + out ≡ n = cc in (sym q, h);
-  past = λ e. absurd (let z : ◌≡◌ {A = ℕ} 0 1 = cc in omega arith);
-}
-
-pub adds_past : (sum out : ℕ) → max_sum < sum + out → Adds sum out Past
-adds_past sum out h = record { within = λ n e. absurd (let z : ◌≡◌ {A = ℕ} 0 1 = cc in omega arith); past = λ _. h }
-
--- ---- a key with its final output
-
-pub found_by : (k sum end s : ℕ) {n : ℕ} → n ≡ sum + end → sum + end ≤ max_sum → found_at k sum end s ≡ Found k n s
-found_by k sum end s {n} e h = rw (le-leb (sum + end) max_sum h, ← e)
-
-pub found_past : (k sum end s : ℕ) → max_sum < sum + end → found_at k sum end s ≡ Halted SUM
-found_past k sum end s h = rw (lt-leb (sum + end) max_sum h)
 
 -- ---- the definition
 

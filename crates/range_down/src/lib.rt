@@ -11,10 +11,8 @@ ghost use Rattle.range_node.specs.Entries.{Leads, SoundTo};
 ghost use Rattle.range_down.specs.Downs.{down_from, found_at, DescendsOn};
 
 use format::{DEEP, LEVELS, MAX_KEY, NODE, SUM};
-use range_bound::{Reach, follow};
-use range_node::{Ending, Met, meet, take, wide_addr};
-use stream_descend::{Added, add};
-use stream_pop::wide_place;
+use range_bound::follow;
+use range_node::{meet, take};
 use stream_start::Bound;
 
 // What the descent finds: the place of the level where a key ends, the key's value, and how many of its leading bytes agree with the upper bound; that
@@ -30,7 +28,7 @@ pub enum Went {
 fn found(k: usize, sum: u64, end: u64, same: usize) -> Went
     ensures { result ≡ found_at k sum end same }
 {
-    let Added::Within(value) = add(sum, end) else {
+    let Some(value) = sum.checked_add(end) else {
         return Went::Halted(SUM);
     };
     Went::Found(k, value, same)
@@ -67,37 +65,32 @@ pub fn descend(
         inps.old trans.old outs.old top) addrs.new
         inps.new trans.new outs.new result }
 {
-    let mut k = top;
     let mut same = agreed;
     // a reading has at most 256 levels
-    while k < MAX_KEY {
-        let addr = wide_addr(addrs[k]);
-        let i = wide_place(trans[k]);
+    for k in top..MAX_KEY {
+        let addr = addrs[k] as usize;
+        let i = trans[k] as usize;
         let edge = take(file, version, root, addr, i);
-        let out = edge.out;
-        let Added::Within(sum) = add(outs[k], out) else {
+        let Some(sum) = outs[k].checked_add(edge.out) else {
             return Went::Halted(SUM);
         };
         let target = edge.addr;
-        let Met::Sound(ending) = meet(file, version, root, target) else {
+        let Ok(ending) = meet(file, version, root, target) else {
             return Went::Halted(NODE);
         };
         let inp = edge.inp;
-        let Reach::Within(agree) = follow(same, over, inp, k, bound, bound_len, kind) else {
+        let Some(agree) = follow(same, over, inp, k, bound, bound_len, kind) else {
             return Went::Passed;
         };
         same = agree;
         trans[k] = (i + 1) as u16;
-        k += 1;
-        addrs[k] = target as u32;
-        inps[k] = inp;
-        trans[k] = 0;
-        outs[k] = sum;
-        match ending {
-            Ending::Final(end) => {
-                return found(k, sum, end, same);
-            }
-            Ending::Inner => {}
+        let next = k + 1;
+        addrs[next] = target as u32;
+        inps[next] = inp;
+        trans[next] = 0;
+        outs[next] = sum;
+        if let Some(end) = ending {
+            return found(next, sum, end, same);
         }
     }
     Went::Halted(DEEP)

@@ -16,7 +16,6 @@ use Rattle.buffers.specs.PutLaws.{length_put}
 use Rattle.format.specs.Limits.{max_path, max_levels}
 use Rattle.format.specs.Paths.{Fst, fst_with}
 use Rattle.format.specs.Strings as S
-use Rattle.reading.specs.Reading as R
 use Rattle.reading.specs.Reading.{View, Level, Step, Answer, key, end, next}
 use Rattle.paging.specs.Paging.{Page, row_len}
 use Rattle.stream_start.specs.Views.{Arrays, stack_is}
@@ -28,7 +27,7 @@ use Rattle.range_turn.specs.declared.Turn.TheVariants.{Key, End, Refused}
 use Rattle.range_turn.specs.Turns.{view_at, step_of, Turned, goes_on, ends, stops}
 use Rattle.range_turn.specs.StartStateLaws.{next_walk}
 use Rattle.range_fill.specs.declared.Stop.TheVariants as Why
-use Rattle.range_fill.specs.RangedRows.{OpensAs}
+use Rattle.range_fill.specs.RangedRows.{OpensAs, RangedBy}
 use Rattle.range_fill.specs.FillLaws.{Filling, FilledFrom, filling_key, filled_more, filled_end, filled_refused}
 
 -- ---- a call of next, and a turn
@@ -97,8 +96,11 @@ module _ {s : List ℕ} {version root : ℕ} (o : OpensAs s version root) {hi : 
       ≡ step_of (fst_with s version root) (length s) hi n t (stack_is levels xs is ps os)
   called t = next_turn o hi n t (stack_is levels xs is ps os) short (rw (stack_length levels xs is ps os) g.few)
 
-  pub going_more : most ≤ count → (t : ℕ) → FilledFrom s (r₀ t) first most rows₀ rows values₀ values (record { count = count; stop = Why.More })
-  going_more full t w rs vs f = filled_more ((g.from t).goes w rs vs f) full
+  pub going_more : most ≤ count → (t : ℕ) → FilledFrom s (r₀ t) first most rows₀ rows values₀ values (record { count = most; stop = Why.More })
+  going_more full t w rs vs f =
+      let q = (g.from t).goes w rs vs f in
+      let e : count ≡ most = omega (arith, q.within) in
+      subst (λ (j : ℕ). RangedBy w rs rows vs values (record { count = j; stop = Why.More })) e (filled_more q full)
 
   module _ (left : count < most) {xs' is' ps' os' : List ℕ} {r : Turn}
       (turned : (t : ℕ) → Turned (fst_with s version root) (length s) hi b n t (stack_is levels xs is ps os) xs' is' ps' os' r) where
@@ -125,19 +127,19 @@ module _ {s : List ℕ} {version root : ℕ} (o : OpensAs s version root) {hi : 
       pub key_low : k < max_levels
       key_low = (found 0).low
 
-      pub inputs_len_lem : length is' ≡ max_levels
+      inputs_len_lem : length is' ≡ max_levels
       inputs_len_lem = (found 0).arrays.inps_len
 
-      pub inputs_hold : k ≤ length (take (length is' - 1) (drop 1 is'))
-      inputs_hold = rw (length-take-le (length is' - 1) (drop 1 is') (simp length-drop (omega arith))) (omega (arith, key_low, inputs_len_lem))
+      pub inputs_hold : k ≤ length (take 255 (drop 1 is'))
+      inputs_hold = rw (length-take-le 255 (drop 1 is') (simp length-drop (omega (arith, inputs_len_lem)))) (omega (arith, key_low, inputs_len_lem))
 
       pub row_within : count * 256 + row_len ≤ length rows
       row_within = omega (arith, g.rows_len)
 
-      pub going_key : {rows' : List ℕ} → rows' ≡ put rows (count * 256) (k ∷ take k (take (length is' - 1) (drop 1 is')))
+      pub going_key : {rows' : List ℕ} → rows' ≡ put rows (count * 256) (k ∷ take k (take 255 (drop 1 is')))
           → Going (fst_with s version root) s hi b n r₀ first most rows₀ values₀ rows' (set values count v) xs' is' ps' os' (k + 1) (count + 1) agreed false
       going_key {rows'} put_is =
-          let same : take k (take (length is' - 1) (drop 1 is')) ≡ take k (drop 1 is') = take-take k (length is' - 1) (drop 1 is') (omega (arith, key_low, inputs_len_lem)) in
+          let same : take k (take 255 (drop 1 is')) ≡ take k (drop 1 is') = take-take k 255 (drop 1 is') (omega (arith, key_low, inputs_len_lem)) in
           let len : length (take k (drop 1 is')) ≡ k = length-take-le k (drop 1 is') (simp length-drop (omega (arith, inputs_len_lem, key_low))) in
           let put_key : rows' ≡ put rows (count * 256) (k ∷ take k (drop 1 is')) = put_is ∙ ap (λ (l : List ℕ). put rows (count * 256) (k ∷ l)) same in
           record {

@@ -29,13 +29,6 @@ pub struct Ranged {
     pub stop: Stop,
 }
 
-// How many bytes the key of so many levels has.
-fn depth_of(levels: usize) -> usize
-    ensures { result ≡ levels - 1 }
-{
-    if 0 < levels { levels - 1 } else { 0 }
-}
-
 // The keys after the levels in the arrays, from row `first` on up to `most`, with nothing pending. The arrays are lent on to each step, so a key costs no copy
 // of a reading, and each level is that of a node that was judged as it was entered. A refusal stands beside the keys before it.
 pub fn fill(
@@ -65,12 +58,10 @@ pub fn fill(
         values.old values.new result }
 {
     let mut height = levels;
-    let mut count = first;
-    let depth = depth_of(levels);
-    let standing = stand(inps, depth, bound, bound_len, kind);
+    let standing = stand(inps, levels.saturating_sub(1), bound, bound_len, kind);
     let mut same = standing.same;
     let mut over = standing.over;
-    while count < most {
+    for count in first..most {
         match step_on(
             file, version, root, height, addrs, inps, trans, outs, bound, bound_len, kind, same,
             over,
@@ -91,16 +82,14 @@ pub fn fill(
                 // a key that is handed out does not pass the bound
                 same = agreed;
                 over = false;
-                let bytes = &inps[..];
-                put_row(&bytes[1..], k, count * ROW, rows);
+                put_row(&inps[1..], k, count * ROW, rows);
                 values[count] = value;
                 height = k + 1;
-                count += 1;
             }
         }
     }
     Ranged {
-        count,
+        count: most,
         stop: Stop::More, // as many as asked for
     }
 }

@@ -1,29 +1,26 @@
 -- A node that was judged, read again by its address.
 --     sound_of, not_zero         it is sound; with a transition it is not at address 0
 --     no_count                   address 0 has no transition
---     same_count, same_place     the numbers read again are those of the judged node
---     met_inner, ..              what entering a sound node says
+--     same_count                 the numbers read again are those of the judged node
+--     leads_sound, leads_reads   a judged node with a transition i is sound; its numbers, read again, have it too
+--     met_inner                  what entering a sound node with one transition says
 -- Assumes nothing.
 use mathlib.Core.Path.{◌≡◌, refl, sym, ap, ◌∙◌}
-use mathlib.Core.Bool.{true, false}
 use mathlib.Core.Logic.{⊎_elim}
 use mathlib.Core.List.{List}
 use Prim.Native.Nat.{ℕ, ◌<◌, ◌≤◌}
 use native.Mathlib.Omega.{arith}
 use lib.ListN.{length, get_or}
-use Rattle.format.specs.declared.Transition.{Transition}
 use Rattle.format.specs.Node as F
 use Rattle.format.specs.Node.{SoundAt, node_at, node_of, sound, transition_at}
 use Rattle.format.specs.Laws.NodeLaws.{node_at_cases, node_at_sound, not_final}
 use Rattle.format.specs.Paths.{Fst, node_in}
 use Rattle.node_sound.specs.JudgingLaws.{sound_low}
 use Rattle.node.specs.declared.Node.{Node}
-use Rattle.node.specs.declared.Judged.TheVariants as J
-use Rattle.node.specs.Read.{meaning, Judges, Readable, transitions_in}
+use Rattle.node.specs.Read.{meaning, Judges, Readable}
 use Rattle.node.specs.ReadLaws.{length_node_transitions}
-use Rattle.range_node.specs.declared.Ending.TheVariants.{Final, Inner}
-use Rattle.range_node.specs.declared.Met.TheVariants.{Sound}
-use Rattle.range_node.specs.Entries.{met_of}
+use Rattle.std.specs.Prelude.{Ok, None}
+use Rattle.range_node.specs.Entries.{Leads, met_of}
 
 sound_same : {m n : F.Node} → sound m ≡ sound n → m ≡ n
 sound_same e = cc
@@ -39,7 +36,7 @@ module _ (f : Fst) (a : ℕ) {n : F.Node} (is : node_in f a ≡ sound n) where
   pub not_zero : (i : ℕ) → i < length n.transitions → ¬ (a ≡ 0)
   not_zero i has z = omega (arith, no_count z)
 
-  module _ {m : Node} (j : Judges f.bytes f.version f.root a (J.Sound m)) where
+  module _ {m : Node} (j : Judges f.bytes f.version f.root a (Ok m)) where
     same : meaning f.bytes m ≡ n
     same = sound_same (j.answer ∙ is)
 
@@ -52,8 +49,13 @@ module _ (f : Fst) (a : ℕ) {n : F.Node} (is : node_in f a ≡ sound n) where
     pub reads : (i : ℕ) → i < length n.transitions → Readable f.bytes m × (i < m.ntrans)
     reads i has = (readable, omega (arith, same_count))
 
-    pub same_place : (i : ℕ) {t : Transition} → t ≡ transition_at (transitions_in f.bytes m) i → t ≡ transition_at n.transitions i
-    same_place i e = e ∙ ap (λ (x : F.Node). transition_at x.transitions i) same
+-- a node with a transition i, and its numbers as they are read again
+pub leads_sound : {f : Fst} {a i : ℕ} (l : Leads f a i) → SoundAt f.bytes f.version f.root a
+leads_sound {f} {a} {i} l = sound_of f a l.is (not_zero f a l.is i l.has)
+
+pub leads_reads : {f : Fst} {a i : ℕ} (l : Leads f a i) {m : Node} → Judges f.bytes f.version f.root a (Ok m)
+    → Readable f.bytes m × (i < m.ntrans)
+leads_reads {f} {a} {i} l j = reads f a l.is j i l.has
 
 -- ---- as it is entered
 
@@ -61,12 +63,6 @@ module _ (s : List ℕ) (v root a : ℕ) (h : SoundAt s v root a) where
   not_low : ¬ (a ≡ 0)
   not_low z = omega (arith, sound_low s v root a h)
 
-  pub met_inner : 128 ≤ get_or s a 0 → Sound Inner ≡ met_of (node_at s v root a)
+  pub met_inner : 128 ≤ get_or s a 0 → Ok None ≡ met_of (node_at s v root a)
   unfolding node_of
   met_inner big = sym (ap met_of (node_at_sound s v root a not_low h) ∙ rw (not_final (get_or s a 0) big))
-
-  pub met_final : {m : Node} → Judges s v root a (J.Sound m) → m.is_final ≡ true → Sound (Final m.final_output) ≡ met_of (node_at s v root a)
-  met_final {m} j e = sym (ap met_of (sym j.answer) ∙ rw e)
-
-  pub met_other : {m : Node} → Judges s v root a (J.Sound m) → m.is_final ≡ false → Sound Inner ≡ met_of (node_at s v root a)
-  met_other {m} j e = sym (ap met_of (sym j.answer) ∙ rw e)

@@ -5,21 +5,18 @@
 --     CountsAt, TakesAt         how many transitions a sound node has; its transition i
 --     SoundTo f xs n            the first n addresses of a list are those of sound nodes
 -- Assumes nothing.
-use Rattle.std.specs.Prelude.{◌≡◌, cond, List, ℕ, ◌<◌, length, get_or}
+use Rattle.std.specs.Prelude.{◌≡◌, cond, Result, Ok, Err, Option, Some, None, List, ℕ, ◌<◌, length, get_or}
 use Rattle.format.specs.declared.Transition.{Transition}
 use Rattle.format.specs.Node.{Node, Judgement, sound, unsound, transition_at}
 use Rattle.format.specs.Paths.{Fst, node_in}
-use Rattle.range_node.specs.declared.Ending.{Ending}
-use Rattle.range_node.specs.declared.Ending.TheVariants.{Final, Inner}
-use Rattle.range_node.specs.declared.Met.{Met}
-use Rattle.range_node.specs.declared.Met.TheVariants.{Sound, Unsound}
+use Rattle.node.specs.declared.Unsound.{Unsound}
 
-abbrev pub ending_of : Node → Ending
-ending_of m = cond m.final (Final m.final_output) Inner
+abbrev pub ending_of : Node → Option ℕ
+ending_of m = cond m.final (Some m.final_output) None
 
-abbrev pub met_of : Judgement → Met
-met_of (sound m) = Sound (ending_of m)
-met_of unsound = Unsound
+abbrev pub met_of : Judgement → Result (Option ℕ) Unsound
+met_of (sound m) = Ok (ending_of m)
+met_of unsound = Err (record {})
 
 pub record Entered (f : Fst) (a : ℕ) : Type 0 where
   pub node : Node

@@ -3,40 +3,38 @@
 --     ending_final, ending_inner      whether the node is final
 --     sound_set, sound_less           the sound addresses of a list after a store; of its first ones
 -- Assumes nothing.
-use Rattle.std.specs.Prelude.{◌≡◌, refl, Bool, true, false, cond, List, ℕ, ◌+◌, ◌<◌, ◌≤◌, length, set}
+use Rattle.std.specs.Prelude.{◌≡◌, refl, Bool, true, false, cond, Ok, Err, Option, Some, None, List, ℕ, ◌+◌, ◌<◌, ◌≤◌, length, set}
 use Rattle.std.proofs.Math.Decide.{ℕ_discrete}
 use Rattle.std.proofs.Common.{arith, get_or-set_same, get_or-set_other}
 use Rattle.format.specs.Node.{Node, Judgement, sound, unsound}
 use Rattle.format.specs.Paths.{Fst, node_in}
-use Rattle.range_node.specs.declared.Ending.{Ending}
-use Rattle.range_node.specs.declared.Ending.TheVariants.{Final, Inner}
-use Rattle.range_node.specs.declared.Met.TheVariants.{Sound, Unsound}
+use Rattle.node.specs.declared.Unsound.{Unsound}
 use Rattle.range_node.specs.Entries.{ending_of, met_of, SoundTo}
 
-pub record Meeting (j : Judgement) (e : Ending) : Type 0 where
+pub record Meeting (j : Judgement) (e : Option ℕ) : Type 0 where
   pub node : Node
   pub is : j ≡ sound node
   pub ending : e ≡ ending_of node
 
-pub met_sound : (j : Judgement) (e : Ending) → Sound e ≡ met_of j → Meeting j e
+pub met_sound : (j : Judgement) (e : Option ℕ) → Ok e ≡ met_of j → Meeting j e
 met_sound (sound m) e q = record { node = m; is = refl; ending = cc }
 met_sound unsound e q = absurd (let z : ◌≡◌ {A = ℕ} 0 1 = cc in omega arith)
 
-pub met_unsound : (j : Judgement) → Unsound ≡ met_of j → j ≡ unsound
+pub met_unsound : (j : Judgement) → {u : Unsound} → Err u ≡ met_of j → j ≡ unsound
 met_unsound (sound m) q = absurd (let z : ◌≡◌ {A = ℕ} 0 1 = cc in omega arith)
 met_unsound unsound q = refl
 
-pub ending_final : (m : Node) (v : ℕ) → Final v ≡ ending_of m → (m.final ≡ true) × (v ≡ m.final_output)
+pub ending_final : (m : Node) (v : ℕ) → Some v ≡ ending_of m → (m.final ≡ true) × (v ≡ m.final_output)
 ending_final m v = go m.final
   where
-    go : (b : Bool) → Final v ≡ cond b (Final m.final_output) Inner → (b ≡ true) × (v ≡ m.final_output)
+    go : (b : Bool) → Some v ≡ cond b (Some m.final_output) None → (b ≡ true) × (v ≡ m.final_output)
     go true q = (refl, cc)
     go false q = absurd (let z : ◌≡◌ {A = ℕ} 0 1 = cc in omega arith)
 
-pub ending_inner : (m : Node) → Inner ≡ ending_of m → m.final ≡ false
+pub ending_inner : (m : Node) → None ≡ ending_of m → m.final ≡ false
 ending_inner m = go m.final
   where
-    go : (b : Bool) → Inner ≡ cond b (Final m.final_output) Inner → b ≡ false
+    go : (b : Bool) → None ≡ cond b (Some m.final_output) None → b ≡ false
     go true q = absurd (let z : ◌≡◌ {A = ℕ} 0 1 = cc in omega arith)
     go false q = refl
 

@@ -1,68 +1,46 @@
 // A node on the way of a range: what is judged as it is entered, and what is read of it later, by its address, with no node kept between the two.
 #![tactic(auto)]
 
-ghost use Rattle.std.specs.Prelude.{◌≡◌};
+ghost use Rattle.std.specs.Prelude.{Ok, ◌≡◌};
 ghost use Rattle.format.specs.Node.{SoundAt, node_at};
 ghost use Rattle.format.specs.Paths.{fst_with};
 ghost use Rattle.range_node.specs.Entries.{met_of, Entered, Leads, CountsAt, TakesAt};
-ghost use Rattle.range_node.specs.declared.Met.TheVariants.{Sound as Met-sound};
 
 use format::Transition;
-use le_bytes::small;
+use node::Unsound;
 use node_sound::is_sound;
 
-// Whether a key ends at a node, and then what that adds to its value.
-#[derive(Clone, Copy)]
-pub enum Ending {
-    Final(u64),
-    Inner,
-}
-
-// What entering a node says: that it is sound, and whether a key ends there; or that it is not.
-#[derive(Clone, Copy)]
-pub enum Met {
-    Sound(Ending),
-    Unsound,
-}
-
-// A held address as a place in the file.
-pub fn wide_addr(addr: u32) -> usize
-    ensures { result ≡ addr }
-{
-    addr as usize
-}
-
-// Whether a key ends at a sound node with bytes. Only a node with any number of transitions can be final.
-fn ending_of(file: &[u8], version: u64, root: usize, addr: usize) -> Ending
+// Whether a key ends at a sound node with bytes, and then what that adds to its value. Only a node with any number of transitions can be final.
+fn ending_of(file: &[u8], version: u64, root: usize, addr: usize) -> Option<u64>
     requires { SoundAt file.now version root addr }
-    ensures { Met-sound result ≡ met_of (node_at file.now version root addr) }
+    ensures { Ok result ≡ met_of (node_at file.now version root addr) }
 {
-    let one_transition = 128 <= small(file[addr]);
+    let one_transition = 128 <= file[addr];
     if one_transition {
-        return Ending::Inner;
+        return None;
     }
     let m = node::any_node(file, version, root, addr);
     if m.is_final {
-        return Ending::Final(m.final_output);
+        return Some(m.final_output);
     }
-    Ending::Inner
+    None
 }
 
-// Judges the node at addr, as it is entered.
-pub fn meet(file: &[u8], version: u64, root: usize, addr: usize) -> Met
+// Judges the node at addr, as it is entered: whether a key ends there, with what that adds to its value.
+pub fn meet(file: &[u8], version: u64, root: usize, addr: usize) -> Result<Option<u64>, Unsound>
     ensures { result ≡ met_of (node_at file.now version root addr) }
 {
     if addr == 0 {
         // a file without bytes has no node
         if 0 < file.len() {
-            return Met::Sound(Ending::Final(0));
+            return Ok(Some(0));
         }
-        return Met::Unsound;
+        return Err(Unsound);
     }
     if is_sound(file, version, root, addr) {
-        return Met::Sound(ending_of(file, version, root, addr));
+        return Ok(ending_of(file, version, root, addr));
     }
-    Met::Unsound
+    Err(Unsound)
 }
 
 // How many transitions a node has that was judged before.
@@ -73,7 +51,7 @@ pub fn count_of(file: &[u8], version: u64, root: usize, addr: usize) -> usize
     if addr == 0 {
         return 0;
     }
-    let state = small(file[addr]);
+    let state = file[addr];
     if state < 128 {
         let any = node::any_node(file, version, root, addr);
         return any.ntrans;
@@ -91,7 +69,7 @@ pub fn take(file: &[u8], version: u64, root: usize, addr: usize, i: usize) -> Tr
     requires { Leads (fst_with file.now version root) addr i }
     ensures { TakesAt (fst_with file.now version root) addr i result }
 {
-    let state = small(file[addr]);
+    let state = file[addr];
     if state < 128 {
         let any = node::any_node(file, version, root, addr);
         return node::transition(file, any, i);

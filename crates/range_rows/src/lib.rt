@@ -19,20 +19,14 @@ pub fn bounds_right(lower_kind: Bound, lower: &[u8], upper_kind: Bound, upper: &
     ensures { result ≡ R.bounds_test (bound_is lower_kind lower.now)
         (bound_is upper_kind upper.now) }
 {
-    if MAX_KEY < len_of(lower_kind, lower) {
-        return false;
-    }
-    len_of(upper_kind, upper) <= MAX_KEY
+    len_of(lower_kind, lower) <= MAX_KEY && len_of(upper_kind, upper) <= MAX_KEY
 }
 
 // Whether rows of so many bytes, and so many values, have room for `most` keys. A quotient, since 256 times `most` may wrap.
 pub fn has_room(most: usize, rows: usize, values: usize) -> bool
     ensures { result ≡ P.room_test most rows values }
 {
-    if values < most {
-        return false;
-    }
-    most <= rows / ROW
+    most <= values && most <= rows / ROW
 }
 
 // Writes a row from place at on: the length of a key, and its bytes, the first n of key. The rest of the row stays as given.
@@ -42,9 +36,8 @@ pub fn put_row(key: &[u8], n: usize, at: usize, rows: &mut [u8])
 {
     rows[at] = n as u8;
     let first = at + 1;
-    let mut i = 0;
-    while i < n {
+    // byte by byte: the library's copy would have the C library call memmove, where it cannot see the two apart
+    for i in 0..n {
         rows[first + i] = key[i];
-        i += 1;
     }
 }

@@ -13,8 +13,8 @@ use Rattle.format.specs.Paths.{Fst, node_in}
 use Rattle.reading.specs.Reading.{top, used_up, pop}
 use Rattle.stream_start.specs.Views.{level_at, stack_is}
 use Rattle.stream_start.specs.StackLaws.{stack_suc}
-use Rattle.range_node.specs.Entries.{Entered, SoundTo, CountsAt}
-use Rattle.range_turn.specs.declared.Top.TheVariants.{At, Empty}
+use Rattle.range_node.specs.Entries.{SoundTo, CountsAt}
+use Rattle.std.specs.Prelude.{Some, None}
 use Rattle.range_turn.specs.Turns.{Tops}
 
 -- ---- the definition
@@ -46,17 +46,13 @@ pub topping_none : (f : Fst) (xs ps : List ℕ) (levels : ℕ) → SoundTo f xs 
 topping_none f xs ps levels h = record { within = omega arith; sounds = h; same = λ is os. refl }
 
 module _ {f : Fst} {xs ps : List ℕ} {levels k : ℕ} (p : Topping f xs ps levels k) where
-  pub topping_end : k ≤ 0 → Tops f xs ps levels Empty
+  pub topping_end : k ≤ 0 → Tops f xs ps levels None
   topping_end h = record {
     at = λ j e. absurd (let z : ◌≡◌ {A = ℕ} 0 1 = cc in omega arith);
     none_left = λ e is os. p.same is os ∙ pop_end f k xs is ps os h;
   }
 
   module _ (pos : 0 < k) where
-    -- the level's node was judged
-    pub entered : {a : ℕ} → a ≡ get_or xs (k - 1) 0 → Entered f a
-    entered ea = rw ea (p.sounds (k - 1) (omega (arith, p.within)))
-
     module _ {a : ℕ} (ea : a ≡ get_or xs (k - 1) 0) {n : ℕ} (counts : CountsAt f a n) where
       abbrev m : Node
       m = (p.sounds (k - 1) (omega (arith, p.within))).node
@@ -67,7 +63,7 @@ module _ {f : Fst} {xs ps : List ℕ} {levels k : ℕ} (p : Topping f xs ps leve
       count_is : n ≡ length m.transitions
       count_is = counts m (ap (node_in f) ea ∙ is_m)
 
-      pub topping_at : get_or ps (k - 1) 0 < n → Tops f xs ps levels (At (k - 1))
+      pub topping_at : get_or ps (k - 1) 0 < n → Tops f xs ps levels (Some (k - 1))
       topping_at t = record {
         at = λ j e.
             let z : k - 1 ≡ j = cc in

@@ -6,7 +6,7 @@
 --     next_walk         a call of next where the state is right
 -- Assumes nothing.
 use Rattle.std.specs.Prelude.{◌≡◌, refl, Bool, true, false, cond, ◌⊎◌, List, [], ◌∷◌, ℕ, zero, suc, ◌+◌, ◌-◌, ◌≤◌, leb, eqb, length}
-use Rattle.std.proofs.Common.{sym, ap, subst, ◌∙◌, ⊎_elim, inl, inr, arith, le-leb, leb-true, eq-eqb}
+use Rattle.std.proofs.Common.{sym, ap, subst, ⊎_elim, inl, inr, arith, le-leb, eq-eqb}
 use Rattle.std.proofs.Math.Option.{Option}
 use Rattle.std.proofs.Math.Decide.{ℕ_discrete}
 use Rattle.buffers.specs.DecideLaws.{decides_and, decides_le}
@@ -17,8 +17,7 @@ use Rattle.format.specs.Opening.{Meta, Opening, opened, opening}
 use Rattle.format.specs.Paths.{Fst, fst_of, node_in}
 use Rattle.format.specs.Strings.{Bound}
 use Rattle.reading.specs.Reading.{View, Level, level_with, on_node, on_search, on_opened, Sought, got, halted, last_levels, seek, bound_bytes, bounds_test, is_inclusive}
-use Rattle.reading.specs.Reading.{Started, started, started_at, pending_at, start, Step, next, walk}
-use Rattle.reading.specs.Reading as R
+use Rattle.reading.specs.Reading.{Started, started, started_at, pending_at, start, next, walk}
 use Rattle.stream_start.specs.Views.{stack_is}
 use Rattle.range_node.specs.Entries.{Entered, SoundTo}
 

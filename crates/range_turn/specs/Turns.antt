@@ -4,7 +4,7 @@
 --     TopAt f .. k, Tops f .. r       level k is the highest that has a transition left; what the pops answer
 --     Turned f .. r                   the turn r and the arrays after it, for every total
 -- Assumes nothing.
-use Rattle.std.specs.Prelude.{◌≡◌, false, List, ℕ, ◌+◌, ◌<◌, length, get_or, take, drop}
+use Rattle.std.specs.Prelude.{◌≡◌, false, Option, Some, None, List, ℕ, ◌+◌, ◌<◌, length, get_or, take, drop}
 use Rattle.std.proofs.Math.Option.{none}
 use Rattle.format.specs.Limits.{max_levels}
 use Rattle.format.specs.Node.{Node, sound}
@@ -15,8 +15,6 @@ use Rattle.reading.specs.Reading.{View, Level, key, end, after_pop, top, used_up
 use Rattle.stream_start.specs.Views.{Arrays, level_at, stack_is}
 use Rattle.range_bound.specs.Besides.{Beside}
 use Rattle.range_node.specs.Entries.{SoundTo}
-use Rattle.range_turn.specs.declared.Top.{Top}
-use Rattle.range_turn.specs.declared.Top.TheVariants.{At, Empty}
 use Rattle.range_turn.specs.declared.Turn.{Turn}
 use Rattle.range_turn.specs.declared.Turn.TheVariants.{Key, End, Refused}
 
@@ -34,9 +32,9 @@ pub record TopAt (f : Fst) (xs ps : List ℕ) (levels k : ℕ) : Type 0 where
   -- the pops see neither the inputs nor the sums
   pub pops : (is os : List ℕ) → pop f (stack_is levels xs is ps os) ≡ top (level_at k xs is ps os) node (stack_is k xs is ps os)
 
-pub record Tops (f : Fst) (xs ps : List ℕ) (levels : ℕ) (r : Top) : Type 0 where
-  pub at : (k : ℕ) → r ≡ At k → TopAt f xs ps levels k
-  pub none_left : r ≡ Empty → (is os : List ℕ) → pop f (stack_is levels xs is ps os) ≡ used_up
+pub record Tops (f : Fst) (xs ps : List ℕ) (levels : ℕ) (r : Option ℕ) : Type 0 where
+  pub at : (k : ℕ) → r ≡ Some k → TopAt f xs ps levels k
+  pub none_left : r ≡ None → (is os : List ℕ) → pop f (stack_is levels xs is ps os) ≡ used_up
 
 -- a key ends at level k, its bytes are the inputs after the first, and s of them agree with the upper bound, whose bytes are b
 pub data Turned (f : Fst) (len : ℕ) (hi : S.Bound) (b : List ℕ) (n t : ℕ) (levels : List Level) (xs is ps os : List ℕ) : Turn → Type 0 where

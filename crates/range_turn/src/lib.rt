@@ -13,16 +13,8 @@ ghost use Rattle.range_turn.specs.Turns.{Tops, Turned};
 use format::{LEVELS, MAX_KEY};
 use range_bound::cut;
 use range_down::{Went, descend};
-use range_node::{count_of, wide_addr};
-use stream_pop::wide_place;
+use range_node::count_of;
 use stream_start::Bound;
-
-// What the pops find: the place of the highest level that has a transition left, or that there is none.
-#[derive(Clone, Copy)]
-enum Top {
-    At(usize),
-    Empty,
-}
 
 // What a turn finds: the place of the level where the next key ends, the key's value, and how many of its leading bytes agree with the upper bound; that
 // no key is left; or the number of a refusal.
@@ -33,7 +25,7 @@ pub enum Turn {
     Refused(u8),
 }
 
-// The highest of the first levels that has a transition left.
+// The place of the highest of the first levels that has a transition left, if one has.
 fn highest(
     file: &[u8],
     version: u64,
@@ -41,22 +33,18 @@ fn highest(
     addrs: &[u32; LEVELS],
     trans: &[u16; LEVELS],
     levels: usize,
-) -> Top
+) -> Option<usize>
     requires { (levels ≤ max_levels) × SoundTo (fst_with file.now version root) addrs.now levels }
     ensures { Tops (fst_with file.now version root) addrs.now
         trans.now levels result }
 {
-    let mut k = levels;
-    while 0 < k {
-        let top = k - 1;
-        let addr = wide_addr(addrs[top]);
-        let count = count_of(file, version, root, addr);
-        if wide_place(trans[top]) < count {
-            return Top::At(top);
+    for top in (0..levels).rev() {
+        let count = count_of(file, version, root, addrs[top] as usize);
+        if (trans[top] as usize) < count {
+            return Some(top);
         }
-        k = top;
     }
-    Top::Empty
+    None
 }
 
 // One step of the first levels to the next key: its bytes are the inputs after the first. The key of the levels given stands to the upper bound as same
@@ -89,21 +77,17 @@ pub fn step_on(
         outs.old) addrs.new inps.new trans.new
         outs.new result }
 {
-    let popped = highest(file, version, root, addrs, trans, levels);
-    match popped {
-        Top::Empty => Turn::End,
-        Top::At(top) => {
-            let standing = cut(same, over, top);
-            let agreed = standing.same;
-            let past = standing.over;
-            match descend(
-                file, version, root, top, addrs, inps, trans, outs, bound, bound_len, kind, agreed,
-                past,
-            ) {
-                Went::Halted(why) => Turn::Refused(why),
-                Went::Passed => Turn::End,
-                Went::Found(k, value, agree) => Turn::Key(k, value, agree),
-            }
-        }
+    let Some(top) = highest(file, version, root, addrs, trans, levels) else {
+        return Turn::End;
+    };
+    let standing = cut(same, over, top);
+    let agreed = standing.same;
+    let past = standing.over;
+    match descend(
+        file, version, root, top, addrs, inps, trans, outs, bound, bound_len, kind, agreed, past,
+    ) {
+        Went::Halted(why) => Turn::Refused(why),
+        Went::Passed => Turn::End,
+        Went::Found(k, value, agree) => Turn::Key(k, value, agree),
     }
 }

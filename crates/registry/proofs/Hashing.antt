@@ -1,8 +1,7 @@
 -- The hash of transitions that are taken one after the other: the rest decides.
 --     Hashed is os ts want h i     h of the transitions from place i on is what is wanted
 -- Assumes nothing.
-use Rattle.std.proofs.Common.{◌≡◌, ℕ, suc, ◌+◌, ◌<◌, ◌≤◌, List, [], ◌∷◌, length, get_or, drop, sym, refl, ap, ◌∙◌, add-one, arith, drop_of_length-le, drop-cons}
-use Rattle.format.specs.declared.Transition.{Transition}
+use Rattle.std.proofs.Common.{◌≡◌, ℕ, suc, ◌+◌, ◌<◌, ◌≤◌, List, ◌∷◌, length, get_or, drop, sym, ap, ◌∙◌, add-one, arith, drop_of_length-le, drop-cons}
 use Rattle.format.specs.Node.{transitions_of}
 use Rattle.packing.specs.Registry.{fnv_step, hash_transitions}
 

@@ -7,7 +7,7 @@
 --     intern_chosen        a record's address by the choice
 -- Assumes nothing.
 use Rattle.std.specs.Prelude.{◌≡◌, ℕ, ◌+◌, ◌-◌, Bool, true, false, cond, not, ◌&&◌, List, ◌++◌, length, replicate, ◌==◌, refl}
-use Rattle.std.proofs.Common.{ap, ap₂, ◌∙◌, arith, length-append}
+use Rattle.std.proofs.Common.{ap, arith, length-append}
 use Rattle.std.proofs.lemmas.List.{length-replicate}
 use Rattle.format.specs.Node.{node_at}
 use Rattle.format.specs.Packed.{BuilderNode, packed, packs_to_nothing}

@@ -2,47 +2,31 @@
 // Ports `Registry::hash` of src/raw/registry.rs and the comparison of `RegistryCache::entry`, which here reads the node back.
 #![tactic(auto)]
 
-ghost use Rattle.std.specs.Prelude.{◌≡◌, ◌-◌, ◌*◌, ◌%◌, ◌^◌, ◌≤◌, cond, ◌&&◌, length, ◌==◌};
+ghost use Rattle.std.specs.Prelude.{◌≡◌, ◌-◌, ◌≤◌, ◌&&◌, length, ◌==◌};
 ghost use Rattle.format.specs.Node.{transitions_of, node_at};
 ghost use Rattle.node.specs.Read.{transitions_in, Readable};
 ghost use Rattle.node_compile.specs.Compile.{builder_with};
-ghost use Rattle.packing.specs.Registry.{fnv_step, hash_of, same_bool, same_transitions, same_node};
+ghost use Rattle.packing.specs.Registry.{fnv_step, hash_of, same_transitions, same_node};
 ghost use Rattle.registry.specs.Matching.{cell_with, matches_in, chosen};
 
 use format::Transition;
-use node::{Judged, Node};
+use node::Node;
 
 // ---- the hash
 
-// y times the prime 2^40 + 435, modulo 2^64, in three parts of which none passes 64 bits.
-fn times_prime(y: u64) -> u64
-    ensures { result ≡ (y * 1099511628211) % 2 ^ 64 }
-{
-    let low = y % 16777216 * 1099511627776;
-    let middle = y % 4294967296 * 435;
-    let high = y / 4294967296 * 435 % 4294967296 * 4294967296;
-    std::num::wrapping_add_u64(std::num::wrapping_add_u64(low, middle), high)
-}
-
-// One step of FNV-1a over words.
+// One step of FNV-1a over words: the prime is 2^40 + 435.
+#[tactic(auto, unfolding(packing::specs::Registry::fnv_step))]
 fn fnv_step(h: u64, x: u64) -> u64
     ensures { result ≡ fnv_step h x }
 {
-    times_prime(h ^ x)
-}
-
-// 1 for a final node.
-fn final_word(is_final: bool) -> u64
-    ensures { result ≡ cond is_final 1 0 }
-{
-    if is_final { 1 } else { 0 }
+    (h ^ x).wrapping_mul(1099511628211)
 }
 
 // One transition more.
 fn hash_transition(h: u64, inp: u8, out: u64, addr: usize) -> u64
     ensures { result ≡ fnv_step (fnv_step (fnv_step h inp) out) addr }
 {
-    fnv_step(fnv_step(fnv_step(h, inp as u64), out), addr as u64)
+    fnv_step(fnv_step(fnv_step(h, u64::from(inp)), out), addr as u64)
 }
 
 // The hash of the record of these parts.
@@ -58,12 +42,10 @@ pub fn hash(
     ensures { result ≡ hash_of
         (builder_with is_final final_output inputs.now outputs.now targets.now) }
 {
-    let seed = fnv_step(14695981039346656037, final_word(is_final));
+    let seed = fnv_step(14695981039346656037, u64::from(is_final));
     let mut h = fnv_step(seed, final_output);
-    let mut i = 0;
-    while i < inputs.len() {
-        h = hash_transition(h, inputs[i], outputs[i], targets[i]);
-        i += 1;
+    for (i, inp) in inputs.iter().enumerate() {
+        h = hash_transition(h, *inp, outputs[i], targets[i]);
     }
     h
 }
@@ -91,26 +73,16 @@ fn same_transitions(
     ensures { result ≡ same_transitions (transitions_in file.now node)
         (transitions_of inputs.now outputs.now targets.now) }
 {
-    let n = node.ntrans;
-    if inputs.len() != n {
+    if inputs.len() != node.ntrans {
         return false;
     }
-    let mut i = 0;
-    while i < n {
+    for (i, inp) in inputs.iter().enumerate() {
         let t = node::transition(file, node, i);
-        if same_transition(t, inputs[i], outputs[i], targets[i]) {} else {
+        if !same_transition(t, *inp, outputs[i], targets[i]) {
             return false;
         }
-        i += 1;
     }
     true
-}
-
-// Whether two flags are equal.
-fn same_bool(a: bool, b: bool) -> bool
-    ensures { result ≡ same_bool «a» «b» }
-{
-    if a { b } else { !b }
 }
 
 // Whether the node that is stored at addr among the nodes so far is the record of these parts. The file is 16 bytes and the nodes,
@@ -132,12 +104,12 @@ pub fn same_node(
 {
     let judged = node::node_at(file, 2, file.len() - 1, addr);
     match judged {
-        Judged::Sound(node) => {
-            same_bool(node.is_final, is_final)
+        Ok(node) => {
+            node.is_final == is_final
                 && (node.final_output == final_output
                     && same_transitions(file, node, inputs, outputs, targets))
         }
-        Judged::Unsound => false,
+        Err(_) => false,
     }
 }
 

@@ -3,13 +3,13 @@
 // is recorded. A difference changes a count that is written.
 #![tactic(auto)]
 
-ghost use Rattle.std.specs.Prelude.{◌+◌, ◌*◌, ◌≤◌, length};
+ghost use Rattle.std.specs.Prelude.{◌+◌, ◌*◌, ◌≤◌, length, IfSome};
 ghost use Rattle.format.specs.Limits.{max_len};
 ghost use Rattle.replay_list.specs.Records.{Within};
 
 use convert::Converted;
 use format::MAX_LEN;
-use replay_list::{Entry, FILE, KEPT, Parsed, Place, at_most, number};
+use replay_list::{Entry, FILE, KEPT, Place, at_most, number};
 use std::io;
 use std::io::Read;
 
@@ -74,51 +74,35 @@ fn writes_alike(list: &[u8], file: &[u8], entry: Entry) -> bool
 fn rows_alike(list: &[u8], at: usize, n: usize, table: &[u32; CELLS]) -> bool
     requires { at + 6 * n ≤ length list.now }
 {
-    let mut i = 0;
-    while i < n {
+    for i in 0..n {
         let row = at + 6 * i;
         let addr = at_most(number(list, row, 2), CELLS - 1);
-        if wide(table[addr]) != number(list, row + 2, 4) {
+        if u64::from(table[addr]) != number(list, row + 2, 4) {
             return false;
         }
-        i += 1;
     }
     true
 }
 
-fn wide(x: u32) -> u64 {
-    x as u64
-}
-
-// What an entry of the table is: 1 a new address, 0 none, which is 0 where the table is written and else what it held, and 2 what it never is.
-fn cell(entry: u32, written: bool) -> usize
-    ensures { result ≤ 2 }
+// How many new addresses an entry of the table has: 1, or 0 where it is 0 in what is written and else what it held; None for what it never is.
+fn cell(entry: u32, written: bool) -> Option<usize>
+    ensures { IfSome result (λ n. n ≤ 1) }
 {
-    if written {
-        if entry != 0 {
-            return 1;
-        }
-        return 0;
+    match (written, entry) {
+        (true, 0) => Some(0),
+        (true, _) => Some(1),
+        (false, KEPT32) => Some(0),
+        (false, _) => None,
     }
-    if entry != KEPT32 {
-        return 2;
-    }
-    0
 }
 
-// How many entries have a new address, where the first n are written; 9999 where an entry is what it never is.
-fn entries(table: &[u32; CELLS], n: usize) -> usize {
+// How many entries have a new address, where the first n are written; None where an entry is what it never is.
+fn entries(table: &[u32; CELLS], n: usize) -> Option<usize> {
     let mut there = 0;
-    let mut i = 0;
-    while i < CELLS {
-        let found = cell(table[i], i < n);
-        if 1 < found {
-            return 9999;
-        }
-        there += found;
-        i += 1;
+    for (i, entry) in table.iter().enumerate() {
+        there += cell(*entry, i < n)?;
     }
-    there
+    Some(there)
 }
 
 // Whether a conversion with a table and work tables of the recorded lengths answers as recorded, and leaves the table so.
@@ -143,7 +127,7 @@ fn addresses_alike(list: &[u8], file: &[u8], entry: Entry) -> bool
     }
     let written = if entry.a < REFUSED { file.len() } else { 0 };
     let rows = entry.len / 6;
-    if entries(&table, written) != rows {
+    if entries(&table, written) != Some(rows) {
         return false;
     }
     rows_alike(list, entry.part, rows, &table)
@@ -158,17 +142,7 @@ fn tables_alike(
     depths_want: &[u16; CELLS],
     sums_want: &[u64; CELLS],
 ) -> bool {
-    let mut i = 0;
-    while i < CELLS {
-        if depths[i] != depths_want[i] {
-            return false;
-        }
-        if sums[i] != sums_want[i] {
-            return false;
-        }
-        i += 1;
-    }
-    true
+    depths == depths_want && sums == sums_want
 }
 
 // Whether a conversion within the recorded limit, with an output and work tables of the recorded lengths, answers as recorded and leaves the work tables as
@@ -225,8 +199,9 @@ fn alike(list: &[u8], file: &[u8], entry: Entry) -> bool
 fn replay(list: &[u8], counts: &mut [u64; 16]) {
     let mut place = Place { from: 0, to: 0 };
     let mut at = 0;
+    // by place: each record says where the next begins
     while at < list.len() {
-        let Parsed::Good(entry) = replay_list::parse(list, at) else {
+        let Some(entry) = replay_list::parse(list, at) else {
             replay_list::tally(counts, 0, false);
             return;
         };

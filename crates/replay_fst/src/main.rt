@@ -4,14 +4,14 @@
 // changes a count that is written.
 #![tactic(auto)]
 
-ghost use Rattle.std.specs.Prelude.{◌≡◌, ◌+◌, ◌*◌, ◌≤◌, ◌<◌, length};
+ghost use Rattle.std.specs.Prelude.{◌≡◌, ◌+◌, ◌*◌, ◌≤◌, ◌<◌, length, IfSome};
 ghost use Rattle.replay_list.specs.Records.{Within};
 
 use admission::Admission;
-use fst::{Checksum, Meta, Opened};
+use fst::{Meta, Opened};
 use lookup::Answer;
 use lookup_search::KeyAnswer;
-use replay_list::{Entry, FILE, KEPT, Parsed, Place, at_most, number};
+use replay_list::{Entry, FILE, KEPT, Place, at_most, number};
 use std::io;
 use std::io::Read;
 
@@ -36,11 +36,8 @@ const VALUE: u64 = 5;
 // ---- opening
 
 // A checksum as a number, 2^32 where there is none.
-fn checksum_number(checksum: Checksum) -> u64 {
-    match checksum {
-        Checksum::Stored(n) => n as u64,
-        Checksum::Missing => 4_294_967_296,
-    }
+fn checksum_number(checksum: Option<u32>) -> u64 {
+    checksum.map_or(4_294_967_296, u64::from)
 }
 
 // Whether what a file says is what stands at place at of the list.
@@ -91,62 +88,41 @@ fn admission_number(answer: Admission) -> u64 {
 fn rows_alike(list: &[u8], at: usize, n: usize, depths: &[u16; CELLS], sums: &[u64; CELLS]) -> bool
     requires { at + 12 * n ≤ length list.now }
 {
-    let mut i = 0;
-    while i < n {
+    for i in 0..n {
         let row = at + 12 * i;
         let addr = at_most(number(list, row, 2), CELLS - 1);
-        if wide(depths[addr]) != number(list, row + 2, 2) {
+        if u64::from(depths[addr]) != number(list, row + 2, 2) {
             return false;
         }
         if sums[addr] != number(list, row + 4, 8) {
             return false;
         }
-        i += 1;
     }
     true
 }
 
-fn wide(x: u16) -> u64 {
-    x as u64
-}
-
-// What the entries of one address are: 1 a node's, 0 nothing, which is 0 where the tables are
-// written and else what they held, and 2 what they never are.
-fn cell(depth: u16, sum: u64, written: bool) -> usize
-    ensures { result ≤ 2 }
+// How many nodes have the entries of one address: 1, or 0 where they are 0 in what is written and
+// else what they held; None for what they never are.
+fn cell(depth: u16, sum: u64, written: bool) -> Option<usize>
+    ensures { IfSome result (λ n. n ≤ 1) }
 {
-    if written {
-        if depth != 0 {
-            return 1;
-        }
-        if sum != 0 {
-            return 2;
-        }
-        return 0;
+    match (written, depth, sum) {
+        (true, 0, 0) => Some(0),
+        (true, 0, _) => None,
+        (true, _, _) => Some(1),
+        (false, KEPT16, KEPT64) => Some(0),
+        (false, _, _) => None,
     }
-    if depth != KEPT16 {
-        return 2;
-    }
-    if sum != KEPT64 {
-        return 2;
-    }
-    0
 }
 
-// How many nodes have entries, where the first n of each table are written; 9999 where entries are
+// How many nodes have entries, where the first n of each table are written; None where entries are
 // what they never are.
-fn entries(depths: &[u16; CELLS], sums: &[u64; CELLS], n: usize) -> usize {
+fn entries(depths: &[u16; CELLS], sums: &[u64; CELLS], n: usize) -> Option<usize> {
     let mut there = 0;
-    let mut i = 0;
-    while i < CELLS {
-        let found = cell(depths[i], sums[i], i < n);
-        if 1 < found {
-            return 9999;
-        }
-        there += found;
-        i += 1;
+    for (i, depth) in depths.iter().enumerate() {
+        there += cell(*depth, sums[i], i < n)?;
     }
-    there
+    Some(there)
 }
 
 // Whether both tables are as recorded: so many entries written, and of those the rows of the part,
@@ -155,7 +131,7 @@ fn tables_alike(list: &[u8], entry: Entry, depths: &[u16; CELLS], sums: &[u64; C
     requires { Within list.now entry }
 {
     let rows = entry.len / 12;
-    if entries(depths, sums, entry.c as usize) != rows {
+    if entries(depths, sums, entry.c as usize) != Some(rows) {
         return false;
     }
     rows_alike(list, entry.part, rows, depths, sums)
@@ -180,12 +156,7 @@ fn admits_alike(list: &[u8], file: &[u8], entry: Entry) -> bool
 
 fn gets_alike(file: &[u8], key: &[u8], entry: Entry) -> bool {
     match lookup::get(file, key) {
-        Answer::Value(v) => {
-            if entry.a == 0 {
-                return v == entry.b;
-            }
-            false
-        }
+        Answer::Value(v) => entry.a == 0 && v == entry.b,
         Answer::None => entry.a == 100,
         Answer::Refused(why) => why as u64 == entry.a,
     }
@@ -238,8 +209,9 @@ fn alike(list: &[u8], file: &[u8], entry: Entry) -> bool
 fn replay(list: &[u8], counts: &mut [u64; 16]) {
     let mut place = Place { from: 0, to: 0 };
     let mut at = 0;
+    // by place: each record says where the next begins
     while at < list.len() {
-        let Parsed::Good(entry) = replay_list::parse(list, at) else {
+        let Some(entry) = replay_list::parse(list, at) else {
             replay_list::tally(counts, 0, false);
             return;
         };

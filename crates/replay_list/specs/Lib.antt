@@ -1,3 +1,4 @@
 pub mod Records
 pub mod RecordLaws
 pub mod Tallies
+pub mod Recorded

@@ -1,16 +1,14 @@
 -- The records of a replay list (oracle/README.md, "The replay lists"): 15 bytes of numbers, then the part.
 --     field_at s at k    the number of the k bytes at place at
 --     entry_at s at      the record at place at, as the layout says
---     parsed_at s at     that record, or Malformed where the list ends within it
+--     parsed_at s at     that record, or None where the list ends within it
 --     asked_place e p    the file that the record e is about: its own part if it is a file, else p, that of the one before
 --     Within s e        the part of the record e lies in the list s
 --     Inside s p        the place p of a file lies in the list s
 -- Assumes nothing.
-use Rattle.std.specs.Prelude.{cond, List, ℕ, ◌+◌, ◌≤◌, eqb, leb, length, take, drop}
+use Rattle.std.specs.Prelude.{cond, Option, Some, None, List, ℕ, ◌+◌, ◌≤◌, eqb, leb, length, take, drop}
 use Rattle.format.specs.Bytes.{le}
 use Rattle.replay_list.specs.declared.Entry.{Entry}
-use Rattle.replay_list.specs.declared.Parsed.{Parsed}
-use Rattle.replay_list.specs.declared.Parsed.TheVariants.{Good, Malformed}
 use Rattle.replay_list.specs.declared.Place.{Place}
 
 abbrev pub field_at : List ℕ → ℕ → ℕ → ℕ
@@ -27,8 +25,8 @@ entry_at s at = record {
   len = field_at s (at + 13) 2;
 }
 
-unfoldable pub parsed_at : List ℕ → ℕ → Parsed
-parsed_at s at = cond (leb (at + 15 + field_at s (at + 13) 2) (length s)) (Good (entry_at s at)) Malformed
+unfoldable pub parsed_at : List ℕ → ℕ → Option Entry
+parsed_at s at = cond (leb (at + 15 + field_at s (at + 13) 2) (length s)) (Some (entry_at s at)) None
 
 -- 1 is the kind of a file
 unfoldable pub asked_place : Entry → Place → Place

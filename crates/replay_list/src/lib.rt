@@ -7,9 +7,12 @@ ghost use Rattle.std.specs.Prelude.{◌≡◌, ◌+◌, ◌*◌, ◌≤◌, ◌<
 ghost use Rattle.buffers.specs.Decide.{Decides};
 ghost use Rattle.format.specs.Bytes.{le};
 ghost use Rattle.replay_list.specs.Records.{Within, parsed_at, asked_place};
+ghost use Rattle.replay_list.specs.Recorded.{start_number, answer_test};
 ghost use Rattle.replay_list.specs.Tallies.{wanted_at, Holds, smaller, more_at, tallied};
 
 use std::io;
+use stream_start::Begins;
+use stream_step::Answer;
 
 // The kind of a record that those after it are about, as a file: its part is what they ask of.
 pub const FILE: u64 = 1;
@@ -25,13 +28,6 @@ pub struct Entry {
     pub c: u64,
     pub part: usize,
     pub len: usize,
-}
-
-#[derive(Clone, Copy)]
-pub enum Parsed {
-    Good(Entry),
-    // the list ends within the record
-    Malformed,
 }
 
 // Where the file that is asked stands in the list.
@@ -51,26 +47,27 @@ pub fn number(list: &[u8], at: usize, size: usize) -> u64
     le_bytes::unpack_uint(&list[at..], size)
 }
 
-// The record at place at.
-pub fn parse(list: &[u8], at: usize) -> Parsed
+// The record at place at, or none where the list ends within it.
+#[tactic(auto, unfolding(crate::specs::Records::parsed_at))]
+pub fn parse(list: &[u8], at: usize) -> Option<Entry>
     ensures { result ≡ parsed_at list.now at }
 {
     if list.len() <= at {
-        return Parsed::Malformed;
+        return None;
     }
     let left = list.len() - at;
     if left < 15 {
-        return Parsed::Malformed;
+        return None;
     }
     let len = number(list, at + 13, 2) as usize;
     if left - 15 < len {
-        return Parsed::Malformed;
+        return None;
     }
     let kind = number(list, at, 1);
     let a = number(list, at + 1, 2);
     let b = number(list, at + 3, 8);
     let c = number(list, at + 11, 2);
-    Parsed::Good(Entry {
+    Some(Entry {
         kind,
         a,
         b,
@@ -89,6 +86,7 @@ pub fn end_of(list: &[u8], entry: Entry) -> usize
 }
 
 // The file that a record is about: its own part, or the file before it.
+#[tactic(auto, unfolding(crate::specs::Records::asked_place))]
 pub fn place_of(list: &[u8], entry: Entry, place: Place) -> Place
     requires { Within list.now entry }
     ensures { result ≡ asked_place entry place }
@@ -102,10 +100,34 @@ pub fn place_of(list: &[u8], entry: Entry, place: Place) -> Place
     place
 }
 
+// ---- readings
+
+// How a start is recorded: 0 where it gives a reading, else the refusal.
+pub fn begins_number(answer: Begins) -> u64
+    ensures { result ≡ start_number answer }
+{
+    match answer {
+        Begins::Began => 0,
+        Begins::Refused(why) => why as u64,
+    }
+}
+
+// Whether an answer of next has the recorded number and value: a key's length and value, 1000 at the end, or 2000 plus the refusal.
+pub fn answer_alike(answer: Answer, number: u64, value: u64) -> bool
+    ensures { result ≡ answer_test answer number value }
+{
+    match answer {
+        Answer::Key(n, v) => n as u64 == number && v == value,
+        Answer::End => number == 1000,
+        Answer::Refused(why) => 2000 + (why as u64) == number,
+    }
+}
+
 // ---- what a buffer holds
 
 // The byte that a buffer is to hold at place i: that of the n bytes from place at of the list, or
 // behind them what it held.
+#[tactic(auto, unfolding(crate::specs::Tallies::wanted_at))]
 fn wanted(list: &[u8], at: usize, n: usize, i: usize) -> u8
     requires { at + n ≤ length list.now }
     ensures { result ≡ wanted_at list.now at n i }
@@ -125,12 +147,10 @@ pub fn same_bytes(list: &[u8], at: usize, n: usize, buffer: &[u8; 4096]) -> bool
     if 4096 < n {
         return false;
     }
-    let mut i = 0;
-    while i < 4096 {
-        if buffer[i] != wanted(list, at, n, i) {
+    for (i, x) in buffer.iter().enumerate() {
+        if *x != wanted(list, at, n, i) {
             return false;
         }
-        i += 1;
     }
     true
 }
@@ -139,7 +159,7 @@ pub fn same_bytes(list: &[u8], at: usize, n: usize, buffer: &[u8; 4096]) -> bool
 pub fn at_most(n: u64, most: usize) -> usize
     ensures { (result ≡ smaller n most) × (result ≤ most) }
 {
-    if n < most as u64 { n as usize } else { most }
+    n.min(most as u64) as usize
 }
 
 // ---- the counts
@@ -149,14 +169,12 @@ fn more(counts: &mut [u64; 16], k: usize)
     requires { k < 16 }
     ensures { counts.new ≡ more_at counts.old k }
 {
-    let n = counts[k];
-    if n < u64::MAX {
-        counts[k] = n + 1;
-    }
+    counts[k] = counts[k].saturating_add(1);
 }
 
 // Counts a record of this kind, and whether it was answered alike. Kinds past 7 are counted as kind
 // 0: no record has it.
+#[tactic(auto, unfolding(crate::specs::Tallies::tallied))]
 pub fn tally(counts: &mut [u64; 16], kind: u64, alike: bool)
     ensures { counts.new ≡ tallied counts.old kind alike }
 {

@@ -4,13 +4,13 @@
 // too.
 #![tactic(auto)]
 
-ghost use Rattle.std.specs.Prelude.{◌≡◌, ◌+◌, ◌*◌, ◌≤◌, ◌<◌, length};
+ghost use Rattle.std.specs.Prelude.{◌≡◌, ◌+◌, ◌*◌, ◌≤◌, ◌<◌, length, IfSome};
 ghost use Rattle.node.specs.Read.{Readable};
 ghost use Rattle.replay_list.specs.Records.{Within};
 
-use node::{Found, Judged, Node};
+use node::Node;
 use node_compile::Compiled;
-use replay_list::{Entry, FILE, KEPT, Parsed, Place, at_most, number};
+use replay_list::{Entry, FILE, KEPT, Place, at_most, number};
 use std::io;
 use std::io::Read;
 
@@ -45,10 +45,8 @@ fn outputs_of(node: &[u8], n: usize) -> [u64; 258]
     ensures { 258 ≡ length result }
 {
     let mut outputs = [0u64; 258];
-    let mut i = 0;
-    while i < n {
-        outputs[i] = number(node, LISTS + n + 8 * i, 8);
-        i += 1;
+    for (i, output) in outputs[..n].iter_mut().enumerate() {
+        *output = number(node, LISTS + n + 8 * i, 8);
     }
     outputs
 }
@@ -59,10 +57,8 @@ fn targets_of(node: &[u8], n: usize) -> [usize; 258]
     ensures { 258 ≡ length result }
 {
     let mut targets = [0usize; 258];
-    let mut i = 0;
-    while i < n {
-        targets[i] = number(node, LISTS + 9 * n + 4 * i, 4) as usize;
-        i += 1;
+    for (i, target) in targets[..n].iter_mut().enumerate() {
+        *target = number(node, LISTS + 9 * n + 4 * i, 4) as usize;
     }
     targets
 }
@@ -133,8 +129,8 @@ fn transition_alike(node: &[u8], n: usize, file: &[u8], read: Node, i: usize) ->
         return false;
     }
     match node::find_input(file, read, t.inp) {
-        Found::At(k) => k == i,
-        Found::Absent(_) => false,
+        Ok(k) => k == i,
+        Err(_) => false,
     }
 }
 
@@ -143,43 +139,36 @@ fn transitions_alike(node: &[u8], n: usize, file: &[u8], read: Node) -> bool
     requires { (51 + 13 * n ≤ length node.now) × Readable file.now read
         × (read.ntrans ≡ n) }
 {
-    let mut i = 0;
-    while i < n {
-        if transition_alike(node, n, file, read, i) {} else {
+    for i in 0..n {
+        if !transition_alike(node, n, file, read, i) {
             return false;
         }
-        i += 1;
     }
     true
 }
 
 // How many inputs are passed with b, where n stand below it: n and one more where b is found at place n, n where it is absent and the
-// first greater input stands there, and 300, which is no count, where the search says another place.
-fn passed(file: &[u8], read: Node, b: u8, n: usize) -> usize
+// first greater input stands there, and None where the search says another place.
+fn passed(file: &[u8], read: Node, b: u8, n: usize) -> Option<usize>
     requires readable { Readable file.now read }
-    requires n_bound { n ≤ 300 }
-    ensures { result ≤ 301 }
+    requires n_bound { n ≤ 256 }
+    ensures { IfSome result (λ m. m ≤ n + 1) }
 {
     match node::find_input(file, read, b) {
-        Found::At(k) => if k == n { n + 1 } else { 300 },
-        Found::Absent(p) => if p == n { n } else { 300 },
+        Ok(k) => (k == n).then_some(n + 1),
+        Err(p) => (p == n).then_some(n),
     }
 }
 
-// How many bytes are found among the inputs, each at its place, and each absent one before the first greater.
-fn all_found(file: &[u8], read: Node) -> usize
+// How many bytes are found among the inputs, where each is found at its place, and each absent one before the first greater.
+fn all_found(file: &[u8], read: Node) -> Option<usize>
     requires { Readable file.now read }
 {
     let mut n = 0;
-    let mut b: usize = 0;
-    while b < 256 {
-        if 300 <= n {
-            return n;
-        }
-        n = passed(file, read, b as u8, n);
-        b += 1;
+    for b in 0..=u8::MAX {
+        n = passed(file, read, b, n)?;
     }
-    n
+    Some(n)
 }
 
 // Whether F, final and the final output are those of the list's node.
@@ -207,22 +196,16 @@ fn node_alike(
 ) -> bool
     requires { 51 + 13 * n ≤ length node.now }
 {
-    let Judged::Sound(read) = node::node_at(file, version, root, addr) else {
+    let Ok(read) = node::node_at(file, version, root, addr) else {
         return sound == 0;
     };
     if read.ntrans != n {
         return false;
     }
-    if all_found(file, read) != n {
+    if all_found(file, read) != Some(n) {
         return false;
     }
-    if numbers_alike(node, read) {} else {
-        return false;
-    }
-    if transitions_alike(node, n, file, read) {
-        return sound == 1;
-    }
-    false
+    numbers_alike(node, read) && transitions_alike(node, n, file, read) && sound == 1
 }
 
 // The same in both recorded versions.
@@ -236,22 +219,8 @@ fn versions_alike(
 ) -> bool
     requires { 51 + 13 * n ≤ length node.now }
 {
-    if node_alike(node, n, file, entry.a, root, addr, entry.b) {
-        return node_alike(node, n, file, entry.c, root, addr, entry.b);
-    }
-    false
-}
-
-// Writes n bytes from place at of the list into file from place to on.
-fn lay(list: &[u8], at: usize, n: usize, file: &mut [u8], to: usize)
-    requires { (at + n ≤ length list.now) × (to + n ≤ length file.old) }
-    ensures { length file.new ≡ length file.old }
-{
-    let mut i = 0;
-    while i < n {
-        file[to + i] = list[at + i];
-        i += 1;
-    }
+    node_alike(node, n, file, entry.a, root, addr, entry.b)
+        && node_alike(node, n, file, entry.c, root, addr, entry.b)
 }
 
 // Whether recorded bytes, laid into a file of zeros that ends with them, are read as recorded in
@@ -272,7 +241,7 @@ fn reads_alike(list: &[u8], node: &[u8], n: usize, entry: Entry) -> bool
     let addr = number(list, part + 16, 8) as usize;
     let end = laid + len;
     let mut file = [0u8; SPACE];
-    lay(list, part + 24, len, &mut file, laid);
+    file[laid..end].copy_from_slice(&list[part + 24..part + 24 + len]);
     versions_alike(node, n, &file[..end], entry, root, addr)
 }
 
@@ -320,8 +289,9 @@ fn asked(rt: &impl Print, list: &[u8], node: &[u8], entry: Entry) -> io::Result<
 fn replay(rt: &impl Print, list: &[u8], counts: &mut [u64; 16]) -> io::Result<()> {
     let mut place = Place { from: 0, to: 0 };
     let mut at = 0;
+    // by place: each record says where the next begins
     while at < list.len() {
-        let Parsed::Good(entry) = replay_list::parse(list, at) else {
+        let Some(entry) = replay_list::parse(list, at) else {
             replay_list::tally(counts, 0, false);
             return Ok(());
         };

@@ -8,11 +8,11 @@ ghost use Rattle.replay_list.specs.Records.{Within};
 
 use patterned::Patterned;
 use patterned_held::Pattern;
-use replay_list::{Entry, FILE, KEPT, Parsed, Place, at_most, number};
+use replay_list::{Entry, FILE, KEPT, Place, answer_alike, at_most, begins_number, number};
 use std::io;
 use std::io::Read;
-use stream_start::{Begins, Bound};
-use stream_step::Answer;
+use stream_arrays::kind_of;
+use stream_start::Bound;
 
 // The list's length, and one byte more by which a longer list is seen.
 const LIST: u64 = 79_790;
@@ -29,38 +29,13 @@ const ROOM: usize = 300;
 
 // ---- starts
 
-// The kind of a bound: 0 included, 1 excluded, else unbounded.
-fn kind_of(n: u64) -> Bound {
-    if n == 0 {
-        return Bound::Included;
-    }
-    if n == 1 {
-        return Bound::Excluded;
-    }
-    Bound::Unbounded
-}
-
-fn begins_number(answer: Begins) -> u64 {
-    match answer {
-        Begins::Began => 0,
-        Begins::Refused(why) => why as u64,
-    }
-}
-
-// The number of two bytes, the lower first.
-fn number16(low: u8, high: u8) -> u16 {
-    low as u16 + 256 * (high as u16)
-}
-
 // The positions that a record gives, each of 2 bytes, from place at of the list.
 fn fill_positions(list: &[u8], at: usize, n: usize, positions: &mut [u16; ROOM])
     requires { (at + 2 * n ≤ length list.now) × (n ≤ 300) }
 {
-    let mut i = 0;
-    while i < n {
+    for i in 0..n {
         let from = at + 2 * i;
-        positions[i] = number16(list[from], list[from + 1]);
-        i += 1;
+        positions[i] = u16::from_le_bytes([list[from], list[from + 1]]);
     }
 }
 
@@ -131,20 +106,6 @@ fn replay_start(
 }
 
 // ---- calls of next
-
-// Whether an answer has the recorded number and value.
-fn answer_alike(answer: Answer, number: u64, value: u64) -> bool {
-    match answer {
-        Answer::Key(n, v) => {
-            if n as u64 == number {
-                return v == value;
-            }
-            false
-        }
-        Answer::End => number == 1000,
-        Answer::Refused(why) => 2000 + (why as u64) == number,
-    }
-}
 
 // Whether the reading's total and levels after a call, and the buffer, are what is recorded.
 fn left_alike(list: &[u8], entry: Entry, total: u64, levels: usize, key: &[u8; 4096]) -> bool
@@ -237,8 +198,9 @@ fn replay(list: &[u8], counts: &mut [u64; 16]) {
     let mut here = nothing();
     let mut place = Place { from: 0, to: 0 };
     let mut at = 0;
+    // by place: each record says where the next begins
     while at < list.len() {
-        let Parsed::Good(entry) = replay_list::parse(list, at) else {
+        let Some(entry) = replay_list::parse(list, at) else {
             replay_list::tally(counts, 0, false);
             return;
         };

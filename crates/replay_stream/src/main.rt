@@ -7,12 +7,12 @@
 ghost use Rattle.std.specs.Prelude.{◌+◌, ◌*◌, ◌≤◌, ◌<◌, length};
 ghost use Rattle.replay_list.specs.Records.{Within};
 
-use replay_list::{Entry, FILE, KEPT, Parsed, Place, at_most, number};
+use replay_list::{Entry, FILE, KEPT, Place, answer_alike, at_most, begins_number, number};
 use std::io;
 use std::io::Read;
 use stream::{Plain, Started};
-use stream_start::{Begins, Bound, EmptyOutput, Reading};
-use stream_step::Answer;
+use stream_arrays::kind_of;
+use stream_start::{Bound, Reading};
 
 // The list's length, and one byte more by which a longer list is seen.
 const LIST: u64 = 255_462;
@@ -43,14 +43,12 @@ struct Left {
 fn fill_table(list: &[u8], at: usize, n: usize, table: &mut [u64; CELLS])
     requires { at + 10 * n ≤ length list.now }
 {
-    let mut i = 0;
-    while i < n {
+    for i in 0..n {
         let from = at + 10 * i;
         let addr = number(list, from, 2) as usize;
         if addr < CELLS {
             table[addr] = number(list, from + 2, 8);
         }
-        i += 1;
     }
 }
 
@@ -64,24 +62,6 @@ fn replay_table(list: &[u8], entry: Entry, table: &mut [u64; CELLS], counts: &mu
 }
 
 // ---- starts
-
-// The kind of a bound: 0 included, 1 excluded, else unbounded.
-fn kind_of(n: u64) -> Bound {
-    if n == 0 {
-        return Bound::Included;
-    }
-    if n == 1 {
-        return Bound::Excluded;
-    }
-    Bound::Unbounded
-}
-
-fn begins_number(answer: Begins) -> u64 {
-    match answer {
-        Begins::Began => 0,
-        Begins::Refused(why) => why as u64,
-    }
-}
 
 // A start with so many entries of this table.
 fn start_with(
@@ -140,20 +120,6 @@ fn replay_start(
 
 // ---- calls of next
 
-// Whether an answer has the recorded number and value.
-fn answer_alike(answer: Answer, number: u64, value: u64) -> bool {
-    match answer {
-        Answer::Key(n, v) => {
-            if n as u64 == number {
-                return v == value;
-            }
-            false
-        }
-        Answer::End => number == 1000,
-        Answer::Refused(why) => 2000 + (why as u64) == number,
-    }
-}
-
 // Whether the reading's total, levels and number of keys to come after a call, and the buffer, are
 // what is recorded.
 fn left_alike(
@@ -205,41 +171,6 @@ fn replay_next(
 
 // ---- readings that no start gave
 
-// A reading of nothing.
-fn nothing() -> Reading {
-    let kind = Bound::Unbounded;
-    let empty_output = EmptyOutput::Absent;
-    Reading {
-        len: 0,
-        kind,
-        bound_len: 0,
-        bound: [0; 255],
-        empty_output,
-        total: 0,
-        levels: 0,
-        addrs: [0; 256],
-        inps: [0; 256],
-        trans: [0; 256],
-        outs: [0; 256],
-    }
-}
-
-// The number of two bytes, the lower first.
-fn number16(low: u8, high: u8) -> u16 {
-    low as u16 + 256 * (high as u16)
-}
-
-// The bytes of a bound, from place at of the list.
-fn fill_bound(list: &[u8], at: usize, n: usize, bound: &mut [u8; 255])
-    requires { (at + n ≤ length list.now) × (n ≤ 255) }
-{
-    let mut i = 0;
-    while i < n {
-        bound[i] = list[at + i];
-        i += 1;
-    }
-}
-
 // The levels, each of 15 bytes, from place at of the list.
 fn fill_levels(
     list: &[u8],
@@ -252,23 +183,14 @@ fn fill_levels(
 )
     requires { (at + 15 * n ≤ length list.now) × (n ≤ 256) }
 {
-    let mut i = 0;
-    while i < n {
+    // by index: four arrays are written at one place
+    for i in 0..n {
         let from = at + 15 * i;
         addrs[i] = le_bytes::read_u32_le(&list[from..]);
         inps[i] = list[from + 4];
-        trans[i] = number16(list[from + 5], list[from + 6]);
+        trans[i] = u16::from_le_bytes([list[from + 5], list[from + 6]]);
         outs[i] = number(list, from + 7, 8);
-        i += 1;
     }
-}
-
-// The value of the empty key, where that key is pending.
-fn pending_of(there: u64, value: u64) -> EmptyOutput {
-    if there == 0 {
-        return EmptyOutput::Absent;
-    }
-    EmptyOutput::Pending(value)
 }
 
 // How long the part of a recorded reading is.
@@ -284,25 +206,21 @@ fn made(list: &[u8], entry: Entry) -> Reading
     let levels = at_most(entry.a, 256);
     let bytes = at_most(entry.c, 255);
     if entry.len != 26 + bytes + 15 * levels {
-        return nothing();
+        return stream_start::no_reading();
     }
     let at = entry.part;
-    let empty_output = pending_of(number(list, at + 8, 1), number(list, at + 9, 8));
+    // the value of the empty key, where that key is pending
+    let empty_output = (number(list, at + 8, 1) != 0).then_some(number(list, at + 9, 8));
     let kind = kind_of(number(list, at + 17, 1));
+    let levels_at = at + 26 + bytes;
     let mut bound = [0u8; 255];
-    fill_bound(list, at + 26, bytes, &mut bound);
+    bound[..bytes].copy_from_slice(&list[at + 26..levels_at]);
     let mut addrs = [0u32; 256];
     let mut inps = [0u8; 256];
     let mut trans = [0u16; 256];
     let mut outs = [0u64; 256];
     fill_levels(
-        list,
-        at + 26 + bytes,
-        levels,
-        &mut addrs,
-        &mut inps,
-        &mut trans,
-        &mut outs,
+        list, levels_at, levels, &mut addrs, &mut inps, &mut trans, &mut outs,
     );
     Reading {
         len: number(list, at, 8) as usize,
@@ -379,15 +297,16 @@ fn replay_one(
 // Every record of the list, which ends with the last of them.
 fn replay(list: &[u8], counts: &mut [u64; 16]) {
     let mut table = [0u64; CELLS];
-    let reading = nothing();
+    let reading = stream_start::no_reading();
     let mut left = Left {
         plain: Plain { reading, keys: 0 },
         lent: 0,
     };
     let mut place = Place { from: 0, to: 0 };
     let mut at = 0;
+    // by place: each record says where the next begins
     while at < list.len() {
-        let Parsed::Good(entry) = replay_list::parse(list, at) else {
+        let Some(entry) = replay_list::parse(list, at) else {
             replay_list::tally(counts, 0, false);
             return;
         };

@@ -12,7 +12,6 @@ use Rattle.seats.specs.declared.Change.TheVariants.{Done, Refused}
 use Rattle.seats.specs.declared.Seated.{Seated}
 use Rattle.seats.specs.declared.Served.{Served}
 use Rattle.seats.specs.declared.Served.TheVariants.{Key, End, Nobody}
-use Rattle.seats.specs.declared.Served.TheVariants as Served
 use Rattle.seats.specs.declared.Dispatched.{Dispatched}
 
 abbrev pub change_as : T.Done → Change

@@ -13,7 +13,7 @@ ghost use Rattle.seats_turn.specs.SeatViews.{seats_is};
 ghost use Rattle.seats.specs.SeatCalls.{SeatChanged, DispatchTold};
 
 use format::SEAT;
-use seats_turn::{LAST_SEAT, Seats, Turn};
+use seats_turn::{LAST_SEAT, Seats};
 use stream::Plain;
 use stream_step::Answer;
 
@@ -74,7 +74,7 @@ pub fn seat(seats: Seats, number: usize, reading: Plain) -> Seated
     if LAST_SEAT < number {
         return refused(seats);
     }
-    if seats_turn::seats_right(seats) {} else {
+    if !seats_turn::seats_right(seats) {
         return refused(seats);
     }
     let waiting = seats.seats[number].waiting;
@@ -96,10 +96,10 @@ pub fn raise(seats: Seats, number: usize) -> Seated
     if LAST_SEAT < number {
         return refused(seats);
     }
-    if seats_turn::seats_right(seats) {} else {
+    if !seats_turn::seats_right(seats) {
         return refused(seats);
     }
-    if seats.seats[number].taken {} else {
+    if !seats.seats[number].taken {
         return refused(seats);
     }
     let held = seats.seats[number];
@@ -162,7 +162,7 @@ pub fn dispatch(file: &[u8], seats: Seats, key: &mut [u8]) -> Dispatched
     ensures { DispatchTold (T.dispatch file.now (seats_is seats)
         (length key.old)) (seats_is seats) key.old key.new result }
 {
-    if seats_turn::seats_right(seats) {} else {
+    if !seats_turn::seats_right(seats) {
         return Dispatched {
             served: Served::Refused(SEAT),
             seats,
@@ -170,10 +170,10 @@ pub fn dispatch(file: &[u8], seats: Seats, key: &mut [u8]) -> Dispatched
     }
     let turn = seats_turn::turn_of(seats);
     match turn {
-        Turn::Nobody => Dispatched {
+        None => Dispatched {
             served: Served::Nobody,
             seats,
         },
-        Turn::Of(number) => serve(file, seats, number, key),
+        Some(number) => serve(file, seats, number, key),
     }
 }

@@ -11,10 +11,10 @@
 --     RowPut p i r₀ r             the same with the arrays of a reading
 -- A name with ₀ is what was there before. Assumes nothing.
 use Rattle.std.specs.Prelude.{◌≡◌, Bool, true, false, List, [], ◌∷◌, ℕ, zero, suc, ◌<◌, length, get_or, set, replicate}
+use Rattle.std.specs.Prelude as Std
 use Rattle.std.proofs.Math.Option.{Option, none, some}
 use Rattle.plain.specs.Plain as P
 use Rattle.turns.specs.Turns as T
-use Rattle.seats_turn.specs.declared.Turn.{Turn}
 use Rattle.seats_turn.specs.SeatViews.{turn_is}
 use Rattle.stream.specs.declared.Plain.{Plain}
 use Rattle.stream.specs.Plains.{plain_is}
@@ -44,7 +44,7 @@ seats_of last t w plains = record { last = last; seats = table 8 (seat_of t w pl
 abbrev pub RightTold : ℕ → List ℕ → List ℕ → Bool → Type 0
 RightTold last t w r = (plains : ℕ → P.Plain) → r ≡ T.right_test (seats_of last t w plains)
 
-abbrev pub TurnTold : ℕ → List ℕ → Turn → Type 0
+abbrev pub TurnTold : ℕ → List ℕ → Std.Option ℕ → Type 0
 TurnTold last w r = (t : List ℕ) (plains : ℕ → P.Plain) → turn_is r ≡ T.turn (seats_of last t w plains)
 
 pub record FlagPut (i n : ℕ) (l₀ l : List ℕ) : Type 0 where

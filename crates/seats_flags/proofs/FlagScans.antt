@@ -1,7 +1,7 @@
 -- The two loops over the seats: what is known after each turn.
---     seat_passes, seat-stops                              one seat
+--     seat_passes                                          one seat
 --     right_over, right_on, right_wrong, right_through     whether the seats are right
---     turn_here, turn_on, turn_none                        whose turn it is
+--     turn_begins, turn_here, turn_on, turn_none           whose turn it is
 -- Assumes nothing.
 use mathlib.Core.Path.{◌≡◌, refl, sym, ap, ◌∙◌}
 use mathlib.Core.Bool.{Bool, true, false, cond, ◌&&◌}
@@ -72,22 +72,32 @@ module _ (last : ℕ) (t w : List ℕ) (plains : ℕ → P.Plain) where
   -- ---- whose turn it is
 
   -- one of the seats left to look at
-  turn_from_lem : (i n : ℕ) → n < 8
-      → turn_from (8 - n) all i ≡ cond (flag (get_or w ((i + 1) % 8) 0)) (some ((i + 1) % 8)) (turn_from (8 - (n + 1)) all ((i + 1) % 8))
+  turn_from_lem : (n : ℕ) → n < 8
+      → turn_from (8 - n) all ((last + n) % 8)
+      ≡ cond (flag (get_or w ((last + 1 + n) % 8) 0)) (some ((last + 1 + n) % 8)) (turn_from (8 - (n + 1)) all ((last + (n + 1)) % 8))
   unfolding turn_from
-  turn_from_lem i n h =
+  turn_from_lem n h =
       let more : 8 - n ≡ suc (8 - (n + 1)) = omega arith in
-      rw more
-      (ap (λ (x : T.Seat). cond x.waiting (some ((i + 1) % 8)) (turn_from (8 - (n + 1)) all ((i + 1) % 8)))
-      (seat_in last t w plains ((i + 1) % 8) (omega arith)))
+      let here : ((last + n) % 8 + 1) % 8 ≡ (last + 1 + n) % 8 = omega arith in
+      let next : (last + (n + 1)) % 8 ≡ (last + 1 + n) % 8 = omega arith in
+      rw (more, here, next)
+      (ap (λ (x : T.Seat). cond x.waiting (some ((last + 1 + n) % 8)) (turn_from (8 - (n + 1)) all ((last + 1 + n) % 8)))
+      (seat_in last t w plains ((last + 1 + n) % 8) (omega arith)))
 
-  pub turn_here : (i n : ℕ) → n < 8 → turn all ≡ turn_from (8 - n) all i → ¬ (get_or w ((i + 1) % 8) 0 ≡ 0) → some ((i + 1) % 8) ≡ turn all
-  turn_here i n h e ww = let a = flag_yes (get_or w ((i + 1) % 8) 0) ww in sym (e ∙ turn_from_lem i n h ∙ rw a)
+  -- the turn is the first that waits of the seats left after n were looked at
+  abbrev pub TurnLeft : ℕ → Type 0
+  TurnLeft n = turn all ≡ turn_from (8 - n) all ((last + n) % 8)
 
-  pub turn_on : (i n : ℕ) → n < 8 → turn all ≡ turn_from (8 - n) all i → get_or w ((i + 1) % 8) 0 ≡ 0
-      → turn all ≡ turn_from (8 - (n + 1)) all ((i + 1) % 8)
-  turn_on i n h e ww = let a = flag_no (get_or w ((i + 1) % 8) 0) ww in e ∙ turn_from_lem i n h ∙ rw a
+  pub turn_begins : last ≤ 7 → TurnLeft 0
+  unfolding turn
+  turn_begins h = let same : (last + 0) % 8 ≡ last = omega arith in rw same
 
-  pub turn_none : (i n : ℕ) → 8 ≤ n → turn all ≡ turn_from (8 - n) all i → none ≡ turn all
+  pub turn_here : (n : ℕ) → n < 8 → TurnLeft n → ¬ (get_or w ((last + 1 + n) % 8) 0 ≡ 0) → some ((last + 1 + n) % 8) ≡ turn all
+  turn_here n h e ww = let a = flag_yes (get_or w ((last + 1 + n) % 8) 0) ww in sym (e ∙ turn_from_lem n h ∙ rw a)
+
+  pub turn_on : (n : ℕ) → n < 8 → TurnLeft n → get_or w ((last + 1 + n) % 8) 0 ≡ 0 → TurnLeft (n + 1)
+  turn_on n h e ww = let a = flag_no (get_or w ((last + 1 + n) % 8) 0) ww in e ∙ turn_from_lem n h ∙ rw a
+
+  pub turn_none : (n : ℕ) → 8 ≤ n → TurnLeft n → none ≡ turn all
   unfolding turn_from
-  turn_none i n h e = let no : 8 - n ≡ 0 = omega arith in sym (e ∙ rw no)
+  turn_none n h e = let no : 8 - n ≡ 0 = omega arith in sym (e ∙ rw no)

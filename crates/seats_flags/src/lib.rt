@@ -4,7 +4,7 @@
 ghost use Rattle.std.specs.Prelude.{◌≤◌};
 ghost use Rattle.seats_arrays.specs.SeatArrays.{RightTold, TurnTold};
 
-use seats_turn::{LAST_SEAT, SEATS, Turn};
+use seats_turn::{LAST_SEAT, SEATS};
 
 // Whether the seat served last is one of the eight, and every waiting seat has a reading, whatever the readings are.
 pub fn seats_right(last: usize, taken: [u8; 8], waiting: [u8; 8]) -> bool
@@ -13,32 +13,27 @@ pub fn seats_right(last: usize, taken: [u8; 8], waiting: [u8; 8]) -> bool
     if LAST_SEAT < last {
         return false;
     }
-    let mut i = 0;
-    while i < SEATS {
+    for i in 0..SEATS {
         if waiting[i] != 0 {
             let empty = taken[i] == 0;
             if empty {
                 return false;
             }
         }
-        i += 1;
     }
     true
 }
 
 // The first seat that waits after the one served last, around the eight, whoever has a reading.
-pub fn turn_of(last: usize, waiting: [u8; 8]) -> Turn
+pub fn turn_of(last: usize, waiting: [u8; 8]) -> Option<usize>
     requires { last ≤ 7 }
     ensures { TurnTold last waiting result }
 {
-    let mut i = last;
-    let mut looked = 0;
-    while looked < SEATS {
-        i = (i + 1) % SEATS;
+    for looked in 0..SEATS {
+        let i = (last + 1 + looked) % SEATS;
         if waiting[i] != 0 {
-            return Turn::Of(i);
+            return Some(i);
         }
-        looked += 1;
     }
-    Turn::Nobody
+    None
 }

@@ -5,6 +5,8 @@
 --     put_seat             one seat put in its place
 -- Assumes nothing.
 use Rattle.std.specs.Prelude.{Bool, true, false, map, ℕ, set, replicate}
+use Rattle.std.specs.Prelude as Std
+use Rattle.std.specs.Prelude.{Some, None}
 use Rattle.std.proofs.Math.Option.{Option, none, some}
 use Rattle.plain.specs.Plain as P
 use Rattle.turns.specs.Turns as T
@@ -13,8 +15,6 @@ use Rattle.stream.specs.declared.Plain.{Plain}
 use Rattle.stream.specs.Plains.{plain_is}
 use Rattle.seats_turn.specs.declared.Seat.{Seat}
 use Rattle.seats_turn.specs.declared.Seats.{Seats}
-use Rattle.seats_turn.specs.declared.Turn.{Turn}
-use Rattle.seats_turn.specs.declared.Turn.TheVariants.{Of, Nobody}
 
 abbrev pub held_if : Bool → Plain → Option P.Plain
 held_if true p = some (plain_is p)
@@ -26,9 +26,9 @@ seat_is x = record { reading = held_if x.taken x.reading; waiting = x.waiting }
 abbrev pub seats_is : Seats → T.Seats
 seats_is s = record { last = s.last; seats = map seat_is s.seats }
 
-abbrev pub turn_is : Turn → Option ℕ
-turn_is (Of i) = some i
-turn_is Nobody = none
+abbrev pub turn_is : Std.Option ℕ → Option ℕ
+turn_is (Some i) = some i
+turn_is None = none
 
 abbrev pub empty_seat : Seat
 empty_seat = record { taken = false; waiting = false; reading = record { reading = no_reading; keys = 0 } }

@@ -27,13 +27,6 @@ pub struct Seats {
     pub seats: [Seat; SEATS],
 }
 
-// Whose turn it is.
-#[derive(Clone, Copy)]
-pub enum Turn {
-    Of(usize),
-    Nobody,
-}
-
 // No seat has a reading, and the first turn is seat 0's.
 pub fn no_seats() -> Seats
     ensures { result ≡ no_seats }
@@ -55,36 +48,21 @@ pub fn no_seats() -> Seats
 pub fn seats_right(seats: Seats) -> bool
     ensures { result ≡ T.right_test (seats_is seats) }
 {
-    if LAST_SEAT < seats.last {
-        return false;
-    }
-    let mut i = 0;
-    while i < SEATS {
-        if seats.seats[i].waiting {
-            if seats.seats[i].taken {} else {
-                return false;
-            }
-        }
-        i += 1;
-    }
-    true
+    seats.last <= LAST_SEAT && seats.seats.iter().all(|seat| seat.taken || !seat.waiting)
 }
 
-// The first seat that waits after the one served last, around the eight.
-pub fn turn_of(seats: Seats) -> Turn
+// Whose turn it is: the first seat that waits after the one served last, around the eight, or nobody's.
+pub fn turn_of(seats: Seats) -> Option<usize>
     requires { seats.last ≤ 7 }
     ensures { turn_is result ≡ T.turn (seats_is seats) }
 {
-    let mut i = seats.last;
-    let mut looked = 0;
-    while looked < SEATS {
-        i = (i + 1) % SEATS;
+    for looked in 0..SEATS {
+        let i = (seats.last + 1 + looked) % SEATS;
         if seats.seats[i].waiting {
-            return Turn::Of(i);
+            return Some(i);
         }
-        looked += 1;
     }
-    Turn::Nobody
+    None
 }
 
 // One seat put in its place, and the seat served last.

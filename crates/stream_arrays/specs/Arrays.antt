@@ -6,13 +6,11 @@
 --     held_plain h n                 the plain reading that the arrays hold with the number of keys to come in n
 --     PlainPut p h n                the arrays hold the plain reading p
 -- Assumes nothing.
-use Rattle.std.specs.Prelude.{◌≡◌, List, [], ◌∷◌, ℕ, zero, suc, get_or}
+use Rattle.std.specs.Prelude.{◌≡◌, Option, Some, None, List, [], ◌∷◌, ℕ, zero, suc, get_or}
 use Rattle.plain.specs.Plain as P
 use Rattle.plain.specs.Plain.{plain_with}
 use Rattle.stream_start.specs.declared.Bound.{Bound}
 use Rattle.stream_start.specs.declared.Bound.TheVariants.{Included, Excluded, Unbounded}
-use Rattle.stream_start.specs.declared.EmptyOutput.{EmptyOutput}
-use Rattle.stream_start.specs.declared.EmptyOutput.TheVariants.{Pending, Absent}
 use Rattle.stream_start.specs.declared.Reading.{Reading}
 use Rattle.stream_start.specs.Views.{view_is}
 use Rattle.stream.specs.declared.Plain.{Plain}
@@ -29,17 +27,17 @@ kind_number Included = 0
 kind_number Excluded = 1
 kind_number Unbounded = 2
 
-abbrev pub pending_is : ℕ → ℕ → EmptyOutput
-pending_is zero v = Absent
-pending_is (suc n) v = Pending v
+abbrev pub pending_is : ℕ → ℕ → Option ℕ
+pending_is zero v = None
+pending_is (suc n) v = Some v
 
-abbrev pub pending_flag : EmptyOutput → ℕ
-pending_flag Absent = 0
-pending_flag (Pending v) = 1
+abbrev pub pending_flag : Option ℕ → ℕ
+pending_flag None = 0
+pending_flag (Some v) = 1
 
-abbrev pub pending_value : EmptyOutput → ℕ
-pending_value Absent = 0
-pending_value (Pending v) = v
+abbrev pub pending_value : Option ℕ → ℕ
+pending_value None = 0
+pending_value (Some v) = v
 
 pub record Held : Type 0 where
   pub head : List ℕ

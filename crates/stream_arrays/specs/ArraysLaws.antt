@@ -3,14 +3,12 @@
 --     bounds_of, start_bounds    a start by the kinds that two numbers stand for; of plain readings
 --     next_of                    a call on the reading that the arrays hold
 -- Assumes nothing.
-use Rattle.std.specs.Prelude.{◌≡◌, refl, List, ℕ, get_or}
+use Rattle.std.specs.Prelude.{◌≡◌, refl, Option, Some, None, List, ℕ, get_or}
 use Rattle.std.proofs.Common.{ap, ◌∙◌, subst}
 use Rattle.format.specs.Strings as F
 use Rattle.plain.specs.Plain as P
 use Rattle.stream_start.specs.declared.Bound.{Bound}
 use Rattle.stream_start.specs.declared.Bound.TheVariants.{Included, Excluded, Unbounded}
-use Rattle.stream_start.specs.declared.EmptyOutput.{EmptyOutput}
-use Rattle.stream_start.specs.declared.EmptyOutput.TheVariants.{Pending, Absent}
 use Rattle.stream_start.specs.declared.Reading.{Reading}
 use Rattle.stream_start.specs.Views.{bound_is, view_is}
 use Rattle.stream.specs.declared.Plain.{Plain}
@@ -25,9 +23,9 @@ kind_back Included = refl
 kind_back Excluded = refl
 kind_back Unbounded = refl
 
-pending_back : (e : EmptyOutput) → pending_is (pending_flag e) (pending_value e) ≡ e
-pending_back Absent = refl
-pending_back (Pending v) = refl
+pending_back : (e : Option ℕ) → pending_is (pending_flag e) (pending_value e) ≡ e
+pending_back None = refl
+pending_back (Some v) = refl
 
 pub held_back : (r : Reading) → view_is (held_is (held_as r)) ≡ view_is r
 held_back r = rw (kind_back r.kind) (rw (pending_back r.empty_output) refl)

@@ -9,21 +9,20 @@ ghost use Rattle.std.specs.Prelude.{◌≡◌};
 ghost use Rattle.stream_arrays.specs.Arrays.{kind_is, kind_number, pending_is, pending_flag, pending_value, head_as, held, held_is, held_as, PlainPut};
 
 use stream::Plain;
-use stream_start::{Bound, EmptyOutput, Reading};
+use stream_start::{Bound, Reading};
 
 // ---- what stands for a kind and for a pending key
 
 // The kind of a bound: 0 included, 1 excluded, any other number unbounded.
+#[tactic(auto, using(crate::proofs::KindNumbers::kind_other))]
 pub fn kind_of(n: u64) -> Bound
     ensures { result ≡ kind_is n }
 {
-    if n == 0 {
-        return Bound::Included;
+    match n {
+        0 => Bound::Included,
+        1 => Bound::Excluded,
+        _ => Bound::Unbounded,
     }
-    if n == 1 {
-        return Bound::Excluded;
-    }
-    Bound::Unbounded
 }
 
 fn kind_number(kind: Bound) -> u64
@@ -37,31 +36,23 @@ fn kind_number(kind: Bound) -> u64
 }
 
 // A pending empty key: none where the first number is 0.
-fn pending_of(there: u64, value: u64) -> EmptyOutput
+#[tactic(auto, using(crate::proofs::KindNumbers::pending_there))]
+fn pending_of(there: u64, value: u64) -> Option<u64>
     ensures { result ≡ pending_is there value }
 {
-    if there == 0 {
-        return EmptyOutput::Absent;
-    }
-    EmptyOutput::Pending(value)
+    if there == 0 { None } else { Some(value) }
 }
 
-fn pending_flag(empty: EmptyOutput) -> u64
+fn pending_flag(empty: Option<u64>) -> u64
     ensures { result ≡ pending_flag empty }
 {
-    match empty {
-        EmptyOutput::Absent => 0,
-        EmptyOutput::Pending(_) => 1,
-    }
+    u64::from(empty.is_some())
 }
 
-fn pending_value(empty: EmptyOutput) -> u64
+fn pending_value(empty: Option<u64>) -> u64
     ensures { result ≡ pending_value empty }
 {
-    match empty {
-        EmptyOutput::Absent => 0,
-        EmptyOutput::Pending(value) => value,
-    }
+    empty.unwrap_or(0)
 }
 
 // ---- a reading in the arrays
@@ -124,6 +115,7 @@ pub fn put(
     ensures { held head.new bound.new addrs.new
         inps.new trans.new outs.new ≡ held_as reading }
 {
+    // each by a variable: tried straight, and no proof is made where a field that is an array is stored so
     let h = head_of(reading);
     *head = h;
     let b = reading.bound;

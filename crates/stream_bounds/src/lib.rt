@@ -9,39 +9,17 @@ ghost use Rattle.stream_bounds.specs.Order.{Ordered};
 ghost use Rattle.stream_bounds.specs.State.{state_right};
 
 use format::{LEVELS, MAX_KEY};
+use std::cmp::Ordering;
 use stream_start::Bound;
 
-// How one string stands to another.
-#[derive(Clone, Copy)]
-enum Order {
-    Less,
-    Equal,
-    Greater,
-}
-
 // How the k inputs after the first stand to the first n bytes of a bound.
-fn compare(inps: &[u8; LEVELS], k: usize, bound: &[u8; MAX_KEY], n: usize) -> Order
+fn compare(inps: &[u8; LEVELS], k: usize, bound: &[u8; MAX_KEY], n: usize) -> Ordering
     requires { (length inps.now ≡ max_levels) × (length bound.now ≡ max_path) × (k < max_levels)
         × (n ≤ max_path) }
     ensures { Ordered (take k (drop 1 inps.now)) (take n bound.now)
         result }
 {
-    let mut i = 0;
-    while i < k {
-        if n <= i {
-            return Order::Greater;
-        }
-        let x = inps[i + 1];
-        let y = bound[i];
-        if x < y {
-            return Order::Less;
-        }
-        if y < x {
-            return Order::Greater;
-        }
-        i += 1;
-    }
-    if k < n { Order::Less } else { Order::Equal }
+    inps[1..k + 1].cmp(&bound[..n])
 }
 
 // Whether the key of the k inputs after the first passes the upper bound (`Bound::exceeded_by`).
@@ -53,16 +31,8 @@ pub fn exceeded(inps: &[u8; LEVELS], k: usize, bound: &[u8; MAX_KEY], n: usize, 
 {
     match kind {
         Bound::Unbounded => false,
-        Bound::Included => match compare(inps, k, bound, n) {
-            Order::Less => false,
-            Order::Equal => false,
-            Order::Greater => true,
-        },
-        Bound::Excluded => match compare(inps, k, bound, n) {
-            Order::Less => false,
-            Order::Equal => true,
-            Order::Greater => true,
-        },
+        Bound::Included => compare(inps, k, bound, n).is_gt(),
+        Bound::Excluded => compare(inps, k, bound, n).is_ge(),
     }
 }
 

@@ -4,9 +4,8 @@
 --     down_from              the descent by definition, over arrays
 --     Descends ..           the descent's contract
 --     found_at ..            a key's value with the final output, or SUM
---     Adds sum out r        a sum, or that it passes 2^64 - 1
 -- Assumes nothing.
-use Rattle.std.specs.Prelude.{◌≡◌, cond, List, ◌∷◌, ℕ, ◌+◌, ◌-◌, ◌≤◌, ◌<◌, leb, length}
+use Rattle.std.specs.Prelude.{◌≡◌, cond, List, ◌∷◌, ℕ, ◌+◌, ◌-◌, ◌<◌, leb, length}
 use Rattle.format.specs.Limits.{max_path, max_levels, max_sum, SUM}
 use Rattle.format.specs.Paths.{fst_with}
 use Rattle.format.specs.Strings as S
@@ -15,8 +14,6 @@ use Rattle.node.specs.Read.{meaning}
 use Rattle.reading.specs.Reading.{Went, found, passed, descend}
 use Rattle.stream_descend.specs.declared.Down.{Down}
 use Rattle.stream_descend.specs.declared.Down.TheVariants.{Found, Passed, Halted}
-use Rattle.stream_descend.specs.declared.Added.{Added}
-use Rattle.stream_descend.specs.declared.Added.TheVariants.{Within, Past}
 use Rattle.stream_start.specs.Views.{level_at, stack_is}
 
 abbrev pub down_seen : List ℕ → List ℕ → List ℕ → List ℕ → Down → Went
@@ -40,7 +37,3 @@ pub record Descends (want : Went) (xs is ps os : List ℕ) (r : Down) : Type 0 w
 
 abbrev pub found_at : ℕ → ℕ → ℕ → ℕ → Down
 found_at k sum end t = cond (leb (sum + end) max_sum) (Found k (sum + end) t) (Halted SUM)
-
-pub record Adds (sum out : ℕ) (r : Added) : Type 0 where
-  pub within : (n : ℕ) → r ≡ Within n → (n ≡ sum + out) × (sum + out ≤ max_sum)
-  pub past : r ≡ Past → max_sum < sum + out

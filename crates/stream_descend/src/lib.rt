@@ -6,12 +6,11 @@ ghost use Rattle.format.specs.Limits.{max_path, max_levels};
 ghost use Rattle.reading.specs.Reading as R;
 ghost use Rattle.stream_start.specs.Views.{Arrays, bound_is};
 ghost use Rattle.stream_pop.specs.Pops.{Ready};
-ghost use Rattle.stream_descend.specs.Descent.{Descends, down_from, found_at, Adds};
+ghost use Rattle.stream_descend.specs.Descent.{Descends, down_from, found_at};
 
 use format::{DEEP, LEVELS, MAX_KEY, NODE, SUM};
-use node::{Judged, Node};
+use node::Node;
 use stream_bounds::exceeded;
-use stream_pop::wide_place;
 use stream_start::Bound;
 
 // What the descent finds: the place of the level where a key ends, the key's value and the total; the total where the upper bound is
@@ -23,35 +22,18 @@ pub enum Down {
     Halted(u8),
 }
 
-// A sum, or that it passes 2^64 - 1.
-#[derive(Clone, Copy)]
-pub enum Added {
-    Within(u64),
-    Past,
-}
-
 // The total, with one transition more.
 pub fn counted(total: u64) -> u64
     ensures { result ≡ R.counted total }
 {
-    if total < u64::MAX { total + 1 } else { total }
-}
-
-// A running sum with one more output.
-pub fn add(sum: u64, out: u64) -> Added
-    ensures { Adds sum out result }
-{
-    if u64::MAX - sum < out {
-        return Added::Past;
-    }
-    Added::Within(sum + out)
+    total.saturating_add(1)
 }
 
 // The key that ends at level k, unless its value passes 2^64 - 1.
 fn found(k: usize, sum: u64, end: u64, total: u64) -> Down
     ensures { result ≡ found_at k sum end total }
 {
-    let Added::Within(value) = add(sum, end) else {
+    let Some(value) = sum.checked_add(end) else {
         return Down::Halted(SUM);
     };
     Down::Found(k, value, total)
@@ -83,33 +65,32 @@ pub fn descend(
         inps.old trans.old outs.old top node total)
         addrs.new inps.new trans.new outs.new result }
 {
-    let mut k = top;
     let mut m = node;
     let mut t = total;
     // a reading has at most 256 levels
-    while k < MAX_KEY {
-        let i = wide_place(trans[k]);
+    for k in top..MAX_KEY {
+        let i = usize::from(trans[k]);
         let out = node::output(file, m, i);
-        let Added::Within(sum) = add(outs[k], out) else {
+        let Some(sum) = outs[k].checked_add(out) else {
             return Down::Halted(SUM);
         };
         let target = node::transition_addr(file, m, i);
-        let Judged::Sound(n) = node::node_at(file, version, root, target) else {
+        let Ok(n) = node::node_at(file, version, root, target) else {
             return Down::Halted(NODE);
         };
         let inp = node::input(file, m, i);
         trans[k] = (i + 1) as u16;
-        k += 1;
-        addrs[k] = target as u32;
-        inps[k] = inp;
-        trans[k] = 0;
-        outs[k] = sum;
+        let next = k + 1;
+        addrs[next] = target as u32;
+        inps[next] = inp;
+        trans[next] = 0;
+        outs[next] = sum;
         t = counted(t);
-        if exceeded(inps, k, bound, bound_len, kind) {
+        if exceeded(inps, next, bound, bound_len, kind) {
             return Down::Passed(t);
         }
         if n.is_final {
-            return found(k, sum, n.final_output, t);
+            return found(next, sum, n.final_output, t);
         }
         m = n;
     }

@@ -7,6 +7,7 @@
 use mathlib.Core.Path.{◌≡◌, refl, sym, ◌∙◌, ap, subst}
 use mathlib.Core.Bool.{Bool, true, false, ◌&&◌}
 use mathlib.Core.Option.{Option, none, some}
+use Rattle.std.specs.Prelude.{None}
 use mathlib.Core.List.{List, []}
 use Prim.Native.Nat.{ℕ, ◌+◌, ◌<◌, ◌≤◌}
 use native.Mathlib.Omega.{arith}
@@ -20,7 +21,6 @@ use Rattle.format.specs.Paths.{Fst, fst_with, fst_of}
 use Rattle.reading.specs.Reading as R
 use Rattle.reading.specs.Reading.{passes_test, pop, state_test, refuse}
 use Rattle.stream_start.specs.declared.Reading.{Reading}
-use Rattle.stream_start.specs.declared.EmptyOutput.TheVariants.{Absent}
 use Rattle.stream_start.specs.Views.{stack_is, view_is, empty_is}
 use Rattle.stream_start.specs.StackLaws.{stack_length}
 use Rattle.stream_bounds.specs.State.{state_right}
@@ -60,7 +60,7 @@ behind r k t xs is ps os = record {
   kind = r.kind;
   bound_len = r.bound_len;
   bound = r.bound;
-  empty_output = Absent;
+  empty_output = None;
   total = t;
   levels = k + 1;
   addrs = xs;

@@ -16,7 +16,7 @@ use fst::Opened;
 use stream_bounds::{exceeded, state_right};
 use stream_descend::{Down, descend};
 use stream_pop::{Popped, highest};
-use stream_start::{Bound, EmptyOutput, Reading};
+use stream_start::{Bound, Reading};
 use stream_step::{Answer, Step, ended, placed};
 
 // The pending empty key, or the end where that key passes the upper bound.
@@ -122,8 +122,8 @@ pub fn next(file: &[u8], reading: Reading, key: &mut [u8]) -> Step
             }
             let empty = reading.empty_output;
             match empty {
-                EmptyOutput::Pending(value) => pending(reading, value),
-                EmptyOutput::Absent => {
+                Some(value) => pending(reading, value),
+                None => {
                     // copies, so that a refusal gives the reading back as it was
                     let mut addrs = reading.addrs;
                     let mut inps = reading.inps;
@@ -157,7 +157,7 @@ pub fn next(file: &[u8], reading: Reading, key: &mut [u8]) -> Step
                                 kind,
                                 bound_len: reading.bound_len,
                                 bound,
-                                empty_output: EmptyOutput::Absent,
+                                empty_output: None,
                                 total,
                                 levels: k + 1,
                                 addrs,

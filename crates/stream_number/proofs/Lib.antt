@@ -1,3 +1,2 @@
-pub mod TotalLaws
 pub mod Comparing
 pub mod NumberCases

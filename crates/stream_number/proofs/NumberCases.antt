@@ -1,52 +1,39 @@
 -- The ways out of `number` and of its parts.
---     walked_halted, walked_came  which tally a walk's answer stands for
---     cross_by                    bounds that cross, by their kinds
+--     cross_by, cross_past        bounds that cross, by their kinds
 --     within-.., before-..        the keys within the upper bound and before the lower, by the bound's kind
 --     number-..                   no bytes; crossed bounds; any other
 -- Assumes nothing.
+use Rattle.std.specs.Prelude.{Some}
 use mathlib.Core.Path.{◌≡◌, refl, ap, ◌∙◌}
-use mathlib.Core.Bool.{Bool, true, false}
+use mathlib.Core.Bool.{Bool, true, false, not}
 use mathlib.Core.List.{List}
 use Prim.Native.Nat.{ℕ, ◌≤◌}
 use native.Mathlib.Decide.{ℕ_discrete}
 use native.Mathlib.Omega.{arith}
-use borrow.Author.Tests.{eq-eqb, ne_eqb}
+use borrow.Author.Tests.{le-leb}
+use lib.Dec.{eqb}
 use lib.ListN.{length, get_or}
 use Rattle.format.specs.Limits.{max_sum}
 use Rattle.format.specs.Paths.{Fst}
 use Rattle.format.specs.Strings as S
+use Rattle.format.specs.Strings.{before_test}
 use Rattle.format.specs.Tables.{keys_at}
-use Rattle.plain.specs.Numbers.{Tally, comes_to, refused, up_to, less, crosses, within, below_lower, number}
+use Rattle.plain.specs.Numbers.{Tally, comes_to, up_to, less, crosses, within, below_lower, number}
 use Rattle.stream_start.specs.declared.Bound.{Bound}
 use Rattle.stream_start.specs.declared.Bound.TheVariants.{Included, Excluded, Unbounded}
 use Rattle.stream_start.specs.Views.{bound_is}
-use Rattle.stream_upto.specs.declared.Total.{Total}
-use Rattle.stream_upto.specs.declared.Total.TheVariants.{Is}
 use Rattle.stream_upto.specs.declared.Walked.{Walked}
-use Rattle.stream_upto.specs.declared.Walked.TheVariants.{Came, Halted}
+use Rattle.stream_upto.specs.declared.Walked.TheVariants.{Came}
 use Rattle.stream_upto.specs.Counts.{total_as, walked_as}
 use Rattle.stream_upto.specs.CountsLaws.{keys_zero, keys_entry}
-use Rattle.stream_number.proofs.TotalLaws.{total_le}
 
 -- ---- the table
 
+total_le : (n : ℕ) → n ≤ max_sum → Some n ≡ total_as n
+total_le n h = rw (le-leb n max_sum h)
+
 keys_fit : (c : List ℕ) (a : ℕ) → get_or c a 0 ≤ max_sum → keys_at c a ≤ max_sum
 keys_fit c a h = elim (ℕ_discrete a 0) [ yes z ↦ omega (arith, keys_zero c a z) | no ne ↦ omega (arith, keys_entry c a ne) ]
-
--- ---- two walks
-
-pub walked_halted : (t : Tally) (why : ℕ) → Halted why ≡ walked_as t → t ≡ refused why
-walked_halted (comes_to n) why e = absurd (let z : ◌≡◌ {A = ℕ} 0 1 = cc in omega arith)
-walked_halted (refused n) why e = let q : n ≡ why = cc in ap refused q
-
-pub record CameTo (t : Tally) (s : Total) : Type 0 where
-  pub number : ℕ
-  pub tally : t ≡ comes_to number
-  pub total : s ≡ total_as number
-
-pub walked_came : (t : Tally) (s : Total) → Came s ≡ walked_as t → CameTo t s
-walked_came (comes_to n) s e = record { number = n; tally = refl; total = cc }
-walked_came (refused n) s e = absurd (let z : ◌≡◌ {A = ℕ} 0 1 = cc in omega arith)
 
 -- ---- the kinds of the bounds
 
@@ -54,14 +41,17 @@ pub cross_by : {k l k' l' : Bound} (x y : List ℕ) → k ≡ k' → l ≡ l' �
     → r ≡ crosses (bound_is k x) (bound_is l y)
 cross_by x y e d r is = rw (e, d) is
 
--- no lower bound crosses nothing
-pub cross_free : {k : Bound} (l : Bound) (x y : List ℕ) → k ≡ Unbounded → false ≡ crosses (bound_is k x) (bound_is l y)
-cross_free l x y e = rw e
+-- an excluded lower bound
+pub cross_past : {k : Bound} (l : Bound) (x y : List ℕ) → k ≡ Excluded → ¬ (l ≡ Unbounded) → (r : Bool) → r ≡ not (before_test x y)
+    → r ≡ crosses (bound_is k x) (bound_is l y)
+cross_past Included x y e some r is = rw e is
+cross_past Excluded x y e some r is = rw e is
+cross_past Unbounded x y e some r is = absurd (some refl)
 
 module _ (f : Fst) (c : List ℕ) {k : Bound} (x : List ℕ) where
-  pub within_free : k ≡ Unbounded → get_or c f.root 0 ≤ max_sum → (n : ℕ) → n ≡ keys_at c f.root → Came (Is n) ≡ walked_as (within f c (bound_is k x))
+  pub within_free : k ≡ Unbounded → get_or c f.root 0 ≤ max_sum → (n : ℕ) → n ≡ keys_at c f.root → Came (Some n) ≡ walked_as (within f c (bound_is k x))
   unfolding within
-  within_free e fits n is = rw e (ap Came (ap Is is ∙ total_le (keys_at c f.root) (keys_fit c f.root fits)))
+  within_free e fits n is = rw e (ap Came (ap Some is ∙ total_le (keys_at c f.root) (keys_fit c f.root fits)))
 
   pub within_included : k ≡ Included → (r : Walked) → r ≡ walked_as (up_to f c true f.root x) → r ≡ walked_as (within f c (bound_is k x))
   unfolding within
@@ -71,7 +61,7 @@ module _ (f : Fst) (c : List ℕ) {k : Bound} (x : List ℕ) where
   unfolding within
   within_excluded e r is = rw e is
 
-  pub before_free : k ≡ Unbounded → Came (Is 0) ≡ walked_as (below_lower f c (bound_is k x))
+  pub before_free : k ≡ Unbounded → Came (Some 0) ≡ walked_as (below_lower f c (bound_is k x))
   unfolding below_lower
   before_free e = rw e
 
@@ -86,15 +76,15 @@ module _ (f : Fst) (c : List ℕ) {k : Bound} (x : List ℕ) where
 -- ---- the number
 
 module _ (f : Fst) (c : List ℕ) (lo hi : S.Bound) where
-  pub number_blank : length f.bytes ≡ 0 → comes_to 0 ≡ number f c lo hi
+  pub number_blank : eqb (length f.bytes) 0 ≡ true → comes_to 0 ≡ number f c lo hi
   unfolding number
-  number_blank z = rw (eq-eqb (length f.bytes) 0 z)
+  number_blank z = rw z
 
-  module _ (some : ¬ (length f.bytes ≡ 0)) where
+  module _ (some : eqb (length f.bytes) 0 ≡ false) where
     pub number_crossed : crosses lo hi ≡ true → comes_to 0 ≡ number f c lo hi
     unfolding number
-    number_crossed e = rw (ne_eqb (length f.bytes) 0 some, e)
+    number_crossed e = rw (some, e)
 
     pub number_read : crosses lo hi ≡ false → (r : Tally) → r ≡ less (within f c hi) (below_lower f c lo) → r ≡ number f c lo hi
     unfolding number
-    number_read e r is = rw (ne_eqb (length f.bytes) 0 some, e) is
+    number_read e r is = rw (some, e) is

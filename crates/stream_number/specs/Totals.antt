@@ -1,8 +1,10 @@
 -- What a start's number answers, against `Numbers` (document 02, N11), and what it asks of the table.
 --     TableLent s root c   an entry for each byte of the file s, and the root is one of these
 --     tally_is r            what the number's answer says
+--     difference_is d       the same of a difference of two totals
 -- Assumes nothing.
-use Rattle.std.specs.Prelude.{List, ℕ, ◌≤◌, ◌<◌, length}
+use Rattle.std.specs.Prelude.{List, ℕ, ◌≤◌, ◌<◌, length, Option, Some, None}
+use Rattle.format.specs.Limits.{COUNT}
 use Rattle.plain.specs.Numbers.{Tally, comes_to, refused}
 use Rattle.stream_number.specs.declared.Tallied.{Tallied}
 use Rattle.stream_number.specs.declared.Tallied.TheVariants.{Comes, Refused}
@@ -14,3 +16,7 @@ pub record TableLent (s : List ℕ) (root : ℕ) (c : List ℕ) : Type 0 where
 abbrev pub tally_is : Tallied → Tally
 tally_is (Comes n) = comes_to n
 tally_is (Refused n) = refused n
+
+abbrev pub difference_is : Option ℕ → Tally
+difference_is (Some n) = comes_to n
+difference_is None = refused COUNT

@@ -5,16 +5,15 @@
 
 ghost use Rattle.std.specs.Prelude.{◌≡◌, ℕ, ◌≤◌, ◌<◌, length};
 ghost use Rattle.format.specs.Paths.{fst_with};
-ghost use Rattle.format.specs.Strings.{before_test};
 ghost use Rattle.plain.specs.Numbers as N;
 ghost use Rattle.plain.specs.Numbers.{Tally, comes_to};
 ghost use Rattle.stream_start.specs.Views.{bound_is};
 ghost use Rattle.stream_upto.specs.Counts.{total_as, walked_as};
-ghost use Rattle.stream_number.specs.Totals.{TableLent, tally_is};
+ghost use Rattle.stream_number.specs.Totals.{TableLent, tally_is, difference_is};
 
 use format::COUNT;
 use stream_start::Bound;
-use stream_upto::{Total, Walked, keys_at, up_to};
+use stream_upto::{Walked, keys_at, up_to};
 
 // The number of keys between two bounds, or the number of a refusal.
 #[derive(Clone, Copy)]
@@ -25,24 +24,15 @@ pub enum Tallied {
 
 // ---- totals
 
-// The keys within the upper bound less those before the lower: COUNT where either passes 2^64 - 1, or fewer are within than before.
-fn difference(within: Total, before: Total) -> Tallied
+// The keys within the upper bound less those before the lower: None where either passes 2^64 - 1, or fewer are within than before.
+fn difference(within: Option<u64>, before: Option<u64>) -> Option<u64>
     ensures { (m n : ℕ) → within ≡ total_as m → before ≡ total_as n
-        → tally_is result ≡ N.less (comes_to m) (comes_to n) }
+        → difference_is result ≡ N.less (comes_to m) (comes_to n) }
 {
-    let Total::Is(w) = within else {
-        return Tallied::Refused(COUNT);
-    };
-    let Total::Is(b) = before else {
-        return Tallied::Refused(COUNT);
-    };
-    if w < b {
-        return Tallied::Refused(COUNT);
-    }
-    Tallied::Comes(w - b)
+    within?.checked_sub(before?)
 }
 
-// The same of two walks: a refusal on the way comes first.
+// The same of two walks: a refusal on the way comes first, and COUNT where there is no difference.
 fn less(within: Walked, before: Walked) -> Tallied
     ensures { (s t : Tally) → within ≡ walked_as s → before ≡ walked_as t
         → tally_is result ≡ N.less s t }
@@ -51,52 +41,25 @@ fn less(within: Walked, before: Walked) -> Tallied
         Walked::Halted(why) => Tallied::Refused(why),
         Walked::Came(w) => match before {
             Walked::Halted(why) => Tallied::Refused(why),
-            Walked::Came(b) => difference(w, b),
+            Walked::Came(b) => match difference(w, b) {
+                Some(n) => Tallied::Comes(n),
+                None => Tallied::Refused(COUNT),
+            },
         },
     }
 }
 
 // ---- the keys between two bounds
 
-// Whether the string x comes before y.
-fn is_before(x: &[u8], y: &[u8]) -> bool
-    ensures { result ≡ before_test x.now y.now }
-{
-    let mut i = 0;
-    while i < x.len() {
-        if y.len() <= i {
-            return false;
-        }
-        let a = x[i];
-        let b = y[i];
-        if a < b {
-            return true;
-        }
-        if b < a {
-            return false;
-        }
-        i += 1;
-    }
-    i < y.len()
-}
-
 // Whether no string lies between two bounds, since the lower's bytes are greater, or equal with either excluded.
 fn crosses(lower_kind: Bound, lower: &[u8], upper_kind: Bound, upper: &[u8]) -> bool
     ensures { result ≡ N.crosses (bound_is lower_kind lower.now)
         (bound_is upper_kind upper.now) }
 {
-    match lower_kind {
-        Bound::Unbounded => false,
-        Bound::Included => match upper_kind {
-            Bound::Unbounded => false,
-            Bound::Included => is_before(upper, lower),
-            Bound::Excluded => !is_before(lower, upper),
-        },
-        Bound::Excluded => match upper_kind {
-            Bound::Unbounded => false,
-            Bound::Included => !is_before(lower, upper),
-            Bound::Excluded => !is_before(lower, upper),
-        },
+    match (lower_kind, upper_kind) {
+        (Bound::Unbounded, _) | (_, Bound::Unbounded) => false,
+        (Bound::Included, Bound::Included) => upper < lower,
+        _ => upper <= lower,
     }
 }
 
@@ -114,7 +77,7 @@ fn within(
         counts.now (bound_is kind upper.now)) }
 {
     match kind {
-        Bound::Unbounded => Walked::Came(Total::Is(keys_at(counts, root))),
+        Bound::Unbounded => Walked::Came(Some(keys_at(counts, root))),
         Bound::Included => up_to(file, version, root, true, upper, counts),
         Bound::Excluded => up_to(file, version, root, false, upper, counts),
     }
@@ -134,7 +97,7 @@ fn below_lower(
         counts.now (bound_is kind lower.now)) }
 {
     match kind {
-        Bound::Unbounded => Walked::Came(Total::Is(0)),
+        Bound::Unbounded => Walked::Came(Some(0)),
         Bound::Included => up_to(file, version, root, false, lower, counts),
         Bound::Excluded => up_to(file, version, root, true, lower, counts),
     }
@@ -157,7 +120,7 @@ pub fn number(
         counts.now (bound_is lower_kind lower.now)
         (bound_is upper_kind upper.now) }
 {
-    if file.len() == 0 {
+    if file.is_empty() {
         return Tallied::Comes(0);
     }
     if crosses(lower_kind, lower, upper_kind, upper) {

@@ -6,7 +6,7 @@ ghost use Rattle.format.specs.Limits.{max_levels};
 ghost use Rattle.stream_pop.specs.Pops.{Pops};
 
 use format::LEVELS;
-use node::{Judged, Node};
+use node::Node;
 
 // What the pops find: the place of the highest level that has a transition left, with its node; no such level; or a node that is not
 // sound.
@@ -15,20 +15,6 @@ pub enum Popped {
     At(usize, Node),
     Empty,
     Bad,
-}
-
-// A held address as a place in the file.
-fn wide_addr(addr: u32) -> usize
-    ensures { result ≡ addr }
-{
-    addr as usize
-}
-
-// A held place among a node's transitions.
-pub fn wide_place(place: u16) -> usize
-    ensures { result ≡ place }
-{
-    place as usize
 }
 
 // The highest of the first levels that has a transition left. Each level that is looked at is judged, as a reading can be made by hand.
@@ -44,17 +30,13 @@ pub fn highest(
     ensures { Pops file.now version root addrs.now trans.now
         levels result }
 {
-    let mut k = levels;
-    while 0 < k {
-        let top = k - 1;
-        let addr = wide_addr(addrs[top]);
-        let Judged::Sound(m) = node::node_at(file, version, root, addr) else {
+    for top in (0..levels).rev() {
+        let Ok(m) = node::node_at(file, version, root, addrs[top] as usize) else {
             return Popped::Bad;
         };
-        if wide_place(trans[top]) < m.ntrans {
+        if usize::from(trans[top]) < m.ntrans {
             return Popped::At(top, m);
         }
-        k = top;
     }
     Popped::Empty
 }

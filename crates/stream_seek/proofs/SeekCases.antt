@@ -3,21 +3,19 @@
 --     seek_unsound, seek_past, seek_done     the ways out of `R.seek`, whatever is left of the bound
 --     bound_done, bound_bad, bound_miss, bound_on     the same with k bytes of the bound passed
 -- Assumes nothing.
-use mathlib.Core.Path.{◌≡◌, refl, sym, ◌∙◌, ap}
-use mathlib.Core.Bool.{Bool, true, false, cond}
-use mathlib.Core.List.{List, [], ◌∷◌, ◌++◌}
-use Prim.Native.Nat.{ℕ, zero, suc, ◌+◌, ◌-◌, ◌<◌, ◌≤◌}
-use native.Mathlib.Omega.{arith}
+use mathlib.Core.Path.{◌≡◌, refl, sym, ◌∙◌}
+use mathlib.Core.Bool.{Bool}
+use mathlib.Core.List.{List, [], ◌∷◌}
+use Prim.Native.Nat.{ℕ, ◌+◌, ◌<◌, ◌≤◌}
 use native.Mathlib.Numerals.{add-one}
-use borrow.Author.Tests.{lt-ltb, le-ltb, le-leb, lt-leb}
+use borrow.Author.Tests.{le-leb, lt-leb}
 use lib.ListN.{length, get_or, drop, drop_of_length-le}
 use lib.Seq.{drop-cons}
-use Rattle.format.specs.declared.Transition.{Transition}
 use Rattle.format.specs.Limits.{max_sum, NODE, SUM}
 use Rattle.format.specs.Node.{Node, Judgement, sound, unsound, Search, find_input, transition_at}
 use Rattle.format.specs.Paths.{Fst, node_in}
 use Rattle.format.specs.Lookup.{past_sum}
-use Rattle.reading.specs.Reading.{Level, level_with, on_node, on_search, Sought, got, halted, last_levels, seek}
+use Rattle.reading.specs.Reading.{Level, level_with, on_node, on_search, got, halted, last_levels, seek}
 use Rattle.stream_seek.specs.declared.Entered.{Entered}
 use Rattle.stream_seek.specs.declared.Entered.TheVariants.{Hit, Miss, Unsound}
 use Rattle.stream_seek.specs.Seeks.{enter_of}

@@ -1,12 +1,12 @@
 -- A start's walk along the lower bound as a loop: what it knows before each turn, the turn, and each way out. What is left of the bound
 -- decides the answer.
 --     Seeking f c lo .. k a i sum    k bytes of lo have led to the node at a, by the byte i, with this sum
---     place_fits, target_fits        the numbers of a level fit its arrays
+--     place_fits, target_fits, gone_fits     the numbers of a level fit its arrays
 -- Assumes nothing.
 use mathlib.Core.Path.{◌≡◌, refl, sym, ◌∙◌, ap}
 use mathlib.Core.Bool.{Bool}
 use mathlib.Core.List.{List, [], ◌∷◌}
-use Prim.Native.Nat.{ℕ, zero, suc, ◌+◌, ◌-◌, ◌<◌, ◌≤◌}
+use Prim.Native.Nat.{ℕ, ◌+◌, ◌-◌, ◌<◌, ◌≤◌}
 use native.Mathlib.Omega.{arith}
 use lib.ListN.{length, get_or, drop}
 use Rattle.format.specs.Limits.{max_sum, NODE}
@@ -14,12 +14,13 @@ use Rattle.format.specs.Node.{Node, sound, unsound, Search, find_input, transiti
 use Rattle.format.specs.Paths.{Fst, node_in}
 use Rattle.format.specs.Laws.NodeFacts.{find_member, node_count}
 use Rattle.format.specs.Laws.LiveLaws.{target_below_root}
-use Rattle.format.specs.Laws.TransitionLaws.{at_member}
+use Rattle.format.specs.Laws.TransitionLaws.{at_member, find_input_le}
+use Rattle.format.specs.Lookup.{past_sum}
 use Rattle.reading.specs.Reading.{level_with, got, halted, last_levels, seek}
 use Rattle.stream_levels.specs.Stacks.{Arrays, stack_is, LevelPut, LevelsEnd}
 use Rattle.stream_seek.specs.declared.Entered.TheVariants.{Hit, Miss, Unsound}
 use Rattle.stream_seek.specs.Seeks.{enter_of}
-use Rattle.stream_seek.proofs.SeekCases.{seek_unsound, bound_done, bound_bad, bound_miss, bound_on}
+use Rattle.stream_seek.proofs.SeekCases.{seek_unsound, seek_past, bound_done, bound_bad, bound_miss, bound_on}
 
 -- ---- the place and the target that a byte leads to
 
@@ -29,6 +30,11 @@ module _ (f : Fst) (a : ℕ) (m : Node) (e : node_in f a ≡ sound m) (b p : ℕ
 
   pub target_fits : (transition_at m.transitions p).addr < f.root
   target_fits = target_below_root f a m (transition_at m.transitions p) e (at_member m.transitions p (find_member f a m e b p found).0)
+
+-- the place of the first greater input, where the byte is absent
+pub gone_fits : (f : Fst) (a : ℕ) (m : Node) → node_in f a ≡ sound m → (b p : ℕ) → find_input m.transitions b ≡ Search.absent p
+    → ((j : ℕ) → get_or f.bytes j 0 < 256) → p ≤ 256
+gone_fits f a m e b p gone bytes = omega (arith, find_input_le m.transitions b p gone, node_count f a m e bytes)
 
 -- ---- the loop
 
@@ -49,8 +55,12 @@ module _ {f : Fst} {c : Bool} {lo xs is ps os : List ℕ} {k a i sum : ℕ} (h :
   seeking_unsound e = sym (h.same ∙ seek_unsound f c a i sum (stack_is k xs is ps os) (drop k lo) e)
 
   pub seeking_done : length lo ≤ k → (m : Node) → node_in f a ≡ sound m → {n : ℕ} {xs' is' ps' os' : List ℕ}
-      → LevelsEnd n (last_levels c (level_with a i 0 sum) (stack_is k xs is ps os)) xs' is' ps' os' → got (stack_is n xs' is' ps' os') ≡ seek f c f.root 0 0 [] lo
-  seeking_done l m e put = ap got put.levels ∙ sym (h.same ∙ bound_done f c a i sum (stack_is k xs is ps os) h.fits lo k l m e)
+      → LevelsEnd n (last_levels c (level_with a i 0 sum) (stack_is (length lo) xs is ps os)) xs' is' ps' os' → got (stack_is n xs' is' ps' os') ≡ seek f c f.root 0 0 [] lo
+  seeking_done l m e put =
+      let all : length lo ≡ k = omega (arith, h.within) in
+      ap got put.levels
+      ∙ ap (λ j. got (last_levels c (level_with a i 0 sum) (stack_is j xs is ps os))) all
+      ∙ sym (h.same ∙ bound_done f c a i sum (stack_is k xs is ps os) h.fits lo k l m e)
 
   module _ (more : k < length lo) where
     pub seeking_bad : enter_of f a (get_or lo k 0) ≡ Unsound → halted NODE ≡ seek f c f.root 0 0 [] lo
@@ -63,6 +73,14 @@ module _ {f : Fst} {c : Bool} {lo xs is ps os : List ℕ} {k a i sum : ℕ} (h :
     pub seeking_on : (p t o : ℕ) → enter_of f a (get_or lo k 0) ≡ Hit p t o
         → seek f c f.root 0 0 [] lo ≡ seek f c t (get_or lo k 0) (sum + o) (level_with a i (p + 1) sum ∷ stack_is k xs is ps os) (drop (k + 1) lo)
     seeking_on p t o e = h.same ∙ bound_on f c a i sum (stack_is k xs is ps os) h.fits lo k more p t o e
+
+    -- the sum up to the target does not fit
+    pub seeking_past : (p t o : ℕ) → enter_of f a (get_or lo k 0) ≡ Hit p t o → max_sum < sum + o → (n : ℕ) → n ≡ past_sum (node_in f t)
+        → halted n ≡ seek f c f.root 0 0 [] lo
+    seeking_past p t o e past n is_lem =
+        ap halted is_lem
+        ∙ sym (seek_past f c t (get_or lo k 0) (sum + o) (level_with a i (p + 1) sum ∷ stack_is k xs is ps os) (drop (k + 1) lo) past)
+        ∙ sym (seeking_on p t o e)
 
     pub seeking_step : (p t o : ℕ) → enter_of f a (get_or lo k 0) ≡ Hit p t o → sum + o ≤ max_sum → {xs' is' ps' os' : List ℕ}
         → LevelPut k (level_with a i (p + 1) sum) (stack_is k xs is ps os) xs' is' ps' os'

@@ -10,7 +10,6 @@ ghost use Rattle.stream_levels.specs.Stacks.{Arrays};
 ghost use Rattle.stream_seek.specs.Seeks.{enter_of, place_in, SoughtAs};
 
 use format::{LEVELS, NODE};
-use node::{Found, Judged};
 use stream_levels::{last_levels, put_level};
 
 // A byte looked for at a node: its place, with the target and the output; the place of the first greater input; or the node is not sound.
@@ -34,13 +33,13 @@ fn enter(file: &[u8], version: u64, root: usize, addr: usize, b: u8) -> Entered
     ensures { (result ≡ enter_of (fst_with file.now version root) addr b)
         × (place_in result ≤ max_levels) }
 {
-    let Judged::Sound(m) = node::node_at(file, version, root, addr) else {
+    let Ok(m) = node::node_at(file, version, root, addr) else {
         return Entered::Unsound;
     };
     let found = node::find_input(file, m, b);
     match found {
-        Found::Absent(p) => Entered::Miss(p as u16),
-        Found::At(p) => {
+        Err(p) => Entered::Miss(p as u16),
+        Ok(p) => {
             let target = node::transition_addr(file, m, p);
             let out = node::output(file, m, p);
             let place = p as u16;
@@ -69,13 +68,11 @@ pub fn seek(
         [] lower.now) result addrs.new inps.new trans.new
         outs.new }
 {
-    let mut k = 0;
     let mut addr = root as u32;
     let mut inp: u8 = 0;
     let mut sum: u64 = 0;
-    while k < lower.len() {
-        let b = lower[k];
-        let entered = enter(file, version, root, addr as usize, b);
+    for (k, b) in lower.iter().enumerate() {
+        let entered = enter(file, version, root, addr as usize, *b);
         match entered {
             Entered::Unsound => {
                 return Sought::Halted(NODE);
@@ -85,18 +82,18 @@ pub fn seek(
                 return Sought::Levels(k + 1);
             }
             Entered::Hit(p, target, out) => {
-                if u64::MAX - sum < out {
+                let Some(more) = sum.checked_add(out) else {
                     return Sought::Halted(fst::past_sum(file, version, root, target as usize));
-                }
+                };
                 put_level(k, addr, inp, p + 1, sum, addrs, inps, trans, outs);
                 addr = target;
-                inp = b;
-                sum += out;
-                k += 1;
+                inp = *b;
+                sum = more;
             }
         }
     }
-    let Judged::Sound(_) = node::node_at(file, version, root, addr as usize) else {
+    let k = lower.len();
+    let Ok(_) = node::node_at(file, version, root, addr as usize) else {
         return Sought::Halted(NODE);
     };
     Sought::Levels(last_levels(k, inclusive, addr, inp, sum, addrs, inps, trans, outs))

@@ -8,6 +8,7 @@
 --     refused_start why               a refused start, with that reading beside the refusal
 -- Assumes nothing.
 use Rattle.std.proofs.Math.Option.{Option, none, some}
+use Rattle.std.specs.Prelude.{Option as Maybe, Some, None}
 use Rattle.std.specs.Prelude.{List, ℕ, take, replicate}
 use Rattle.format.specs.Limits.{max_path, max_levels}
 use Rattle.format.specs.Strings as S
@@ -18,8 +19,6 @@ pub use Rattle.stream_levels.specs.Stacks.{Arrays, level_at}
 unfoldable pub use Rattle.stream_levels.specs.Stacks.{stack_is}
 use Rattle.stream_start.specs.declared.Bound.{Bound}
 use Rattle.stream_start.specs.declared.Bound.TheVariants.{Included, Excluded, Unbounded}
-use Rattle.stream_start.specs.declared.EmptyOutput.{EmptyOutput}
-use Rattle.stream_start.specs.declared.EmptyOutput.TheVariants.{Pending, Absent}
 use Rattle.stream_start.specs.declared.Reading.{Reading}
 use Rattle.stream_start.specs.declared.Started.{Started}
 use Rattle.stream_start.specs.declared.Begins.{Begins}
@@ -30,9 +29,9 @@ bound_is Included bs = included bs
 bound_is Excluded bs = excluded bs
 bound_is Unbounded bs = unbounded
 
-abbrev pub empty_is : EmptyOutput → Option ℕ
-empty_is (Pending v) = some v
-empty_is Absent = none
+abbrev pub empty_is : Maybe ℕ → Option ℕ
+empty_is (Some v) = some v
+empty_is None = none
 
 abbrev pub view_is : Reading → View
 view_is r = record {
@@ -57,7 +56,7 @@ no_reading = record {
   kind = Unbounded;
   bound_len = 0;
   bound = replicate max_path 0;
-  empty_output = Absent;
+  empty_output = None;
   total = 0;
   levels = 0;
   addrs = replicate max_levels 0;

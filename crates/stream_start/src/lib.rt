@@ -13,7 +13,6 @@ ghost use Rattle.stream_start.specs.Starts.{BoundTaken, pending_if, pending_from
 
 use format::{BOUND, LEVELS, MAX_KEY};
 use fst::Opened;
-use node::Judged;
 use stream_seek::{Sought, seek};
 
 // Which kind a bound is; its bytes stand beside it. The bytes beside an unbounded one carry no meaning.
@@ -22,13 +21,6 @@ pub enum Bound {
     Included,
     Excluded,
     Unbounded,
-}
-
-// The value of the empty key, where that key is still to be handed out.
-#[derive(Clone, Copy)]
-pub enum EmptyOutput {
-    Pending(u64),
-    Absent,
 }
 
 // A reading, passed by value. Entries past the last level, and bytes past the bound's length, carry no meaning.
@@ -40,7 +32,8 @@ pub struct Reading {
     pub kind: Bound,
     pub bound_len: usize,
     pub bound: [u8; MAX_KEY],
-    pub empty_output: EmptyOutput,
+    // the value of the empty key, where that key is still to be handed out
+    pub empty_output: Option<u64>,
     // how many transitions were followed, up to 2^64 - 1
     pub total: u64,
     // the levels of the Rust's stack, the first at place 0: the node's address, the byte that led there (0 at the first level), the next
@@ -104,19 +97,19 @@ fn meets_empty(kind: Bound, n: usize) -> bool
 }
 
 // The value of the empty key, where it is held and meets the lower bound.
-fn empty_output(file: &[u8], version: u64, root: usize, meets: bool) -> EmptyOutput
+fn empty_output(file: &[u8], version: u64, root: usize, meets: bool) -> Option<u64>
     ensures { empty_is result ≡ pending_if meets
         (node_in (fst_with file.now version root) root) }
 {
     if meets {
-        let Judged::Sound(m) = node::node_at(file, version, root, root) else {
-            return EmptyOutput::Absent;
+        let Ok(m) = node::node_at(file, version, root, root) else {
+            return None;
         };
         if m.is_final {
-            return EmptyOutput::Pending(m.final_output);
+            return Some(m.final_output);
         }
     }
-    EmptyOutput::Absent
+    None
 }
 
 // A reading without levels, for a refusal: nothing is left of the file that was refused.
@@ -128,7 +121,7 @@ pub fn no_reading() -> Reading
         kind: Bound::Unbounded,
         bound_len: 0,
         bound: [0; MAX_KEY],
-        empty_output: EmptyOutput::Absent,
+        empty_output: None,
         total: 0,
         levels: 0,
         addrs: [0; LEVELS],
@@ -156,14 +149,14 @@ pub fn pending_at(
     root: usize,
     lower_kind: Bound,
     lower: &[u8],
-) -> EmptyOutput
+) -> Option<u64>
     requires { BlankTold file.now version }
     ensures { empty_is result ≡ pending_from (fst_with file.now version root)
         (bound_is lower_kind lower.now) }
 {
     // version 0 is a file without bytes
     if version == 0 {
-        return EmptyOutput::Absent;
+        return None;
     }
     let n = len_of(lower_kind, lower);
     let meets = meets_empty(lower_kind, n);
@@ -218,7 +211,7 @@ fn reading_from(
     kind: Bound,
     bound_len: usize,
     bound: [u8; MAX_KEY],
-    empty_output: EmptyOutput,
+    empty_output: Option<u64>,
 ) -> Started
     requires { (root < 4294967296) × BlankTold file.now version
         × (length (R.bound_bytes (bound_is lower_kind lower.now)) ≤ max_path) }

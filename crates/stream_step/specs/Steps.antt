@@ -1,9 +1,8 @@
 -- What a call of next gives back.
 --     placed_at r k t, ended_at r t    the reading with k levels, the total t and nothing pending; the end
 -- Assumes nothing.
-use Rattle.std.specs.Prelude.{[], ℕ}
+use Rattle.std.specs.Prelude.{None, [], ℕ}
 use Rattle.reading.specs.Reading as R
-use Rattle.stream_start.specs.declared.EmptyOutput.TheVariants.{Absent}
 use Rattle.stream_start.specs.declared.Reading.{Reading}
 
 -- with k levels and the total t, and nothing pending
@@ -13,7 +12,7 @@ placed_at r k t = record {
   kind = r.kind;
   bound_len = r.bound_len;
   bound = r.bound;
-  empty_output = Absent;
+  empty_output = None;
   total = t;
   levels = k;
   addrs = r.addrs;

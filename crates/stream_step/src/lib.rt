@@ -6,7 +6,7 @@ ghost use Rattle.stream_start.specs.Views.{view_is};
 ghost use Rattle.stream_step.specs.Stepped.{Stepped};
 ghost use Rattle.stream_step.specs.Steps.{placed_at, ended_at};
 
-use stream_start::{EmptyOutput, Reading};
+use stream_start::Reading;
 
 // What a call of next answers: a key's length and value, that no key is left, or the number of a refusal.
 #[derive(Clone, Copy)]
@@ -38,7 +38,7 @@ pub fn placed(reading: Reading, levels: usize, total: u64) -> Reading
         kind,
         bound_len: reading.bound_len,
         bound,
-        empty_output: EmptyOutput::Absent,
+        empty_output: None,
         total,
         levels,
         addrs,

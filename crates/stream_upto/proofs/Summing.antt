@@ -3,6 +3,7 @@
 --     below_at, below_absent       the smaller inputs are the first ones, as many as the place that the search for the byte answers
 --     has_entries, has_entry       the table has an entry for each target of a sound node
 -- Assumes nothing.
+use Rattle.std.specs.Prelude.{Option}
 use mathlib.Core.Path.{◌≡◌, ap, ◌∙◌}
 use mathlib.Core.List.{List}
 use Prim.Native.Nat.{ℕ, ◌+◌, ◌≤◌, ◌<◌}
@@ -19,7 +20,6 @@ use Rattle.format.specs.Laws.NodeFacts.{node_ascending, node_inside, node_target
 use Rattle.format.specs.Laws.TransitionLaws.{search_absent, at_member}
 use Rattle.plain.specs.Numbers.{keys_below}
 use Rattle.plain.proofs.UpToLaws.{below_take}
-use Rattle.stream_upto.specs.declared.Total.{Total}
 use Rattle.stream_upto.specs.Counts.{HasEntry, HasEntries, total_as, added_to}
 use Rattle.stream_upto.proofs.TotalLaws.{added_total}
 
@@ -28,15 +28,15 @@ first_keys c i ts = sum_of (λ (t : Transition). keys_at c t.addr) (take i ts)
 
 -- ---- the loop
 
-pub record SummedTo (c : List ℕ) (ts : List Transition) (t : Total) (i : ℕ) (s : Total) : Type 0 where
+pub record SummedTo (c : List ℕ) (ts : List Transition) (t : Option ℕ) (i : ℕ) (s : Option ℕ) : Type 0 where
   pub is : (n : ℕ) → t ≡ total_as n → s ≡ total_as (n + first_keys c i ts)
 
-pub summed_none : (c : List ℕ) (ts : List Transition) (t : Total) → SummedTo c ts t 0 t
+pub summed_none : (c : List ℕ) (ts : List Transition) (t : Option ℕ) → SummedTo c ts t 0 t
 unfolding sum_of
 summed_none c ts t = record { is = λ n e. let z : n ≡ n + 0 = omega arith in e ∙ ap total_as z }
 
-pub summed_step : {c : List ℕ} {ts : List Transition} {t : Total} {i : ℕ} {s : Total} → SummedTo c ts t i s → i < length ts → (a : ℕ)
-    → a ≡ (transition_at ts i).addr → (k : ℕ) → k ≡ keys_at c a → (s' : Total) → s' ≡ added_to s k → SummedTo c ts t (i + 1) s'
+pub summed_step : {c : List ℕ} {ts : List Transition} {t : Option ℕ} {i : ℕ} {s : Option ℕ} → SummedTo c ts t i s → i < length ts → (a : ℕ)
+    → a ≡ (transition_at ts i).addr → (k : ℕ) → k ≡ keys_at c a → (s' : Option ℕ) → s' ≡ added_to s k → SummedTo c ts t (i + 1) s'
 summed_step {c} {ts} {t} {i} {s} h l a a_is k k_is s' s_is = record {
   is = λ n e.
       let step = sum_take_step (λ (u : Transition). keys_at c u.addr) ts i l in

@@ -3,6 +3,7 @@
 --     turned-..                    the same read back
 --     Walking f c own x k a t      k bytes of x have led to the node at a, with the total t so far
 -- Assumes nothing.
+use Rattle.std.specs.Prelude.{Option}
 use mathlib.Core.Path.{◌≡◌, refl, sym, ap, ◌∙◌}
 use mathlib.Core.Bool.{Bool, ◌&&◌}
 use mathlib.Core.List.{List, [], ◌∷◌}
@@ -17,7 +18,6 @@ use Rattle.format.specs.Paths.{Fst, node_in}
 use Rattle.format.specs.Tables.{one}
 use Rattle.plain.specs.Numbers.{Tally, comes_to, refused, plus, keys_below, up_to}
 use Rattle.plain.proofs.UpToLaws.{up_to_unsound, up_to_end, up_to_absent, up_to_at}
-use Rattle.stream_upto.specs.declared.Total.{Total}
 use Rattle.stream_upto.specs.declared.Turned.TheVariants.{On, Gone, Unsound}
 use Rattle.stream_upto.specs.declared.Walked.{Walked}
 use Rattle.stream_upto.specs.declared.Walked.TheVariants.{Came, Halted}
@@ -42,7 +42,7 @@ module _ (f : Fst) (c : List ℕ) (a b n : ℕ) where
   unfolding turn_of
   turn_unsound e = rw e
 
-  module _ (m : Node) (e : node_in f a ≡ sound m) (p : ℕ) (s : Total) (s_is : s ≡ total_as (n + one m.final + first_keys c p m.transitions)) where
+  module _ (m : Node) (e : node_in f a ≡ sound m) (p : ℕ) (s : Option ℕ) (s_is : s ≡ total_as (n + one m.final + first_keys c p m.transitions)) where
     same : keys_below c b m.transitions ≡ first_keys c p m.transitions → s ≡ total_as (n + (one m.final + keys_below c b m.transitions))
     same q =
         let z : n + one m.final + first_keys c p m.transitions ≡ n + (one m.final + keys_below c b m.transitions) = omega arith in
@@ -58,12 +58,12 @@ module _ (f : Fst) (c : List ℕ) (a b n : ℕ) where
 
   -- ---- read back
 
-  pub record TurnedGone (own : Bool) (x : List ℕ) (s : Total) : Type 0 where
+  pub record TurnedGone (own : Bool) (x : List ℕ) (s : Option ℕ) : Type 0 where
     pub more : ℕ
     pub s_is : s ≡ total_as (n + more)
     pub comes : up_to f c own a (b ∷ x) ≡ comes_to more
 
-  pub record TurnedOn (own : Bool) (x : List ℕ) (t : ℕ) (s : Total) : Type 0 where
+  pub record TurnedOn (own : Bool) (x : List ℕ) (t : ℕ) (s : Option ℕ) : Type 0 where
     pub more : ℕ
     pub s_is : s ≡ total_as (n + more)
     pub rest : up_to f c own a (b ∷ x) ≡ plus more (up_to f c own t x)
@@ -81,7 +81,7 @@ module _ (f : Fst) (c : List ℕ) (a b n : ℕ) where
         go (sound m) e = on m e (find_input m.transitions b) refl
         go unsound e = up_to_unsound f c own a (b ∷ x) e
 
-    pub turned_gone : (s : Total) → turn_of f c a b n ≡ Gone s → TurnedGone own x s
+    pub turned_gone : (s : Option ℕ) → turn_of f c a b n ≡ Gone s → TurnedGone own x s
     unfolding turn_of
     turned_gone s is = go (node_in f a) refl
       where
@@ -100,7 +100,7 @@ module _ (f : Fst) (c : List ℕ) (a b n : ℕ) where
         go (sound m) e = on m e (find_input m.transitions b) refl
         go unsound e = absurd (let w = rw e at is in let z : ◌≡◌ {A = ℕ} 0 1 = cc in omega arith)
 
-    pub turned_on : (t : ℕ) (s : Total) → turn_of f c a b n ≡ On t s → TurnedOn own x t s
+    pub turned_on : (t : ℕ) (s : Option ℕ) → turn_of f c a b n ≡ On t s → TurnedOn own x t s
     unfolding turn_of
     turned_on t s is = go (node_in f a) refl
       where
@@ -125,14 +125,14 @@ module _ (f : Fst) (own : Bool) (a : ℕ) where
   pub end_unsound : node_in f a ≡ unsound → (c : List ℕ) (n : ℕ) → Halted NODE ≡ walked_as (plus n (up_to f c own a []))
   end_unsound e c n = rw (up_to_unsound f c own a [] e)
 
-  pub end_sound : (m : Node) → node_in f a ≡ sound m → (k : ℕ) → k ≡ one (own && m.final) → (t s : Total) → s ≡ added_to t k
+  pub end_sound : (m : Node) → node_in f a ≡ sound m → (k : ℕ) → k ≡ one (own && m.final) → (t s : Option ℕ) → s ≡ added_to t k
       → (c : List ℕ) (n : ℕ) → t ≡ total_as n → Came s ≡ walked_as (plus n (up_to f c own a []))
   end_sound m e k k_is t s s_is c n t_is =
       rw (up_to_end f c own a m e) (ap Came (s_is ∙ ap (λ u. added_to u k) t_is ∙ added_total n k ∙ ap (λ u. total_as (n + u)) k_is))
 
 -- ---- the loop
 
-pub record Walking (f : Fst) (c : List ℕ) (own : Bool) (x : List ℕ) (k a : ℕ) (t : Total) : Type 0 where
+pub record Walking (f : Fst) (c : List ℕ) (own : Bool) (x : List ℕ) (k a : ℕ) (t : Option ℕ) : Type 0 where
   pub so_far : ℕ
   pub total : t ≡ total_as so_far
   pub same : up_to f c own f.root x ≡ plus so_far (up_to f c own a (drop k x))
@@ -140,7 +140,7 @@ pub record Walking (f : Fst) (c : List ℕ) (own : Bool) (x : List ℕ) (k a : �
 pub walking_none : (f : Fst) (c : List ℕ) (own : Bool) (x : List ℕ) → Walking f c own x 0 f.root (total_as 0)
 walking_none f c own x = record { so_far = 0; total = refl; same = plus_none (up_to f c own f.root x) }
 
-module _ {f : Fst} {c : List ℕ} {own : Bool} {x : List ℕ} {k a : ℕ} {t : Total} (h : Walking f c own x k a t) where
+module _ {f : Fst} {c : List ℕ} {own : Bool} {x : List ℕ} {k a : ℕ} {t : Option ℕ} (h : Walking f c own x k a t) where
   pub walking_end : length x ≤ k → (r : Walked) → r ≡ walked_as (plus h.so_far (up_to f c own a [])) → r ≡ walked_as (up_to f c own f.root x)
   walking_end l r is = is ∙ sym (ap walked_as h.same ∙ rw (drop_of_length-le x {i = k} l))
 
@@ -154,12 +154,12 @@ module _ {f : Fst} {c : List ℕ} {own : Bool} {x : List ℕ} {k a : ℕ} {t : T
     pub walking_bad : turn_of f c a (get_or x k 0) h.so_far ≡ Unsound → Halted NODE ≡ walked_as (up_to f c own f.root x)
     walking_bad e = sym (ap walked_as (here ∙ ap (plus h.so_far) (turned_unsound f c a (get_or x k 0) h.so_far own (drop (k + 1) x) e)))
 
-    pub walking_gone : (s : Total) → turn_of f c a (get_or x k 0) h.so_far ≡ Gone s → Came s ≡ walked_as (up_to f c own f.root x)
+    pub walking_gone : (s : Option ℕ) → turn_of f c a (get_or x k 0) h.so_far ≡ Gone s → Came s ≡ walked_as (up_to f c own f.root x)
     walking_gone s e =
         let w = turned_gone f c a (get_or x k 0) h.so_far own (drop (k + 1) x) s e in
         ap Came w.s_is ∙ sym (ap walked_as (here ∙ ap (plus h.so_far) w.comes))
 
-    pub walking_step : (to : ℕ) (s : Total) → turn_of f c a (get_or x k 0) h.so_far ≡ On to s → Walking f c own x (k + 1) to s
+    pub walking_step : (to : ℕ) (s : Option ℕ) → turn_of f c a (get_or x k 0) h.so_far ≡ On to s → Walking f c own x (k + 1) to s
     walking_step to s e =
         let w = turned_on f c a (get_or x k 0) h.so_far own (drop (k + 1) x) to s e in
         record {

@@ -1,12 +1,12 @@
 -- What the walk along a string answers, against `Numbers` (document 02, N11), and what it asks of the table.
 --     HasEntry c a         the table c has an entry for the address a, where that is not 0
 --     HasEntries c ts      for each target of the transitions ts
---     total_as n            the number n as a total: Over where it passes 2^64 - 1
+--     total_as n            the number n as a total: None where it passes 2^64 - 1
 --     added_to t n          the total t with n more
 --     turn_of f c a b n     the byte b looked for at the node at a, with n keys so far
 --     walked_as t           a tally as a walk along a string answers it
 -- Assumes nothing.
-use Rattle.std.specs.Prelude.{◌≡◌, cond, ℕ, ◌+◌, ◌<◌, leb, length}
+use Rattle.std.specs.Prelude.{◌≡◌, cond, ℕ, ◌+◌, ◌<◌, leb, length, Option, Some, None}
 use mathlib.Core.List.{List, Memᴰ}
 use Rattle.format.specs.declared.Transition.{Transition}
 use Rattle.format.specs.Limits.{max_sum}
@@ -15,8 +15,6 @@ use Rattle.format.specs.Paths.{Fst, node_in}
 use Rattle.format.specs.Tables.{one}
 use Rattle.reading.specs.Reading.{on_node, on_search}
 use Rattle.plain.specs.Numbers.{Tally, comes_to, refused, keys_below}
-use Rattle.stream_upto.specs.declared.Total.{Total}
-use Rattle.stream_upto.specs.declared.Total.TheVariants.{Is, Over}
 use Rattle.stream_upto.specs.declared.Turned.{Turned}
 use Rattle.stream_upto.specs.declared.Turned.TheVariants.{On, Gone, Unsound}
 use Rattle.stream_upto.specs.declared.Walked.{Walked}
@@ -33,12 +31,12 @@ pub record HasEntries (c : List ℕ) (ts : List Transition) : Type 0 where
 
 -- ---- what the answers say
 
-abbrev pub total_as : ℕ → Total
-total_as n = cond (leb n max_sum) (Is n) Over
+abbrev pub total_as : ℕ → Option ℕ
+total_as n = cond (leb n max_sum) (Some n) None
 
-abbrev pub added_to : Total → ℕ → Total
-added_to (Is x) n = total_as (x + n)
-added_to Over n = Over
+abbrev pub added_to : Option ℕ → ℕ → Option ℕ
+added_to (Some x) n = total_as (x + n)
+added_to None n = None
 
 unfoldable pub turn_of : Fst → List ℕ → ℕ → ℕ → ℕ → Turned
 turn_of f c a b n =

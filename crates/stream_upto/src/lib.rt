@@ -12,43 +12,30 @@ ghost use Rattle.plain.specs.Numbers.{up_to};
 ghost use Rattle.stream_upto.specs.Counts.{HasEntry, HasEntries, total_as, added_to, turn_of, walked_as};
 
 use format::NODE;
-use node::{Found, Judged, Node};
+use node::Node;
 
-// A number of keys, or that it passes 2^64 - 1. One that passes is kept and not answered: a node further on is refused before it.
-#[derive(Clone, Copy)]
-pub enum Total {
-    Is(u64),
-    Over,
-}
+// A total is a number of keys, or None where it passes 2^64 - 1. None is kept and not answered: a node further on is refused before it.
 
-// One byte of a string looked for at a node, with the number so far: where it leads; that it leads nowhere; or the node is not sound.
+// One byte of a string looked for at a node, with the total so far: where it leads; that it leads nowhere; or the node is not sound.
 #[derive(Clone, Copy)]
 enum Turned {
-    On(usize, Total),
-    Gone(Total),
+    On(usize, Option<u64>),
+    Gone(Option<u64>),
     Unsound,
 }
 
-// What the walk along a string finds: the keys up to it, or the number of a refusal.
+// What the walk along a string finds: the total of the keys up to it, or the number of a refusal.
 #[derive(Clone, Copy)]
 pub enum Walked {
-    Came(Total),
+    Came(Option<u64>),
     Halted(u8),
 }
 
-// So many keys more. Nothing here wraps.
-fn added(t: Total, n: u64) -> Total
+// A total and n more, or None where that passes the limit.
+fn added(t: Option<u64>, n: u64) -> Option<u64>
     ensures { result ≡ added_to t n }
 {
-    match t {
-        Total::Over => Total::Over,
-        Total::Is(x) => {
-            if u64::MAX - n < x {
-                return Total::Over;
-            }
-            Total::Is(x + n)
-        }
-    }
+    t?.checked_add(n)
 }
 
 // The keys from the node at a by the table; address 0 counts one key and has no entry.
@@ -56,26 +43,18 @@ pub fn keys_at(counts: &[u64], a: usize) -> u64
     requires { HasEntry counts.now a }
     ensures { result ≡ keys_at counts.now a }
 {
-    if a == 0 {
-        return 1;
-    }
-    counts[a]
+    if a == 0 { 1 } else { counts[a] }
 }
 
 // 1 for the key that ends at a node, where the node is final and that key counts.
 fn own_key(counts_too: bool, is_final: bool) -> u64
     ensures { result ≡ one (counts_too && is_final) }
 {
-    if counts_too {
-        if is_final {
-            return 1;
-        }
-    }
-    0
+    u64::from(counts_too && is_final)
 }
 
 // The total with the keys from the targets of the first p transitions.
-fn below(file: &[u8], node: Node, p: usize, counts: &[u64], total: Total) -> Total
+fn below(file: &[u8], node: Node, p: usize, counts: &[u64], total: Option<u64>) -> Option<u64>
     requires { Readable file.now node × (p ≤ node.ntrans)
         × HasEntries counts.now (transitions_in file.now node) }
     ensures { (n : ℕ) → total ≡ total_as n
@@ -83,12 +62,10 @@ fn below(file: &[u8], node: Node, p: usize, counts: &[u64], total: Total) -> Tot
         (take p (transitions_in file.now node))) }
 {
     let mut sum = total;
-    let mut i = 0;
-    while i < p {
+    for i in 0..p {
         let t = node::transition_addr(file, node, i);
         let k = keys_at(counts, t);
         sum = added(sum, k);
-        i += 1;
     }
     sum
 }
@@ -101,21 +78,21 @@ fn turn(
     addr: usize,
     b: u8,
     counts: &[u64],
-    total: Total,
+    total: Option<u64>,
 ) -> Turned
     requires { length file.now ≤ length counts.now }
     ensures { (n : ℕ) → total ≡ total_as n
         → result ≡ turn_of (fst_with file.now version root) counts.now addr b n }
 {
-    let Judged::Sound(m) = node::node_at(file, version, root, addr) else {
+    let Ok(m) = node::node_at(file, version, root, addr) else {
         return Turned::Unsound;
     };
     // a key that begins the string and ends here comes before it
     let kept = added(total, own_key(true, m.is_final));
     let found = node::find_input(file, m, b);
     match found {
-        Found::Absent(p) => Turned::Gone(below(file, m, p, counts, kept)),
-        Found::At(p) => {
+        Err(p) => Turned::Gone(below(file, m, p, counts, kept)),
+        Ok(p) => {
             let target = node::transition_addr(file, m, p);
             let sum = below(file, m, p, counts, kept);
             Turned::On(target, sum)
@@ -124,12 +101,19 @@ fn turn(
 }
 
 // Where the string ends: its last node is judged too, and its own key counts where own says so.
-fn at_end(file: &[u8], version: u64, root: usize, addr: usize, own: bool, total: Total) -> Walked
+fn at_end(
+    file: &[u8],
+    version: u64,
+    root: usize,
+    addr: usize,
+    own: bool,
+    total: Option<u64>,
+) -> Walked
     ensures { (c : List ℕ) (n : ℕ) → total ≡ total_as n
         → result ≡ walked_as (N.plus n
         (up_to (fst_with file.now version root) c own addr [])) }
 {
-    let Judged::Sound(m) = node::node_at(file, version, root, addr) else {
+    let Ok(m) = node::node_at(file, version, root, addr) else {
         return Walked::Halted(NODE);
     };
     let k = own_key(own, m.is_final);
@@ -142,19 +126,16 @@ pub fn up_to(file: &[u8], version: u64, root: usize, own: bool, x: &[u8], counts
     ensures { result ≡ walked_as (up_to (fst_with file.now version root)
         counts.now own root x.now) }
 {
-    let mut k = 0;
     let mut addr = root;
-    let mut total = Total::Is(0);
-    while k < x.len() {
-        let b = x[k];
-        let turned = turn(file, version, root, addr, b, counts, total);
+    let mut total = Some(0);
+    for b in x {
+        let turned = turn(file, version, root, addr, *b, counts, total);
         match turned {
             Turned::Unsound => return Walked::Halted(NODE),
             Turned::Gone(sum) => return Walked::Came(sum),
             Turned::On(target, sum) => {
                 addr = target;
                 total = sum;
-                k += 1;
             }
         }
     }

@@ -36,17 +36,17 @@ root_inside w = (start w).requires.root_inside w.before.before.if-root-eq0.false
 room : (w : tie.After-walk) → length (start w).args.file.now ≤ length (depths w)
 room w = omega (arith, (start w).requires.room_depths, w.walk.ensures.0.long)
 
-abbrev called : tie.Then-walk → tie.After-walk
+abbrev called : tie.Else-not-walk → tie.After-walk
 called q = q.before.before.before
 
 -- the chain is whole
-marks : (q : tie.Then-walk) → (l : List ℕ) × Marks (file (called q)) (set (depths (called q)) 0 0) l
+marks : (q : tie.Else-not-walk) → (l : List ℕ) × Marks (file (called q)) (set (depths (called q)) 0 0) l
 marks q =
     let w = called q in
-    let r = walked w true q.if-walk.true in
+    let r = walked w true q.if-not-walk.false in
     (r.0, marks_of w.before.before.if-root-eq0.false r.1 (omega (arith, root_inside w, room w)))
 
-kept_zero : (q : tie.Then-walk) → Kept (length (start (called q)).args.file.now) (start (called q)).args.depths.now (set (depths (called q)) 0 0)
+kept_zero : (q : tie.Else-not-walk) → Kept (length (start (called q)).args.file.now) (start (called q)).args.depths.now (set (depths (called q)) 0 0)
 kept_zero q = let r = root_inside (called q) in kept_set 0 0 (omega arith) (called q).walk.ensures.0
 
 -- root 0
@@ -59,17 +59,17 @@ walk-requires c κs =
     let pre = c.before.before.before.before.before.requires in
     record { room = pre.room_depths; not_zero = c.before.if-root-eq0.false; inside = pre.root_inside c.before.if-root-eq0.false; zeros = pre.depths }
 
-same_length : tie.Need-shape_of-depths-else-walk
+same_length : tie.Need-shape_of-depths-then-not-walk
 same_length c = search rules
 
 -- a broken chain
-returns-2 : tie.Need-returns-else-walk
+returns-2 : tie.Need-returns-then-not-walk
 returns-2 c =
     let w = c.before.before.before in
     record {
       depths_kept = w.walk.ensures.0;
       sums_kept = kept_none _ _;
-      found = broken_nodes w.before.before.if-root-eq0.false (walked w false c.if-walk.false);
+      found = broken_nodes w.before.before.if-root-eq0.false (walked w false c.if-not-walk.true);
     }
 
 -- the file has a first byte

@@ -2,7 +2,7 @@
 -- of the chain is the chain from `a`. The measure is `a`, since the next node lies below. Assumes nothing.
 use mathlib.Core.Path.{◌≡◌, sym, ap, ◌∙◌}
 use mathlib.Core.List.{List, []}
-use Prim.Native.Nat.{ℕ, ◌+◌, ◌-◌, ◌≤◌, ◌<◌}
+use Prim.Native.Nat.{ℕ, ◌+◌, ◌-◌, ◌<◌}
 use lib.ListN.{length, set}
 use Rattle.format.specs.Node.{Node, sound, SoundAt}
 use Rattle.format.specs.Paths.{Fst, node_in}
@@ -25,13 +25,13 @@ decreases-loop-version file version root depths₀ a₀ depths a = a
 
 -- ---- at a sound node
 
-abbrev at_node : tie.Then-is_sound invariant-loop-version decreases-loop-version → tie.At-loop-version invariant-loop-version decreases-loop-version
+abbrev at_node : tie.Else-not-is_sound invariant-loop-version decreases-loop-version → tie.At-loop-version invariant-loop-version decreases-loop-version
 at_node c = c.before.before
 
-abbrev start : tie.Then-is_sound invariant-loop-version decreases-loop-version → tie.Start invariant-loop-version decreases-loop-version
+abbrev start : tie.Else-not-is_sound invariant-loop-version decreases-loop-version → tie.Start invariant-loop-version decreases-loop-version
 start c = (at_node c).before.before.before
 
-abbrev file : tie.Then-is_sound invariant-loop-version decreases-loop-version → Fst
+abbrev file : tie.Else-not-is_sound invariant-loop-version decreases-loop-version → Fst
 file c = fst_with (start c).args.file.now (start c).args.version (start c).args.root
 
 -- the depths, from what was given on
@@ -39,24 +39,24 @@ kept_at : (q : tie.At-loop-version invariant-loop-version decreases-loop-version
     → Kept (length q.before.before.before.args.file.now) q.before.before.before.args.depths.now q.loop-version.depths
 kept_at q = kept_then (kept_set _ _ q.before.before.before.requires.inside (kept_none _ _)) q.loop-version.invariant.0
 
-walked : (c : tie.Then-is_sound invariant-loop-version decreases-loop-version) → Walking (file c) (at_node c).loop-version.depths (at_node c).loop-version.a (at_node c).loop-version.invariant.1.0
+walked : (c : tie.Else-not-is_sound invariant-loop-version decreases-loop-version) → Walking (file c) (at_node c).loop-version.depths (at_node c).loop-version.a (at_node c).loop-version.invariant.1.0
 walked c = (at_node c).loop-version.invariant.1.1
 
-is_sound : (c : tie.Then-is_sound invariant-loop-version decreases-loop-version) → SoundAt (file c).bytes (file c).version (file c).root (at_node c).loop-version.a
-is_sound c = c.before.is_sound.ensures.yes c.if-is_sound.true
+is_sound : (c : tie.Else-not-is_sound invariant-loop-version decreases-loop-version) → SoundAt (file c).bytes (file c).version (file c).root (at_node c).loop-version.a
+is_sound c = c.before.is_sound.ensures.yes c.if-not-is_sound.false
 
-node : (c : tie.Then-is_sound invariant-loop-version decreases-loop-version) → (m : Node) × (node_in (file c) (at_node c).loop-version.a ≡ sound m)
+node : (c : tie.Else-not-is_sound invariant-loop-version decreases-loop-version) → (m : Node) × (node_in (file c) (at_node c).loop-version.a ≡ sound m)
 node c = sound_node (file c) (at_node c).loop-version.a (is_sound c)
 
-inside : (c : tie.Then-is_sound invariant-loop-version decreases-loop-version) → (at_node c).loop-version.a < length (file c).bytes
+inside : (c : tie.Else-not-is_sound invariant-loop-version decreases-loop-version) → (at_node c).loop-version.a < length (file c).bytes
 inside c = walked_inside (walked c) _ (node c).1
 
-room : (c : tie.Then-is_sound invariant-loop-version decreases-loop-version) → (at_node c).loop-version.a < length (at_node c).loop-version.depths
+room : (c : tie.Else-not-is_sound invariant-loop-version decreases-loop-version) → (at_node c).loop-version.a < length (at_node c).loop-version.depths
 room c = kept_lt (kept_at (at_node c)) (start c).requires.room (inside c)
 
 -- ---- its targets are marked
 
-abbrev told : tie.After-mark_at-first invariant-loop-version decreases-loop-version → tie.Then-is_sound invariant-loop-version decreases-loop-version
+abbrev told : tie.After-mark_at-first invariant-loop-version decreases-loop-version → tie.Else-not-is_sound invariant-loop-version decreases-loop-version
 told c = c.before.before.before.before
 
 abbrev marked : tie.After-mark_at-first invariant-loop-version decreases-loop-version → List ℕ
@@ -95,15 +95,15 @@ is-sound-requires : tie.Need-is_sound-requires invariant-loop-version decreases-
 is-sound-requires c κs = search rules
 
 -- the depths keep their length
-same_length : tie.Need-shape_of-depths-else-is_sound invariant-loop-version decreases-loop-version
+same_length : tie.Need-shape_of-depths-then-not-is_sound invariant-loop-version decreases-loop-version
 same_length c = (kept_at c.before.before).long
 
 -- an unsound node
-returns : tie.Need-returns-else-is_sound invariant-loop-version decreases-loop-version
+returns : tie.Need-returns-then-not-is_sound invariant-loop-version decreases-loop-version
 returns c =
     let at = c.before.before in
     let w = at.loop-version.invariant.1.1 in
-    (kept_at at, walking_broken w (unsound_node _ at.loop-version.a w.not_zero (c.before.is_sound.ensures.no c.if-is_sound.false)))
+    (kept_at at, walking_broken w (unsound_node _ at.loop-version.a w.not_zero (c.before.is_sound.ensures.no c.if-not-is_sound.true)))
 
 -- the place of the entry, in bytes, fits
 mul-mark-of : tie.Need-offset_bounds-depths-a invariant-loop-version decreases-loop-version

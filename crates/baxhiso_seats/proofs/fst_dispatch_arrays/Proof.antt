@@ -22,8 +22,8 @@ held q = let x = q.args in
 abbrev given : tie.Start → T.Seats
 given q = let x = q.args in flat_is (flat x.last.now x.taken.now x.waiting.now (held q))
 
-right : (c : tie.Then-seats_right) → T.right_test (given (start c.before)) ≡ true
-right c = sym (c.before.seats_right.ensures (plain_at (held (start c.before)))) ∙ c.if-seats_right.true
+right : (c : tie.Else-not-seats_right) → T.right_test (given (start c.before)) ≡ true
+right c = sym (c.before.seats_right.ensures (plain_at (held (start c.before)))) ∙ c.if-not-seats_right.false
 
 seats-right-requires : tie.Need-seats_right-requires
 seats-right-requires c κs = search rules
@@ -32,12 +32,12 @@ code-requires : tie.Need-code-requires
 code-requires c κs = search rules
 
 -- the seats are not right
-returns : tie.Need-returns-else-seats_right
+returns : tie.Need-returns-then-not-seats_right
 returns c =
     let w = c.before.before in
     let x = (start w).args in
     dispatch_unright x.file.now x.last.now x.taken.now x.waiting.now (held (start w)) x.key.now _ x.seat.now x.len.now x.value.now
-    (sym (w.seats_right.ensures (plain_at (held (start w)))) ∙ c.before.if-seats_right.false) (code_is c.code.result c.code.type_inv c.code.ensures)
+    (sym (w.seats_right.ensures (plain_at (held (start w)))) ∙ c.before.if-not-seats_right.true) (code_is c.code.result c.code.type_inv c.code.ensures)
 
 turn-of-requires : tie.Need-turn_of-turn-requires
 turn-of-requires c κs = right_last (given (start c.before)) (right c)
@@ -54,22 +54,22 @@ serve-requires c κs =
     let w = m.before in
     let x = (start w.before.before).args in
     turn_number x.file.now x.last.now x.taken.now x.waiting.now (held (start w.before.before)) x.key.now _
-    (sym (w.turn_of-turn.ensures x.taken.now (plain_at (held (start w.before.before)))) ∙ ap turn_is m.in-Of.is)
+    (sym (w.turn_of-turn.ensures x.taken.now (plain_at (held (start w.before.before)))) ∙ ap turn_is m.in-Some.is)
 
 -- nobody waits
-returns-2 : tie.Need-returns-in-Nobody
+returns-2 : tie.Need-returns-in-None
 returns-2 c =
     let w = c.before in
     let q = start w.before.before in
     let x = q.args in
     dispatch_none x.file.now x.last.now x.taken.now x.waiting.now (held q) x.key.now x.seat.now x.len.now x.value.now
-    (right w.before) (sym (w.turn_of-turn.ensures x.taken.now (plain_at (held q))) ∙ ap turn_is c.in-Nobody.is)
+    (right w.before) (sym (w.turn_of-turn.ensures x.taken.now (plain_at (held q))) ∙ ap turn_is c.in-None.is)
 
 same_length : tie.Need-shape_of-key
 same_length c = search rules
 
 -- the seat whose turn it is
-returns-3 : tie.Need-returns-in-Of
+returns-3 : tie.Need-returns-in-Some
 returns-3 c =
     let s = c.before.before in
     let m = s.before.before.before.before.before.before.before.before.before.before.before.before.before.before in
@@ -77,7 +77,7 @@ returns-3 c =
     let q = start w.before.before in
     let x = q.args in
     dispatch_serves x.file.now x.last.now x.taken.now x.waiting.now (held q) x.key.now _ (right w.before)
-    (sym (w.turn_of-turn.ensures x.taken.now (plain_at (held q))) ∙ ap turn_is m.in-Of.is) _ _ _ _ x.seat.now _ x.len.now _ x.value.now _ _ _
+    (sym (w.turn_of-turn.ensures x.taken.now (plain_at (held q))) ∙ ap turn_is m.in-Some.is) _ _ _ _ x.seat.now _ x.len.now _ x.value.now _ _ _
     (result_back s.serve.result s.serve.type_inv) s.serve.ensures
 
 pub fst_dispatch_arrays_spec : {M : Type 1} → statement M

@@ -27,15 +27,15 @@ returns c = let q = c.before.before in
 seats-right-requires : tie.Need-seats_right-requires
 seats-right-requires c κs = search rules
 
-code-requires-2 : tie.Need-code-requires-else-seats_right
+code-requires-2 : tie.Need-code-requires-then-not-seats_right
 code-requires-2 c κs = search rules
 
-returns-2 : tie.Need-returns-else-seats_right
+returns-2 : tie.Need-returns-then-not-seats_right
 returns-2 c = let w = c.before.before in
     let q = w.before.before.before.before in
     let x = q.args in
     seat_wrong x.last x.taken.now x.waiting.now x.number (before q) (one q) x.to_come _ w.before.before.before.if-number-gt-LAST_SEAT.false
-    (sym (w.seats_right.ensures (plain_at (before q))) ∙ c.before.if-seats_right.false) (code_is c.code-else-seats_right.result c.code-else-seats_right.type_inv c.code-else-seats_right.ensures)
+    (sym (w.seats_right.ensures (plain_at (before q))) ∙ c.before.if-not-seats_right.true) (code_is c.code-then-not-seats_right.result c.code-then-not-seats_right.type_inv c.code-then-not-seats_right.ensures)
 
 put-rows-requires : tie.Need-put_rows-requires
 put-rows-requires c κs = search rules
@@ -50,7 +50,7 @@ returns-3 c = let p = c.before.before in
     let q = w.before.before.before.before in
     let x = q.args in
     seat_done x.last x.taken.now x.waiting.now x.number (before q) (one q) x.to_come _ c.put_flag.ensures w.before.before.before.if-number-gt-LAST_SEAT.false
-    (sym (w.seats_right.ensures (plain_at (before q))) ∙ d.if-seats_right.true) _ p.put_rows.ensures
+    (sym (w.seats_right.ensures (plain_at (before q))) ∙ d.if-not-seats_right.false) _ p.put_rows.ensures
 
 pub fst_seat_arrays_spec : {M : Type 1} → statement M
 fst_seat_arrays_spec =

@@ -49,14 +49,14 @@ opens_new : (w : Both) → O.opening (new w) ≡ O.opened (meta_is (meta_new w))
 opens_new w = sym w.before.open-opened_new.ensures ∙ ap opening_is w.in-Meta-opened_new.is
 
 abbrev Right : Type 0
-Right = tie.Then-state_right
+Right = tie.Else-not-state_right
 
 abbrev w_of : Right → Both
 w_of v = v.before.before
 
 right : (v : Right)
     → (let a = (start (q_of (w_of v))).args in state_right a.reading.levels a.reading.bound_len a.reading.len (length a.old.now)) ≡ true
-right v = sym v.before.state_right.ensures ∙ v.if-state_right.true
+right v = sym v.before.state_right.ensures ∙ v.if-not-state_right.false
 
 open-requires : tie.Need-open-opened-requires
 open-requires c κs = search rules
@@ -85,16 +85,16 @@ enum-known-opened-new-2 c = search rules
 state-right-requires : tie.Need-state_right-requires
 state-right-requires c κs = search rules
 
-refused-requires-3 : tie.Need-refused-requires-else-state_right
+refused-requires-3 : tie.Need-refused-requires-then-not-state_right
 refused-requires-3 c κs = search rules
 
 -- the reading cannot go on with the old file: STATE
-returns : tie.Need-returns-else-state_right
+returns : tie.Need-returns-then-not-state_right
 returns c = let at = c.before in
     let w = at.before.before in
     let q = q_of w in
     let a = (start q).args in
-    state_wrong a.fits (old q) (new w) a.reading _ (meta_is (meta q)) (opens q) (meta_is (meta_new w)) (opens_new w) (sym at.before.state_right.ensures ∙ at.if-state_right.false) c.refused-else-state_right.ensures
+    state_wrong a.fits (old q) (new w) a.reading _ (meta_is (meta q)) (opens q) (meta_is (meta_new w)) (opens_new w) (sym at.before.state_right.ensures ∙ at.if-not-state_right.true) c.refused-then-not-state_right.ensures
 
 -- the new root fits, and the state is right
 carry-opened-requires : tie.Need-carry_opened-requires

@@ -6,8 +6,7 @@ use mathlib.Core.List.{List}
 use Prim.Native.Nat.{ℕ}
 use Rattle.format.specs.Paths.{Fst, fst_with}
 use Rattle.convert_layout.specs.Layout.{Lays}
-use Rattle.convert_layout.specs.declared.Layout.{Layout}
-use Rattle.convert_layout.specs.declared.Layout.TheVariants.{Ends, Over}
+use Rattle.std.specs.Prelude.{Option, Some, None}
 use Rattle.convert.proofs.Old.{old_markable, old_layable, old_over, old_finishable, old_finished}
 use borrow.Author.Rules.{rules}
 use native.Mathlib.Omega.{arith}
@@ -34,14 +33,14 @@ sums q = q.lay_out-layout.new.sums
 abbrev limit : tie.After-lay_out-layout → ℕ
 limit q = (start (marks q)).args.limit
 
-lays_as : (q : tie.After-lay_out-layout) {x y : Layout} → x ≡ y → Lays (f q) (depths q) (sums q) (limit q) x → Lays (f q) (depths q) (sums q) (limit q) y
+lays_as : (q : tie.After-lay_out-layout) {x y : Option ℕ} → x ≡ y → Lays (f q) (depths q) (sums q) (limit q) x → Lays (f q) (depths q) (sums q) (limit q) y
 lays_as q e h = subst (Lays (f q) (depths q) (sums q) (limit q)) e h
 
-laid_over : (c : tie.In-Over) → Lays (f c.before.before.before) (depths c.before.before.before) (sums c.before.before.before) (limit c.before.before.before) Over
-laid_over c = lays_as c.before.before.before c.in-Over.is c.before.before.before.lay_out-layout.ensures.1
+laid_over : (c : tie.In-None) → Lays (f c.before.before.before) (depths c.before.before.before) (sums c.before.before.before) (limit c.before.before.before) None
+laid_over c = lays_as c.before.before.before c.in-None.is c.before.before.before.lay_out-layout.ensures.1
 
-laid_ends : (c : tie.In-Ends) → Lays (f c.before.before.before) (depths c.before.before.before) (sums c.before.before.before) (limit c.before.before.before) (Ends c.in-Ends.next)
-laid_ends c = lays_as c.before.before.before c.in-Ends.is c.before.before.before.lay_out-layout.ensures.1
+laid_ends : (c : tie.In-Some) → Lays (f c.before.before.before) (depths c.before.before.before) (sums c.before.before.before) (limit c.before.before.before) (Some c.in-Some.next)
+laid_ends c = lays_as c.before.before.before c.in-Some.is c.before.before.before.lay_out-layout.ensures.1
 
 mark-requires : tie.Need-mark-requires
 mark-requires c κs = old_markable c.before.before.before.before.before.before.requires.0
@@ -64,22 +63,22 @@ finish-requires c κs =
     let s = start (marks q) in
     old_finishable s.requires.0 (marks q).mark.ensures s.requires.1 q.lay_out-layout.ensures.0 s.args.out.now s.args.table.now (laid_ends told)
 
-same_length : tie.Need-shape_of-depths-in-Over
+same_length : tie.Need-shape_of-depths-in-None
 same_length c = search rules
 
-same-length-2 : tie.Need-shape_of-sums-in-Over
+same-length-2 : tie.Need-shape_of-sums-in-None
 same-length-2 c = search rules
 
-returns : tie.Need-returns-in-Over
+returns : tie.Need-returns-in-None
 returns c =
     let q = c.before.before.before in
     let s = start (marks q) in
     old_over s.requires.0 (marks q).mark.ensures s.requires.1 q.lay_out-layout.ensures.0 _ _ (laid_over c)
 
-same-length-3 : tie.Need-shape_of-depths-in-Ends
+same-length-3 : tie.Need-shape_of-depths-in-Some
 same-length-3 c = search rules
 
-same-length-4 : tie.Need-shape_of-sums-in-Ends
+same-length-4 : tie.Need-shape_of-sums-in-Some
 same-length-4 c = search rules
 
 same-length-5 : tie.Need-shape_of-out
@@ -88,7 +87,7 @@ same-length-5 c = search rules
 same-length-6 : tie.Need-shape_of-table
 same-length-6 c = search rules
 
-returns-2 : tie.Need-returns-in-Ends
+returns-2 : tie.Need-returns-in-Some
 returns-2 c =
     let done = c.before.before.before.before in
     let told = done.before.before.before in

@@ -1,10 +1,9 @@
 -- `convert_layout::lay_marked` meets its contract. The loop's invariant: the addresses below `a` are laid out up to `next`, as `Laying` says. The
 -- measure is what is left of the file. Assumes nothing.
-use mathlib.Core.Path.{◌≡◌, refl, sym, ◌∙◌}
 use Prim.Native.Nat.{ℕ, ◌+◌, ◌-◌, ◌≤◌, ◌<◌}
 use lib.ListN.{length, get_or}
 use Rattle.format.specs.Limits.{max_len}
-use Rattle.format.specs.Paths.{Fst, fst_with}
+use Rattle.format.specs.Paths.{fst_with}
 use Rattle.convert_layout.proofs.Laying.{Laying, laying_none, laying_over, laying_out, laying_room, laying_skip, laying_sound, laying_sizable, laying_step, laying_len}
 use borrow.Author.Rules.{rules}
 use native.Mathlib.Omega.{arith}

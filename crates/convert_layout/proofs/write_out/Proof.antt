@@ -1,10 +1,9 @@
 -- `convert_layout::write_out` meets its contract. The loop's invariant: the nodes below `a` are written up to `next`, as `Writes` says, and the
 -- three buffers keep their lengths. The measure is what is left of the file. Assumes nothing.
-use mathlib.Core.Path.{◌≡◌, refl, sym, ap, ◌∙◌}
-use mathlib.Core.List.{List, ◌++◌}
-use Prim.Native.Nat.{ℕ, ◌+◌, ◌-◌, ◌≤◌, ◌<◌}
-use lib.ListN.{length, get_or, take, drop, length-take, length-drop}
-use Rattle.format.specs.Paths.{Fst, fst_with}
+use mathlib.Core.Path.{◌≡◌, refl, sym}
+use Prim.Native.Nat.{ℕ, ◌-◌, ◌<◌}
+use lib.ListN.{length, get_or, drop, length-take, length-drop}
+use Rattle.format.specs.Paths.{fst_with}
 use Rattle.convert_layout.proofs.Laying.{Writes, writes_none, writes_next, writes_all, writes_skip, writes_sound, writes_packable, writes_step, writes_small}
 use borrow.Author.Rules.{rules}
 use native.Mathlib.Omega.{arith}

@@ -6,7 +6,7 @@ use Prim.Native.Nat.{ℕ}
 use Rattle.format.specs.Node as F
 use Rattle.format.specs.Paths.{fst_with}
 use Rattle.node.specs.declared.Node.{Node}
-use Rattle.node.specs.declared.Judged.TheVariants.{Sound}
+use Rattle.std.specs.Prelude.{Ok}
 use Rattle.node.specs.Read.{meaning, Judges}
 use Rattle.node.specs.ReadLaws.{answer_sound}
 use Rattle.convert_marks.specs.Marks.{FirstIs}
@@ -15,7 +15,7 @@ use native.Mathlib.Omega.{arith}
 use Rattle.convert_marks.proofs.first_of.Statement.{statement}
 use Rattle.convert_marks.proofs.first_of.Tie as tie
 
-first_is : {s : List ℕ} {root a : ℕ} (r : Node) → Judges s 1 root a (Sound r) → FirstIs (fst_with s 1 root) a r.first
+first_is : {s : List ℕ} {root a : ℕ} (r : Node) → Judges s 1 root a (Ok r) → FirstIs (fst_with s 1 root) a r.first
 first_is {s} r j =
     record {
       each = λ m e.

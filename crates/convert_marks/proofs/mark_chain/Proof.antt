@@ -1,16 +1,15 @@
 -- `convert_marks::mark_chain` meets its contract. The loop's invariant: the addresses above `a` are marked, the last of them `up` above it, and the
 -- chain goes on from there. The measure is the address. Assumes nothing.
-use mathlib.Core.Path.{◌≡◌, sym, ap, ◌∙◌, subst}
+use mathlib.Core.Path.{◌≡◌}
 use mathlib.Core.List.{List}
-use mathlib.Core.Logic.{◌⊎◌, ⊎_elim}
-use Prim.Native.Nat.{ℕ, ◌-◌, ◌≤◌, ◌<◌}
+use mathlib.Core.Logic.{⊎_elim}
+use Prim.Native.Nat.{ℕ, ◌≤◌}
 use lib.ListN.{length, set}
 use Rattle.format.specs.Paths.{fst_with}
 use Rattle.format.specs.Admitted.{Chain}
 use Rattle.format.specs.Laws.ChainLaws.{chain_unique}
 use Rattle.convert_marks.specs.Marks.{MarksList}
 use Rattle.convert_marks.proofs.Marking.{Marking, marking_none, marking_sound, marking_room, marking_last, marking_low, marking_le, marking_next}
-use borrow.Author.Rules.{rules}
 use native.Mathlib.Omega.{arith}
 use Rattle.convert_marks.proofs.mark_chain.Statement.{statement}
 use Rattle.convert_marks.proofs.mark_chain.Tie as tie

@@ -1,7 +1,7 @@
 -- `convert_node::pack` meets its contract: what is gathered is the node's record, which is as the packer asks and has room.
 -- Assumes nothing.
-use mathlib.Core.Path.{◌≡◌, refl, sym, ap, ◌∙◌}
-use mathlib.Core.List.{List, map}
+use mathlib.Core.Path.{◌≡◌, sym}
+use mathlib.Core.List.{List}
 use Prim.Native.Nat.{ℕ, ◌≤◌}
 use lib.ListN.{length, length-map}
 use Rattle.format.specs.declared.Transition.{Transition}

@@ -1,6 +1,6 @@
 -- `convert_node::pack_at` meets its contract: a sound node is packed, by the form of its state.
 -- Assumes nothing.
-use mathlib.Core.Path.{◌≡◌, refl, subst}
+use mathlib.Core.Path.{refl, subst}
 use Rattle.format.specs.Node.{Node}
 use Rattle.format.specs.Packed.{packed}
 use Rattle.converting.specs.Converting.{record_by}

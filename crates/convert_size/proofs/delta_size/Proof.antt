@@ -1,6 +1,6 @@
 -- `convert_size::delta_size` meets its contract.
 -- Assumes nothing.
-use mathlib.Core.Path.{sym, ◌∙◌}
+use mathlib.Core.Path.{◌∙◌}
 use borrow.Author.Rules.{rules}
 use borrow.Author.Tests.{eq-eqb, ne_eqb}
 use Rattle.convert_size.proofs.delta_size.Statement.{statement}

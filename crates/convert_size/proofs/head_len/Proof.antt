@@ -1,6 +1,5 @@
 -- `convert_size::head_len` meets its contract.
 -- Assumes nothing.
-use mathlib.Core.Logic.{⊎_elim}
 use borrow.Author.Tests.{lt-ltb, le-ltb}
 use Rattle.convert_size.proofs.head_len.Statement.{statement}
 use Rattle.convert_size.proofs.head_len.Tie as tie

@@ -1,17 +1,14 @@
 -- `convert_size::len_any` meets its contract: the form that the node packs to, and its length.
 -- Assumes nothing.
-use mathlib.Core.Path.{◌≡◌, refl, sym, ap, ◌∙◌}
-use mathlib.Core.Bool.{Bool, true, false}
+use mathlib.Core.Path.{◌≡◌, sym, ap, ◌∙◌}
 use mathlib.Core.List.{List}
-use Prim.Native.Nat.{ℕ, ◌≤◌, ◌<◌}
+use Prim.Native.Nat.{ℕ, ◌<◌}
 use lib.ListN.{length, length-map}
 use Rattle.format.specs.declared.Transition.{Transition}
 use Rattle.format.specs.CommonInputs.{common_idx}
 use Rattle.format.specs.Node.{Node, transition_at}
-use Rattle.format.specs.Packed.{BuilderNode, packs_to_nothing, has_one}
 use Rattle.format.specs.Laws.PackedLaws.{packed_nothing, output_size_le}
-use Rattle.format.specs.Laws.BytesLaws.{pack_size_high}
-use Rattle.node.specs.Read.{meaning, transitions_in}
+use Rattle.node.specs.Read.{meaning}
 use Rattle.node.specs.ReadLaws.{length_node_transitions}
 use Rattle.converting.specs.Converting.{record_by}
 use Rattle.convert_one.specs.OneLaws.{length_bytes}

@@ -1,8 +1,8 @@
 -- `convert_size::len_next` meets its contract: what the one transition of a sound node packs to.
 -- Assumes nothing.
-use mathlib.Core.Path.{◌≡◌, refl, sym, ap, ◌∙◌, subst}
+use mathlib.Core.Path.{◌≡◌, refl, ap, ◌∙◌, subst}
 use mathlib.Core.List.{List}
-use Prim.Native.Nat.{ℕ, ◌-◌, ◌≤◌, ◌<◌}
+use Prim.Native.Nat.{ℕ, ◌-◌, ◌≤◌}
 use lib.ListN.{length, get_or}
 use Rattle.format.specs.Node.{Node}
 use Rattle.format.specs.Packed.{packed}
@@ -12,7 +12,6 @@ use Rattle.converting.specs.Converting.{record_by}
 use Rattle.convert_one.specs.OneLaws.{length_bytes}
 use Rattle.convert_size.specs.Sizes.{entry_in, Sizable}
 use Rattle.convert_size.specs.SingleLaws.{single_packed, target_in, target_le, judged_at, judged_same, judged_single, judged_listed, judged_count}
-use borrow.Author.Rules.{rules}
 use native.Mathlib.Omega.{arith}
 use Rattle.convert_size.proofs.len_next.Statement.{statement}
 use Rattle.convert_size.proofs.len_next.Tie as tie

@@ -2,7 +2,6 @@
 -- Assumes nothing.
 use Rattle.convert_write.proofs.Writing.{file_written}
 use borrow.Author.Rules.{rules}
-use native.Mathlib.Omega.{arith}
 use Rattle.convert_write.proofs.write_file.Statement.{statement}
 use Rattle.convert_write.proofs.write_file.Tie as tie
 

@@ -1,13 +1,13 @@
 -- `fst::open` meets its contract: each way out is a law of `opening`.
 -- Assumes nothing.
-use mathlib.Core.Path.{◌≡◌, refl, sym, ap, ◌∙◌}
+use mathlib.Core.Path.{◌≡◌, sym, ap, ◌∙◌}
 use Rattle.format.specs.Laws.OpeningLaws.{opening_large, opening_version, opening_few, opening_root, opening_opened, version_low, version_high, version_right}
 use Prim.Native.Nat.{ℕ, ◌+◌, ◌-◌, ◌≤◌}
 use lib.ListN.{length}
-use mathlib.Core.Bool.{true, false}
+use mathlib.Core.Bool.{true}
 use mathlib.Core.List.{List}
 use Rattle.format.specs.Laws.StoredLaws.{part_rest}
-use Rattle.format.specs.Opening.{least_len, number_at, meta_of, version_test, root_test, opened}
+use Rattle.format.specs.Opening.{least_len, meta_of, version_test, root_test, opened}
 use Rattle.fst.proofs.Opens.{meta_is_lem, version_is, root_is, least_is_lem, rule_is, opening_of_few}
 use borrow.Author.Rules.{rules}
 use native.Mathlib.Omega.{arith}
@@ -126,13 +126,13 @@ rule w =
     (version call) (root_read w) w.root_right.ensures
 
 -- the root breaks the rule on roots: ROOT
-returns-6 : tie.Need-returns-else-root_right
+returns-6 : tie.Need-returns-then-not-root_right
 returns-6 c =
     let w = c.before in
     let t = measured w in
     let call = read t in
     sym (opening_root (file call) (some call) call.before.before.if-few.false call.before.if-too_large.false (right t)
-    (rw (least t) (room w)) (sym (rule w) ∙ c.if-root_right.false))
+    (rw (least t) (room w)) (sym (rule w) ∙ c.if-not-root_right.true))
 
 sub-read-u64-le-2 : tie.Need-slice_bounds-read_u64_le-count-2
 sub-read-u64-le-2 c = search rules
@@ -174,7 +174,7 @@ returns-7 c =
     let len = c.before.read_u64_le-len in
     let opens =
     opening_opened s (some call) call.before.before.if-few.false call.before.if-too_large.false (right t)
-    (rw (least t) (room w)) (sym (rule w) ∙ c.before.before.before.before.before.if-root_right.true) in
+    (rw (least t) (room w)) (sym (rule w) ∙ c.before.before.before.before.before.if-not-root_right.false) in
     ap opened (meta_is_lem s call.read_u64_le-version.result ty.result len.result root.result tl.result c.checksum_of-checksum.result call.read_u64_le-version.ensures tl.ensures.0
     (ty.ensures ∙ (rw (part_rest s 8))) (len.ensures ∙ (rw (part_rest s (length s - tl.result))))
     (root.ensures ∙ rw (part_rest s (length s - tl.result + 8))) c.checksum_of-checksum.ensures) ∙ sym opens

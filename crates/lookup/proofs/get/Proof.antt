@@ -1,12 +1,11 @@
 -- `lookup::get` meets its contract: what opening answered leads to an equation of `get`.
 -- Assumes nothing.
-use mathlib.Core.Path.{◌≡◌, refl, sym, ap, ◌∙◌}
+use mathlib.Core.Path.{◌≡◌, sym, ap, ◌∙◌}
 use Rattle.format.specs.Laws.LookupLaws.{get_opened, get_blank, get_refused}
 use Rattle.format.specs.Laws.OpeningLaws.{version_blank, version_some}
 use Rattle.format.specs.Opening as O
 use Rattle.fst.specs.Open.{meta_is, opening_is}
 use borrow.Author.Rules.{rules}
-use native.Mathlib.Omega.{arith}
 use Rattle.lookup.proofs.get.Statement.{statement}
 use Rattle.lookup.proofs.get.Tie as tie
 

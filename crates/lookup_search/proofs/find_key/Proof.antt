@@ -2,7 +2,6 @@
 -- answer. The measure is the room for bytes.
 -- Assumes nothing.
 use mathlib.Core.Path.{◌≡◌, sym, ◌∙◌}
-use mathlib.Core.List.{List}
 use Prim.Native.Nat.{ℕ, ◌-◌, ◌≤◌}
 use Rattle.format.specs.Node as F
 use Rattle.format.specs.Node.{sound}
@@ -27,7 +26,7 @@ decreases-loop-choice file version root value path₀ addr₀ left₀ n₀ path 
 -- ---- what is known where the node is sound, and where a transition is followed
 
 abbrev At : Type 0
-At = tie.In-Sound invariant-loop-choice decreases-loop-choice
+At = tie.In-Ok invariant-loop-choice decreases-loop-choice
 
 abbrev at_loop : At → tie.At-loop-choice invariant-loop-choice decreases-loop-choice
 at_loop q = q.before.before
@@ -39,12 +38,12 @@ abbrev left : At → ℕ
 left q = (at_loop q).loop-choice.left
 
 abbrev choice : At → Choice
-choice q = q.in-Sound.choice
+choice q = q.in-Ok.choice
 
 -- the choice is that of a sound node
 node_is : (q : At) → (m : F.Node) × ((node_in (f q) (at_loop q).loop-choice.addr ≡ sound m) × (choice q ≡ choice_in m (left q)))
 node_is q =
-    fit_sound (node_in (f q) (at_loop q).loop-choice.addr) (left q) (choice q) (sym q.in-Sound.is ∙ q.before.fit_at.ensures)
+    fit_sound (node_in (f q) (at_loop q).loop-choice.addr) (left q) (choice q) (sym q.in-Ok.is ∙ q.before.fit_at.ensures)
 
 abbrev On : Type 0
 On = tie.In-To invariant-loop-choice decreases-loop-choice

@@ -25,20 +25,20 @@ enum_told c = search rules
 state-right-requires : tie.Need-state_right-requires
 state-right-requires c κs = search rules
 
-stay-requires-2 : tie.Need-stay-requires-else-state_right
+stay-requires-2 : tie.Need-stay-requires-then-not-state_right
 stay-requires-2 c κs = search rules
 
-returns : tie.Need-returns-else-state_right
+returns : tie.Need-returns-then-not-state_right
 returns c =
     let e = c.before.before.before in
     let o = e.before in
     let a = o.before.before.before.args in
-    back_ways a.file.now (plain_is a.reading) (marks_is a.marks) _ (sym o.open-opened.ensures ∙ ap opening_is e.in-Meta.is) false (sym c.before.before.state_right.ensures ∙ c.before.if-state_right.false) a.name.now c.stay-else-state_right.ensures
+    back_ways a.file.now (plain_is a.reading) (marks_is a.marks) _ (sym o.open-opened.ensures ∙ ap opening_is e.in-Meta.is) false (sym c.before.before.state_right.ensures ∙ c.before.if-not-state_right.true) a.name.now c.stay-then-not-state_right.ensures
 
 take-back-requires : tie.Need-take_back-requires
 take-back-requires c κs =
     let a = c.before.before.before.before.before.before.args in
-    marks_few (plain_is a.reading) a.marks (length a.file.now) (sym c.before.state_right.ensures ∙ c.if-state_right.true)
+    marks_few (plain_is a.reading) a.marks (length a.file.now) (sym c.before.state_right.ensures ∙ c.if-not-state_right.false)
 
 returns-2 : tie.Need-returns-in-Refused
 returns-2 c =
@@ -47,12 +47,12 @@ returns-2 c =
     let a = o.before.before.before.args in
     back_ways a.file.now (plain_is a.reading) (marks_is a.marks) _ (sym o.open-opened.ensures ∙ ap opening_is e.in-Refused.is) _ refl a.name.now c.stay.ensures
 
-returns-3 : tie.Need-returns-then-state_right
+returns-3 : tie.Need-returns-else-not-state_right
 returns-3 c =
     let e = c.before.before.before in
     let o = e.before in
     let a = o.before.before.before.args in
-    back_ways a.file.now (plain_is a.reading) (marks_is a.marks) _ (sym o.open-opened.ensures ∙ ap opening_is e.in-Meta.is) true (sym c.before.before.state_right.ensures ∙ c.before.if-state_right.true) a.name.now c.take_back.ensures
+    back_ways a.file.now (plain_is a.reading) (marks_is a.marks) _ (sym o.open-opened.ensures ∙ ap opening_is e.in-Meta.is) true (sym c.before.before.state_right.ensures ∙ c.before.if-not-state_right.false) a.name.now c.take_back.ensures
 
 pub go_back_spec : {M : Type 1} → statement M
 go_back_spec =

@@ -25,20 +25,20 @@ enum_told c = search rules
 state-right-requires : tie.Need-state_right-requires
 state-right-requires c κs = search rules
 
-refused-requires-2 : tie.Need-refused-requires-else-state_right
+refused-requires-2 : tie.Need-refused-requires-then-not-state_right
 refused-requires-2 c κs = search rules
 
-returns : tie.Need-returns-else-state_right
+returns : tie.Need-returns-then-not-state_right
 returns c =
     let e = c.before.before.before in
     let o = e.before in
     let a = o.before.before.before.args in
-    mark_ways a.file.now (plain_is a.reading) (marks_is a.marks) _ (sym o.open-opened.ensures ∙ ap opening_is e.in-Meta.is) false (sym c.before.before.state_right.ensures ∙ c.before.if-state_right.false) a.name.now c.refused-else-state_right.ensures
+    mark_ways a.file.now (plain_is a.reading) (marks_is a.marks) _ (sym o.open-opened.ensures ∙ ap opening_is e.in-Meta.is) false (sym c.before.before.state_right.ensures ∙ c.before.if-not-state_right.true) a.name.now c.refused-then-not-state_right.ensures
 
 set-mark-requires : tie.Need-set_mark-requires
 set-mark-requires c κs =
     let a = c.before.before.before.before.before.before.args in
-    marks_few (plain_is a.reading) a.marks (length a.file.now) (sym c.before.state_right.ensures ∙ c.if-state_right.true)
+    marks_few (plain_is a.reading) a.marks (length a.file.now) (sym c.before.state_right.ensures ∙ c.if-not-state_right.false)
 
 returns-2 : tie.Need-returns-in-Refused
 returns-2 c =
@@ -47,12 +47,12 @@ returns-2 c =
     let a = o.before.before.before.args in
     mark_ways a.file.now (plain_is a.reading) (marks_is a.marks) _ (sym o.open-opened.ensures ∙ ap opening_is e.in-Refused.is) _ refl a.name.now c.refused.ensures
 
-returns-3 : tie.Need-returns-then-state_right
+returns-3 : tie.Need-returns-else-not-state_right
 returns-3 c =
     let e = c.before.before.before in
     let o = e.before in
     let a = o.before.before.before.args in
-    mark_ways a.file.now (plain_is a.reading) (marks_is a.marks) _ (sym o.open-opened.ensures ∙ ap opening_is e.in-Meta.is) true (sym c.before.before.state_right.ensures ∙ c.before.if-state_right.true) a.name.now c.set_mark.ensures
+    mark_ways a.file.now (plain_is a.reading) (marks_is a.marks) _ (sym o.open-opened.ensures ∙ ap opening_is e.in-Meta.is) true (sym c.before.before.state_right.ensures ∙ c.before.if-not-state_right.false) a.name.now c.set_mark.ensures
 
 pub mark_spec : {M : Type 1} → statement M
 mark_spec =

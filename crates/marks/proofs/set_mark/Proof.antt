@@ -1,6 +1,6 @@
 -- `marks::set_mark` meets its contract: a law of MarkCases for each way. Assumes nothing.
-use mathlib.Core.Path.{◌≡◌, refl, sym, ◌∙◌}
-use lib.ListN.{length, length-map}
+use mathlib.Core.Path.{◌≡◌, refl}
+use lib.ListN.{length}
 use Rattle.stream.specs.Plains.{plain_is}
 use Rattle.marks_held.specs.MarkViews.{marks_is}
 use Rattle.marks.proofs.MarkCases.{set_none, set_long, set_told, set_full, set_more, place_small}
@@ -41,7 +41,7 @@ put-mark-requires : tie.Need-put_mark-requires
 put-mark-requires c κs =
     let w = c.before in
     let q = w.before.before.before.before.before in
-    place_small q.args.marks q.requires _ _ (rw c.in-At.is at w.name_from-place.ensures)
+    place_small q.args.marks q.requires _ _ (rw c.in-Some.is at w.name_from-place.ensures)
 
 enum_told : tie.Need-enum_told-1
 enum_told c = search rules
@@ -57,15 +57,15 @@ returns-3 c =
     let q = h.before.before.before.before in
     let a = q.args in
     set_full a.marks (sixteen q) q.requires a.reading a.name.now h.hold_name-held.result h.hold_name-held.ensures h.before.before.if-len-eq0.false h.before.if-len-gt-MAX_NAME.false _
-    (rw e.in-Nowhere.is at w.name_from-place.ensures) c.before.if-marks-ge-MARKS.true c.refused-then-marks-ge-MARKS.ensures
+    (rw e.in-None.is at w.name_from-place.ensures) c.before.if-marks-ge-MARKS.true c.refused-then-marks-ge-MARKS.ensures
 
 add-put-mark : tie.Need-overflow_add-marks
 add-put-mark c = search rules
 
-put-mark-requires-2 : tie.Need-put_mark-requires-in-Nowhere
+put-mark-requires-2 : tie.Need-put_mark-requires-in-None
 put-mark-requires-2 c κs = search rules
 
-returns-4 : tie.Need-returns-in-At
+returns-4 : tie.Need-returns-in-Some
 returns-4 c =
     let e = c.before in
     let w = e.before in
@@ -73,7 +73,7 @@ returns-4 c =
     let q = h.before.before.before.before in
     let a = q.args in
     set_told a.marks (sixteen q) q.requires a.reading a.name.now h.hold_name-held.result h.hold_name-held.ensures h.before.before.if-len-eq0.false h.before.if-len-gt-MAX_NAME.false _ _
-    (rw e.in-At.is at w.name_from-place.ensures) refl c.put_mark.ensures
+    (rw e.in-Some.is at w.name_from-place.ensures) refl c.put_mark.ensures
 
 returns-5 : tie.Need-returns-else-marks-ge-MARKS
 returns-5 c =
@@ -83,7 +83,7 @@ returns-5 c =
     let q = h.before.before.before.before in
     let a = q.args in
     set_more a.marks (sixteen q) q.requires a.reading a.name.now h.hold_name-held.result h.hold_name-held.ensures h.before.before.if-len-eq0.false h.before.if-len-gt-MAX_NAME.false _
-    (rw e.in-Nowhere.is at w.name_from-place.ensures) (omega (arith, c.before.before.if-marks-ge-MARKS.false)) refl c.put_mark-in-Nowhere.ensures
+    (rw e.in-None.is at w.name_from-place.ensures) (omega (arith, c.before.before.if-marks-ge-MARKS.false)) refl c.put_mark-in-None.ensures
 
 pub set_mark_spec : {M : Type 1} → statement M
 set_mark_spec =

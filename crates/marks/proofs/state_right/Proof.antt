@@ -24,7 +24,7 @@ returns-2 : tie.Need-returns-else-state_right
 returns-2 c =
     let q = c.before.before.before in
     let a = q.args in
-    sym (both_is (plain_is a.reading) (marks_is a.marks) a.len false (state_is_lem a.reading.reading a.len ∙ sym c.before.state_right.ensures ∙ c.if-state_right.false))
+    c.if-state_right.false ∙ sym (both_is (plain_is a.reading) (marks_is a.marks) a.len false (state_is_lem a.reading.reading a.len ∙ sym c.before.state_right.ensures ∙ c.if-state_right.false))
 
 pub state_right_spec : {M : Type 1} → statement M
 state_right_spec = tie.close (tie.spec

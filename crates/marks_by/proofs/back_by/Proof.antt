@@ -26,15 +26,15 @@ enum_told c = search rules
 state-right-requires : tie.Need-state_right-requires
 state-right-requires c κs = search rules
 
-stay-requires-2 : tie.Need-stay-requires-else-state_right
+stay-requires-2 : tie.Need-stay-requires-then-not-state_right
 stay-requires-2 c κs = search rules
 
-returns : tie.Need-returns-else-state_right
+returns : tie.Need-returns-then-not-state_right
 returns c =
     let e = c.before.before.before in
     let o = e.before in
     let a = o.before.before.before.args in
-    back_by_ways a.file.now (held_is a.pattern) (marks_is a.marks) _ (sym o.open-opened.ensures ∙ ap opening_is e.in-Meta.is) (plain_is a.plain) a.name.now false _ (sym c.before.before.state_right.ensures ∙ c.before.if-state_right.false) refl c.stay-else-state_right.ensures
+    back_by_ways a.file.now (held_is a.pattern) (marks_is a.marks) _ (sym o.open-opened.ensures ∙ ap opening_is e.in-Meta.is) (plain_is a.plain) a.name.now false _ (sym c.before.before.state_right.ensures ∙ c.before.if-not-state_right.true) refl c.stay-then-not-state_right.ensures
 
 stay-requires-3 : tie.Need-stay-requires-then-pattern-gt-MAX_KEY
 stay-requires-3 c κs = search rules
@@ -44,12 +44,12 @@ returns-2 c =
     let e = c.before.before.before.before.before in
     let o = e.before in
     let a = o.before.before.before.args in
-    back_by_ways a.file.now (held_is a.pattern) (marks_is a.marks) _ (sym o.open-opened.ensures ∙ ap opening_is e.in-Meta.is) (plain_is a.plain) a.name.now true false (sym c.before.before.before.before.state_right.ensures ∙ c.before.before.before.if-state_right.true) (pattern_wrong a.pattern c.before.if-pattern-gt-MAX_KEY.true) c.stay-then-pattern-gt-MAX_KEY.ensures
+    back_by_ways a.file.now (held_is a.pattern) (marks_is a.marks) _ (sym o.open-opened.ensures ∙ ap opening_is e.in-Meta.is) (plain_is a.plain) a.name.now true false (sym c.before.before.before.before.state_right.ensures ∙ c.before.before.before.if-not-state_right.false) (pattern_wrong a.pattern c.before.if-pattern-gt-MAX_KEY.true) c.stay-then-pattern-gt-MAX_KEY.ensures
 
 take-back-requires : tie.Need-take_back-requires
 take-back-requires c κs =
     let a = c.before.before.before.before.before.before.before.before.args in
-    few_of (plain_is a.plain) a.marks (length a.file.now) (sym c.before.before.before.state_right.ensures ∙ c.before.before.if-state_right.true)
+    few_of (plain_is a.plain) a.marks (length a.file.now) (sym c.before.before.before.state_right.ensures ∙ c.before.before.if-not-state_right.false)
 
 returns-3 : tie.Need-returns-in-Refused
 returns-3 c =
@@ -63,7 +63,7 @@ returns-4 c =
     let e = c.before.before.before.before.before in
     let o = e.before in
     let a = o.before.before.before.args in
-    back_by_ways a.file.now (held_is a.pattern) (marks_is a.marks) _ (sym o.open-opened.ensures ∙ ap opening_is e.in-Meta.is) (plain_is a.plain) a.name.now true true (sym c.before.before.before.before.state_right.ensures ∙ c.before.before.before.if-state_right.true) (pattern_right a.pattern c.before.if-pattern-gt-MAX_KEY.false) c.take_back.ensures
+    back_by_ways a.file.now (held_is a.pattern) (marks_is a.marks) _ (sym o.open-opened.ensures ∙ ap opening_is e.in-Meta.is) (plain_is a.plain) a.name.now true true (sym c.before.before.before.before.state_right.ensures ∙ c.before.before.before.if-not-state_right.false) (pattern_right a.pattern c.before.if-pattern-gt-MAX_KEY.false) c.take_back.ensures
 
 pub back_by_spec : {M : Type 1} → statement M
 back_by_spec =

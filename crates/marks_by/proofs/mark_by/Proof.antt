@@ -27,15 +27,15 @@ enum_told c = search rules
 state-right-requires : tie.Need-state_right-requires
 state-right-requires c κs = search rules
 
-refused-requires-2 : tie.Need-refused-requires-else-state_right
+refused-requires-2 : tie.Need-refused-requires-then-not-state_right
 refused-requires-2 c κs = search rules
 
-returns : tie.Need-returns-else-state_right
+returns : tie.Need-returns-then-not-state_right
 returns c =
     let e = c.before.before.before in
     let o = e.before in
     let a = o.before.before.before.before.before.args in
-    mark_by_ways a.file.now (held_is a.patterned.pattern) (marks_is a.marks) _ (sym o.open-opened.ensures ∙ ap opening_is e.in-Meta.is) (view_is a.patterned.reading) a.name.now false _ (sym c.before.before.state_right.ensures ∙ c.before.if-state_right.false) refl c.refused-else-state_right.ensures
+    mark_by_ways a.file.now (held_is a.patterned.pattern) (marks_is a.marks) _ (sym o.open-opened.ensures ∙ ap opening_is e.in-Meta.is) (view_is a.patterned.reading) a.name.now false _ (sym c.before.before.state_right.ensures ∙ c.before.if-not-state_right.true) refl c.refused-then-not-state_right.ensures
 
 refused-requires-3 : tie.Need-refused-requires-then-pattern-gt-MAX_KEY
 refused-requires-3 c κs = search rules
@@ -45,12 +45,12 @@ returns-2 c =
     let e = c.before.before.before.before.before in
     let o = e.before in
     let a = o.before.before.before.before.before.args in
-    mark_by_ways a.file.now (held_is a.patterned.pattern) (marks_is a.marks) _ (sym o.open-opened.ensures ∙ ap opening_is e.in-Meta.is) (view_is a.patterned.reading) a.name.now true false (sym c.before.before.before.before.state_right.ensures ∙ c.before.before.before.if-state_right.true) (pattern_wrong a.patterned.pattern c.before.if-pattern-gt-MAX_KEY.true) c.refused-then-pattern-gt-MAX_KEY.ensures
+    mark_by_ways a.file.now (held_is a.patterned.pattern) (marks_is a.marks) _ (sym o.open-opened.ensures ∙ ap opening_is e.in-Meta.is) (view_is a.patterned.reading) a.name.now true false (sym c.before.before.before.before.state_right.ensures ∙ c.before.before.before.if-not-state_right.false) (pattern_wrong a.patterned.pattern c.before.if-pattern-gt-MAX_KEY.true) c.refused-then-pattern-gt-MAX_KEY.ensures
 
 set-mark-requires : tie.Need-set_mark-requires
 set-mark-requires c κs =
     let a = c.before.before.before.before.before.before.before.before.before.before.args in
-    few_of (plain_with (view_is a.patterned.reading) 0) a.marks (length a.file.now) (sym c.before.before.before.state_right.ensures ∙ c.before.before.if-state_right.true)
+    few_of (plain_with (view_is a.patterned.reading) 0) a.marks (length a.file.now) (sym c.before.before.before.state_right.ensures ∙ c.before.before.if-not-state_right.false)
 
 returns-3 : tie.Need-returns-in-Refused
 returns-3 c =
@@ -64,7 +64,7 @@ returns-4 c =
     let e = c.before.before.before.before.before in
     let o = e.before in
     let a = o.before.before.before.before.before.args in
-    mark_by_ways a.file.now (held_is a.patterned.pattern) (marks_is a.marks) _ (sym o.open-opened.ensures ∙ ap opening_is e.in-Meta.is) (view_is a.patterned.reading) a.name.now true true (sym c.before.before.before.before.state_right.ensures ∙ c.before.before.before.if-state_right.true) (pattern_right a.patterned.pattern c.before.if-pattern-gt-MAX_KEY.false) c.set_mark.ensures
+    mark_by_ways a.file.now (held_is a.patterned.pattern) (marks_is a.marks) _ (sym o.open-opened.ensures ∙ ap opening_is e.in-Meta.is) (view_is a.patterned.reading) a.name.now true true (sym c.before.before.before.before.state_right.ensures ∙ c.before.before.before.if-not-state_right.false) (pattern_right a.patterned.pattern c.before.if-pattern-gt-MAX_KEY.false) c.set_mark.ensures
 
 pub mark_by_spec : {M : Type 1} → statement M
 mark_by_spec =

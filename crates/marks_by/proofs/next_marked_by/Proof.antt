@@ -23,12 +23,12 @@ enum_told c = search rules
 marks-right-requires : tie.Need-marks_right-requires
 marks-right-requires c κs = search rules
 
-returns : tie.Need-returns-else-marks_right
+returns : tie.Need-returns-then-not-marks_right
 returns c =
     let e = c.before.before in
     let o = e.before in
     let a = o.before.before.before.args in
-    next_by_ways a.file.now (held_is a.patterned.pattern) (marks_is a.marks) _ (sym o.open-opened.ensures ∙ ap opening_is e.in-Meta.is) (view_is a.patterned.reading) (length a.key.now) false (sym c.before.marks_right.ensures ∙ c.if-marks_right.false) (next_by_refused a.patterned 11 a.key.now)
+    next_by_ways a.file.now (held_is a.patterned.pattern) (marks_is a.marks) _ (sym o.open-opened.ensures ∙ ap opening_is e.in-Meta.is) (view_is a.patterned.reading) (length a.key.now) false (sym c.before.marks_right.ensures ∙ c.if-not-marks_right.true) (next_by_refused a.patterned 11 a.key.now)
 
 next-requires : tie.Need-next-requires
 next-requires c κs = search rules
@@ -43,14 +43,14 @@ returns-2 c =
 same_length : tie.Need-shape_of-key
 same_length c = search rules
 
-returns-3 : tie.Need-returns-then-marks_right
+returns-3 : tie.Need-returns-else-not-marks_right
 returns-3 c =
     let n = c.before.before in
     let i = n.before.before in
     let e = i.before.before in
     let o = e.before in
     let a = o.before.before.before.args in
-    next_by_ways a.file.now (held_is a.patterned.pattern) (marks_is a.marks) _ (sym o.open-opened.ensures ∙ ap opening_is e.in-Meta.is) (view_is a.patterned.reading) (length a.key.now) true (sym i.before.marks_right.ensures ∙ i.if-marks_right.true) n.next.ensures
+    next_by_ways a.file.now (held_is a.patterned.pattern) (marks_is a.marks) _ (sym o.open-opened.ensures ∙ ap opening_is e.in-Meta.is) (view_is a.patterned.reading) (length a.key.now) true (sym i.before.marks_right.ensures ∙ i.if-not-marks_right.false) n.next.ensures
 
 pub next_marked_by_spec : {M : Type 1} → statement M
 next_marked_by_spec =

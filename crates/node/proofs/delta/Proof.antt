@@ -1,9 +1,7 @@
 -- `node::delta` meets its contract: by the state, the delta is stored or is 1.
 -- Assumes nothing.
-use mathlib.Core.Path.{◌≡◌, refl, sym, ap, ◌∙◌}
 use Rattle.node.specs.AccessorLaws.{delta_next}
 use borrow.Author.Rules.{rules}
-use native.Mathlib.Omega.{arith}
 use Rattle.node.proofs.delta.Statement.{statement}
 use Rattle.node.proofs.delta.Tie as tie
 

@@ -1,9 +1,7 @@
 -- `node::find_any` meets its contract: its inputs and its index can be searched.
 -- Assumes nothing.
-use mathlib.Core.Path.{refl}
 use Rattle.node.specs.AccessorLaws.{any_searchable, any_finds}
 use borrow.Author.Rules.{rules}
-use native.Mathlib.Omega.{arith}
 use Rattle.node.proofs.find_any.Statement.{statement}
 use Rattle.node.proofs.find_any.Tie as tie
 

@@ -1,9 +1,7 @@
 -- `node::find_input` meets its contract: a place of the input among ascending ones is its only place.
 -- Assumes nothing.
-use mathlib.Core.Path.{◌≡◌, refl, sym, ap, ◌∙◌}
 use Rattle.node.specs.ReadLaws.{node_find}
 use borrow.Author.Rules.{rules}
-use native.Mathlib.Omega.{arith}
 use Rattle.node.proofs.find_input.Statement.{statement}
 use Rattle.node.proofs.find_input.Tie as tie
 

@@ -1,6 +1,5 @@
 -- `node::input` meets its contract: by the state, the input is stored or was read when the node was judged.
 -- Assumes nothing.
-use mathlib.Core.Path.{◌≡◌, refl, sym, ap, ◌∙◌}
 use Rattle.node.specs.AccessorLaws.{any_searchable, input_any, input_one}
 use borrow.Author.Rules.{rules}
 use native.Mathlib.Omega.{arith}

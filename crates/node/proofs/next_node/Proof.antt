@@ -7,7 +7,6 @@ use Rattle.format.specs.Bytes.{le}
 use Rattle.node_sound.specs.JudgingLaws.{sound_low, shape_sound}
 use Rattle.node.specs.JudgedLaws.{judged_yes}
 use Rattle.node_sound.specs.ShapesLaws.{next_shape, shape_next}
-use borrow.Author.Rules.{rules}
 use native.Mathlib.Omega.{arith}
 use Rattle.node.proofs.next_node.Statement.{statement}
 use Rattle.node.proofs.next_node.Tie as tie

@@ -1,9 +1,8 @@
 -- `node::output` meets its contract.
 -- Assumes nothing.
-use mathlib.Core.Path.{◌≡◌, refl, sym, ap, ◌∙◌}
+use mathlib.Core.Path.{◌∙◌}
 use Rattle.node.specs.AccessorLaws.{output_is}
 use borrow.Author.Rules.{rules}
-use native.Mathlib.Omega.{arith}
 use Rattle.node.proofs.output.Statement.{statement}
 use Rattle.node.proofs.output.Tie as tie
 

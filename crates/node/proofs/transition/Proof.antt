@@ -1,9 +1,7 @@
 -- `node::transition` meets its contract: its three parts are those of the definition's transition.
 -- Assumes nothing.
-use mathlib.Core.Path.{◌≡◌, refl, sym, ap, ◌∙◌}
 use Rattle.node.specs.AccessorLaws.{transition_is}
 use borrow.Author.Rules.{rules}
-use native.Mathlib.Omega.{arith}
 use Rattle.node.proofs.transition.Statement.{statement}
 use Rattle.node.proofs.transition.Tie as tie
 

@@ -1,9 +1,7 @@
 -- `node::transition_addr` meets its contract.
 -- Assumes nothing.
-use mathlib.Core.Path.{◌≡◌, refl, sym, ap, ◌∙◌}
 use Rattle.node.specs.AccessorLaws.{delta_le, target_none, target_some}
 use borrow.Author.Rules.{rules}
-use native.Mathlib.Omega.{arith}
 use Rattle.node.proofs.transition_addr.Statement.{statement}
 use Rattle.node.proofs.transition_addr.Tie as tie
 

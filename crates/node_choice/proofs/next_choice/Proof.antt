@@ -11,7 +11,7 @@ use Rattle.format.specs.Laws.LookupLaws.{key_goes_on_final}
 use Rattle.node.specs.AccessorLaws.{input_one}
 use Rattle.node_choice.specs.FitOfLaws.{single_fits, choice_to, choice_on, fit_yes}
 use Rattle.node.specs.declared.Node.{Node}
-use Rattle.node.specs.declared.Judged.TheVariants.{Sound}
+use Rattle.std.specs.Prelude.{Ok}
 use Rattle.node_choice.specs.declared.Choice.TheVariants.{To as Along}
 use Rattle.node.specs.Read.{Readable, Judges, meaning}
 use Rattle.format.specs.Laws.StoredLaws.{length_numbers_down, get_d_numbers_down}
@@ -38,7 +38,7 @@ first w = (start w).args.addr + 1 - w.before.head_len-len.result
 abbrev m : tie.After-input_of-inp → Node
 m w = code_node (next_shape w.before.head_len-len.result) (first w) 0 w.input_of-inp.result (first w)
 
-judged : (w : tie.After-input_of-inp) → Judges (file w) (start w).args.version (start w).args.root (start w).args.addr (Sound (m w))
+judged : (w : tie.After-input_of-inp) → Judges (file w) (start w).args.version (start w).args.root (start w).args.addr (Ok (m w))
 unfolding le
 judged w =
     let a = (start w).args in

@@ -15,10 +15,9 @@ use Rattle.format.specs.Laws.StoredLaws.{length_numbers_down}
 use Rattle.format.specs.Laws.LookupLaws.{key_goes_on_final}
 use Rattle.node_choice.specs.FitOfLaws.{single_over, single_fits, choice_none, choice_to, choice_on, fit_yes}
 use Rattle.node.specs.declared.Node.{Node}
-use Rattle.node.specs.declared.Judged.TheVariants.{Sound}
+use Rattle.std.specs.Prelude.{Ok}
 use Rattle.node_choice.specs.declared.Choice.{Choice}
 use Rattle.node_choice.specs.declared.Choice.TheVariants.{To as Along, Absent as Missing}
-use Rattle.node_choice.specs.declared.Fit.TheVariants.{Sound as Fitted}
 use Rattle.node.specs.Read.{Readable, Judges, meaning, transitions_in, node_deltas}
 use Rattle.node_choice.specs.Choices.{fitting_in, fit_of}
 use Rattle.format.specs.Node.{numbers_down, node_at}
@@ -100,7 +99,7 @@ input-of-requires c κs = (omega (arith, low (start c)), (start c).requires.0.in
 abbrev m : tie.After-input_of-inp → Node
 m w = code_node (h_at w.before) (addr w.before + 1 - size w.before) 0 w.input_of-inp.result (addr w.before + 1 - size w.before)
 
-judged : (w : tie.After-input_of-inp) → Judges (file w.before) (start w.before).args.version (start w.before).args.root (addr w.before) (Sound (m w))
+judged : (w : tie.After-input_of-inp) → Judges (file w.before) (start w.before).args.version (start w.before).args.root (addr w.before) (Ok (m w))
 unfolding le
 judged w =
     let q = w.before in
@@ -119,7 +118,7 @@ delta_at w d is_d =
 
 -- a node with one transition is not final, so the search goes on
 fit_at : (w : tie.After-input_of-inp) (c : Choice) → c ≡ fitting_in (transitions_in (file w.before) (m w)) (start w.before).args.left
-    → Fitted c ≡ fit_of (node_at (file w.before) (start w.before).args.version (start w.before).args.root (addr w.before)) (start w.before).args.left
+    → Ok c ≡ fit_of (node_at (file w.before) (start w.before).args.version (start w.before).args.root (addr w.before)) (start w.before).args.left
 fit_at w c is_c =
     let q = w.before in
     fit_yes (file q) (start q).args.version (start q).args.root (addr q) (start q).args.left (m w) c (judged w)

@@ -6,9 +6,9 @@ use mathlib.Core.List.{[]}
 use Prim.Native.Nat.{◌<◌}
 use native.Mathlib.Omega.{arith}
 use borrow.Author.Rules.{rules}
-use lib.ListN.{length, get_or}
+use lib.ListN.{length}
 use Rattle.buffers.specs.PutLaws.{put_nil}
-use Rattle.format.specs.Packed.{BuilderNode, has_one, leads_next, delta_of, packed_next, packed_one}
+use Rattle.format.specs.Packed.{BuilderNode, has_one, leads_next}
 use Rattle.format.specs.Laws.PackedLaws.{packed_nothing, packed_next_is, packed_one_is, packed_any_is, one_means}
 use Rattle.node_compile.specs.Compile.{builder_with}
 use Rattle.node_compile.specs.CompileLaws.{fitted_written, fitted_same}

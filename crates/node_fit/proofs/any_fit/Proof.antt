@@ -13,8 +13,7 @@ use Rattle.node.specs.JudgedLaws.{code_node, judged_yes}
 use Rattle.node_way.specs.WaysLaws.{readable_any}
 use Rattle.node_choice.specs.FitOfLaws.{fit_no, fit_yes, choice_ends, choice_on}
 use Rattle.node.specs.declared.Node.{Node}
-use Rattle.node.specs.declared.Judged.TheVariants.{Sound}
-use Rattle.node_choice.specs.declared.Fit.TheVariants.{Unsound as Unfit}
+use Rattle.std.specs.Prelude.{Ok, Err}
 use Rattle.node_choice.specs.declared.Choice.TheVariants.{Ends}
 use Rattle.node.specs.Read.{Judges, meaning}
 use Rattle.node_choice.specs.Choices.{fit_of}
@@ -55,7 +54,7 @@ parts_at : (q : tie.After-shape_of-shape) → Parts (h_at q)
 parts_at q = parts (file q) (start q).args.version (start q).args.root (addr q) (h_at q) (is_h q) (λ z. omega (arith, (start q).requires.0.low))
 
 no_at : (q : tie.After-shape_of-shape) → ¬ SoundShape (file q) (start q).args.root (addr q) (h_at q) (first q)
-    → Unfit ≡ fit_of (node_at (file q) (start q).args.version (start q).args.root (addr q)) (start q).args.left
+    → Err (record {}) ≡ fit_of (node_at (file q) (start q).args.version (start q).args.root (addr q)) (start q).args.left
 no_at q not_sound =
     fit_no (file q) (start q).args.version (start q).args.root (addr q) (start q).args.left (λ z. omega (arith, (start q).requires.0.low))
     (λ sound. not_sound (shape_sound (file q) (start q).args.version (start q).args.root (addr q) (h_at q) (is_h q) (λ z. omega (arith, (start q).requires.0.low)) sound))
@@ -66,7 +65,7 @@ node_there q = code_node (h_at q) (first q) (le (take (end_len (h q).is_final (h
 
 judged_at : (q : tie.After-shape_of-shape) → SoundShape (file q) (start q).args.root (addr q) (h_at q) (first q)
     → Judges (file q) (start q).args.version (start q).args.root (addr q)
-    (Sound (node_there q))
+    (Ok (node_there q))
 judged_at q sound =
     judged_yes (file q) (start q).args.version (start q).args.root (addr q) (h_at q) (is_h q) (λ z. omega (arith, (start q).requires.0.low))
     (le (take (end_len (h q).is_final (h q).osize) (drop (first q) (file q)))) 0 (first q + (h q).end_len) sound refl refl (ap (λ (k : ℕ). first q + k) (is_end q))
@@ -85,15 +84,15 @@ sizes-right-requires : tie.Need-sizes_right-requires
 sizes-right-requires c κs = search rules
 
 -- a size is above 8, or a delta has no byte
-returns-2 : tie.Need-returns-else-sizes_right
-returns-2 c = no_at c.before.before.before (λ h. c.before.sizes_right.ensures.no c.if-sizes_right.false (h.sizes.tsize_le, h.sizes.osize_le, h.sizes.tsize_pos refl))
+returns-2 : tie.Need-returns-then-not-sizes_right
+returns-2 c = no_at c.before.before.before (λ h. c.before.sizes_right.ensures.no c.if-not-sizes_right.true (h.sizes.tsize_le, h.sizes.osize_le, h.sizes.tsize_pos refl))
 
 useful-requires : tie.Need-useful-requires
 useful-requires c κs = search rules
 
 -- not final, no transition, and not the root
-returns-3 : tie.Need-returns-else-useful
-returns-3 c = no_at c.before.before.before.before.before (λ h. c.before.useful.ensures.no c.if-useful.false h.useful)
+returns-3 : tie.Need-returns-then-not-useful
+returns-3 c = no_at c.before.before.before.before.before (λ h. c.before.useful.ensures.no c.if-not-useful.true h.useful)
 
 add-first : tie.Need-overflow_add-first
 add-first c = search rules
@@ -125,24 +124,24 @@ add-inputs c = let q = c.before.before.before.before.before in omega (arith, (pa
 parts-right-requires : tie.Need-parts_right-requires
 parts-right-requires c κs =
     let q = c.before.before.before.before.before in
-    let right = c.before.before.before.sizes_right.ensures.yes c.before.before.if-sizes_right.true in
+    let right = c.before.before.before.sizes_right.ensures.yes c.before.before.if-not-sizes_right.false in
     (omega (arith, (parts_at q).whole, is_end q), right.0, omega arith, omega (arith, (parts_at q).whole, is_end q), (parts_at q).entries)
 
 -- the inputs, the deltas or the index are wrong
-returns-4 : tie.Need-returns-else-parts_right
+returns-4 : tie.Need-returns-then-not-parts_right
 returns-4 c =
     let q = c.before.before.before.before.before.before.before in
-    no_at q (λ sound. c.before.parts_right.ensures.no c.if-parts_right.false (right_parts (file q) (start q).args.root (addr q) (h q) (is_end q) sound))
+    no_at q (λ sound. c.before.parts_right.ensures.no c.if-not-parts_right.true (right_parts (file q) (start q).args.root (addr q) (h q) (is_end q) sound))
 
 -- the shape of a node that passed all tests
-sound_at : (w : tie.Then-parts_right) → SoundShape (file w.before.before.before.before.before.before.before) (start w.before.before.before.before.before.before.before).args.root
+sound_at : (w : tie.Else-not-parts_right) → SoundShape (file w.before.before.before.before.before.before.before) (start w.before.before.before.before.before.before.before).args.root
     (addr w.before.before.before.before.before.before.before) (h_at w.before.before.before.before.before.before.before)
     (first w.before.before.before.before.before.before.before)
 sound_at w =
     let q = w.before.before.before.before.before.before.before in
     shape_right (file q) (start q).args.root (addr q) (h q) (is_end q) (start q).requires.0 w.before.before.before.before.before.before.if-addr-size.false
-    (w.before.before.before.before.before.sizes_right.ensures.yes w.before.before.before.before.if-sizes_right.true) (w.before.before.before.useful.ensures.yes w.before.before.if-useful.true)
-    (w.before.parts_right.ensures.yes w.if-parts_right.true)
+    (w.before.before.before.before.before.sizes_right.ensures.yes w.before.before.before.before.if-not-sizes_right.false) (w.before.before.before.useful.ensures.yes w.before.before.if-not-useful.false)
+    (w.before.parts_right.ensures.yes w.if-not-parts_right.false)
 
 ends-requires : tie.Need-ends-requires
 ends-requires c κs = search rules

@@ -5,7 +5,6 @@ use Rattle.node_sound.specs.Shapes.{AtForm}
 use Rattle.node_sound.specs.JudgingLaws.{sound_low}
 use Rattle.node_way.specs.StepOfLaws.{step_empty, step_blank, step_no}
 use borrow.Author.Rules.{rules}
-use native.Mathlib.Omega.{arith}
 use Rattle.node_step.proofs.step_at.Statement.{statement}
 use Rattle.node_step.proofs.step_at.Tie as tie
 

@@ -1,16 +1,14 @@
 -- `node_way::next_way` meets its contract: the node is that of the form 11, and its one input is b or not.
 -- Assumes nothing.
 use mathlib.Core.Path.{◌≡◌, refl, sym, ap}
-use Prim.Native.Nat.{ℕ, ◌+◌, ◌-◌, ◌*◌, ◌/◌, ◌%◌, ◌≤◌, ◌<◌}
+use Prim.Native.Nat.{ℕ, ◌+◌, ◌-◌, ◌≤◌}
 use native.Mathlib.Nat.{add-zero}
 use Rattle.format.specs.Bytes.{le}
 use Rattle.node.specs.JudgedLaws.{code_node, judged_yes}
 use Rattle.node_sound.specs.JudgingLaws.{sound_low, shape_sound}
 use Rattle.node_way.specs.StepOfLaws.{way_absent, way_to, step_yes}
 use Rattle.node.specs.declared.Node.{Node}
-use Rattle.node.specs.declared.Judged.TheVariants.{Sound}
-use Rattle.node.specs.declared.Found.TheVariants.{At, Absent as Missing}
-use Rattle.node_way.specs.declared.Way.TheVariants.{To, Absent as Nowhere}
+use Rattle.std.specs.Prelude.{Ok, Err}
 use Rattle.node.specs.ReadLaws.{single_here}
 use Rattle.node.specs.Read.{Readable, Judges}
 use Rattle.format.specs.Laws.StoredLaws.{get_d_numbers_down}
@@ -38,7 +36,7 @@ first w = (start w).args.addr + 1 - w.before.head_len-len.result
 abbrev m : tie.After-input_of-input → Node
 m w = code_node (next_shape w.before.head_len-len.result) (first w) 0 w.input_of-input.result (first w)
 
-judged : (w : tie.After-input_of-input) → Judges (file w) (start w).args.version (start w).args.root (start w).args.addr (Sound (m w))
+judged : (w : tie.After-input_of-input) → Judges (file w) (start w).args.version (start w).args.root (start w).args.addr (Ok (m w))
 unfolding le
 judged w =
     let a = (start w).args in
@@ -67,8 +65,8 @@ returns : tie.Need-returns-then-input-b
 returns c =
     let w = c.before.before in
     let p = c.place_beside.result in
-    step_yes (file w) (start w).args.version (start w).args.root (start w).args.addr (start w).args.b (m w) (Nowhere p) (judged w)
-    (way_absent (file w) (m w) (readable w) (start w).args.b (Missing p) c.place_beside.ensures p refl)
+    step_yes (file w) (start w).args.version (start w).args.root (start w).args.addr (start w).args.b (m w) (Err p) (judged w)
+    (way_absent (file w) (m w) (readable w) (start w).args.b (Err p) c.place_beside.ensures p refl)
 
 -- a sound node's address is 16 at least
 sub-t10 : tie.Need-overflow_sub-result
@@ -81,8 +79,8 @@ returns-2 c =
     let w = c.before in
     let len = w.before.head_len-len.result in
     let none = get_d_numbers_down (file w) (first w) 0 1 0 (omega arith) in
-    step_yes (file w) (start w).args.version (start w).args.root (start w).args.addr (start w).args.b (m w) (To 0 ((start w).args.addr - len)) (judged w)
-    (way_to (file w) (m w) (readable w) (start w).args.b (At 0) (single_here c.if-input-b.false) 0 0 ((start w).args.addr - len) refl (sym none)
+    step_yes (file w) (start w).args.version (start w).args.root (start w).args.addr (start w).args.b (m w) (Ok (0, (start w).args.addr - len)) (judged w)
+    (way_to (file w) (m w) (readable w) (start w).args.b (Ok 0) (single_here c.if-input-b.false) 0 0 ((start w).args.addr - len) refl (sym none)
     (omega (arith, low (start w))))
 
 pub next_way_spec : {M : Type 1} → statement M

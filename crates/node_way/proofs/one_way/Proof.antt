@@ -1,7 +1,7 @@
 -- `node_way::one_way` meets its contract: the node is that of the form 10, and its one input is b or not.
 -- Assumes nothing.
 use mathlib.Core.Path.{◌≡◌, refl, sym}
-use Prim.Native.Nat.{ℕ, ◌+◌, ◌-◌, ◌*◌, ◌/◌, ◌%◌, ◌≤◌, ◌<◌}
+use Prim.Native.Nat.{ℕ, ◌+◌, ◌-◌, ◌*◌, ◌/◌, ◌%◌, ◌≤◌}
 use native.Mathlib.Nat.{add-zero}
 use mathlib.Core.List.{List}
 use Rattle.format.specs.Bytes.{le}
@@ -12,9 +12,7 @@ use Rattle.node_sound.specs.JudgingLaws.{sound_low, shape_sound}
 use Rattle.node.specs.AccessorLaws.{delta_le}
 use Rattle.node_way.specs.StepOfLaws.{way_absent, way_to, step_yes}
 use Rattle.node.specs.declared.Node.{Node}
-use Rattle.node.specs.declared.Judged.TheVariants.{Sound}
-use Rattle.node.specs.declared.Found.TheVariants.{At, Absent as Missing}
-use Rattle.node_way.specs.declared.Way.TheVariants.{To, Absent as Nowhere}
+use Rattle.std.specs.Prelude.{Ok, Err}
 use Rattle.node.specs.ReadLaws.{single_here}
 use Rattle.node.specs.Read.{Readable, Judges, node_deltas}
 use Rattle.format.specs.Node.{numbers_down}
@@ -96,7 +94,7 @@ input-of-requires c κs = (omega (arith, low (start c)), (start c).requires.0.in
 abbrev m : tie.After-input_of-input → Node
 m w = code_node (h_at w.before) (addr w.before + 1 - size w.before) 0 w.input_of-input.result (addr w.before + 1 - size w.before)
 
-judged : (w : tie.After-input_of-input) → Judges (file w.before) (start w.before).args.version (start w.before).args.root (addr w.before) (Sound (m w))
+judged : (w : tie.After-input_of-input) → Judges (file w.before) (start w.before).args.version (start w.before).args.root (addr w.before) (Ok (m w))
 unfolding le
 judged w =
     let q = w.before in
@@ -122,8 +120,8 @@ returns c =
     let w = c.before.before in
     let q = w.before in
     let p = c.place_beside.result in
-    step_yes (file q) (start q).args.version (start q).args.root (addr q) (start q).args.b (m w) (Nowhere p) (judged w)
-    (way_absent (file q) (m w) (readable w) (start q).args.b (Missing p) c.place_beside.ensures p refl)
+    step_yes (file q) (start q).args.version (start q).args.root (addr q) (start q).args.b (m w) (Err p) (judged w)
+    (way_absent (file q) (m w) (readable w) (start q).args.b (Err p) c.place_beside.ensures p refl)
 
 -- the output lies within the node
 number-of-requires : tie.Need-number_of-out-requires
@@ -150,8 +148,8 @@ returns-2 c =
     let out = delta.before in
     let w = out.before.before in
     let q = w.before in
-    step_yes (file q) (start q).args.version (start q).args.root (addr q) (start q).args.b (m w) (To out.number_of-out.result c.target_of.result) (judged w)
-    (way_to (file q) (m w) (readable w) (start q).args.b (At 0) (single_here out.before.if-input-b.false) 0 out.number_of-out.result c.target_of.result refl
+    step_yes (file q) (start q).args.version (start q).args.root (addr q) (start q).args.b (m w) (Ok (out.number_of-out.result, c.target_of.result)) (judged w)
+    (way_to (file q) (m w) (readable w) (start q).args.b (Ok 0) (single_here out.before.if-input-b.false) 0 out.number_of-out.result c.target_of.result refl
     out.number_of-out.ensures (rw (← delta_at w delta.number_of-delta.result delta.number_of-delta.ensures) c.target_of.ensures))
 
 pub one_way_spec : {M : Type 1} → statement M

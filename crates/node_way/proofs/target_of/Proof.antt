@@ -2,7 +2,6 @@
 -- Assumes nothing.
 use borrow.Author.Tests.{eq-eqb, ne_eqb}
 use borrow.Author.Rules.{rules}
-use native.Mathlib.Omega.{arith}
 use Rattle.node_way.proofs.target_of.Statement.{statement}
 use Rattle.node_way.proofs.target_of.Tie as tie
 

@@ -32,12 +32,12 @@ returns c =
 find-input-requires : tie.Need-find_input-found-requires
 find-input-requires c κs =
     let bound = c in
-    bound.before.node_at.ensures.readable bound.in-Sound.n bound.in-Sound.is
+    bound.before.node_at.ensures.readable bound.in-Ok.n bound.in-Ok.is
 
 enum-known-found : tie.Need-enum_known-found
 enum-known-found c = search rules
 
-enum-known-found-2 : tie.Need-enum_known-found-in-Absent-1
+enum-known-found-2 : tie.Need-enum_known-found-in-Err-found
 enum-known-found-2 c = search rules
 
 -- a place is at most the count, and a node has at most 256 transitions
@@ -47,37 +47,37 @@ add-result c =
     let bound = found.before in
     let called = bound.before in
     let start = called.before.before in
-    let m = bound.in-Sound.n in
-    let r = called.node_at.ensures.readable m bound.in-Sound.is in
-    let p = c.in-Absent.p in
+    let m = bound.in-Ok.n in
+    let r = called.node_at.ensures.readable m bound.in-Ok.is in
+    let p = c.in-Err.p in
     let s = start.args.file.now in
     let f = fst_with s start.args.version start.args.root in
-    let is_m : node_in f start.args.addr ≡ sound (meaning s m) = answer_sound called.node_at.ensures m bound.in-Sound.is in
+    let is_m : node_in f start.args.addr ≡ sound (meaning s m) = answer_sound called.node_at.ensures m bound.in-Ok.is in
     let few = node_count f start.args.addr (meaning s m) is_m (λ j. (called.before.shared_slice_known-1.given j).fits) in
     omega (
       arith,
-      gone_le s m r start.args.b p (search_gone _ found.find_input-found.result found.find_input-found.ensures p c.in-Absent.is),
+      gone_le s m r start.args.b p (search_gone _ found.find_input-found.result found.find_input-found.ensures p c.in-Err.is),
       few,
       length_node_transitions s m r,
     )
 
 -- the input is found
-returns-2 : tie.Need-returns-in-At
+returns-2 : tie.Need-returns-in-Ok-found
 returns-2 c =
     let found = c.before in
     let bound = found.before in
     let called = bound.before in
     let start = called.before.before in
-    found_at called.node_at.ensures bound.in-Sound.n start.args.b found.find_input-found.result c.in-At.i bound.in-Sound.is c.in-At.is found.find_input-found.ensures
+    found_at called.node_at.ensures bound.in-Ok.n start.args.b found.find_input-found.result c.in-Ok-found.i bound.in-Ok.is c.in-Ok-found.is found.find_input-found.ensures
 
 -- an absent input
-returns-3 : tie.Need-returns-in-Absent
+returns-3 : tie.Need-returns-in-Err
 returns-3 c =
     let found = c.before in
     let bound = found.before in
     let called = bound.before in
     let start = called.before.before in
-    found_absent called.node_at.ensures bound.in-Sound.n start.args.b found.find_input-found.result c.in-Absent.p bound.in-Sound.is c.in-Absent.is found.find_input-found.ensures
+    found_absent called.node_at.ensures bound.in-Ok.n start.args.b found.find_input-found.result c.in-Err.p bound.in-Ok.is c.in-Err.is found.find_input-found.ensures
 
 pub oracle_find_input_spec : {M : Type 1} → statement M
 oracle_find_input_spec =

@@ -38,7 +38,7 @@ returns-2 c =
     let bound = flagged.before in
     let called = bound.before in
     let start = called.before.before.before in
-    node_sound called.node_at.ensures bound.in-Sound.n flagged.flag-is_final.result start.args.out.now _ bound.in-Sound.is flagged.flag-is_final.ensures put.put_four.ensures
+    node_sound called.node_at.ensures bound.in-Ok.n flagged.flag-is_final.result start.args.out.now _ bound.in-Ok.is flagged.flag-is_final.ensures put.put_four.ensures
 
 pub oracle_node_spec : {M : Type 1} → statement M
 oracle_node_spec =

@@ -28,7 +28,7 @@ returns-2 c =
     let bound = c.before.before in
     let called = bound.before in
     let start = called.before.before.before in
-    transition_none called.node_at.ensures bound.in-Sound.n start.args.i start.args.out.now bound.in-Sound.is c.if-n-i.true
+    transition_none called.node_at.ensures bound.in-Ok.n start.args.i start.args.out.now bound.in-Ok.is c.if-n-i.true
 
 -- no room
 returns-3 : tie.Need-returns-then-out-lt3
@@ -36,14 +36,14 @@ returns-3 c =
     let bound = c.before.before.before in
     let called = bound.before in
     let start = called.before.before.before in
-    transition_no_room called.node_at.ensures bound.in-Sound.n start.args.i start.args.out.now bound.in-Sound.is c.before.if-n-i.false c.if-out-lt3.true
+    transition_no_room called.node_at.ensures bound.in-Ok.n start.args.i start.args.out.now bound.in-Ok.is c.before.if-n-i.false c.if-out-lt3.true
 
 -- the judged node can be read, and it has transition i
 transition-requires : tie.Need-transition-t-requires
 transition-requires c κs =
     let bound = c.before.before.before in
     let called = bound.before in
-    (called.node_at.ensures.readable bound.in-Sound.n bound.in-Sound.is, c.before.if-n-i.false)
+    (called.node_at.ensures.readable bound.in-Ok.n bound.in-Ok.is, c.before.if-n-i.false)
 
 cast-put-three : tie.Need-overflow_cast-t
 cast-put-three c = search rules
@@ -63,7 +63,7 @@ returns-4 c =
     let bound = roomy.before.before.before in
     let called = bound.before in
     let start = called.before.before.before in
-    transition_told called.node_at.ensures bound.in-Sound.n start.args.i read.transition-t.result start.args.out.now _ bound.in-Sound.is
+    transition_told called.node_at.ensures bound.in-Ok.n start.args.i read.transition-t.result start.args.out.now _ bound.in-Ok.is
     roomy.before.if-n-i.false roomy.if-out-lt3.false read.transition-t.ensures put.put_three.ensures
 
 pub oracle_transition_spec : {M : Type 1} → statement M

@@ -1,9 +1,7 @@
 -- `pack_blank::tables_fit` meets its contract.
 -- Assumes nothing.
 use borrow.Author.Tests.{le-leb, lt-leb}
-use lib.Dec.{leb}
 use native.Mathlib.Omega.{arith}
-use borrow.Author.Rules.{rules}
 use Rattle.pack_blank.proofs.tables_fit.Statement.{statement}
 use Rattle.pack_blank.proofs.tables_fit.Tie as tie
 

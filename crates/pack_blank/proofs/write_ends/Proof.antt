@@ -5,7 +5,6 @@ use mathlib.Core.List.{List}
 use Prim.Native.Nat.{ℕ, ◌+◌}
 use Rattle.buffers.specs.Put.{put}
 use Rattle.format.specs.Bytes.{bytes_of}
-use native.Mathlib.Omega.{arith}
 use borrow.Author.Rules.{rules}
 use Rattle.pack_blank.proofs.write_ends.Statement.{statement}
 use Rattle.pack_blank.proofs.write_ends.Tie as tie

@@ -109,11 +109,11 @@ returns-4 c = let call = c.before in
     let a = call.before.before.before.args in
     next_refused a.file.now (held_is a.pattern) a.reading a.key.now c.in-Refused.why (sym call.open-opened.ensures ∙ ap opening_is c.in-Refused.is)
 
-same_length : tie.Need-shape_of-key-in-Pending
+same_length : tie.Need-shape_of-key-in-Some
 same_length c = search rules
 
 -- the empty key is pending
-returns-5 : tie.Need-returns-in-Pending
+returns-5 : tie.Need-returns-in-Some
 returns-5 c = let call = c.before.before in
     let told = call.before.before in
     let room = told.before in
@@ -122,13 +122,13 @@ returns-5 c = let call = c.before.before in
     let q = q_of v.before in
     let a = (start q).args in
     next_walk a.file.now (held_is a.pattern) a.reading a.key.now (meta_is (meta q)) (opens q) (right v) (few u) room.if-key-lt-MAX_KEY.false
-    (ap empty_is told.in-Pending.is) _ call.pending.result call.pending.ensures
+    (ap empty_is told.in-Some.is) _ call.pending.result call.pending.ensures
 
-same-length-2 : tie.Need-shape_of-key-in-Absent
+same-length-2 : tie.Need-shape_of-key-in-None
 same-length-2 c = search rules
 
 -- no empty key is pending
-returns-6 : tie.Need-returns-in-Absent
+returns-6 : tie.Need-returns-in-None
 returns-6 c = let call = c.before.before in
     let told = call.before.before in
     let room = told.before in
@@ -137,7 +137,7 @@ returns-6 c = let call = c.before.before in
     let q = q_of v.before in
     let a = (start q).args in
     next_walk a.file.now (held_is a.pattern) a.reading a.key.now (meta_is (meta q)) (opens q) (right v) (few u) room.if-key-lt-MAX_KEY.false
-    (ap empty_is told.in-Absent.is) _ call.walk.result call.walk.ensures
+    (ap empty_is told.in-None.is) _ call.walk.result call.walk.ensures
 
 pub step_spec : {M : Type 1} → statement M
 step_spec =

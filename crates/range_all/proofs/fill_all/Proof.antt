@@ -42,7 +42,7 @@ none_yet : (q : tie.Start) → (let a = q.args in
 none_yet q = let a = q.args in filling_none a.file.now (view_of q (empty_is a.empty)) a.most a.rows.now a.values.now
 
 abbrev Pending-at : Type 0
-Pending-at = tie.In-Pending
+Pending-at = tie.In-Some
 
 abbrev start_of : Pending-at → tie.Start
 start_of w = w.before.before.before.before.before
@@ -51,13 +51,13 @@ asked : (w : Pending-at) → 0 < (start_of w).args.most
 asked w = let n = w.before.if-most-eq0.false in omega arith
 
 abbrev empty_value : Pending-at → ℕ
-empty_value w = w.in-Pending.value
+empty_value w = w.in-Some.value
 
 empty_there : (w : Pending-at) → empty_is (start_of w).args.empty ≡ some (empty_value w)
-empty_there w = ap empty_is w.in-Pending.is
+empty_there w = ap empty_is w.in-Some.is
 
 -- where its row is written
-abbrev put_of : tie.After-fill-arg-in-Pending-6-1 → tie.After-put_row
+abbrev put_of : tie.After-fill-arg-in-Some-6-1 → tie.After-put_row
 put_of c = c.before.before.before.before.before.before.before.before
 
 abbrev pending_of : tie.After-put_row → Pending-at
@@ -93,7 +93,7 @@ put-row-requires c κs = search rules
 slice-write-values : tie.Need-bounds-values-0
 slice-write-values c = search rules
 
-fill-requires-2 : tie.Need-fill-requires-in-Pending
+fill-requires-2 : tie.Need-fill-requires-in-Some
 fill-requires-2 c κs =
     let p = put_of c in
     let w = pending_of p in
@@ -103,13 +103,13 @@ fill-requires-2 c κs =
       s.requires.1,
     )
 
-same_length : tie.Need-shape_of-rows-in-Absent
+same_length : tie.Need-shape_of-rows-in-None
 same_length c = search rules
 
-same-length-2 : tie.Need-shape_of-values-in-Absent
+same-length-2 : tie.Need-shape_of-values-in-None
 same-length-2 c = search rules
 
-returns-3 : tie.Need-returns-in-Absent
+returns-3 : tie.Need-returns-in-None
 returns-3 c =
     let call = c.before.before.before.before in
     let told = call.before.before.before.before.before.before.before in
@@ -117,7 +117,7 @@ returns-3 c =
     let a = s.args in
     call.fill.ensures (page_of s) a.rows.now a.values.now
     (subst (λ (e : Option ℕ). Filling (page_of s) a.file.now (view_of s e) a.most a.rows.now a.values.now a.rows.now a.values.now 0)
-    (ap empty_is told.in-Absent.is) (none_yet s))
+    (ap empty_is told.in-None.is) (none_yet s))
 
 same-length-3 : tie.Need-shape_of-rows-else-exceeded
 same-length-3 c = search rules
@@ -127,7 +127,7 @@ same-length-4 c =
     let call = c.before.before.before.before in
     let w = pending_of (put_of call.before) in
     let a = (start_of w).args in
-    let h : length call.fill-in-Pending.new.values ≡ length (set a.values.now 0 (empty_value w)) = search rules in
+    let h : length call.fill-in-Some.new.values ≡ length (set a.values.now 0 (empty_value w)) = search rules in
     h ∙ length-set a.values.now 0 (empty_value w)
 
 returns-4 : tie.Need-returns-else-exceeded
@@ -139,7 +139,7 @@ returns-4 c =
     let a = s.args in
     let h = s.requires.1 in
     let open_yet = sym p.before.before.before.before.before.exceeded.ensures ∙ p.before.before.before.before.if-exceeded.false in
-    call.fill-in-Pending.ensures (page_of s) a.rows.now a.values.now
+    call.fill-in-Some.ensures (page_of s) a.rows.now a.values.now
     (filling_key (none_yet s) s.requires.0.0 s.requires.0.1 (asked w) [] (empty_value w) 0 (view_of s none)
     (pending_key h.opens (hi s) a.bound_len (empty_is a.empty) (levels s) h.short (few s) (empty_value w) (empty_there w) open_yet)
     (pending_reading h.opens (hi s) a.bound_len (empty_is a.empty) (levels s) h.short (few s) (empty_value w) (empty_there w) open_yet) refl (omega arith)

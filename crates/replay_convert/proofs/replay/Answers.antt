@@ -5,29 +5,29 @@ use Rattle.replay_convert.proofs.replay.Goals as goal
 
 -- the record lies in the list
 pub place_of-place-requires : goal.place_of-place-requires
-place_of-place-requires c = (parsed_found (sym c.in-Good.ensures)).within
+place_of-place-requires c = (parsed_found (sym c.in-Some.ensures)).within
 
 -- the file asked of ends no earlier than it starts, and within the list
 pub slice_bounds-alike-count : goal.slice_bounds-alike-count
-slice_bounds-alike-count c = (asked_inside _ _ (sym c.in-Good.ensures) c.loop-at.invariant c.place_of-place.ensures).ordered
+slice_bounds-alike-count c = (asked_inside _ _ (sym c.in-Some.ensures) c.loop-at.invariant c.place_of-place.ensures).ordered
 
 pub slice_bounds-alike-start : goal.slice_bounds-alike-start
-slice_bounds-alike-start c = let i = asked_inside _ _ (sym c.in-Good.ensures) c.loop-at.invariant c.place_of-place.ensures in search rules
+slice_bounds-alike-start c = let i = asked_inside _ _ (sym c.in-Some.ensures) c.loop-at.invariant c.place_of-place.ensures in search rules
 
 pub slice_bounds-alike-end : goal.slice_bounds-alike-end
-slice_bounds-alike-end c = let i = asked_inside _ _ (sym c.in-Good.ensures) c.loop-at.invariant c.place_of-place.ensures in search rules
+slice_bounds-alike-end c = let i = asked_inside _ _ (sym c.in-Some.ensures) c.loop-at.invariant c.place_of-place.ensures in search rules
 
 -- the record lies in the list
 pub alike-same-requires : goal.alike-same-requires
-alike-same-requires c = (parsed_found (sym c.in-Good.ensures)).within
+alike-same-requires c = (parsed_found (sym c.in-Some.ensures)).within
 
 pub end_of-at-requires : goal.end_of-at-requires
-end_of-at-requires c = (parsed_found (sym c.in-Good.ensures)).within
+end_of-at-requires c = (parsed_found (sym c.in-Some.ensures)).within
 
 -- the record ends past where it starts
 pub loop-at-smaller : goal.loop-at-smaller
-loop-at-smaller c = let f = parsed_found (sym c.in-Good.ensures) in omega arith
+loop-at-smaller c = let f = parsed_found (sym c.in-Some.ensures) in omega arith
 
 -- the file asked of lies in the list
 pub loop-at-preserved : goal.loop-at-preserved
-loop-at-preserved c = asked_inside _ _ (sym c.in-Good.ensures) c.loop-at.invariant c.place_of-place.ensures
+loop-at-preserved c = asked_inside _ _ (sym c.in-Some.ensures) c.loop-at.invariant c.place_of-place.ensures

@@ -10,13 +10,13 @@ use Rattle.seats.proofs.dispatch.Tie as tie
 seats-right-requires : tie.Need-seats_right-requires
 seats-right-requires c κs = search rules
 
-returns : tie.Need-returns-else-seats_right
+returns : tie.Need-returns-then-not-seats_right
 returns c =
     let q = c.before.before.before.before in
-    told_wrong q.args.file.now (seats_is q.args.seats) q.args.key.now _ refl (sym c.before.seats_right.ensures ∙ c.if-seats_right.false) refl
+    told_wrong q.args.file.now (seats_is q.args.seats) q.args.key.now _ refl (sym c.before.seats_right.ensures ∙ c.if-not-seats_right.true) refl
 
 turn-of-requires : tie.Need-turn_of-turn-requires
-turn-of-requires c κs = right_last (seats_is c.before.before.before.before.args.seats) (sym c.before.seats_right.ensures ∙ c.if-seats_right.true)
+turn-of-requires c κs = right_last (seats_is c.before.before.before.before.args.seats) (sym c.before.seats_right.ensures ∙ c.if-not-seats_right.false)
 
 enum_told : tie.Need-enum_told-1
 enum_told c = search rules
@@ -28,18 +28,18 @@ serve-requires : tie.Need-serve-requires
 serve-requires c κs =
     let m = c.before in
     let w = m.before in
-    (sym w.before.before.seats_right.ensures ∙ w.before.if-seats_right.true, sym w.turn_of-turn.ensures ∙ ap turn_is m.in-Of.is)
+    (sym w.before.before.seats_right.ensures ∙ w.before.if-not-seats_right.false, sym w.turn_of-turn.ensures ∙ ap turn_is m.in-Some.is)
 
-returns-2 : tie.Need-returns-in-Nobody
+returns-2 : tie.Need-returns-in-None
 returns-2 c =
     let w = c.before in
     let q = w.before.before.before.before.before in
-    told_nobody q.args.file.now (seats_is q.args.seats) q.args.key.now _ refl (sym w.before.before.seats_right.ensures ∙ w.before.if-seats_right.true) (sym w.turn_of-turn.ensures ∙ ap turn_is c.in-Nobody.is) refl
+    told_nobody q.args.file.now (seats_is q.args.seats) q.args.key.now _ refl (sym w.before.before.seats_right.ensures ∙ w.before.if-not-seats_right.false) (sym w.turn_of-turn.ensures ∙ ap turn_is c.in-None.is) refl
 
 same_length : tie.Need-shape_of-key
 same_length c = search rules
 
-returns-3 : tie.Need-returns-in-Of
+returns-3 : tie.Need-returns-in-Some
 returns-3 c = search rules
 
 pub dispatch_spec : {M : Type 1} → statement M

@@ -2,7 +2,6 @@
 use mathlib.Core.Path.{◌≡◌, refl, sym, ◌∙◌}
 use lib.ListN.{length}
 use Rattle.seats_turn.specs.SeatViews.{seats_is}
-use Rattle.seats_turn.specs.SeatViewsLaws.{length_mapped}
 use Rattle.seats.proofs.SeatCases.{changed_as, raise_number, raise_wrong, raise_empty, raise_told}
 use borrow.Author.Rules.{rules}
 use native.Mathlib.Omega.{arith}
@@ -23,13 +22,13 @@ returns c =
 seats-right-requires : tie.Need-seats_right-requires
 seats-right-requires c κs = search rules
 
-refused-requires-2 : tie.Need-refused-requires-else-seats_right
+refused-requires-2 : tie.Need-refused-requires-then-not-seats_right
 refused-requires-2 c κs = search rules
 
-returns-2 : tie.Need-returns-else-seats_right
+returns-2 : tie.Need-returns-then-not-seats_right
 returns-2 c =
     let a = c.before.before.before.before.args in
-    changed_as (raise_wrong (seats_is a.seats) a.number (omega arith) (sym c.before.before.seats_right.ensures ∙ c.before.if-seats_right.false)) c.refused-else-seats_right.ensures
+    changed_as (raise_wrong (seats_is a.seats) a.number (omega arith) (sym c.before.before.seats_right.ensures ∙ c.before.if-not-seats_right.true)) c.refused-then-not-seats_right.ensures
 
 mul-if3 : tie.Need-offset_bounds-seats-number
 mul-if3 c = search rules
@@ -37,14 +36,14 @@ mul-if3 c = search rules
 element-copy-out-if3 : tie.Need-bounds-seats-number
 element-copy-out-if3 c = search rules
 
-refused-requires-3 : tie.Need-refused-requires-else-seats-number
+refused-requires-3 : tie.Need-refused-requires-then-not-seats-number
 refused-requires-3 c κs = search rules
 
-returns-3 : tie.Need-returns-else-seats-number
+returns-3 : tie.Need-returns-then-not-seats-number
 returns-3 c =
     let q = c.before.before.before.before.before in
     let a = q.args in
-    changed_as (raise_empty a.seats (eight q) a.number _ (omega arith) (sym c.before.before.before.seats_right.ensures ∙ c.before.before.if-seats_right.true) c.before.if-seats-number.false) c.refused-else-seats-number.ensures
+    changed_as (raise_empty a.seats (eight q) a.number _ (omega arith) (sym c.before.before.before.seats_right.ensures ∙ c.before.before.if-not-seats_right.false) c.before.if-not-seats-number.true) c.refused-then-not-seats-number.ensures
 
 mul-held : tie.Need-offset_bounds-seats-number-2
 mul-held c = search rules
@@ -60,7 +59,7 @@ returns-4 c =
     let w = c.before.before.before in
     let q = w.before.before.before.before in
     let a = q.args in
-    raise_told a.seats (eight q) a.number _ (omega arith) _ (sym w.before.before.seats_right.ensures ∙ w.before.if-seats_right.true) w.if-seats-number.true refl c.put_seat.ensures
+    raise_told a.seats (eight q) a.number _ (omega arith) _ (sym w.before.before.seats_right.ensures ∙ w.before.if-not-seats_right.false) w.if-not-seats-number.false refl c.put_seat.ensures
 
 pub raise_spec : {M : Type 1} → statement M
 raise_spec =

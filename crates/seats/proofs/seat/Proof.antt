@@ -3,7 +3,6 @@ use mathlib.Core.Path.{◌≡◌, refl, sym, ◌∙◌}
 use lib.ListN.{length}
 use Rattle.stream.specs.Plains.{plain_is}
 use Rattle.seats_turn.specs.SeatViews.{seats_is}
-use Rattle.seats_turn.specs.SeatViewsLaws.{length_mapped}
 use Rattle.seats.proofs.SeatCases.{changed_as, seat_number, seat_wrong, seat_told}
 use borrow.Author.Rules.{rules}
 use native.Mathlib.Omega.{arith}
@@ -24,13 +23,13 @@ returns c =
 seats-right-requires : tie.Need-seats_right-requires
 seats-right-requires c κs = search rules
 
-refused-requires-2 : tie.Need-refused-requires-else-seats_right
+refused-requires-2 : tie.Need-refused-requires-then-not-seats_right
 refused-requires-2 c κs = search rules
 
-returns-2 : tie.Need-returns-else-seats_right
+returns-2 : tie.Need-returns-then-not-seats_right
 returns-2 c =
     let a = c.before.before.before.before.args in
-    changed_as (seat_wrong (seats_is a.seats) a.number (plain_is a.reading) (omega arith) (sym c.before.before.seats_right.ensures ∙ c.before.if-seats_right.false)) c.refused-else-seats_right.ensures
+    changed_as (seat_wrong (seats_is a.seats) a.number (plain_is a.reading) (omega arith) (sym c.before.before.seats_right.ensures ∙ c.before.if-not-seats_right.true)) c.refused-then-not-seats_right.ensures
 
 mul-waiting : tie.Need-offset_bounds-seats-number
 mul-waiting c = search rules
@@ -45,7 +44,7 @@ returns-3 : tie.Need-returns
 returns-3 c =
     let q = c.before.before.before.before in
     let a = q.args in
-    seat_told a.seats (eight q) a.number _ (omega arith) a.reading _ (sym c.before.before.seats_right.ensures ∙ c.before.if-seats_right.true) refl c.put_seat.ensures
+    seat_told a.seats (eight q) a.number _ (omega arith) a.reading _ (sym c.before.before.seats_right.ensures ∙ c.before.if-not-seats_right.false) refl c.put_seat.ensures
 
 pub seat_spec : {M : Type 1} → statement M
 seat_spec =

@@ -3,7 +3,6 @@ use mathlib.Core.Path.{◌≡◌, refl}
 use Prim.Native.Nat.{◌≤◌}
 use lib.ListN.{length}
 use Rattle.seats_turn.specs.SeatViews.{seats_is}
-use Rattle.seats_turn.specs.SeatViewsLaws.{length_mapped}
 use Rattle.seats.proofs.SeatCases.{turn_number, serve_key, serve_end, serve_refused}
 use borrow.Author.Rules.{rules}
 use native.Mathlib.Omega.{arith}

@@ -4,7 +4,6 @@ use mathlib.Core.Path.{ap}
 use lib.ListN.{get_or}
 use Rattle.stream_start.specs.declared.Reading.{Reading}
 use borrow.Author.Rules.{rules}
-use native.Mathlib.Omega.{arith}
 use Rattle.seats_arrays.proofs.plain_at.Statement.{statement}
 use Rattle.seats_arrays.proofs.plain_at.Tie as tie
 

@@ -2,7 +2,6 @@
 -- Assumes nothing.
 use Rattle.seats_arrays.specs.SeatArraysLaws.{flag_put}
 use borrow.Author.Rules.{rules}
-use native.Mathlib.Omega.{arith}
 use Rattle.seats_arrays.proofs.put_flag.Statement.{statement}
 use Rattle.seats_arrays.proofs.put_flag.Tie as tie
 

@@ -4,7 +4,6 @@ use mathlib.Core.Path.{refl}
 use Rattle.seats_arrays.specs.SeatArrays.{rows}
 use Rattle.seats_arrays.specs.SeatArraysLaws.{row_put}
 use borrow.Author.Rules.{rules}
-use native.Mathlib.Omega.{arith}
 use Rattle.seats_arrays.proofs.put_plain.Statement.{statement}
 use Rattle.seats_arrays.proofs.put_plain.Tie as tie
 

@@ -4,7 +4,6 @@ use Rattle.stream_arrays.specs.Arrays.{held}
 use Rattle.seats_arrays.specs.SeatArrays.{rows}
 use Rattle.seats_arrays.specs.SeatArraysLaws.{row_set_lem}
 use borrow.Author.Rules.{rules}
-use native.Mathlib.Omega.{arith}
 use Rattle.seats_arrays.proofs.put_rows.Statement.{statement}
 use Rattle.seats_arrays.proofs.put_rows.Tie as tie
 

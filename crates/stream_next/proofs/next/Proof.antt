@@ -51,7 +51,7 @@ bound_held q = search rules
 
 -- ---- what is known after the walk
 
-abbrev told_of : tie.After-walk-arg-1 → tie.In-Absent
+abbrev told_of : tie.After-walk-arg-1 → tie.In-None
 told_of c = c.before.before.before.before.before.before.before.before.before.before.before
 
 abbrev then_of : tie.After-walk → tie.Then-state_right
@@ -70,7 +70,7 @@ by_walk call =
     let v = then_of call in
     let q = q_of v.before in
     let a = (start q).args in
-    next_walk a.file.now a.reading a.key.now (meta_is (meta q)) (opens q) (right v) told.before.if-short.false (ap empty_is told.in-Absent.is)
+    next_walk a.file.now a.reading a.key.now (meta_is (meta q)) (opens q) (right v) told.before.if-short.false (ap empty_is told.in-None.is)
 
 open-requires : tie.Need-open-opened-requires
 open-requires c κs = search rules
@@ -143,13 +143,13 @@ returns-4 c = let call = c.before in
     next_refused a.file.now a.reading a.key.now c.in-Refused.why (sym call.open-opened.ensures ∙ ap opening_is c.in-Refused.is)
 
 -- the empty key is pending
-returns-5 : tie.Need-returns-in-Pending
+returns-5 : tie.Need-returns-in-Some
 returns-5 c = let told = c.before in
     let v = told.before.before in
     let q = q_of v.before in
     let a = (start q).args in
     next_walk a.file.now a.reading a.key.now (meta_is (meta q)) (opens q) (right v) told.before.if-short.false
-    (ap empty_is told.in-Pending.is) a.key.now c.pending.result
+    (ap empty_is told.in-Some.is) a.key.now c.pending.result
     (c.pending.ensures (fst_of a.file.now (meta_is (meta q))) a.key.now)
 
 same_length : tie.Need-shape_of-key-in-Key

@@ -23,23 +23,23 @@ enum_told c = search rules
 returns : tie.Need-returns-in_default
 returns c = let call = c.before in
     let a = call.before.before.before.args in
-    pending_unsound (node_in (fst_with a.file.now a.version a.root) a.root) a.meets (answer_unsound call.node_at.ensures c.in_default.is)
+    pending_unsound (node_in (fst_with a.file.now a.version a.root) a.root) a.meets (answer_unsound call.node_at.ensures c.in_default.field-0 c.in_default.is)
 
 -- the empty key is held
 returns-2 : tie.Need-returns-then-m
 returns-2 c = let given = c.before in
     let call = given.before in
     let a = call.before.before.before.args in
-    let m = given.in-Sound.m in
-    pending_final (node_in (fst_with a.file.now a.version a.root) a.root) a.meets (meaning a.file.now m) (answer_sound call.node_at.ensures m given.in-Sound.is) call.before.if-meets.true c.if-m.true
+    let m = given.in-Ok.m in
+    pending_final (node_in (fst_with a.file.now a.version a.root) a.root) a.meets (meaning a.file.now m) (answer_sound call.node_at.ensures m given.in-Ok.is) call.before.if-meets.true c.if-m.true
 
 -- it is not held
 returns-3 : tie.Need-returns-else-m
 returns-3 c = let given = c.before in
     let call = given.before in
     let a = call.before.before.before.args in
-    let m = given.in-Sound.m in
-    pending_no_key (node_in (fst_with a.file.now a.version a.root) a.root) a.meets (meaning a.file.now m) (answer_sound call.node_at.ensures m given.in-Sound.is) call.before.if-meets.true c.if-m.false
+    let m = given.in-Ok.m in
+    pending_no_key (node_in (fst_with a.file.now a.version a.root) a.root) a.meets (meaning a.file.now m) (answer_sound call.node_at.ensures m given.in-Ok.is) call.before.if-meets.true c.if-m.false
 
 -- it does not meet the bound
 returns-4 : tie.Need-returns-else-meets

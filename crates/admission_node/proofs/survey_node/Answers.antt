@@ -1,0 +1,31 @@
+-- `admission_node::survey_node` meets its contract. Assumes nothing.
+use Rattle.std.proofs.Common.{◌<◌, length, arith}
+use Rattle.node.specs.Read.{transitions_in}
+use Rattle.node.specs.ReadLaws.{length_node_transitions}
+use Rattle.admission_node.proofs.Surveying.{surveyed_none, target_in_depths, target_in_sums, surveyed_step, surveyed_all}
+use Rattle.admission_node.proofs.survey_node.Goals as goal
+
+-- no transition is passed yet
+pub loop-i-init : goal.loop-i-init
+loop-i-init c = surveyed_none c.requires.1
+
+-- the target lies within the depths
+pub child_depth-d-requires : goal.child_depth-d-requires
+child_depth-d-requires c =
+    target_in_depths c.requires.1 c.loop-i.i (omega (arith, length_node_transitions _ _ c.requires.0)) _ c.transition_addr-t.ensures
+
+-- the target lies within the sums
+pub child_sum-s-requires : goal.child_sum-s-requires
+child_sum-s-requires c =
+    target_in_sums c.requires.1 c.loop-i.i (omega (arith, length_node_transitions _ _ c.requires.0)) _ c.transition_addr-t.ensures
+
+-- one transition more
+pub loop-i-preserved : goal.loop-i-preserved
+loop-i-preserved c =
+    let in_list : c.loop-i.i < length (transitions_in c.args.file.now c.args.node) = omega (arith, length_node_transitions _ _ c.requires.0) in
+    surveyed_step c.requires.1 c.loop-i.i in_list _ c.transition_addr-t.ensures _ c.child_depth-d.ensures
+    _ _ _ _ c.loop-i.invariant c.child_sum-s.ensures c.output-w.ensures c.max-best.ensures c.raised-total.ensures
+
+-- all transitions are passed
+pub returns : goal.returns
+returns c = surveyed_all c.loop-i.invariant (omega (arith, length_node_transitions _ _ c.requires.0))

@@ -1,0 +1,27 @@
+-- No level, a first level that is refused, or the first and the others.
+-- Assumes nothing.
+use Rattle.std.proofs.Common.{ℕ, arith, sym, subst}
+use Rattle.format.specs.Paths.{fst_with}
+use Rattle.carry_levels.specs.Settling.{LevelsCarried}
+use Rattle.carry_levels.specs.declared.CarriedLevels.TheVariants as Levels
+use Rattle.carry_levels.proofs.LevelCases.{walked_first, first_halted, walked_none}
+use Rattle.carry_levels.proofs.carry_levels.Goals as goal
+
+pub returns-then-levels-eq0 : goal.returns-then-levels-eq0
+returns-then-levels-eq0 c =
+    let a = c.args in
+    let old = fst_with a.old.now a.old_version a.old_root in
+    subst (λ (n : ℕ). LevelsCarried old (fst_with a.new.now a.version a.root) n a.addrs.now a.inps.now a.outs.now a.moved.now Levels.All)
+    (sym c.if-levels-eq0.true) (walked_none old a.new.now a.version a.root a.addrs.now a.inps.now a.outs.now a.moved.now)
+
+pub other_levels-requires-clause-walked_to : goal.other_levels-requires-clause-walked_to
+other_levels-requires-clause-walked_to c =
+    let a = c.args in
+    walked_first (fst_with a.old.now a.old_version a.old_root) a.new.now a.version a.root a.addrs.now a.inps.now a.outs.now a.moved.now _ _ (omega arith)
+    c.first_level-settled.ensures c.in-Stands.is
+
+pub returns-in-Halted : goal.returns-in-Halted
+returns-in-Halted c =
+    let a = c.args in
+    first_halted (fst_with a.old.now a.old_version a.old_root) a.new.now a.version a.root a.addrs.now a.inps.now a.outs.now a.levels a.moved.now (omega arith)
+    c.first_level-settled.ensures _ c.in-Halted.is

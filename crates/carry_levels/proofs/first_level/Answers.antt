@@ -1,0 +1,12 @@
+-- The old node is sound, and the level settles at the new root.
+-- Assumes nothing.
+use Rattle.node.specs.ReadLaws.{answer_sound}
+use Rattle.carry_levels.proofs.LevelCases.{first_settles}
+use Rattle.carry_levels.proofs.first_level.Goals as goal
+
+pub returns : goal.returns
+returns c =
+    let a = c.args in
+    let m = c.in-Ok.m in
+    first_settles a.old.now a.old_version a.old_root a.new.now a.version a.root a.addr a.out m (answer_sound c.node_at.ensures m c.in-Ok.is)
+    (c.node_at.ensures.readable m c.in-Ok.is) c.settle.ensures

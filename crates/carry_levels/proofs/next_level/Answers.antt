@@ -1,0 +1,28 @@
+-- The byte has a place in the new node below, and the level settles where it leads.
+-- Assumes nothing.
+use Rattle.std.proofs.Common.{ℕ, ◌+◌, eqb, ap, ◌∙◌}
+use Rattle.node.specs.ReadLaws.{answer_sound, search_is_lem, place_lt}
+use Rattle.carry_levels.proofs.LevelCases.{level_settles}
+use Rattle.carry_levels.proofs.next_level.Goals as goal
+
+pub transition_addr-to-requires : goal.transition_addr-to-requires
+transition_addr-to-requires c =
+    let a = c.args in
+    let p = c.in-Ok-find_input.p in
+    (c.requires.1, place_lt a.new.now a.below c.requires.1 a.inp p (search_is_lem _ c.find_input.result c.find_input.ensures p c.in-Ok-find_input.is))
+
+pub output-output-requires : goal.output-output-requires
+output-output-requires c =
+    let a = c.args in
+    let p = c.in-Ok-find_input.p in
+    (c.requires.1, place_lt a.new.now a.below c.requires.1 a.inp p (search_is_lem _ c.find_input.result c.find_input.ensures p c.in-Ok-find_input.is))
+
+pub returns : goal.returns
+returns c =
+    let a = c.args in
+    let m = c.in-Ok.m in
+    let p = c.in-Ok-find_input.p in
+    level_settles a.old.now a.old_version a.old_root a.new.now a.version a.root a.addr a.inp a.out a.below a.sum m
+    (answer_sound c.node_at.ensures m c.in-Ok.is) (c.node_at.ensures.readable m c.in-Ok.is) p
+    (search_is_lem _ c.find_input.result c.find_input.ensures p c.in-Ok-find_input.is)
+    c.transition_addr-to.ensures (c.comes_to.ensures ∙ ap (λ (x : ℕ). eqb (a.sum + x) a.out) c.output-output.ensures) c.settle.ensures

@@ -1,0 +1,31 @@
+-- One more level is carried, one is refused, or all are carried.
+-- Assumes nothing.
+use Rattle.std.proofs.Common.{rules, ◌≡◌, ℕ, length, arith, subst}
+use Rattle.format.specs.Paths.{fst_with}
+use Rattle.carry_levels.specs.Settling.{WalkedTo}
+use Rattle.carry_levels.proofs.LevelCases.{walked_step, walked_halted, walked_all}
+use Rattle.carry_levels.proofs.other_levels.Goals as goal
+
+pub returns-in-Halted : goal.returns-in-Halted
+returns-in-Halted c =
+    let a = c.args in
+    let l = c.loop-k in
+    walked_halted (fst_with a.old.now a.old_version a.old_root) a.new.now a.version a.root a.addrs.now a.inps.now a.outs.now l.k a.levels l.moved l.below
+    c.loop-k-test.true l.invariant c.next_level-settled.ensures _ c.in-Halted.is
+
+pub loop-k-preserved : goal.loop-k-preserved
+loop-k-preserved c =
+    let a = c.args in
+    let l = c.loop-k in
+    let room : length l.moved ≡ 256 = search rules in
+    walked_step (fst_with a.old.now a.old_version a.old_root) a.new.now a.version a.root a.addrs.now a.inps.now a.outs.now l.k l.moved l.below
+    (omega arith) (omega arith) l.invariant c.next_level-settled.ensures _ _ c.in-Stands.is
+
+pub returns : goal.returns
+returns c =
+    let a = c.args in
+    let l = c.loop-k in
+    let old = fst_with a.old.now a.old_version a.old_root in
+    let all : l.k ≡ a.levels = omega arith in
+    walked_all old a.new.now a.version a.root a.addrs.now a.inps.now a.outs.now a.levels l.moved l.below
+    (omega arith) (subst (λ (j : ℕ). WalkedTo old a.new.now a.version a.root j a.addrs.now a.inps.now a.outs.now l.moved l.below) all l.invariant)

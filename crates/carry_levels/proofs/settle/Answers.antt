@@ -1,0 +1,40 @@
+-- A level stands, or its node has another number of transitions, or its value is another.
+-- An address of a sound node fits 32 bits, since the root does.
+-- Assumes nothing.
+use Rattle.std.proofs.Common.{◌≡◌, arith}
+use native.Mathlib.Decide.{ℕ_discrete}
+use Rattle.format.specs.Laws.NodeFacts.{node_below}
+use Rattle.format.specs.Node.{sound, node_at}
+use Rattle.format.specs.Paths.{fst_with}
+use Rattle.node.specs.Read.{meaning}
+use Rattle.node.specs.ReadLaws.{answer_sound}
+use Rattle.carry_levels.proofs.LevelCases.{settle_stands, settle_value, settle_count}
+use Rattle.carry_levels.proofs.settle.Goals as goal
+use Rattle.carry_levels.proofs.settle.Goals.{else-as_many-via-then-as_many+else-same, else-as_many-via-else-as_many}
+
+pub overflow_cast-to : goal.overflow_cast-to
+overflow_cast-to c =
+    let a = c.args in
+    let m = c.in-Ok.m in
+    elim (ℕ_discrete a.addr 0) [
+      | yes z ↦ omega arith
+      | no ne ↦ omega (arith, node_below (fst_with a.new.now a.version a.root) a.addr (meaning a.new.now m) (answer_sound c.node_at.ensures m c.in-Ok.is) ne)
+    ]
+
+pub returns-then-same : goal.returns-then-same
+returns-then-same c =
+    let a = c.args in
+    let m = c.in-Ok.m in
+    settle_stands a.new.now a.version a.root a.addr a.ntrans a.same m (answer_sound c.node_at.ensures m c.in-Ok.is) (c.node_at.ensures.readable m c.in-Ok.is)
+    c.if-as_many.true c.if-same.true
+
+pub returns : goal.returns
+returns c =
+    let a = c.args in
+    let m = c.in-Ok.m in
+    let is : node_at a.new.now a.version a.root a.addr ≡ sound (meaning a.new.now m) = answer_sound c.node_at.ensures m c.in-Ok.is in
+    let readable = c.node_at.ensures.readable m c.in-Ok.is in
+    elim c.else-as_many.branch [
+      | else-as_many-via-then-as_many+else-same w ↦ settle_value a.new.now a.version a.root a.addr a.ntrans a.same m is readable w.if-as_many.true w.if-same.false
+      | else-as_many-via-else-as_many w ↦ settle_count a.new.now a.version a.root a.addr a.ntrans a.same m is readable w.if-as_many.false
+    ]

@@ -1,2 +1,0 @@
--- Lemmas on plain numbers, for the proofs of this crate.
-mod IdxLaws

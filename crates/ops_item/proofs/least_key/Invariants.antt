@@ -1,0 +1,6 @@
+-- The least key of the cards from i on is found.
+use Rattle.ops_item.proofs.CardLoops.{Leasting}
+use Rattle.ops_item.proofs.least_key.Given as goal
+
+abbrev pub invariant-loop-i : goal.invariant-loop-i
+invariant-loop-i l = Leasting l.keys l.count l.cards l.least l.i

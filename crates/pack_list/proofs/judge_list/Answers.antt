@@ -1,0 +1,23 @@
+-- Length, ends, keys decide, one after the other.
+-- Assumes nothing.
+use Rattle.std.proofs.Common.{arith}
+use Rattle.pack_list.proofs.Ascents.{not_sized, not_ends, list_decided}
+use Rattle.buffers.specs.DecideLaws.{decides_false}
+use Rattle.pack_list.proofs.judge_list.Goals as goal
+
+pub returns-then-list-lt8 : goal.returns-then-list-lt8
+returns-then-list-lt8 c = decides_false (λ ok. let long = ok.long in omega arith)
+
+pub returns-then-list-n : goal.returns-then-list-n
+returns-then-list-n c = not_sized _ _ c.key_count-n.ensures.0 c.key_bytes-total.ensures.0 c.if-list-n.true
+
+pub keys_ascend-requires : goal.keys_ascend-requires
+keys_ascend-requires c =
+    (record { few = c.key_count-n.ensures.1; count_is = c.key_count-n.ensures.0; length_is = c.if-list-n.false }, c.ends_ok.ensures.yes c.if-ends_ok.true)
+
+pub returns-else-ends_ok : goal.returns-else-ends_ok
+returns-else-ends_ok c = rw c.if-ends_ok.false (not_ends _ _ c.key_count-n.ensures.0 c.key_bytes-total.ensures.0 (c.ends_ok.ensures.no c.if-ends_ok.false))
+
+pub returns-then-ends_ok : goal.returns-then-ends_ok
+returns-then-ends_ok c =
+    list_decided _ _ c.key_count-n.ensures.0 c.key_bytes-total.ensures.0 c.if-list-lt8.false c.if-list-n.false (c.ends_ok.ensures.yes c.if-ends_ok.true) c.keys_ascend.result c.keys_ascend.ensures

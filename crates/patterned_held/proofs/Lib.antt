@@ -1,2 +1,0 @@
--- Lemmas on held positions, for the proofs of this crate.
-mod HeldLaws

@@ -1,0 +1,72 @@
+-- `range_fill::fill` meets its contract: nothing is found yet; each way out of a turn; a key more.
+-- Assumes nothing.
+use Rattle.std.proofs.Common.{rules, ℕ, arith, length, take, drop, subst}
+use Rattle.format.specs.Laws.OpeningLaws.{root_fits}
+use Rattle.stream_start.specs.Views.{bound_is}
+use Rattle.range_bound.specs.Besides.{Beside}
+use Rattle.range_fill.proofs.FillCases.{going_none, going_key, going_end, going_refused, going_more, key_low, inputs_hold, row_within}
+use Rattle.range_fill.proofs.fill.Goals as goal
+
+pub loop-count-init : goal.loop-count-init
+loop-count-init c =
+    let a = c.args in
+    let h = c.requires.ready in
+    going_none _ a.file.now _ _ a.bound_len a.first a.most a.rows.now a.values.now a.addrs.now a.inps.now a.trans.now a.outs.now a.levels _ _
+    h.arrays h.few h.sounds
+    (subst (λ (j : ℕ). Beside (bound_is a.kind (take a.bound_len a.bound.now)) (take a.bound_len a.bound.now) (drop 1 a.inps.now) j
+    c.stand-standing.result.same c.stand-standing.result.over) c.saturating_sub.ensures c.stand-standing.ensures)
+
+pub step_on-requires-clause-levels_le_max_levels : goal.step_on-requires-clause-levels_le_max_levels
+step_on-requires-clause-levels_le_max_levels c =
+    let g = c.loop-count.invariant in
+    let o = c.requires.ready.opens in
+    (g.few, omega (arith, root_fits c.args.file.now o.meta o.opens, o.root_is), g.sounds, g.beside)
+
+-- no key is left
+pub returns-in-End : goal.returns-in-End
+returns-in-End c =
+    let h = c.requires.ready in
+    let r = c.requires.most_in_bounds in
+    going_end h.opens h.short r.0 r.1 c.loop-count.invariant c.loop-count-test.true (c.step_on.ensures (length c.args.file.now) c.args.bound_len) c.in-End.is 0
+
+pub returns-in-Refused : goal.returns-in-Refused
+returns-in-Refused c =
+    let h = c.requires.ready in
+    let r = c.requires.most_in_bounds in
+    going_refused h.opens h.short r.0 r.1 c.loop-count.invariant c.loop-count-test.true (c.step_on.ensures (length c.args.file.now) c.args.bound_len) _
+    c.in-Refused.is 0
+
+-- the inputs hold the key, and its row lies within the rows
+pub put_row-requires : goal.put_row-requires
+put_row-requires c =
+    let h = c.requires.ready in
+    let r = c.requires.most_in_bounds in
+    let t = c.step_on.ensures (length c.args.file.now) c.args.bound_len in
+    let g = c.loop-count.invariant in
+    let left = c.loop-count-test.true in (
+      inputs_hold h.opens h.short r.0 r.1 g left t _ _ _ c.in-Key.is,
+      omega (arith, key_low h.opens h.short r.0 r.1 g left t _ _ _ c.in-Key.is),
+      row_within h.opens h.short r.0 r.1 g left t _ _ _ c.in-Key.is,
+    )
+
+pub overflow_add-height : goal.overflow_add-height
+overflow_add-height c =
+    let h = c.requires.ready in
+    let r = c.requires.most_in_bounds in
+    let t = c.step_on.ensures (length c.args.file.now) c.args.bound_len in
+    search (rules, key_low h.opens h.short r.0 r.1 c.loop-count.invariant c.loop-count-test.true t _ _ _ c.in-Key.is)
+
+-- a key more
+pub loop-count-preserved : goal.loop-count-preserved
+loop-count-preserved c =
+    let h = c.requires.ready in
+    let r = c.requires.most_in_bounds in
+    let t = c.step_on.ensures (length c.args.file.now) c.args.bound_len in
+    going_key h.opens h.short r.0 r.1 c.loop-count.invariant c.loop-count-test.true t _ _ _ c.in-Key.is c.put_row.ensures
+
+-- as many as asked for
+pub returns : goal.returns
+returns c =
+    let h = c.requires.ready in
+    let r = c.requires.most_in_bounds in
+    going_more h.opens h.short r.0 r.1 c.loop-count.invariant c.loop-count-test.false 0

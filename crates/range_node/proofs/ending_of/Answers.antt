@@ -1,0 +1,9 @@
+-- `range_node::ending_of` meets its contract: by the state byte, and then by the node's numbers.
+-- Assumes nothing.
+use Rattle.std.proofs.Common.{arith}
+use Rattle.range_node.proofs.Reread.{met_inner}
+use Rattle.range_node.proofs.ending_of.Goals as goal
+
+-- one transition: not final
+pub returns-then-one_transition : goal.returns-then-one_transition
+returns-then-one_transition c = met_inner c.args.file.now c.args.version c.args.root c.args.addr c.requires (omega arith)

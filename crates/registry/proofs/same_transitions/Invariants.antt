@@ -1,0 +1,9 @@
+-- The transitions that are left decide.
+-- Assumes nothing.
+use Rattle.format.specs.Node.{transitions_of}
+use Rattle.node.specs.Read.{transitions_in}
+use Rattle.registry.proofs.NodeComparing.{Compared}
+use Rattle.registry.proofs.same_transitions.Given as goal
+
+abbrev pub invariant-loop-i : goal.invariant-loop-i
+invariant-loop-i l = Compared (transitions_in l.file l.node) (transitions_of l.inputs l.outputs l.targets) l.i

@@ -1,9 +1,0 @@
--- The measure is what is left of the rows.
-use Rattle.std.proofs.Common.{◌≤◌, ◌-◌}
-use Rattle.replay_convert.proofs.rows_alike.Given as goal
-
-abbrev pub invariant-loop-i : goal.invariant-loop-i
-invariant-loop-i l = l.i ≤ l.n
-
-abbrev pub decreases-loop-i : goal.decreases-loop-i
-decreases-loop-i l = l.n - l.i

@@ -1,9 +1,0 @@
--- The measure is what is left of the tables.
-use Rattle.std.proofs.Common.{◌≤◌, ◌-◌}
-use Rattle.replay_convert.proofs.tables_alike.Given as goal
-
-abbrev pub invariant-loop-i : goal.invariant-loop-i
-invariant-loop-i l = l.i ≤ 1024
-
-abbrev pub decreases-loop-i : goal.decreases-loop-i
-decreases-loop-i l = 1024 - l.i

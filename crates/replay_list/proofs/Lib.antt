@@ -1,3 +1,0 @@
--- Lemmas for the proofs of this crate.
-mod Parsing
-mod Counting

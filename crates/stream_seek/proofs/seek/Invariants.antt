@@ -1,0 +1,8 @@
+-- The loop's invariant: what is left of the bound, from the node at addr over the levels written so far, decides the answer.
+use Rattle.std.proofs.Common.{◌<◌}
+use Rattle.format.specs.Paths.{fst_with}
+use Rattle.stream_seek.proofs.Seeking.{Seeking}
+use Rattle.stream_seek.proofs.seek.Given as goal
+
+abbrev pub invariant-loop-k : goal.invariant-loop-k
+invariant-loop-k l = (l.addr < 4294967296) × Seeking (fst_with l.file l.version l.root) l.inclusive l.lower l.addrs l.inps l.trans l.outs l.k l.addr l.inp l.sum

@@ -1,0 +1,22 @@
+-- `stream_upto::at_end` meets its contract: the last node is judged, and its own key added.
+-- Assumes nothing.
+use Rattle.format.specs.Paths.{fst_with}
+use Rattle.node.specs.Read.{meaning}
+use Rattle.node.specs.ReadLaws.{answer_sound, answer_unsound}
+use Rattle.stream_upto.proofs.Walking.{end_unsound, end_sound}
+use Rattle.stream_upto.proofs.at_end.Goals as goal
+
+-- the node is not sound
+pub returns-in_default : goal.returns-in_default
+returns-in_default c =
+    let a = c.args in
+    λ d n e. end_unsound (fst_with a.file.now a.version a.root) a.own a.addr (answer_unsound c.node_at.ensures c.in_default.field-0 c.in_default.is) d n
+
+-- it is sound
+pub returns : goal.returns
+returns c =
+    let a = c.args in
+    let m = c.in-Ok.m in
+    λ d n e.
+    end_sound (fst_with a.file.now a.version a.root) a.own a.addr (meaning a.file.now m) (answer_sound c.node_at.ensures m c.in-Ok.is)
+    _ c.own_key-k.ensures a.total _ c.added.ensures d n e
