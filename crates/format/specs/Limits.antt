@@ -108,7 +108,7 @@ abbrev pub SEAT : Refusal
 SEAT = Seat
 
 -- the numbers of document 01's table, and from 12 on of document 02's
-pub number : Refusal → ℕ
+abbrev pub number : Refusal → ℕ
 number Short = 1
 number Version = 2
 number Root = 3

@@ -3,8 +3,9 @@
 // each number here to the definition of its name.
 #![tactic(auto)]
 
-ghost use Rattle.std.specs.Prelude.{◌≡◌, [], ◌∷◌};
+ghost use Rattle.std.specs.Prelude.{◌≡◌};
 ghost use Rattle.format.specs.Limits as L;
+ghost use Rattle.format.specs.Limits.{number};
 
 // Why a call refuses, in the order of document 01's table, and from `Pattern` on of document 02's.
 #[derive(Clone, Copy, PartialEq, Eq)]
@@ -53,7 +54,7 @@ pub enum Refusal {
 
 // The number of a refusal in the papers and in C, which is the one that the definitions give it.
 impl From<Refusal> for u8 {
-    ghost from_gives = { λ why n. n ≡ L.number why };
+    ghost from_gives = { λ why n. n ≡ number why };
 
     fn from(why: Refusal) -> u8 {
         match why {
