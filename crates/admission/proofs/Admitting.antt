@@ -3,6 +3,8 @@
 --     Wipes s .. r n      the answer r is the refusal n, and both tables are wiped
 -- Assumes nothing.
 use mathlib.Core.Path.{◌≡◌, refl, sym, ap, ◌∙◌, subst}
+use Rattle.std.specs.Prelude.{Ok, Err, Result, ⊤}
+use Rattle.format.specs.declared.Refusal.{Refusal}
 use mathlib.Core.Logic.{◌⊎◌}
 use mathlib.Core.List.{List}
 use Prim.Native.Nat.{ℕ, ◌≤◌, ◌<◌}
@@ -14,11 +16,7 @@ use Rattle.format.specs.Opening.{opening}
 use Rattle.format.specs.Laws.OpeningLaws.{blank_root, root_inside}
 use Rattle.format.specs.Paths.{Fst, fst_of}
 use Rattle.fst.specs.declared.Meta.{Meta}
-use Rattle.fst.specs.declared.Opened.{Opened}
-use Rattle.fst.specs.declared.Opened.TheVariants.{Meta as Read, Refused as Turned}
 use Rattle.fst.specs.Open.{meta_is, opening_is}
-use Rattle.admission.specs.declared.Admission.{Admission}
-use Rattle.admission.specs.declared.Admission.TheVariants.{Refused}
 use Rattle.admission_fill.specs.declared.Verdict.{Verdict}
 use Rattle.admission_fill.specs.declared.Verdict.TheVariants.{Good, Lost, Deep, Heavy}
 use Rattle.admission_node.specs.Entries.{Kept}
@@ -32,11 +30,11 @@ use Rattle.admission.specs.WipingLaws.{length_wiped, wiped_kept, wiped_at, wiped
 pub space_refused : {s : List ℕ} {v root : ℕ} (d₀ s₀ : List ℕ) → Opens s v root → (length d₀ < length s) ⊎ (length s₀ < length s) → RefusedFor s d₀ s₀ d₀ s₀ SPACE
 space_refused d₀ s₀ o short = no_space o.meta o.opens refl short refl refl
 
-module _ {s : List ℕ} {r : Opened} (e : opening_is r ≡ opening s) where
-  pub opening_refused : (d₀ s₀ : List ℕ) (n : ℕ) → r ≡ Turned n → RefusedFor s d₀ s₀ d₀ s₀ n
+module _ {s : List ℕ} {r : Result Meta Refusal} (e : opening_is r ≡ opening s) where
+  pub opening_refused : (d₀ s₀ : List ℕ) (n : Refusal) → r ≡ Err n → RefusedFor s d₀ s₀ d₀ s₀ n
   opening_refused d₀ s₀ n is = not_opened (sym e ∙ ap opening_is is) refl refl
 
-  pub opening_opens : (m : Meta) → r ≡ Read m → Opens s m.version m.root
+  pub opening_opens : (m : Meta) → r ≡ Ok m → Opens s m.version m.root
   opening_opens m is = record { meta = meta_is m; opens = sym e ∙ ap opening_is is; version = refl; root_is = refl }
 
 -- ---- refused with tables wiped, or admitted
@@ -70,8 +68,8 @@ opens_fst o = rw (o.version, o.root_is)
 holds_after : {g : ℕ → ℕ} {P : ℕ → Type 0} {n : ℕ} {d₀ d₁ d : List ℕ} → Kept n d₀ d₁ → Holds g P n d₁ d → Holds g P n d₀ d
 holds_after k h = record { on = h.on; off = h.off; kept = kept_then k h.kept }
 
-abbrev Wipes : List ℕ → List ℕ → List ℕ → List ℕ → List ℕ → Admission → ℕ → Type 0
-Wipes s d d' t t' r n = (r ≡ Refused n) × Wiped (length s) d d' × Wiped (length s) t t'
+abbrev Wipes : List ℕ → List ℕ → List ℕ → List ℕ → List ℕ → Result ⊤ Refusal → Refusal → Type 0
+Wipes s d d' t t' r n = (r ≡ Err n) × Wiped (length s) d d' × Wiped (length s) t t'
 
 module _ {s : List ℕ} {version root : ℕ} {d₀ s₀ d₁ s₁ d t : List ℕ} {v : Verdict} (j : AllJudged s version root d₀ s₀ d₁ s₁ d t v) where
   depths_cleared : Kept (length s) d₀ d₁
@@ -111,8 +109,8 @@ module _ {s : List ℕ} {version root : ℕ} {d₀ s₀ d₁ s₁ d t : List ℕ
         sums = holds_after sums_cleared g.sums;
       }
 
-  module _ {d' t' : List ℕ} {r : Admission} where
-    wiped_refused : {n : ℕ} → Wipes s d d' t t' r n → (Wiped (length s) d₀ d' → Wiped (length s) s₀ t' → RefusedFor s d₀ s₀ d' t' n) → Outcome s d₀ s₀ d' t' r
+  module _ {d' t' : List ℕ} {r : Result ⊤ Refusal} where
+    wiped_refused : {n : Refusal} → Wipes s d d' t t' r n → (Wiped (length s) d₀ d' → Wiped (length s) s₀ t' → RefusedFor s d₀ s₀ d' t' n) → Outcome s d₀ s₀ d' t' r
     wiped_refused w why = subst (λ x. Outcome s d₀ s₀ d' t' x) (sym w.0) (why (wiped_after depths_kept w.1) (wiped_after sums_kept w.2))
 
     pub lost_refused : Wipes s d d' t t' r NODE → v ≡ Lost → Outcome s d₀ s₀ d' t' r

@@ -4,13 +4,12 @@
 --     admitted_is     an admitted file is refused only for want of room
 --     exactly         both, as one claim
 -- Assumes nothing.
-use Rattle.std.specs.Prelude.{◌≡◌, refl, List, ℕ, ◌≤◌, length}
+use Rattle.std.specs.Prelude.{◌≡◌, refl, List, ℕ, ◌≤◌, length, Ok, Err, Result, ⊤}
 use Rattle.std.proofs.Common.{subst, ⊎_elim, arith}
+use Rattle.format.specs.declared.Refusal.{Refusal}
 use Rattle.format.specs.Opening.{Meta, opened, opening}
 use Rattle.format.specs.Paths.{Fst, fst_of}
 use Rattle.format.specs.Admitted.{Nodes, Shallow, Light, Admitted}
-use Rattle.admission.specs.declared.Admission.{Admission}
-use Rattle.admission.specs.declared.Admission.TheVariants.{Admitted as Yes, Refused}
 use Rattle.admission.specs.Outcome.{LongPath, LargeSum, RefusedFor, not_opened, no_space, no_nodes, too_deep, too_heavy, Outcome}
 
 -- ---- what is too long or too large from one reached node is so for the file
@@ -30,7 +29,7 @@ same_meta s e e' = cc
 
 -- ---- an admitted file is not refused
 
-pub not_refused : {s d₀ s₀ d t : List ℕ} {r : ℕ} → length s ≤ length d₀ → length s ≤ length s₀ → Admitted s → ¬ RefusedFor s d₀ s₀ d t r
+pub not_refused : {s d₀ s₀ d t : List ℕ} {r : Refusal} → length s ≤ length d₀ → length s ≤ length s₀ → Admitted s → ¬ RefusedFor s d₀ s₀ d t r
 not_refused h g a (not_opened e p q) = let o = a.opens in let z : ◌≡◌ {A = ℕ} 0 1 = cc in omega arith
 not_refused h g a (no_space m o e short p q) = ⊎_elim (λ x. omega arith) (λ x. omega arith) short
 not_refused {s} h g a (no_nodes m o rd rs e none p q) =
@@ -40,14 +39,14 @@ not_refused {s} h g a (too_deep m l o rd rs e n long p q) =
 not_refused {s} h g a (too_heavy m l o rd rs e n shallow large p q) =
     light_not_large (subst (λ x. Light (fst_of s x)) (same_meta s a.opens o) a.light) large
 
-pub is_admitted : {s d₀ s₀ d t : List ℕ} → Outcome s d₀ s₀ d t Yes → Admitted s
+pub is_admitted : {s d₀ s₀ d t : List ℕ} → Outcome s d₀ s₀ d t (Ok tt) → Admitted s
 is_admitted o = o.admitted
 
-pub admitted_is : (s d₀ s₀ d t : List ℕ) (r : Admission) → length s ≤ length d₀ → length s ≤ length s₀ → Outcome s d₀ s₀ d t r → Admitted s → r ≡ Yes
-admitted_is s d₀ s₀ d t Yes h g o a = refl
-admitted_is s d₀ s₀ d t (Refused n) h g o a = absurd (not_refused h g a o)
+pub admitted_is : (s d₀ s₀ d t : List ℕ) (r : Result ⊤ Refusal) → length s ≤ length d₀ → length s ≤ length s₀ → Outcome s d₀ s₀ d t r → Admitted s → r ≡ Ok tt
+admitted_is s d₀ s₀ d t (Ok tt) h g o a = refl
+admitted_is s d₀ s₀ d t (Err n) h g o a = absurd (not_refused h g a o)
 
-pub exactly : (s d₀ s₀ d t : List ℕ) (r : Admission) → length s ≤ length d₀ → length s ≤ length s₀ → Outcome s d₀ s₀ d t r
-    → (r ≡ Yes → Admitted s) × (Admitted s → r ≡ Yes)
+pub exactly : (s d₀ s₀ d t : List ℕ) (r : Result ⊤ Refusal) → length s ≤ length d₀ → length s ≤ length s₀ → Outcome s d₀ s₀ d t r
+    → (r ≡ Ok tt → Admitted s) × (Admitted s → r ≡ (Ok tt))
 exactly s d₀ s₀ d t r h g o =
     (λ e. is_admitted (subst (λ x. Outcome s d₀ s₀ d t x) e o), admitted_is s d₀ s₀ d t r h g o)

@@ -5,7 +5,8 @@
 --     Admits s ..             the bytes s are admitted, and the tables afterwards
 --     Outcome s ..            the answer of admission
 -- Assumes nothing.
-use Rattle.std.specs.Prelude.{◌≡◌, List, ◌++◌, ◌⊎◌, ℕ, ◌+◌, ◌≤◌, ◌<◌, length, get_or, drop, replicate}
+use Rattle.std.specs.Prelude.{◌≡◌, List, ◌++◌, ◌⊎◌, ℕ, ◌+◌, ◌≤◌, ◌<◌, length, get_or, drop, replicate, Ok, Err, Result, ⊤}
+use Rattle.format.specs.declared.Refusal.{Refusal}
 use Rattle.format.specs.Limits.{max_path, max_sum, NODE, DEEP, SUM, SPACE}
 use Rattle.format.specs.Node.{Node, sound}
 use Rattle.format.specs.Opening.{Meta, opened, refused, opening}
@@ -13,8 +14,6 @@ use Rattle.format.specs.Paths.{Fst, fst_of, node_in, Path, Reached}
 use Rattle.format.specs.Admitted.{Nodes, Shallow, Light, Admitted}
 use Rattle.format.specs.Tables.{longest, largest_sum, InTable}
 use Rattle.admission_node.specs.Entries.{Kept}
-use Rattle.admission.specs.declared.Admission.{Admission}
-use Rattle.admission.specs.declared.Admission.TheVariants.{Admitted as Yes, Refused}
 use Rattle.admission_fill.specs.declared.Verdict.{Verdict}
 use Rattle.admission_fill.specs.declared.Verdict.TheVariants.{Good, Lost, Deep, Heavy}
 
@@ -53,7 +52,7 @@ pub record LargeSum (f : Fst) : Type 0 where
 -- ---- the answer
 
 -- opening's refusals and SPACE leave the tables as they were; NODE, DEEP and SUM, each decided over the whole file, leave zeros over it
-pub data RefusedFor (s d₀ s₀ d t : List ℕ) (r : ℕ) : Type 0 where
+pub data RefusedFor (s d₀ s₀ d t : List ℕ) (r : Refusal) : Type 0 where
   not_opened : opening s ≡ refused r → d ≡ d₀ → t ≡ s₀ → RefusedFor s d₀ s₀ d t r
   no_space : (m : Meta) → opening s ≡ opened m → r ≡ SPACE → (length d₀ < length s) ⊎ (length s₀ < length s) → d ≡ d₀ → t ≡ s₀ → RefusedFor s d₀ s₀ d t r
   no_nodes : (m : Meta) → opening s ≡ opened m → length s ≤ length d₀ → length s ≤ length s₀ → r ≡ NODE → ((l : List ℕ) → ¬ Nodes (fst_of s m) l)
@@ -71,9 +70,9 @@ pub record Admits (s d₀ s₀ d t : List ℕ) : Type 0 where
   pub depths : Holds (λ a. longest (fst_of s admitted.meta) a + 1) (InTable (fst_of s admitted.meta)) (length s) d₀ d
   pub sums : Holds (largest_sum (fst_of s admitted.meta)) (InTable (fst_of s admitted.meta)) (length s) s₀ t
 
-abbrev pub Outcome : List ℕ → List ℕ → List ℕ → List ℕ → List ℕ → Admission → Type 0
-Outcome s d₀ s₀ d t Yes = Admits s d₀ s₀ d t
-Outcome s d₀ s₀ d t (Refused r) = RefusedFor s d₀ s₀ d t r
+abbrev pub Outcome : List ℕ → List ℕ → List ℕ → List ℕ → List ℕ → Result ⊤ Refusal → Type 0
+Outcome s d₀ s₀ d t (Ok tt) = Admits s d₀ s₀ d t
+Outcome s d₀ s₀ d t (Err r) = RefusedFor s d₀ s₀ d t r
 
 -- ---- what the inner functions ask and answer
 

@@ -10,15 +10,7 @@ ghost use Rattle.admission.specs.Outcome.{Cleared, Judges, Opens, Outcome};
 
 use admission_fill::{Verdict, fill};
 use admission_walk::walk;
-use format::{DEEP, NODE, SPACE, SUM};
-use fst::Opened;
-
-// What admission answers: the file is admitted, or the number of a refusal.
-#[derive(Clone, Copy)]
-pub enum Admission {
-    Admitted,
-    Refused(u8),
-}
+use format::Refusal;
 
 // Judges all nodes, with both tables at zero over the file; root 0 has no chain.
 fn judge(file: &[u8], version: u64, root: usize, depths: &mut [u16], sums: &mut [u64]) -> Verdict
@@ -38,15 +30,16 @@ fn judge(file: &[u8], version: u64, root: usize, depths: &mut [u16], sums: &mut 
 }
 
 // A refusal of a file that opens: zeros over the file's length in both tables.
-fn refused(depths: &mut [u16], sums: &mut [u64], n: usize, why: u8) -> Admission
+// n is the file's length, and either table may be longer: what lies past it stays.
+fn refused(depths: &mut [u16], sums: &mut [u64], n: usize, why: Refusal) -> Result<(), Refusal>
     requires { (n ≤ length depths.old) × (n ≤ length sums.old) }
-    ensures { (result ≡ Admission.Refused why)
+    ensures { (result ≡ Err why)
         × (depths.new ≡ replicate n 0 ++ drop n depths.old)
         × (sums.new ≡ replicate n 0 ++ drop n sums.old) }
 {
     depths[..n].fill(0);
     sums[..n].fill(0);
-    Admission::Refused(why)
+    Err(why)
 }
 
 // Admits a file that opens, with this version and root.
@@ -56,37 +49,35 @@ fn admit_opened(
     root: usize,
     depths: &mut [u16],
     sums: &mut [u64],
-) -> Admission
+) -> Result<(), Refusal>
     requires { Opens file.now version root }
     ensures { Outcome file.now depths.old sums.old
         depths.new sums.new result }
 {
     let n = file.len();
     if depths.len() < n {
-        return Admission::Refused(SPACE);
+        return Err(Refusal::Space);
     }
     if sums.len() < n {
-        return Admission::Refused(SPACE);
+        return Err(Refusal::Space);
     }
     depths[..n].fill(0);
     sums[..n].fill(0);
     let v = judge(file, version, root, depths, sums);
     match v {
-        Verdict::Good => Admission::Admitted,
-        Verdict::Lost => refused(depths, sums, n, NODE),
-        Verdict::Deep => refused(depths, sums, n, DEEP),
-        Verdict::Heavy => refused(depths, sums, n, SUM),
+        Verdict::Good => Ok(()),
+        Verdict::Lost => refused(depths, sums, n, Refusal::Node),
+        Verdict::Deep => refused(depths, sums, n, Refusal::Deep),
+        Verdict::Heavy => refused(depths, sums, n, Refusal::Sum),
     }
 }
 
 // Admits a file and fills the two tables, or refuses it: opening's refusals, then SPACE, then NODE, decided over the whole file, then
 // DEEP and SUM, each decided over all nodes that a path from the root reaches.
-pub fn admit(file: &[u8], depths: &mut [u16], sums: &mut [u64]) -> Admission
+pub fn admit(file: &[u8], depths: &mut [u16], sums: &mut [u64]) -> Result<(), Refusal>
     ensures { Outcome file.now depths.old sums.old
         depths.new sums.new result }
 {
-    match fst::open(file) {
-        Opened::Refused(why) => Admission::Refused(why),
-        Opened::Meta(m) => admit_opened(file, m.version, m.root, depths, sums),
-    }
+    let m = fst::open(file)?;
+    admit_opened(file, m.version, m.root, depths, sums)
 }

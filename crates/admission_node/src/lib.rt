@@ -81,6 +81,8 @@ fn survey_node(file: &[u8], node: Node, depths: &[u16], sums: &[u64]) -> Survey
 }
 
 // The same of a sound node with one transition: its form is known, so no node is made.
+// `survey_next` is a function of its own: one for both would ask for either range of the state byte by a case, and choose the one call
+// in which they differ.
 fn survey_one(
     file: &[u8],
     version: u64,
@@ -218,6 +220,7 @@ fn mark_targets(file: &[u8], node: Node, mark: u16, depths: &mut [u16])
 }
 
 // The same of a sound node with one transition; answers its first byte.
+// `mark_next` is a function of its own, as `survey_next` is.
 fn mark_one(
     file: &[u8],
     version: u64,

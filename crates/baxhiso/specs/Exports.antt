@@ -7,6 +7,8 @@
 -- A name with ₀ is what the caller handed in. Assumes nothing.
 use Rattle.std.specs.Prelude.{◌≡◌, List, [], ◌∷◌, ℕ, zero, suc, ℤ, pos, negsuc, length}
 use Rattle.std.proofs.Math.Option.{Option, none, some}
+use Rattle.format.specs.Limits.{number}
+use Rattle.format.specs.declared.Refusal.{Refusal}
 use Rattle.format.specs.Opening as O
 use Rattle.format.specs.Opening.{Meta, Opening, opened}
 use Rattle.format.specs.Lookup as L
@@ -23,8 +25,8 @@ OK = pos 0
 abbrev pub NONE : ℤ
 NONE = negsuc 0
 
-abbrev pub code : ℕ → ℤ
-code n = pos n
+abbrev pub code : Refusal → ℤ
+code n = pos (number n)
 
 -- ---- opening
 
@@ -88,5 +90,5 @@ pub record KeyLeaves (w : L.KeyAnswer) (buf₀ buf : List ℕ) (n₀ n : ℕ) (r
 -- by the result: 0 only for an admitted file, any other number for the refusal that it names, and nothing negative
 abbrev pub AdmitLeaves : List ℕ → List ℕ → List ℕ → List ℕ → List ℕ → ℤ → Type 0
 AdmitLeaves s d₀ s₀ d t (pos zero) = Admits s d₀ s₀ d t
-AdmitLeaves s d₀ s₀ d t (pos (suc n)) = RefusedFor s d₀ s₀ d t (suc n)
+AdmitLeaves s d₀ s₀ d t (pos (suc n)) = (why : Refusal) × (number why ≡ suc n) × RefusedFor s d₀ s₀ d t why
 AdmitLeaves s d₀ s₀ d t (negsuc n) = ⊥

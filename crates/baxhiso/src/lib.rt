@@ -4,12 +4,12 @@
 #![tactic(auto)]
 
 ghost use Rattle.std.specs.Prelude.{◌≡◌, pos};
+ghost use Rattle.format.specs.Limits.{number};
 ghost use Rattle.format.specs.Opening.{opening};
 ghost use Rattle.baxhiso.specs.Exports.{checksum_number, OpenLeaves, AdmitLeaves};
 ghost use Rattle.fst.specs.Open.{checksum_is};
 
-use admission::Admission;
-use fst::Opened;
+use format::Refusal;
 
 const OK: i32 = 0;
 
@@ -17,10 +17,10 @@ const OK: i32 = 0;
 const NO_CHECKSUM: u64 = 4_294_967_296;
 
 // A refusal's number as a result.
-pub fn code(why: u8) -> i32
-    ensures { result ≡ pos why }
+pub fn code(why: Refusal) -> i32
+    ensures { result ≡ pos (number why) }
 {
-    why as i32
+    i32::from(u8::from(why))
 }
 
 // The checksum as one number.
@@ -37,8 +37,8 @@ pub fn fst_open(file: &[u8], meta: &mut [u64; 5]) -> i32
 {
     let opened = fst::open(file);
     match opened {
-        Opened::Refused(why) => code(why),
-        Opened::Meta(m) => {
+        Err(why) => code(why),
+        Ok(m) => {
             let checksum = m.checksum;
             let last = checksum_number(checksum);
             *meta = [m.version, m.ty, m.len, m.root as u64, last];
@@ -54,7 +54,7 @@ pub fn fst_admit(file: &[u8], depths: &mut [u16], sums: &mut [u64]) -> i32
 {
     let answer = admission::admit(file, depths, sums);
     match answer {
-        Admission::Admitted => OK,
-        Admission::Refused(why) => code(why),
+        Ok(()) => OK,
+        Err(why) => code(why),
     }
 }

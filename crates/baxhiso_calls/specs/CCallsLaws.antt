@@ -1,12 +1,13 @@
 -- Demand 3 for C: `reading_tells`. Where fst_count answered 0 and fst_start_arrays, with its table, too, every list of calls of fst_next_arrays hands out
 -- the held keys between the bounds, ascending, each with its value, and then only the end (`DemandCode`).
---     told_is             what a C program reads off a call is the code's answer
+--     told_is             what a C program reads off a call is the code's answer, a refusal by its number
 --     made_is             a list of C calls is one of the code's
 --     reading_tells       the claim
 -- Assumes nothing.
 use Prim.{tt}
-use Rattle.std.specs.Prelude.{◌≡◌, refl, List, [], ◌∷◌, map, ℕ, ℤ, length}
-use Rattle.std.proofs.Common.{sym, ap₂, inl}
+use Rattle.std.specs.Prelude.{◌≡◌, refl, List, [], ◌∷◌, map, ℕ, zero, suc, ◌≤◌, ℤ, pos, length, Err}
+use Rattle.std.proofs.Common.{sym, ap₂, inl, arith}
+use Rattle.format.specs.Limits.{number}
 use Rattle.format.specs.Strings as S
 use Rattle.plain.specs.Plain as P
 use Rattle.plain.specs.Plain.{start_plain, next_plain}
@@ -19,19 +20,24 @@ use Rattle.stream_arrays.specs.Arrays.{Held, held_plain}
 use Rattle.baxhiso.specs.Exports.{OK}
 use Rattle.baxhiso_readings.specs.Readings.{StartLeaves, NextLeaves}
 use Rattle.baxhiso_readings.specs.ReadingsLaws.{NextTells, hands_out, comes_to_end, leaves, next_nonzero, start_ok}
-use Rattle.baxhiso_calls.specs.CCalls.{CCall, CCallMade, told_by, told, CMade, plain_of, start_of, code_of, codes_of, ReadingTells}
+use Rattle.baxhiso_calls.specs.CCalls.{CCall, CCallMade, told_by, told, as_told, CMade, plain_of, start_of, code_of, codes_of, ReadingTells}
+
+-- a number that is not 0 is read off as a refusal's
+positive_told : (n : ℕ) → 1 ≤ n → (buf : List ℕ) (len v : ℕ) → told_by (pos n) buf len v ≡ Err n
+positive_told zero low buf len v = absurd (omega (arith, low))
+positive_told (suc n) low buf len v = refl
 
 told_by_lem : (p : P.Plain) (w : P.PlainStep) → NextTells p w → {h : Held} {n k₀ k : List ℕ} {len₀ len v₀ v : ℕ} {r : ℤ} → NextLeaves w h n k₀ k len₀ len v₀ v r
-    → told_by r k len v ≡ in_hand (answer_as w.answer) k
+    → told_by r k len v ≡ as_told (in_hand (answer_as w.answer) k)
 told_by_lem p w (hands_out x y q) l = rw (l.result, l.len_is, l.value_is) refl
 told_by_lem p w (comes_to_end q) l = rw l.result refl
-told_by_lem p w (leaves i) l = rw l.result refl
+told_by_lem p w (leaves i low) {k = k} {len = len} {v = v} l = rw l.result (positive_told (number i) low k len v)
 
-pub told_is : {s : List ℕ} (h : Held) (n : List ℕ) (c : CCall) → CCallMade s h n c → told c ≡ answered (code_of h n c)
+pub told_is : {s : List ℕ} (h : Held) (n : List ℕ) (c : CCall) → CCallMade s h n c → told c ≡ as_told (answered (code_of h n c))
 told_is h n c w =
     told_by_lem (held_plain h n) (next_plain c.file (held_plain h n) (length c.before)) (next_nonzero c.file (held_plain h n) (length c.before)) w.left
 
-answers_told : (s : List ℕ) (h : Held) (n : List ℕ) (cs : List CCall) → CMade s h n cs → map told cs ≡ code_answers (codes_of h n cs)
+answers_told : (s : List ℕ) (h : Held) (n : List ℕ) (cs : List CCall) → CMade s h n cs → map told cs ≡ map as_told (code_answers (codes_of h n cs))
 answers_told s h n [] w = refl
 answers_told s h n (c ∷ cs) w = ap₂ ◌∷◌ (told_is h n c w.0) (answers_told s c.arrays c.keys cs w.1)
 

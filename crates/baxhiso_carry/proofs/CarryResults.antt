@@ -1,6 +1,8 @@
 -- From what carrying gave back to what the function for C leaves.
 -- Assumes nothing.
 use mathlib.Core.Path.{◌≡◌, refl, sym, ap, ◌∙◌, subst}
+use Rattle.std.specs.Prelude.{Ok, Err, Result, ⊤}
+use Rattle.format.specs.declared.Refusal.{Refusal}
 use mathlib.Core.List.{List}
 use Prim.Native.Nat.{ℕ}
 use native.Mathlib.Omega.{arith}
@@ -14,8 +16,6 @@ use Rattle.stream_start.specs.Views.{view_is}
 use Rattle.stream.specs.declared.Plain.{Plain}
 use Rattle.carrying.specs.Carry as C
 use Rattle.carrying.specs.Carry.{with_keys, carry, carry_plain}
-use Rattle.carry.specs.declared.Carries.{Carries}
-use Rattle.carry.specs.declared.Carries.TheVariants as Answer
 use Rattle.carry.specs.declared.Carried.{Carried}
 use Rattle.carry.specs.Carries.{PlainCarried}
 use Rattle.stream_arrays.specs.Arrays.{Held, held_is, held_as, held_plain}
@@ -23,14 +23,14 @@ use Rattle.stream_arrays.specs.ArraysLaws.{held_back}
 use Rattle.baxhiso.specs.Exports.{OK, code}
 use Rattle.baxhiso_carry.specs.CarryArrays.{CarryLeaves}
 
-no_refusal : {n : ℕ} → ¬ (◌≡◌ {A = Carries} (Answer.Refused n) Answer.Carried)
+no_refusal : {n : Refusal} → ¬ (◌≡◌ {A = Result ⊤ Refusal} (Err n) (Ok tt))
 no_refusal e = let z : ◌≡◌ {A = ℕ} 0 1 = cc in omega arith
 
-refusal_is : {n k : ℕ} → ◌≡◌ {A = Carries} (Answer.Refused n) (Answer.Refused k) → n ≡ k
+refusal_is : {n k : Refusal} → ◌≡◌ {A = Result ⊤ Refusal} (Err n) (Err k) → n ≡ k
 refusal_is e = cc
 
 module _ (k : ℕ) {g : Plain} {x : Carried} where
-  left_refused : (c : C.Carried) → PlainCarried (with_keys k c) g x → (n : ℕ) (z : ℤ) → x.answer ≡ Answer.Refused n → z ≡ code n → (h : Held)
+  left_refused : (c : C.Carried) → PlainCarried (with_keys k c) g x → (n : Refusal) (z : ℤ) → x.answer ≡ Err n → z ≡ code n → (h : Held)
       → CarryLeaves (with_keys k c) h h k z
   left_refused (C.Carried.carried v) w n z is is_z h = absurd (no_refusal (sym is ∙ w.answer))
   left_refused (C.Carried.refused m) w n z is is_z h = record {
@@ -39,7 +39,7 @@ module _ (k : ℕ) {g : Plain} {x : Carried} where
     kept = λ j e. refl;
   }
 
-  left_carried : (c : C.Carried) → PlainCarried (with_keys k c) g x → x.answer ≡ Answer.Carried → (h₀ h : Held) → h ≡ held_as x.plain.reading
+  left_carried : (c : C.Carried) → PlainCarried (with_keys k c) g x → x.answer ≡ Ok tt → (h₀ h : Held) → h ≡ held_as x.plain.reading
       → CarryLeaves (with_keys k c) h₀ h k OK
   left_carried (C.Carried.carried v) w is h₀ h put = record {
     result = refl;
@@ -57,8 +57,8 @@ module _ (old new : List ℕ) (h : Held) (k : ℕ) {r : Reading} (is : r ≡ hel
   here : PlainCarried (carry_plain old new (plain_with (view_is (held_is h)) k)) g x
   here = subst (λ (y : Reading). PlainCarried (carry_plain old new (plain_with (view_is y) k)) g x) is w
 
-  pub carry_refused : (n : ℕ) (z : ℤ) → x.answer ≡ Answer.Refused n → z ≡ code n → CarryLeaves (carry_plain old new (held_plain h (replicate 1 k))) h h k z
+  pub carry_refused : (n : Refusal) (z : ℤ) → x.answer ≡ Err n → z ≡ code n → CarryLeaves (carry_plain old new (held_plain h (replicate 1 k))) h h k z
   carry_refused n z e is_z = left_refused k (carry old new (view_is (held_is h))) here n z e is_z h
 
-  pub carry_carried : x.answer ≡ Answer.Carried → (h' : Held) → h' ≡ held_as x.plain.reading → CarryLeaves (carry_plain old new (held_plain h (replicate 1 k))) h h' k OK
+  pub carry_carried : x.answer ≡ Ok tt → (h' : Held) → h' ≡ held_as x.plain.reading → CarryLeaves (carry_plain old new (held_plain h (replicate 1 k))) h h' k OK
   carry_carried e h' put = left_carried k (carry old new (view_is (held_is h))) here e h h' put

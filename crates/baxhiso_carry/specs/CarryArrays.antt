@@ -3,6 +3,7 @@
 --     CarryLeaves q h₀ h n r   carrying that answers q: the result and the arrays; n keys are to come, before and after
 -- A name with ₀ is what the caller handed in. Assumes nothing.
 use Rattle.std.specs.Prelude.{◌≡◌, ℕ, ℤ, replicate}
+use Rattle.format.specs.declared.Refusal.{Refusal}
 use Rattle.plain.specs.Plain as P
 use Rattle.carrying.specs.Carry as C
 use Rattle.stream_arrays.specs.Arrays.{Held, held_plain}
@@ -16,4 +17,4 @@ carry_result (C.CarriedPlain.refused n) = code n
 pub record CarryLeaves (q : C.CarriedPlain) (h₀ h : Held) (n : ℕ) (r : ℤ) : Type 0 where
   pub result : r ≡ carry_result q
   pub reading : (p : P.Plain) → q ≡ C.CarriedPlain.carried p → held_plain h (replicate 1 n) ≡ p
-  pub kept : (k : ℕ) → q ≡ C.CarriedPlain.refused k → h ≡ h₀
+  pub kept : (k : Refusal) → q ≡ C.CarriedPlain.refused k → h ≡ h₀

@@ -8,7 +8,6 @@ ghost use Rattle.stream_arrays.specs.Arrays.{held, held_plain};
 ghost use Rattle.baxhiso_carry.specs.CarryArrays.{CarryLeaves};
 
 use baxhiso::code;
-use carry::Carries;
 use stream::Plain;
 use stream_arrays::{put, reading_of};
 
@@ -46,8 +45,8 @@ pub fn fst_carry_arrays(
     let carried = carry::carry(old, new, plain);
     let answer = carried.answer;
     match answer {
-        Carries::Refused(why) => code(why),
-        Carries::Carried => {
+        Err(why) => code(why),
+        Ok(()) => {
             let after = carried.plain;
             let reading = after.reading;
             put(reading, head, bound, addrs, inps, trans, outs);

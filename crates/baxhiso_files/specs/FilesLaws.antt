@@ -1,37 +1,19 @@
 -- What a result tells the C caller. No refusal has the number 0, so FST_OK comes for a written file only.
 --     convert_ok     on FST_OK the file was admitted and converted, and the output begins with the new file
 -- Assumes nothing.
-use Rattle.std.specs.Prelude.{◌≡◌, refl, Bool, true, false, cond, ◌&&◌, ◌⊎◌, List, ◌++◌, ℕ, zero, suc, eqb, ltb, leb, ℤ, length, drop}
+use Rattle.std.specs.Prelude.{◌≡◌, refl, List, ◌++◌, ℕ, ℤ, length, drop, Err, Result}
 use Rattle.std.proofs.Common.{sym, ap, ◌∙◌, inl, inr}
+use Rattle.format.specs.declared.Refusal.{Refusal}
 use Rattle.format.specs.Limits.{max_len}
 use Rattle.format.specs.Admitted.{Admitted}
 use Rattle.admission.specs.Outcome.{RefusedFor}
-use Rattle.converting.specs.Converting.{converted, table_of, Conversion, written, refused, conversion}
+use Rattle.converting.specs.Converting.{Conversion, written, refused, conversion}
 use Rattle.convert.specs.Convert.{Converts, ConvertsBy, OfAdmitted, NotAdmitted}
-use Rattle.convert.specs.declared.Converted.{Converted}
-use Rattle.convert.specs.declared.Converted.TheVariants.{Len, Refused}
 use Rattle.baxhiso.specs.Exports.{OK}
-use Rattle.baxhiso.specs.ExportsLaws.{refused_not_0, positive_not_0}
+use Rattle.baxhiso.specs.ExportsLaws.{positive_not_0}
 use Rattle.baxhiso_files.specs.Files.{convert_result, convert_len, ConvertLeaves}
 
 -- ---- conversion
-
--- a file is written, or a refusal that is not 0
-data ConversionNonzero : Conversion → Type 0 where
-  writes : (file table : List ℕ) → ConversionNonzero (written file table)
-  turns : (n : ℕ) → ConversionNonzero (refused (suc n))
-
-picked : (P : Conversion → Type 0) (t : Bool) {x y : Conversion} → P x → P y → P (cond t x y)
-picked P true px py = px
-picked P false px py = py
-
-conversion_nonzero : (limit : ℕ) {s : List ℕ} (A : Admitted s) (room entries : ℕ) → ConversionNonzero (conversion limit A room entries)
-unfolding conversion
-conversion_nonzero limit {s} A room entries =
-    picked ConversionNonzero (eqb A.meta.version 1)
-    (picked ConversionNonzero (ltb limit (length (converted A))) (turns 3)
-    (picked ConversionNonzero (leb (length (converted A)) room && leb (length s) entries) (writes (converted A) (table_of A)) (turns 7)))
-    (turns 14)
 
 -- the file is admitted, it is converted, and output and table begin with what was written
 pub record Written (s out₀ table₀ out table : List ℕ) (n : ℕ) : Type 0 where
@@ -44,18 +26,18 @@ pub record Written (s out₀ table₀ out table : List ℕ) (n : ℕ) : Type 0 w
   pub table_is : table ≡ entries ++ drop (length entries) table₀
 
 module _ (s d₀ t₀ out₀ table₀ d t out table : List ℕ) (n₀ n : ℕ) (r : ℤ) (ok : r ≡ OK) where
-  of_conversion : (A : Admitted s) (q : Conversion) → ConversionNonzero q → conversion max_len A (length out₀) (length table₀) ≡ q
-      → (a : Converted) → ConvertsBy q out₀ table₀ out table a → r ≡ convert_result a → n ≡ convert_len a n₀ → Written s out₀ table₀ out table n
-  of_conversion A q (writes file entries) is a by e len = record {
+  of_conversion : (A : Admitted s) (q : Conversion) → conversion max_len A (length out₀) (length table₀) ≡ q
+      → (a : Result ℕ Refusal) → ConvertsBy q out₀ table₀ out table a → r ≡ convert_result a → n ≡ convert_len a n₀ → Written s out₀ table₀ out table n
+  of_conversion A (written file entries) is a by e len = record {
     admitted = A;
     file = file;
     entries = entries;
     is_written = is;
-    len_is = len ∙ ap (λ (x : Converted). convert_len x n₀) by.answer;
+    len_is = len ∙ ap (λ (x : Result ℕ Refusal). convert_len x n₀) by.answer;
     out_is = by.out_is;
     table_is = by.table_is;
   }
-  of_conversion A q (turns k) is a by e len = absurd (positive_not_0 k (sym (ap convert_result by.answer) ∙ sym e ∙ ok))
+  of_conversion A (refused k) is a by e len = absurd (positive_not_0 k (sym (ap convert_result by.answer) ∙ sym e ∙ ok))
 
   pub convert_ok : ConvertLeaves s d₀ t₀ out₀ table₀ d t out table n₀ n r → Written s out₀ table₀ out table n
   convert_ok h = go h.converts
@@ -63,9 +45,7 @@ module _ (s d₀ t₀ out₀ table₀ d t out table : List ℕ) (n₀ n : ℕ) (
       go : Converts max_len s d₀ t₀ out₀ table₀ d t out table h.answer → Written s out₀ table₀ out table n
       go (inl stays) = not_admitted stays.why stays.refuses stays.answer
         where
-          not_admitted : (k : ℕ) → RefusedFor s d₀ t₀ d t k → h.answer ≡ Refused k → Written s out₀ table₀ out table n
-          not_admitted zero f e = absurd (refused_not_0 f)
-          not_admitted (suc k) f e = absurd (positive_not_0 k (sym (ap convert_result e) ∙ sym h.result ∙ ok))
+          not_admitted : (k : Refusal) → RefusedFor s d₀ t₀ d t k → h.answer ≡ Err k → Written s out₀ table₀ out table n
+          not_admitted k f e = absurd (positive_not_0 k (sym (ap convert_result e) ∙ sym h.result ∙ ok))
       go (inr yields) =
-          of_conversion yields.admits.admitted _ (conversion_nonzero max_len yields.admits.admitted (length out₀) (length table₀)) refl
-          h.answer yields.converts h.result h.len_is
+          of_conversion yields.admits.admitted _ refl h.answer yields.converts h.result h.len_is

@@ -5,7 +5,6 @@
 ghost use Rattle.baxhiso_files.specs.Files.{ConvertLeaves};
 
 use baxhiso::code;
-use convert::Converted;
 
 const OK: i32 = 0;
 
@@ -25,10 +24,10 @@ pub fn fst_convert(
 {
     let answer = convert::convert(file, depths, sums, out, table);
     match answer {
-        Converted::Len(n) => {
+        Ok(n) => {
             *len = n;
             OK
         }
-        Converted::Refused(why) => code(why),
+        Err(why) => code(why),
     }
 }

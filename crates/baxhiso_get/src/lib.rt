@@ -7,8 +7,6 @@ ghost use Rattle.format.specs.Lookup as L;
 ghost use Rattle.baxhiso.specs.Exports.{GetLeaves, KeyLeaves};
 
 use baxhiso::code;
-use lookup::Answer;
-use lookup_search::KeyAnswer;
 
 const OK: i32 = 0;
 
@@ -21,12 +19,12 @@ pub fn fst_get(file: &[u8], key: &[u8], value: &mut u64) -> i32
 {
     let answer = lookup::get(file, key);
     match answer {
-        Answer::Value(v) => {
+        Ok(Some(v)) => {
             *value = v;
             OK
         }
-        Answer::None => NONE,
-        Answer::Refused(why) => code(why),
+        Ok(None) => NONE,
+        Err(why) => code(why),
     }
 }
 
@@ -37,11 +35,11 @@ pub fn fst_get_key(file: &[u8], value: u64, key: &mut [u8], len: &mut usize) -> 
 {
     let answer = lookup_key::get_key(file, value, key);
     match answer {
-        KeyAnswer::Key(n) => {
+        Ok(Some(n)) => {
             *len = n;
             OK
         }
-        KeyAnswer::None => NONE,
-        KeyAnswer::Refused(why) => code(why),
+        Ok(None) => NONE,
+        Err(why) => code(why),
     }
 }

@@ -7,43 +7,11 @@ ghost use Rattle.ops_paging.specs.ItemPaging as P;
 ghost use Rattle.ops_decide.specs.Verdicts.{op_is};
 ghost use Rattle.stream_start.specs.Views.{bound_is};
 ghost use Rattle.stream_arrays.specs.Arrays.{kind_is};
-ghost use Rattle.baxhiso_ops.specs.Items.{op_of, stop_of, ItemsLeaves};
+ghost use Rattle.baxhiso_ops.specs.Items.{op_of, ItemsLeaves};
 
-use baxhiso::code;
-use ops_decide::Op;
-use ops_page::Stop;
+use baxhiso_results::stopped;
+use ops_decide::op_of;
 use stream_arrays::kind_of;
-
-const END: i32 = -2;
-
-const MORE: i32 = -3;
-
-// Why a page stopped, as a result.
-fn stopped(stop: Stop) -> i32
-    ensures { result ≡ stop_of stop }
-{
-    match stop {
-        Stop::End => END,
-        Stop::More => MORE,
-        Stop::Refused(why) => code(why),
-    }
-}
-
-// The operation of a number. Any number from 3 on stands for the symmetric difference.
-fn op_of(n: u64) -> Op
-    ensures { result ≡ op_of n }
-{
-    if n == 0 {
-        return Op::Union;
-    }
-    if n == 1 {
-        return Op::Intersection;
-    }
-    if n == 2 {
-        return Op::Difference;
-    }
-    Op::SymmetricDifference
-}
 
 // Up to `most` items of an operation over the first count of eight files, the least key first, and how many.
 pub fn fst_items_rows<'a>(

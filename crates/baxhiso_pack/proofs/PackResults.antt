@@ -1,13 +1,13 @@
 -- From what packing answers to what the function for C leaves, for each answer.
 -- Assumes nothing.
-use Rattle.std.specs.Prelude.{◌≡◌, List, ℕ, ℤ}
+use Rattle.std.specs.Prelude.{◌≡◌, List, ℕ, ℤ, Result}
 use Rattle.std.proofs.Common.{ap, ◌∙◌}
+use Rattle.format.specs.declared.Refusal.{Refusal}
 use Rattle.packing.specs.Packing.{Answer, written, refused}
 use Rattle.pack.specs.PackList.{PacksBy}
-use Rattle.pack_blank.specs.declared.Packed.{Packed}
 use Rattle.baxhiso_pack.specs.PackFiles.{result_of, len_of, pack_result, pack_len, PackLeaves}
 
-module _ {out : List ℕ} {cells : List (List ℕ)} {inputs leasts targets : List ℕ} {a : Packed} (n₀ n : ℕ) (z : ℤ) (result : z ≡ result_of a) (len : n ≡ len_of a n₀) where
+module _ {out : List ℕ} {cells : List (List ℕ)} {inputs leasts targets : List ℕ} {a : Result ℕ Refusal} (n₀ n : ℕ) (z : ℤ) (result : z ≡ result_of a) (len : n ≡ len_of a n₀) where
   leaves : (A : Answer) → PacksBy A out cells inputs leasts targets a → z ≡ pack_result A → n ≡ pack_len A n₀ → PackLeaves A out cells inputs leasts targets n₀ n z
   leaves A h is len_is = record {
     result = is;
@@ -20,5 +20,5 @@ module _ {out : List ℕ} {cells : List (List ℕ)} {inputs leasts targets : Lis
   }
 
   pub pack_leaves : (A : Answer) → PacksBy A out cells inputs leasts targets a → PackLeaves A out cells inputs leasts targets n₀ n z
-  pack_leaves (written file left) h = leaves (written file left) h (result ∙ ap result_of h.answer) (len ∙ ap (λ (x : Packed). len_of x n₀) h.answer)
-  pack_leaves (refused k) h = leaves (refused k) h (result ∙ ap result_of h.answer) (len ∙ ap (λ (x : Packed). len_of x n₀) h.answer)
+  pack_leaves (written file left) h = leaves (written file left) h (result ∙ ap result_of h.answer) (len ∙ ap (λ (x : Result ℕ Refusal). len_of x n₀) h.answer)
+  pack_leaves (refused k) h = leaves (refused k) h (result ∙ ap result_of h.answer) (len ∙ ap (λ (x : Result ℕ Refusal). len_of x n₀) h.answer)

@@ -10,21 +10,21 @@ ghost use Rattle.pack_cells.specs.Pairs.{pairs_is};
 ghost use Rattle.baxhiso_pack.specs.PackFiles.{result_of, len_of, PackLeaves};
 
 use baxhiso::code;
-use pack_blank::Packed;
+use format::Refusal;
 use pack_cell::Cell;
 
 const OK: i32 = 0;
 
 // The result of packing; the length is written where a file was.
-fn pack_told(answer: Packed, len: &mut usize) -> i32
+fn pack_told(answer: Result<usize, Refusal>, len: &mut usize) -> i32
     ensures { (result ≡ result_of answer) × (len.new ≡ len_of answer len.old) }
 {
     match answer {
-        Packed::Len(size) => {
+        Ok(size) => {
             *len = size;
             OK
         }
-        Packed::Refused(why) => code(why),
+        Err(why) => code(why),
     }
 }
 

@@ -1,22 +1,22 @@
 -- From what a start and a next answer to what the functions for C leave, for each answer.
 -- Assumes nothing.
 use mathlib.Core.Path.{◌≡◌, refl, sym, ap, ◌∙◌, subst}
+use Rattle.std.specs.Prelude.{Ok, Err, Result, ⊤}
+use Rattle.format.specs.declared.Refusal.{Refusal}
+use Rattle.format.specs.Limits.{number}
 use mathlib.Core.List.{List}
 use Prim.Native.Nat.{ℕ, zero, suc}
 use native.Mathlib.Omega.{arith}
-use lib.IntN.{ℤ}
+use lib.IntN.{ℤ, pos}
 use Rattle.reading.specs.Reading as R
 use Rattle.reading.specs.Reading.{key, end}
 use Rattle.plain.specs.Plain as P
 use Rattle.paging.specs.Paging as G
-use Rattle.counting.specs.declared.Counting.{Counting}
-use Rattle.counting.specs.declared.Counting.TheVariants.{Counted, Refused as No}
 use Rattle.counting.specs.CountOutcomes.{CountRefusedFor, Counts, CountOutcome}
 use Rattle.range_fill.specs.declared.Ranged.{Ranged}
 use Rattle.range_fill.specs.RangedRows.{RangedBy}
 use Rattle.stream_start.specs.declared.Bound.{Bound}
 use Rattle.stream_start.specs.Views.{bound_is}
-use Rattle.stream_start.specs.declared.Begins.TheVariants.{Began, Refused as NotStarted}
 use Rattle.stream_step.specs.Stepped.{answer_as}
 use Rattle.stream.specs.declared.Started.{Started}
 use Rattle.stream.specs.declared.Step.{Step}
@@ -29,27 +29,30 @@ use Rattle.baxhiso_readings.specs.ReadingsLaws.{counted_not_0}
 
 -- ---- the table of keys
 
-refused_leaves : {s d₀ s₀ c₀ d t c : List ℕ} (n : ℕ) → CountRefusedFor s d₀ s₀ c₀ d t c n → CountLeaves s d₀ s₀ c₀ d t c (code n)
-refused_leaves zero h = absurd (counted_not_0 h)
-refused_leaves (suc n) h = h
+refused_leaves : {s d₀ s₀ c₀ d t c : List ℕ} (why : Refusal) → CountRefusedFor s d₀ s₀ c₀ d t c why → CountLeaves s d₀ s₀ c₀ d t c (code why)
+refused_leaves {s} {d₀} {s₀} {c₀} {d} {t} {c} why h = go (number why) refl
+  where
+    go : (n : ℕ) → number why ≡ n → CountLeaves s d₀ s₀ c₀ d t c (pos n)
+    go zero e = absurd (counted_not_0 h e)
+    go (suc n) e = (why, e, h)
 
-module _ (s d₀ s₀ c₀ d t c : List ℕ) {r : Counting} (h : CountOutcome s d₀ s₀ c₀ d t c r) where
-  pub count_counted : r ≡ Counted → Counts s d₀ s₀ c₀ d t c
+module _ (s d₀ s₀ c₀ d t c : List ℕ) {r : Result ⊤ Refusal} (h : CountOutcome s d₀ s₀ c₀ d t c r) where
+  pub count_counted : r ≡ Ok tt → Counts s d₀ s₀ c₀ d t c
   count_counted is = subst (λ x. CountOutcome s d₀ s₀ c₀ d t c x) is h
 
-  pub count_refused : (n : ℕ) (z : ℤ) → r ≡ No n → z ≡ code n → CountLeaves s d₀ s₀ c₀ d t c z
+  pub count_refused : (n : Refusal) (z : ℤ) → r ≡ Err n → z ≡ code n → CountLeaves s d₀ s₀ c₀ d t c z
   count_refused n z is is_z =
       subst (λ x. CountLeaves s d₀ s₀ c₀ d t c x) (sym is_z) (refused_leaves n (subst (λ x. CountOutcome s d₀ s₀ c₀ d t c x) is h))
 
 -- ---- start
 
 module _ {w : P.Begun} (s : Started) (e : begun_is s ≡ w) where
-  pub start_refused : (m : ℕ) (z : ℤ) (h : Held) (n : List ℕ) → s.answer ≡ NotStarted m → z ≡ code m → StartLeaves w h n h n z
+  pub start_refused : (m : Refusal) (z : ℤ) (h : Held) (n : List ℕ) → s.answer ≡ Err m → z ≡ code m → StartLeaves w h n h n z
   start_refused m z h n is is_z =
       let q : w ≡ P.Begun.refused m = sym e ∙ ap (λ b. began_is b s.plain) is in
       rw q (record { result = is_z; reading = λ p no. absurd (let z : ◌≡◌ {A = ℕ} 0 1 = cc in omega arith); kept = λ i same. (refl, refl) })
 
-  pub start_began : (h₀ : Held) (n₀ : List ℕ) (h : Held) (n : List ℕ) → s.answer ≡ Began → PlainPut s.plain h n → StartLeaves w h₀ n₀ h n OK
+  pub start_began : (h₀ : Held) (n₀ : List ℕ) (h : Held) (n : List ℕ) → s.answer ≡ Ok tt → PlainPut s.plain h n → StartLeaves w h₀ n₀ h n OK
   start_began h₀ n₀ h n is put =
       let q : w ≡ P.begun (plain_is s.plain) = sym e ∙ ap (λ b. began_is b s.plain) is in
       rw q

@@ -6,6 +6,8 @@
 --     RangeLeaves w ..        a range that answers w: the result, the rows, the values and how many
 -- A name with ₀ is what the caller handed in. Assumes nothing.
 use Rattle.std.specs.Prelude.{◌≡◌, List, ℕ, zero, suc, ℤ, pos, negsuc, length}
+use Rattle.format.specs.declared.Refusal.{Refusal}
+use Rattle.format.specs.Limits.{number}
 use Rattle.reading.specs.Reading as R
 use Rattle.reading.specs.Reading.{key, end, written}
 use Rattle.plain.specs.Plain as P
@@ -21,7 +23,7 @@ pub use Rattle.baxhiso_results.specs.Results.{END, MORE, result_of, len_of, valu
 -- by the result, as `AdmitLeaves`: 0 only for a table that is filled, any other number for the refusal that it names, and nothing negative
 abbrev pub CountLeaves : List ℕ → List ℕ → List ℕ → List ℕ → List ℕ → List ℕ → List ℕ → ℤ → Type 0
 CountLeaves s d₀ s₀ c₀ d t c (pos zero) = Counts s d₀ s₀ c₀ d t c
-CountLeaves s d₀ s₀ c₀ d t c (pos (suc n)) = CountRefusedFor s d₀ s₀ c₀ d t c (suc n)
+CountLeaves s d₀ s₀ c₀ d t c (pos (suc n)) = (why : Refusal) × (number why ≡ suc n) × CountRefusedFor s d₀ s₀ c₀ d t c why
 CountLeaves s d₀ s₀ c₀ d t c (negsuc n) = ⊥
 
 -- ---- start
@@ -34,7 +36,7 @@ start_result (P.Begun.refused n) = code n
 pub record StartLeaves (w : P.Begun) (h₀ : Held) (n₀ : List ℕ) (h : Held) (n : List ℕ) (r : ℤ) : Type 0 where
   pub result : r ≡ start_result w
   pub reading : (p : P.Plain) → w ≡ P.begun p → held_plain h n ≡ p
-  pub kept : (m : ℕ) → w ≡ P.Begun.refused m → (h ≡ h₀) × (n ≡ n₀)
+  pub kept : (m : Refusal) → w ≡ P.Begun.refused m → (h ≡ h₀) × (n ≡ n₀)
 
 -- ---- next
 

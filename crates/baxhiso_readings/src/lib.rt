@@ -14,10 +14,8 @@ ghost use Rattle.stream_arrays.specs.Arrays.{kind_is, held, held_plain};
 
 use baxhiso::code;
 use baxhiso_results::{answered, stopped};
-use counting::Counting;
 use stream::Plain;
 use stream_arrays::{kind_of, put_plain, reading_of};
-use stream_start::Begins;
 
 const OK: i32 = 0;
 
@@ -28,8 +26,8 @@ pub fn fst_count(file: &[u8], depths: &mut [u16], sums: &mut [u64], counts: &mut
 {
     let answer = counting::count_keys(file, depths, sums, counts);
     match answer {
-        Counting::Counted => OK,
-        Counting::Refused(why) => code(why),
+        Ok(()) => OK,
+        Err(why) => code(why),
     }
 }
 
@@ -62,8 +60,8 @@ pub fn fst_start_arrays(
     let started = stream::start(file, lower_bound, lower, upper_bound, upper, counts);
     let answer = started.answer;
     match answer {
-        Begins::Refused(why) => code(why),
-        Begins::Began => {
+        Err(why) => code(why),
+        Ok(()) => {
             let plain = started.plain;
             put_plain(plain, head, bound, addrs, inps, trans, outs, keys);
             OK

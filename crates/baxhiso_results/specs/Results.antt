@@ -4,11 +4,10 @@
 --     AnswerLeaves a ..       the answer a of a reading: the result, the key's length and its value
 --     stop_of s                the stop s of a range
 -- A name with ₀ is what the caller handed in. Assumes nothing.
-use Rattle.std.specs.Prelude.{◌≡◌, ℕ, ℤ, negsuc}
-use Rattle.stream_step.specs.declared.Answer.{Answer}
-use Rattle.stream_step.specs.declared.Answer.TheVariants.{Key, End, Refused}
+use Rattle.std.specs.Prelude.{◌≡◌, ℕ, ℤ, negsuc, Ok, Err, Some, None, Result, Option}
+use Rattle.format.specs.declared.Refusal.{Refusal}
 use Rattle.range_fill.specs.declared.Stop.{Stop}
-use Rattle.range_fill.specs.declared.Stop.TheVariants.{End as Ended, More, Refused as Stopped}
+use Rattle.range_fill.specs.declared.Stop.TheVariants.{End as Ended, More}
 use Rattle.baxhiso.specs.Exports.{OK, code}
 
 -- minus 2: the end is no refusal, and not "none"
@@ -18,27 +17,27 @@ END = negsuc 1
 abbrev pub MORE : ℤ
 MORE = negsuc 2
 
-abbrev pub result_of : Answer → ℤ
-result_of (Key n x) = OK
-result_of End = END
-result_of (Refused n) = code n
+abbrev pub result_of : Result (Option (ℕ × ℕ)) Refusal → ℤ
+result_of (Ok (Some (n, x))) = OK
+result_of (Ok None) = END
+result_of (Err n) = code n
 
-abbrev pub len_of : Answer → ℕ → ℕ
-len_of (Key n x) len₀ = n
-len_of End len₀ = len₀
-len_of (Refused n) len₀ = len₀
+abbrev pub len_of : Result (Option (ℕ × ℕ)) Refusal → ℕ → ℕ
+len_of (Ok (Some (n, x))) len₀ = n
+len_of (Ok None) len₀ = len₀
+len_of (Err n) len₀ = len₀
 
-abbrev pub value_of : Answer → ℕ → ℕ
-value_of (Key n x) v₀ = x
-value_of End v₀ = v₀
-value_of (Refused n) v₀ = v₀
+abbrev pub value_of : Result (Option (ℕ × ℕ)) Refusal → ℕ → ℕ
+value_of (Ok (Some (n, x))) v₀ = x
+value_of (Ok None) v₀ = v₀
+value_of (Err n) v₀ = v₀
 
-pub record AnswerLeaves (a : Answer) (len₀ len v₀ v : ℕ) (r : ℤ) : Type 0 where
+pub record AnswerLeaves (a : Result (Option (ℕ × ℕ)) Refusal) (len₀ len v₀ v : ℕ) (r : ℤ) : Type 0 where
   pub result : r ≡ result_of a
   pub len_is : len ≡ len_of a len₀
   pub value_is : v ≡ value_of a v₀
 
-abbrev pub stop_of : Stop → ℤ
-stop_of Ended = END
-stop_of More = MORE
-stop_of (Stopped n) = code n
+abbrev pub stop_of : Result Stop Refusal → ℤ
+stop_of (Ok Ended) = END
+stop_of (Ok More) = MORE
+stop_of (Err n) = code n

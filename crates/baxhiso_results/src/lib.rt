@@ -6,8 +6,8 @@ ghost use Rattle.std.specs.Prelude.{◌≡◌};
 ghost use Rattle.baxhiso_results.specs.Results.{AnswerLeaves, stop_of};
 
 use baxhiso::code;
+use format::Refusal;
 use range_fill::Stop;
-use stream_step::Answer as Next;
 
 const OK: i32 = 0;
 
@@ -16,28 +16,32 @@ const END: i32 = -2;
 const MORE: i32 = -3;
 
 // An answer of a reading as a result. A key's length and value are written on 0 only.
-pub fn answered(answer: Next, len: &mut usize, value: &mut u64) -> i32
+pub fn answered(
+    answer: Result<Option<(usize, u64)>, Refusal>,
+    len: &mut usize,
+    value: &mut u64,
+) -> i32
     ensures { AnswerLeaves answer len.old len.new value.old
         value.new result }
 {
     match answer {
-        Next::Key(length, output) => {
+        Ok(Some((length, output))) => {
             *len = length;
             *value = output;
             OK
         }
-        Next::End => END,
-        Next::Refused(why) => code(why),
+        Ok(None) => END,
+        Err(why) => code(why),
     }
 }
 
 // Why a range stopped, as a result.
-pub fn stopped(stop: Stop) -> i32
+pub fn stopped(stop: Result<Stop, Refusal>) -> i32
     ensures { result ≡ stop_of stop }
 {
     match stop {
-        Stop::End => END,
-        Stop::More => MORE,
-        Stop::Refused(why) => code(why),
+        Ok(Stop::End) => END,
+        Ok(Stop::More) => MORE,
+        Err(why) => code(why),
     }
 }

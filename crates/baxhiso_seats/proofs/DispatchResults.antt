@@ -1,6 +1,8 @@
 -- From what one call of a seat's reading did to what a dispatch for C leaves.
 -- Assumes nothing.
 use mathlib.Core.Path.{◌≡◌, refl, sym, ap, ◌∙◌, subst}
+use Rattle.std.specs.Prelude.{Result, Option}
+use Rattle.format.specs.declared.Refusal.{Refusal}
 use mathlib.Core.Bool.{Bool, true, false}
 use mathlib.Core.Option.{some, none}
 use mathlib.Core.List.{List}
@@ -16,7 +18,6 @@ use Rattle.plain.specs.Plain.{next_plain}
 use Rattle.turns.specs.Turns as T
 use Rattle.turns.specs.Turns.{seat_at, right_test, turn, by_answer}
 use Rattle.turns.proofs.TurnsLaws.{turn_some, turn_le, turn_held, dispatch_wrong, dispatch_turn}
-use Rattle.stream_step.specs.declared.Answer.{Answer}
 use Rattle.stream.specs.declared.Plain.{Plain}
 use Rattle.stream.specs.declared.Step.{Step}
 use Rattle.stream.specs.Plains.{plain_is, PlainStepped}
@@ -41,8 +42,8 @@ module _ (i last₀ : ℕ) (w₀ : List ℕ) (r₀ : Rows) (k₀ k : List ℕ) (
         result = l.result ∙ ap result_of a;
         kept = record { last_is = refl; waiting_are = refl; rows_are = refl; seat_is_lem = refl };
         buffer = h.buffer;
-        len_is = l.len_is ∙ ap (λ (b : Answer). len_of b len₀) a;
-        value_is = l.value_is ∙ ap (λ (b : Answer). value_of b v₀) a;
+        len_is = l.len_is ∙ ap (λ (b : Result (Option (ℕ × ℕ)) Refusal). len_of b len₀) a;
+        value_is = l.value_is ∙ ap (λ (b : Result (Option (ℕ × ℕ)) Refusal). value_of b v₀) a;
       }
 
   module _ (last : ℕ) (w : List ℕ) (r : Rows) (seat : ℕ) (kept : KeptIn o.plain i w₀ r₀ last w r seat) where
@@ -54,8 +55,8 @@ module _ (i last₀ : ℕ) (w₀ : List ℕ) (r₀ : Rows) (k₀ k : List ℕ) (
           result = l.result ∙ ap result_of a;
           kept = record { plain = o.plain; is = h.gave.plain; kept = kept };
           buffer = h.buffer;
-          len_is = l.len_is ∙ ap (λ (b : Answer). len_of b len₀) a;
-          value_is = l.value_is ∙ ap (λ (b : Answer). value_of b v₀) a;
+          len_is = l.len_is ∙ ap (λ (b : Result (Option (ℕ × ℕ)) Refusal). len_of b len₀) a;
+          value_is = l.value_is ∙ ap (λ (b : Result (Option (ℕ × ℕ)) Refusal). value_of b v₀) a;
         }
     kept_by end q h e =
         let a = h.gave.answer in
@@ -63,8 +64,8 @@ module _ (i last₀ : ℕ) (w₀ : List ℕ) (r₀ : Rows) (k₀ k : List ℕ) (
           result = l.result ∙ ap result_of a;
           kept = record { plain = o.plain; is = h.gave.plain; kept = kept };
           buffer = h.buffer;
-          len_is = l.len_is ∙ ap (λ (b : Answer). len_of b len₀) a;
-          value_is = l.value_is ∙ ap (λ (b : Answer). value_of b v₀) a;
+          len_is = l.len_is ∙ ap (λ (b : Result (Option (ℕ × ℕ)) Refusal). len_of b len₀) a;
+          value_is = l.value_is ∙ ap (λ (b : Result (Option (ℕ × ℕ)) Refusal). value_of b v₀) a;
         }
     kept_by (R.Answer.refused n) q h e = absurd (let a = sym (ap is_refused h.gave.answer) ∙ e in let z : ◌≡◌ {A = ℕ} 0 1 = cc in omega arith)
 

@@ -1,6 +1,8 @@
 -- From what raising and seating did to the arrays to what the functions for C leave.
 -- Assumes nothing.
 use mathlib.Core.Path.{◌≡◌, refl, ap, ap₂, ◌∙◌}
+use Rattle.std.specs.Prelude.{Ok, Err, Some, None, Result, Option}
+use Rattle.format.specs.declared.Refusal.{Refusal}
 use mathlib.Core.Bool.{Bool, true, false}
 use mathlib.Core.Option.{some}
 use mathlib.Core.List.{List}
@@ -13,8 +15,6 @@ use Rattle.format.specs.Limits.{SEAT}
 use Rattle.plain.specs.Plain as P
 use Rattle.turns.specs.Turns as T
 use Rattle.turns.specs.Turns.{seat_at, right_test, done, taken}
-use Rattle.stream_step.specs.declared.Answer.{Answer}
-use Rattle.stream_step.specs.declared.Answer.TheVariants.{Key, End, Refused}
 use Rattle.stream_arrays.specs.Arrays.{Held, held_plain}
 use Rattle.seats_arrays.specs.SeatArrays.{FlagPut, flag, held_if, seat_of, Rows, plain_at, RowSet, Flat, flat, flat_is}
 use Rattle.seats_arrays.specs.SeatArraysLaws.{flag_yes, flag_no, table_set, seat_in}
@@ -24,13 +24,13 @@ use Rattle.baxhiso_seats.specs.Seats.{RaiseLeaves, SeatLeaves}
 
 -- ---- an answer of a reading
 
-pub key_leaves : (a : Answer) (n x len₀ v₀ : ℕ) → a ≡ Key n x → AnswerLeaves a len₀ n v₀ x OK
+pub key_leaves : (a : Result (Option (ℕ × ℕ)) Refusal) (n x len₀ v₀ : ℕ) → a ≡ Ok (Some (n, x)) → AnswerLeaves a len₀ n v₀ x OK
 key_leaves a n x len₀ v₀ is = rw is (record { result = refl; len_is = refl; value_is = refl })
 
-pub end_leaves : (a : Answer) (len₀ v₀ : ℕ) → a ≡ End → AnswerLeaves a len₀ len₀ v₀ v₀ END
+pub end_leaves : (a : Result (Option (ℕ × ℕ)) Refusal) (len₀ v₀ : ℕ) → a ≡ Ok None → AnswerLeaves a len₀ len₀ v₀ v₀ END
 end_leaves a len₀ v₀ is = rw is (record { result = refl; len_is = refl; value_is = refl })
 
-pub no_leaves : (a : Answer) (n : ℕ) (z : ℤ) (len₀ v₀ : ℕ) → a ≡ Refused n → z ≡ code n → AnswerLeaves a len₀ len₀ v₀ v₀ z
+pub no_leaves : (a : Result (Option (ℕ × ℕ)) Refusal) (n : Refusal) (z : ℤ) (len₀ v₀ : ℕ) → a ≡ Err n → z ≡ code n → AnswerLeaves a len₀ len₀ v₀ v₀ z
 no_leaves a n z len₀ v₀ is is_z = rw (is, is_z) (record { result = refl; len_is = refl; value_is = refl })
 
 -- ---- the definitions, by cases

@@ -12,12 +12,11 @@ ghost use Rattle.baxhiso_readings.specs.Readings.{AnswerLeaves};
 ghost use Rattle.baxhiso_seats.specs.Seats.{EmptyLeaves, RaiseTold, SeatLeaves, ServeLeaves, DispatchLeaves};
 
 use baxhiso::code;
-use format::SEAT;
+use format::Refusal;
 use seats_arrays::{plain_at, put_flag, put_rows};
 use seats_flags::{seats_right, turn_of};
 use seats_keep::{is_refused, keep};
 use seats_turn::LAST_SEAT;
-use stream_step::Answer;
 
 const OK: i32 = 0;
 
@@ -40,16 +39,16 @@ pub fn fst_raise_arrays(last: usize, taken: &[u8; 8], waiting: &mut [u8; 8], num
         waiting.new result }
 {
     if LAST_SEAT < number {
-        return code(SEAT);
+        return code(Refusal::Seat);
     }
     let taken_now = *taken;
     let waiting_now = *waiting;
     if !seats_right(last, taken_now, waiting_now) {
-        return code(SEAT);
+        return code(Refusal::Seat);
     }
     let empty = taken_now[number] == 0;
     if empty {
-        return code(SEAT);
+        return code(Refusal::Seat);
     }
     put_flag(waiting, number, 1);
     OK
@@ -92,12 +91,12 @@ pub fn fst_seat_arrays(
         trans.new outs.new keys.new)) result }
 {
     if LAST_SEAT < number {
-        return code(SEAT);
+        return code(Refusal::Seat);
     }
     let t = *taken;
     let w = *waiting;
     if !seats_right(last, t, w) {
-        return code(SEAT);
+        return code(Refusal::Seat);
     }
     put_rows(
         number, head, bound, addr, inp, tran, out, to_come, heads, bounds, addrs, inps, trans,
@@ -108,18 +107,18 @@ pub fn fst_seat_arrays(
 }
 
 // An answer of a reading as a result. A key's length and value are written on 0 only.
-fn answered(answer: Answer, len: &mut usize, value: &mut u64) -> i32
+fn answered(answer: Result<Option<(usize, u64)>, Refusal>, len: &mut usize, value: &mut u64) -> i32
     ensures { AnswerLeaves answer len.old len.new value.old
         value.new result }
 {
     match answer {
-        Answer::Key(length, output) => {
+        Ok(Some((length, output))) => {
             *len = length;
             *value = output;
             OK
         }
-        Answer::End => END,
-        Answer::Refused(why) => code(why),
+        Ok(None) => END,
+        Err(why) => code(why),
     }
 }
 
@@ -202,7 +201,7 @@ pub fn fst_dispatch_arrays(
     let t = *taken;
     let w = *waiting;
     if !seats_right(at, t, w) {
-        return code(SEAT);
+        return code(Refusal::Seat);
     }
     let turn = turn_of(at, w);
     match turn {

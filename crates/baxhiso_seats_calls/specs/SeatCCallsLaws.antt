@@ -4,9 +4,12 @@
 --     arrays_are, told_are    the seats after a list of calls, and its unrefused dispatches
 --     cleared_right           the arrays that fst_empty_seats leaves
 -- Assumes nothing.
-use Rattle.std.specs.Prelude.{◌≡◌, refl, Bool, true, false, cond, List, [], ◌∷◌, ℕ, suc, ◌≤◌, ℤ, length}
-use Rattle.std.proofs.Common.{sym, ap, ◌∙◌, subst}
+use Rattle.std.specs.Prelude.{◌≡◌, refl, Bool, true, false, cond, List, [], ◌∷◌, ℕ, zero, suc, ◌≤◌, ℤ, pos, length}
+use Rattle.std.proofs.Common.{sym, ap, ◌∙◌, subst, arith}
 use Rattle.std.proofs.Math.Option.{Option, none, some}
+use Rattle.format.specs.declared.Refusal.{Refusal}
+use Rattle.format.specs.Limits.{SEAT, number}
+use Rattle.format.specs.Laws.RefusalLaws.{number_from}
 use Rattle.reading.specs.Reading.{key, end}
 use Rattle.plain.specs.Plain as P
 use Rattle.plain.specs.Plain.{next_plain}
@@ -26,35 +29,39 @@ pub data CWays : T.Dispatch → Type 0 where
   c_key : (i : ℕ) (k : List ℕ) (v : ℕ) (t : Seats) → CWays (served i (key k v) t)
   c_end : (i : ℕ) (t : Seats) → CWays (served i end t)
   c_nobody : CWays nobody
-  c_refused : (n : ℕ) → CWays (T.Dispatch.refused (suc n))
+  c_refused : (n : Refusal) → 1 ≤ number n → CWays (T.Dispatch.refused n)
 
 by_step : (s : Seats) (i : ℕ) (r : P.Plain) (w : P.PlainStep) → NextTells r w → CWays (after_step s i w)
 by_step s i r w (hands_out k v q) = c_key i k v _
 by_step s i r w (comes_to_end q) = c_end i _
-by_step s i r w (leaves n) = c_refused n
+by_step s i r w (leaves n low) = c_refused n low
 
 by_reading : (file : List ℕ) (s : Seats) (space i : ℕ) (o : Option P.Plain) → CWays (serve file s space i o)
 by_reading file s space i (some r) = by_step s i r (next_plain file r space) (next_nonzero file r space)
-by_reading file s space i none = c_refused 19
+by_reading file s space i none = c_refused SEAT (number_from SEAT)
 
 by_turn_lem : (file : List ℕ) (s : Seats) (space : ℕ) (o : Option ℕ) → CWays (by_turn file s space o)
 by_turn_lem file s space (some i) = by_reading file s space i (seat_at s i).reading
 by_turn_lem file s space none = c_nobody
 
-by_right : (file : List ℕ) (s : Seats) (space : ℕ) (b : Bool) → CWays (cond b (by_turn file s space (turn s)) (T.Dispatch.refused 20))
+by_right : (file : List ℕ) (s : Seats) (space : ℕ) (b : Bool) → CWays (cond b (by_turn file s space (turn s)) (T.Dispatch.refused SEAT))
 by_right file s space true = by_turn_lem file s space (turn s)
-by_right file s space false = c_refused 19
+by_right file s space false = c_refused SEAT (number_from SEAT)
 
 pub c_ways : (file : List ℕ) (s : Seats) (space : ℕ) → CWays (T.dispatch file s space)
 unfolding T.dispatch
 c_ways file s space = by_right file s space (right_test s)
+
+told_no : (n : ℕ) → 1 ≤ n → (seat : ℕ) (more : List (Option ℕ)) → told_then (pos n) seat more ≡ more
+told_no zero h seat more = absurd (omega arith)
+told_no (suc n) h seat more = refl
 
 told_one : (q : T.Dispatch) → CWays q → {a b : Flat} {k₀ k : List ℕ} {seat₀ seat len₀ len v₀ v : ℕ} {r : ℤ} → DispatchLeaves q a b k₀ k seat₀ seat len₀ len v₀ v r
     → (more : List (Option ℕ)) → told_then r seat more ≡ unrefused_then q more
 told_one q (c_key i k v t) l more = rw (l.result, l.seat_is_lem) refl
 told_one q (c_end i t) l more = rw (l.result, l.seat_is_lem) refl
 told_one q c_nobody l more = rw l.result refl
-told_one q (c_refused n) l more = rw l.result refl
+told_one q (c_refused n low) l more = rw l.result (told_no (number n) low _ more)
 
 -- ---- a list of calls
 

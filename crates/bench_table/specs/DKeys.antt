@@ -4,8 +4,9 @@
 --     ThirdTable c         these entries
 --     counted_D            that, for every outcome of the fill
 -- Assumes nothing.
-use Rattle.std.specs.Prelude.{◌≡◌, refl, List, ℕ, ◌≤◌, ◌<◌, length, get_or}
+use Rattle.std.specs.Prelude.{◌≡◌, refl, List, ℕ, ◌≤◌, ◌<◌, length, get_or, Ok, Result, ⊤}
 use Rattle.std.proofs.Common.{sym, ap, ◌∙◌, subst, ⊎_elim, arith}
+use Rattle.format.specs.declared.Refusal.{Refusal}
 use mathlib.Core.List.Memᴰ
 use Rattle.format.specs.Bytes.{bytes_of}
 use Rattle.format.specs.Opening.{Meta, opened, opening}
@@ -13,8 +14,6 @@ use Rattle.format.specs.Paths.{Fst, fst_of}
 use Rattle.format.specs.Tables.{sum_of, keys_from, InTable}
 use Rattle.format.specs.Laws.KeysLaws.{keys_of, keys_zero, keys_path_le}
 use Rattle.format.specs.Laws.ReachedLaws.{reached_root, reached_by, reached_stays}
-use Rattle.counting.specs.declared.Counting.{Counting}
-use Rattle.counting.specs.declared.Counting.TheVariants.{Counted}
 use Rattle.counting.specs.CountOutcomes.{FewKeys, Counts, CountOutcome}
 use Rattle.counting.proofs.CountExactly.{FewAdmitted, count_exactly}
 use Rattle.bench_table.specs.BenchTable.{D}
@@ -79,8 +78,8 @@ filled_D {c = c} o =
 few_D : FewAdmitted D
 few_D = record { admitted = admitted_D; few = subst (λ (m : Meta). FewKeys (fst_of D m)) (sym meta_D) few }
 
-pub counted_D : (d₀ s₀ c₀ d t c : List ℕ) (r : Counting) → 50 ≤ length d₀ → 50 ≤ length s₀ → 50 ≤ length c₀ → CountOutcome D d₀ s₀ c₀ d t c r
-    → (r ≡ Counted) × ThirdTable c
+pub counted_D : (d₀ s₀ c₀ d t c : List ℕ) (r : Result ⊤ Refusal) → 50 ≤ length d₀ → 50 ≤ length s₀ → 50 ≤ length c₀ → CountOutcome D d₀ s₀ c₀ d t c r
+    → (r ≡ (Ok tt)) × ThirdTable c
 counted_D d₀ s₀ c₀ d t c r h g k o =
     let is = (count_exactly D d₀ s₀ c₀ d t c r (omega (arith, length_D)) (omega (arith, length_D)) (omega (arith, length_D)) o).1 few_D in
     (is, filled_D (subst (λ x. CountOutcome D d₀ s₀ c₀ d t c x) is o))

@@ -6,7 +6,7 @@ use Rattle.std.specs.Prelude.{◌≡◌, refl, List, [], ◌∷◌, ◌++◌, �
 use Rattle.std.proofs.Math.Option.{none}
 use Rattle.format.specs.Bytes.{le, bytes_of}
 use Rattle.format.specs.CommonInputs.{common_inputs_inv}
-use Rattle.format.specs.Limits.{max_sum}
+use Rattle.format.specs.Limits.{max_sum, NODE, SPACE, BOUND, STATE, COUNT}
 use Rattle.format.specs.Node.{head_len, input_of, ntrans_of, sizes_byte, index_len, size_of, down_from, bytes_down, numbers_down, transitions_of, node_of, sound_test, node_at, find_from, first_above}
 use Rattle.format.specs.Opening.{meta_of, root_test, opening}
 use Rattle.format.specs.Paths.{Fst, fst_with}
@@ -56,19 +56,19 @@ step p = next_plain D p 255
 pub record NumberTable : Type 0 where
   pub keys_of_D : (keys_from file_d 0 ≡ 1) × (keys_from file_d 21 ≡ 2) × (keys_from file_d 29 ≡ 3) × (keys_from file_d 28 ≡ 0)
   pub none : Row unbounded unbounded (comes_to 3) (comes_to 0) (comes_to 3) (comes_to max_sum) (29 ∷ [])
-  pub from_at_below_e : Row (included (97 ∷ 116 ∷ [])) (excluded (101 ∷ [])) (comes_to 1) (refused 19) (comes_to 4) (comes_to 18446744073709551614) (21 ∷ [])
-  pub from_b : Row (included (98 ∷ [])) unbounded (comes_to 1) (comes_to 0) (refused 19) (comes_to 0) (29 ∷ 21 ∷ [])
-  pub after_at : Row (excluded (97 ∷ 116 ∷ [])) unbounded (comes_to 1) (refused 19) (comes_to 1) (comes_to 18446744073709551613) (29 ∷ [])
+  pub from_at_below_e : Row (included (97 ∷ 116 ∷ [])) (excluded (101 ∷ [])) (comes_to 1) (refused COUNT) (comes_to 4) (comes_to 18446744073709551614) (21 ∷ [])
+  pub from_b : Row (included (98 ∷ [])) unbounded (comes_to 1) (comes_to 0) (refused COUNT) (comes_to 0) (29 ∷ 21 ∷ [])
+  pub after_at : Row (excluded (97 ∷ 116 ∷ [])) unbounded (comes_to 1) (refused COUNT) (comes_to 1) (comes_to 18446744073709551613) (29 ∷ [])
   pub to_a : Row unbounded (included (97 ∷ [])) (comes_to 1) (comes_to 1) (comes_to 1) (comes_to 1) []
   pub below_a : Row unbounded (excluded (97 ∷ [])) (comes_to 0) (comes_to 0) (comes_to 0) (comes_to 0) []
   pub below_empty : Row unbounded (excluded []) (comes_to 0) (comes_to 0) (comes_to 0) (comes_to 0) []
-  pub to_zz : Row unbounded (included (122 ∷ 122 ∷ [])) (comes_to 3) (comes_to 1) (comes_to 6) (refused 19) (21 ∷ [])
+  pub to_zz : Row unbounded (included (122 ∷ 122 ∷ [])) (comes_to 3) (comes_to 1) (comes_to 6) (refused COUNT) (21 ∷ [])
   pub from_e_to_a : Row (included (101 ∷ [])) (included (97 ∷ [])) (comes_to 0) (comes_to 0) (comes_to 0) (comes_to 0) []
   pub after_a_to_a : Row (excluded (97 ∷ [])) (included (97 ∷ [])) (comes_to 0) (comes_to 0) (comes_to 0) (comes_to 0) []
   -- NODE of the upper bound comes before COUNT; bounds that cross judge no node
-  pub node_first : (number file_c all_most unbounded (included (98 ∷ [])) ≡ refused 5)
+  pub node_first : (number file_c all_most unbounded (included (98 ∷ [])) ≡ refused NODE)
       × (number file_c all_most (included (99 ∷ [])) (included (98 ∷ [])) ≡ comes_to 0)
-      × (number file_c all_most unbounded (included (99 ∷ [])) ≡ refused 19)
+      × (number file_c all_most unbounded (included (99 ∷ [])) ≡ refused COUNT)
   -- one key at root 0, without an entry; none where there are no bytes
   pub no_nodes : (number file0 [] unbounded unbounded ≡ comes_to 1)
       × (number file0 [] (excluded []) unbounded ≡ comes_to 0)
@@ -77,14 +77,14 @@ pub record NumberTable : Type 0 where
       × (number blank [] unbounded (included (97 ∷ [])) ≡ comes_to 0)
   -- the table's length is judged after the bounds
   pub starts : (start_plain D unbounded unbounded (table 2 3) ≡ begun (fresh 3))
-      × (start_plain D unbounded unbounded (replicate 49 0) ≡ Begun.refused 8)
-      × (start_plain D (included (replicate 256 0)) unbounded (replicate 49 0) ≡ Begun.refused 9)
-      × (start_plain D (included (98 ∷ [])) unbounded (table 5 3) ≡ Begun.refused 19)
+      × (start_plain D unbounded unbounded (replicate 49 0) ≡ Begun.refused SPACE)
+      × (start_plain D (included (replicate 256 0)) unbounded (replicate 49 0) ≡ Begun.refused BOUND)
+      × (start_plain D (included (98 ∷ [])) unbounded (table 5 3) ≡ Begun.refused COUNT)
   -- a number that says fewer keys than come, and one that says more
-  pub calls : (step (fresh 0) ≡ record { answer = Answer.refused 11; reading = fresh 0 })
+  pub calls : (step (fresh 0) ≡ record { answer = Answer.refused STATE; reading = fresh 0 })
       × ((step (fresh 1)).answer ≡ key (97 ∷ []) 1)
       × ((step (fresh 1)).reading.keys ≡ 0)
-      × (step (step (fresh 1)).reading ≡ record { answer = Answer.refused 11; reading = (step (fresh 1)).reading })
+      × (step (step (fresh 1)).reading ≡ record { answer = Answer.refused STATE; reading = (step (fresh 1)).reading })
       × ((step (step (step (step (fresh 9)).reading).reading).reading).answer ≡ end)
       × ((step (step (step (step (fresh 9)).reading).reading).reading).reading.keys ≡ 6)
 

@@ -7,6 +7,7 @@
 -- Assumes nothing.
 use Rattle.std.specs.Prelude.{◌≡◌, refl, Bool, true, false, List, [], ◌∷◌, ◌++◌, ℕ, replicate}
 use Rattle.std.proofs.Math.Option.{Option, none, some}
+use Rattle.format.specs.declared.Refusal.{Refusal}
 use Rattle.format.specs.Bytes.{le, bytes_of}
 use Rattle.format.specs.CommonInputs.{common_inputs_inv, common_input}
 use Rattle.format.specs.Limits.{SUM, STATE, PATTERN}
@@ -31,7 +32,7 @@ pub record ReadsBy (s : List ℕ) (p : Pattern) (lo hi : Bound) (es : List Entry
   pub runs : RunsBy s p reading es last
   pub total : last.total ≡ followed
 
-pub record RefusedBy (s : List ℕ) (p : Pattern) (lo hi : Bound) (n : ℕ) : Type 0 where
+pub record RefusedBy (s : List ℕ) (p : Pattern) (lo hi : Bound) (n : Refusal) : Type 0 where
   pub reading : View
   pub starts : start_by s p lo hi ≡ started reading
   pub refuses : next_by s p reading 255 ≡ refuse reading n
@@ -77,7 +78,7 @@ pub record PatternTable : Type 0 where
   -- Nested, a, upper bound "" excluded: the end, 0; with the lower bound "" excluded too: the end, 1
   pub empty_shut : ReadsBy Nested (whole (some 97 ∷ [])) unbounded (excluded []) [] 0
   pub empty_shut_below : ReadsBy Nested (whole (some 97 ∷ [])) (excluded []) (excluded []) [] 1
-  -- Heavy, a: refused 7; b: the end, 1
+  -- Heavy, a: refused SUM; b: the end, 1
   pub heavy_a : RefusedBy Heavy (whole (some 97 ∷ [])) unbounded unbounded SUM
   pub heavy_b : ReadsBy Heavy (whole (some 98 ∷ [])) unbounded unbounded [] 1
   -- 255 positions, with any rest too, are taken; 256 given, 256 held: 12; 256 held and 257 levels: 11

@@ -4,3 +4,4 @@ pub mod Put
 pub mod PutLaws
 pub mod CopyLaws
 pub mod WritingLaws
+pub mod FillingLaws

@@ -5,6 +5,7 @@
 ghost use Rattle.std.specs.Prelude.{◌≡◌, ◌++◌, ◌≤◌, length, take, drop};
 
 // Copies the first n bytes of bytes to the front of out; the rest of out stays as given.
+// n is less than either length where a part of a larger buffer is copied, so no slice has it as its length.
 pub fn copy_front(bytes: &[u8], n: usize, out: &mut [u8])
     requires { (n ≤ length bytes.now) × (n ≤ length out.old) }
     ensures { out.new ≡ take n bytes.now ++ drop n out.old }

@@ -1,6 +1,8 @@
 -- The cases of carrying a reading: each refusal, the reading at its new addresses, and the plain reading and the pattern around it.
 -- Assumes nothing.
 use mathlib.Core.Path.{◌≡◌, refl, sym, ap, ap₂, ◌∙◌, subst}
+use Rattle.std.specs.Prelude.{Ok, Err, Result, ⊤}
+use Rattle.format.specs.declared.Refusal.{Refusal}
 use mathlib.Core.Bool.{Bool, true, false, ◌&&◌}
 use mathlib.Core.List.{List}
 use Prim.Native.Nat.{ℕ, ◌≤◌}
@@ -25,10 +27,7 @@ use Rattle.patterned_held.specs.declared.Pattern.{Pattern}
 use Rattle.patterned.specs.declared.Patterned.{Patterned}
 use Rattle.carrying.specs.Carry as C
 use Rattle.carrying.specs.Carry.{carry_levels, after_levels, carried_to, carry_with, with_keys}
-use Rattle.carry_levels.specs.declared.CarriedLevels.{CarriedLevels}
-use Rattle.carry_levels.specs.declared.CarriedLevels.TheVariants as Levels
 use Rattle.carry_levels.specs.Settling.{carried_as, LevelsCarried}
-use Rattle.carry.specs.declared.Carries.TheVariants as Answer
 use Rattle.carry.specs.declared.CarriedReading.{CarriedReading}
 use Rattle.carry.specs.declared.Carried.{Carried}
 use Rattle.carry.specs.declared.CarriedBy.{CarriedBy}
@@ -36,10 +35,10 @@ use Rattle.carry.specs.Carries.{ReadingCarried, PlainCarried, PatternedCarried}
 
 -- ---- the two answers
 
-pub refused_given : (why : ℕ) (r : Reading) → ReadingCarried (C.Carried.refused why) r (record { answer = Answer.Refused why; reading = r })
+pub refused_given : (why : Refusal) (r : Reading) → ReadingCarried (C.Carried.refused why) r (record { answer = Err why; reading = r })
 refused_given why r = record { answer = refl; carried = λ v is. absurd (let z : ◌≡◌ {A = ℕ} 0 1 = cc in omega arith); kept = λ n is. refl }
 
-pub carried_given : (v : View) (given after : Reading) → view_is after ≡ v → ReadingCarried (C.Carried.carried v) given (record { answer = Answer.Carried; reading = after })
+pub carried_given : (v : View) (given after : Reading) → view_is after ≡ v → ReadingCarried (C.Carried.carried v) given (record { answer = Ok tt; reading = after })
 carried_given v given after is = record {
   answer = refl;
   carried = λ w e. let same : v ≡ w = cc in is ∙ same;
@@ -48,16 +47,16 @@ carried_given v given after is = record {
 
 -- ---- the levels
 
-module _ (r : Reading) {f g : Fst} {ys : List ℕ} {d : CarriedLevels} (w : LevelsCarried f g r.levels r.addrs r.inps r.outs ys d) (len : ℕ) where
+module _ (r : Reading) {f g : Fst} {ys : List ℕ} {d : Result ⊤ Refusal} (w : LevelsCarried f g r.levels r.addrs r.inps r.outs ys d) (len : ℕ) where
   abbrev want : C.Carried
   want = after_levels len (view_is r) (carry_levels f g (stack_is r.levels r.addrs r.inps r.trans r.outs))
 
-  pub levels_halted : (why : ℕ) → d ≡ Levels.Halted why → (x : CarriedReading) → ReadingCarried (C.Carried.refused why) r x → ReadingCarried want r x
+  pub levels_halted : (why : Refusal) → d ≡ Err why → (x : CarriedReading) → ReadingCarried (C.Carried.refused why) r x → ReadingCarried want r x
   levels_halted why is x h =
       subst (λ (q : C.Carried). ReadingCarried q r x)
       (ap (carried_as len (view_is r) (stack_is r.levels ys r.inps r.trans r.outs)) (sym is) ∙ w.carries r.trans len (view_is r)) h
 
-  pub levels_all : d ≡ Levels.All → (x : CarriedReading)
+  pub levels_all : d ≡ Ok tt → (x : CarriedReading)
       → ReadingCarried (C.Carried.carried (carried_to len (view_is r) (stack_is r.levels ys r.inps r.trans r.outs))) r x → ReadingCarried want r x
   levels_all is x h =
       subst (λ (q : C.Carried). ReadingCarried q r x)
@@ -79,12 +78,12 @@ module _ (fits : Bool) (old new : List ℕ) (r : Reading) (x : CarriedReading) w
   abbrev whole : C.Carried
   whole = carry_with fits old new (view_is r)
 
-  pub old_refused : (n : ℕ) → opening old ≡ Opening.refused n → ReadingCarried (C.Carried.refused n) r x → ReadingCarried whole r x
+  pub old_refused : (n : Refusal) → opening old ≡ Opening.refused n → ReadingCarried (C.Carried.refused n) r x → ReadingCarried whole r x
   unfolding carry_with
   old_refused n e h = rw e h
 
   module _ (m : Meta) (opens : opening old ≡ opened m) where
-    pub new_refused : (n : ℕ) → opening new ≡ Opening.refused n → ReadingCarried (C.Carried.refused n) r x → ReadingCarried whole r x
+    pub new_refused : (n : Refusal) → opening new ≡ Opening.refused n → ReadingCarried (C.Carried.refused n) r x → ReadingCarried whole r x
     unfolding carry_with
     new_refused n e h = rw (opens, e) h
 

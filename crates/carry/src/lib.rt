@@ -11,48 +11,40 @@ ghost use Rattle.patterned_held.specs.HeldPatterns.{held_is};
 ghost use Rattle.carrying.specs.Carry as C;
 ghost use Rattle.carry.specs.Carries.{ReadingCarried, PlainCarried, PatternedCarried};
 
-use carry_levels::{CarriedLevels, carry_levels};
-use format::{LEVELS, MAX_KEY, PATTERN, STATE};
-use fst::Opened;
+use carry_levels::carry_levels;
+use format::{LEVELS, MAX_KEY, Refusal};
 use patterned::Patterned;
 use stream::Plain;
 use stream_bounds::state_right;
 use stream_start::Reading;
 
-// Whether the reading was carried, or the number of a refusal.
-#[derive(Clone, Copy)]
-pub enum Carries {
-    Carried,
-    Refused(u8),
-}
-
 // What carrying a plain reading gives back: after a refusal the reading that was given.
 #[derive(Clone, Copy)]
 pub struct Carried {
-    pub answer: Carries,
+    pub answer: Result<(), Refusal>,
     pub plain: Plain,
 }
 
 // What carrying a reading by pattern gives back: after a refusal the reading that was given.
 #[derive(Clone, Copy)]
 pub struct CarriedBy {
-    pub answer: Carries,
+    pub answer: Result<(), Refusal>,
     pub patterned: Patterned,
 }
 
 // What carrying a reading gives back.
 #[derive(Clone, Copy)]
 struct CarriedReading {
-    answer: Carries,
+    answer: Result<(), Refusal>,
     reading: Reading,
 }
 
 // A refusal, with the reading as it was given.
-fn refused(why: u8, reading: Reading) -> CarriedReading
+fn refused(why: Refusal, reading: Reading) -> CarriedReading
     ensures { ReadingCarried (C.Carried.refused why) reading result }
 {
     CarriedReading {
-        answer: Carries::Refused(why),
+        answer: Err(why),
         reading,
     }
 }
@@ -64,7 +56,7 @@ fn placed(reading: Reading, len: usize, moved: [u32; LEVELS]) -> CarriedReading
         reading result }
 {
     CarriedReading {
-        answer: Carries::Carried,
+        answer: Ok(()),
         reading: Reading {
             len,
             addrs: moved,
@@ -107,8 +99,8 @@ fn carry_opened(
         &outs,
         &mut moved,
     ) {
-        CarriedLevels::Halted(why) => refused(why, reading),
-        CarriedLevels::All => placed(reading, new.len(), moved),
+        Err(why) => refused(why, reading),
+        Ok(()) => placed(reading, new.len(), moved),
     }
 }
 
@@ -119,21 +111,21 @@ fn carry_reading(old: &[u8], new: &[u8], reading: Reading, fits: bool) -> Carrie
 {
     let opened = fst::open(old);
     match opened {
-        Opened::Refused(why) => refused(why, reading),
-        Opened::Meta(m) => {
+        Err(why) => refused(why, reading),
+        Ok(m) => {
             let opened_new = fst::open(new);
             match opened_new {
-                Opened::Refused(why) => refused(why, reading),
-                Opened::Meta(q) => {
+                Err(why) => refused(why, reading),
+                Ok(q) => {
                     if !state_right(reading.levels, reading.bound_len, reading.len, old.len()) {
-                        return refused(STATE, reading);
+                        return refused(Refusal::State, reading);
                     }
                     if fits {
                         return carry_opened(
                             old, m.version, m.root, new, q.version, q.root, reading,
                         );
                     }
-                    refused(PATTERN, reading)
+                    refused(Refusal::Pattern, reading)
                 }
             }
         }

@@ -8,38 +8,31 @@ ghost use Rattle.format.specs.Paths.{fst_with};
 ghost use Rattle.node.specs.Read.{Readable};
 ghost use Rattle.carry_levels.specs.Settling.{Settles, FirstCarried, LevelCarried, WalkedTo, LevelsCarried};
 
-use format::{CARRY, LEVELS, NODE};
+use format::{LEVELS, Refusal};
 use node::Node;
-
-// A level in the new file: its address and its node there, or the number of a refusal.
-#[derive(Clone, Copy)]
-enum Settled {
-    Stands(u32, Node),
-    Halted(u8),
-}
-
-// Whether all levels stand in the new file, or the number of a refusal.
-#[derive(Clone, Copy)]
-pub enum CarriedLevels {
-    All,
-    Halted(u8),
-}
 
 // The level that stands at addr of the new file, where its old node has ntrans transitions: NODE, then CARRY where the node there has another number
 // of them, or where the running value is not the same.
-fn settle(new: &[u8], version: u64, root: usize, addr: usize, ntrans: usize, same: bool) -> Settled
+fn settle(
+    new: &[u8],
+    version: u64,
+    root: usize,
+    addr: usize,
+    ntrans: usize,
+    same: bool,
+) -> Result<(u32, Node), Refusal>
     requires { root < 4294967296 }
     ensures { Settles new.now version root addr ntrans same result }
 {
     let Ok(m) = node::node_at(new, version, root, addr) else {
-        return Settled::Halted(NODE);
+        return Err(Refusal::Node);
     };
     let as_many = m.ntrans == ntrans;
     if as_many && same {
         let to = addr as u32;
-        return Settled::Stands(to, m);
+        return Ok((to, m));
     }
-    Settled::Halted(CARRY)
+    Err(Refusal::Carry)
 }
 
 // Whether sum and output come to out. A sum past 64 bits is another value.
@@ -59,13 +52,13 @@ fn first_level(
     root: usize,
     addr: usize,
     out: u64,
-) -> Settled
+) -> Result<(u32, Node), Refusal>
     requires { root < 4294967296 }
     ensures { FirstCarried (fst_with old.now old_version old_root)
         new.now version root addr out result }
 {
     let Ok(m) = node::node_at(old, old_version, old_root, addr) else {
-        return Settled::Halted(NODE);
+        return Err(Refusal::Node);
     };
     settle(new, version, root, root, m.ntrans, 0 == out)
 }
@@ -84,16 +77,16 @@ fn next_level(
     out: u64,
     below: Node,
     sum: u64,
-) -> Settled
+) -> Result<(u32, Node), Refusal>
     requires { (root < 4294967296) × Readable new.now below }
     ensures { LevelCarried (fst_with old.now old_version old_root)
         new.now version root addr inp out below sum result }
 {
     let Ok(m) = node::node_at(old, old_version, old_root, addr) else {
-        return Settled::Halted(NODE);
+        return Err(Refusal::Node);
     };
     let Ok(p) = node::find_input(new, below, inp) else {
-        return Settled::Halted(CARRY);
+        return Err(Refusal::Carry);
     };
     let to = node::transition_addr(new, below, p);
     let output = node::output(new, below, p);
@@ -114,7 +107,7 @@ fn other_levels(
     outs: &[u64; LEVELS],
     first: Node,
     moved: &mut [u32; LEVELS],
-) -> CarriedLevels
+) -> Result<(), Refusal>
     requires root_bound { (root < 4294967296) × (0 < levels) × (levels ≤ max_levels)
         × (length addrs.now ≡ max_levels) × (length inps.now ≡ max_levels)
         × (length outs.now ≡ max_levels) × (length moved.old ≡ max_levels) }
@@ -128,7 +121,7 @@ fn other_levels(
     for k in 1..levels {
         let addr = addrs[k] as usize;
         let sum = outs[k - 1];
-        let settled = next_level(
+        let (to, m) = next_level(
             old,
             old_version,
             old_root,
@@ -140,18 +133,11 @@ fn other_levels(
             outs[k],
             below,
             sum,
-        );
-        match settled {
-            Settled::Halted(why) => {
-                return CarriedLevels::Halted(why);
-            }
-            Settled::Stands(to, m) => {
-                moved[k] = to;
-                below = m;
-            }
-        }
+        )?;
+        moved[k] = to;
+        below = m;
     }
-    CarriedLevels::All
+    Ok(())
 }
 
 // The levels of a reading, from the first up: their new addresses go to moved. A reading at its end has none.
@@ -167,7 +153,7 @@ pub fn carry_levels(
     inps: &[u8; LEVELS],
     outs: &[u64; LEVELS],
     moved: &mut [u32; LEVELS],
-) -> CarriedLevels
+) -> Result<(), Refusal>
     requires { (root < 4294967296) × (levels ≤ max_levels) × (length addrs.now ≡ max_levels)
         × (length inps.now ≡ max_levels) × (length outs.now ≡ max_levels)
         × (length moved.old ≡ max_levels) }
@@ -176,10 +162,10 @@ pub fn carry_levels(
         outs.now moved.new result }
 {
     if levels == 0 {
-        return CarriedLevels::All;
+        return Ok(());
     }
     let addr = addrs[0] as usize;
-    let settled = first_level(
+    let (to, first) = first_level(
         old,
         old_version,
         old_root,
@@ -188,25 +174,20 @@ pub fn carry_levels(
         root,
         addr,
         outs[0],
-    );
-    match settled {
-        Settled::Halted(why) => CarriedLevels::Halted(why),
-        Settled::Stands(to, first) => {
-            moved[0] = to;
-            other_levels(
-                old,
-                old_version,
-                old_root,
-                new,
-                version,
-                root,
-                levels,
-                addrs,
-                inps,
-                outs,
-                first,
-                moved,
-            )
-        }
-    }
+    )?;
+    moved[0] = to;
+    other_levels(
+        old,
+        old_version,
+        old_root,
+        new,
+        version,
+        root,
+        levels,
+        addrs,
+        inps,
+        outs,
+        first,
+        moved,
+    )
 }

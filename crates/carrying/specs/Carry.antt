@@ -8,6 +8,7 @@
 -- total and number are copied and not judged.
 -- Assumes nothing.
 use Rattle.std.specs.Prelude.{Bool, true, false, cond, ◌&&◌, List, [], ◌∷◌, ℕ, ◌+◌, leb, eqb, length}
+use Rattle.format.specs.declared.Refusal.{Refusal}
 use Rattle.format.specs.declared.Transition.{Transition}
 use Rattle.format.specs.Limits.{max_path, NODE, STATE, PATTERN, CARRY}
 use Rattle.format.specs.Node.{Node, find_input, transition_at}
@@ -23,7 +24,7 @@ use Rattle.pattern.specs.Pattern.{Pattern}
 pub data Carrying : Type 0 where
   none_yet : Carrying
   over : Level → List Level → Node → Carrying
-  halted : ℕ → Carrying
+  halted : Refusal → Carrying
 
 -- the same level at another address
 abbrev pub level_at : ℕ → Level → Level
@@ -59,7 +60,7 @@ carry_levels old new (l ∷ s) = carry_level old new l (carry_levels old new s)
 
 pub data Carried : Type 0 where
   carried : View → Carried
-  refused : ℕ → Carried
+  refused : Refusal → Carried
 
 -- the new file's length and the carried levels; all else as it was
 abbrev pub carried_to : ℕ → View → List Level → View
@@ -94,7 +95,7 @@ carry_by old new p r = carry_with (leb (length p.positions) max_path) old new r
 
 pub data CarriedPlain : Type 0 where
   carried : Plain → CarriedPlain
-  refused : ℕ → CarriedPlain
+  refused : Refusal → CarriedPlain
 
 abbrev pub with_keys : ℕ → Carried → CarriedPlain
 with_keys keys (Carried.carried r) = CarriedPlain.carried (plain_with r keys)

@@ -14,6 +14,7 @@ use mathlib.Core.List.{List, [], ◌∷◌, map}
 use borrow.Author.Tests.{ltb-true, le-leb, lt-leb}
 use Rattle.std.proofs.Math.ListN.{length}
 use Rattle.std.proofs.lemmas.List.{length-map}
+use Rattle.format.specs.declared.Refusal.{Refusal}
 use Rattle.format.specs.Limits.{max_path, max_levels, max_sum, SPACE, STATE}
 use Rattle.format.specs.Node.{Node, sound}
 use Rattle.format.specs.Laws.TransitionLaws.{at_member}
@@ -113,7 +114,7 @@ module _ (s : List ℕ) (m : Meta) (opens : opening s ≡ opened m) (p : Pattern
   call_by_walks r o c h =
       ap (λ (file : List ℕ). next_by file p r c.space) (file_same c h) ∙ rw (opens, state_own s m opens r o, short, le-leb max_path c.space h.room)
 
-  pub call_by_refused : (r : View) → Own s m r → (c : Call s) → ¬ Allowed c → (n : ℕ) × (call_by p r c ≡ refuse r n)
+  pub call_by_refused : (r : View) → Own s m r → (c : Call s) → ¬ Allowed c → (n : Refusal) × (call_by p r c ≡ refuse r n)
   unfolding next_by
   call_by_refused r o c out =
       ⊎_elim
@@ -128,7 +129,7 @@ module _ (s : List ℕ) (m : Meta) (opens : opening s ≡ opened m) (p : Pattern
       (λ ne. by c.file (state_other s m opens r o c.file ne) (opening c.file) refl)
       c.which
     where
-      by : (other : List ℕ) → state_test r (length other) ≡ false → (q : Opening) → opening other ≡ q → (n : ℕ) × (next_by other p r c.space ≡ refuse r n)
+      by : (other : List ℕ) → state_test r (length other) ≡ false → (q : Opening) → opening other ≡ q → (n : Refusal) × (next_by other p r c.space ≡ refuse r n)
       by other wrong (opened m') q = (STATE, rw (q, wrong))
       by other wrong (Opening.refused n) q = (n, rw q)
 

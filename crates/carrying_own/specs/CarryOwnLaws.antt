@@ -7,6 +7,7 @@
 use Rattle.std.specs.Prelude.{◌≡◌, refl, Bool, true, false, cond, ◌&&◌, ℕ, ◌≤◌, ◌<◌, ltb, leb, eqb, length, get_or}
 use Rattle.std.proofs.Common.{sym, ap, ap₂, ◌∙◌, subst, ⊎_elim, arith}
 use Rattle.std.proofs.Math.Option.{Option, none, some}
+use Rattle.format.specs.declared.Refusal.{Refusal}
 use mathlib.Core.List.{List, [], ◌∷◌, ◌++◌, map, append_assoc}
 use borrow.Author.Tests.{ne_eqb, eqb-true, ltb-false}
 use Rattle.format.specs.Limits.{max_path, max_len, LARGE, SPACE, EDITION}
@@ -52,7 +53,7 @@ twin_calls s' (c ∷ cs) =
 
 -- ---- two files of which the one mirrors the other
 
-pub refused_none : {a : Answer} (n : ℕ) (more : List Answer) → a ≡ Answer.refused n → unrefused_then a more ≡ more
+pub refused_none : {a : Answer} (n : Refusal) (more : List Answer) → a ≡ Answer.refused n → unrefused_then a more ≡ more
 refused_none n more is = rw is
 
 -- both files have bytes and open

@@ -16,6 +16,7 @@ use Prim.Native.Nat.{ℕ, zero, suc, ◌+◌, ◌-◌, ◌<◌, ◌≤◌}
 use native.Mathlib.Omega.{arith}
 use borrow.Author.Tests.{ltb-true, leb-true, le-leb, lt-leb, eq-eqb, ne_eqb}
 use Rattle.std.proofs.Math.ListN.{length}
+use Rattle.format.specs.declared.Refusal.{Refusal}
 use Rattle.format.specs.Limits.{max_path, max_levels, max_sum, SPACE, BOUND, STATE}
 use Rattle.format.specs.Node.{Node, Judgement, sound, unsound, Search, find_input, transition_at}
 use Rattle.format.specs.Laws.TransitionLaws.{at_member, find_input_member}
@@ -251,7 +252,7 @@ module _ (s : List ℕ) (m : Meta) (opens : opening s ≡ opened m) where
   call_walks r o c h =
       ap (λ (file : List ℕ). next file r c.space) (file_same c h) ∙ rw (opens, state_own r o, le-leb max_path c.space h.room)
 
-  pub call_refused : (r : View) → Own s m r → (c : Call s) → ¬ Allowed c → (n : ℕ) × (call r c ≡ refuse r n)
+  pub call_refused : (r : View) → Own s m r → (c : Call s) → ¬ Allowed c → (n : Refusal) × (call r c ≡ refuse r n)
   unfolding next
   call_refused r o c out =
       ⊎_elim
@@ -263,7 +264,7 @@ module _ (s : List ℕ) (m : Meta) (opens : opening s ≡ opened m) where
       (λ ne. by c.file (state_other r o c.file ne) (opening c.file) refl)
       c.which
     where
-      by : (other : List ℕ) → state_test r (length other) ≡ false → (q : Opening) → opening other ≡ q → (n : ℕ) × (next other r c.space ≡ refuse r n)
+      by : (other : List ℕ) → state_test r (length other) ≡ false → (q : Opening) → opening other ≡ q → (n : Refusal) × (next other r c.space ≡ refuse r n)
       by other wrong (opened m') q = (STATE, rw (q, wrong))
       by other wrong (Opening.refused n) q = (n, rw q)
 

@@ -1,9 +1,11 @@
 -- The straight line of a conversion: what the file says, the answer for another version, the work tables restored, and the whole.
 -- Assumes nothing.
 use mathlib.Core.Path.{◌≡◌, refl, sym, ap, ◌∙◌, subst}
-use mathlib.Core.Logic.{◌⊎◌, inl, inr}
+use Rattle.std.specs.Prelude.{Ok, Err, Result, ⊤, ℕ}
+use Rattle.format.specs.declared.Refusal.{Refusal}
+use mathlib.Core.Logic.{inl, inr}
 use mathlib.Core.List.{List}
-use Prim.Native.Nat.{ℕ, ◌+◌, ◌≤◌, ◌<◌}
+use Prim.Native.Nat.{ℕ}
 use native.Mathlib.Omega.{arith}
 use lib.ListN.{length}
 use Rattle.format.specs.Limits.{EDITION}
@@ -12,26 +14,19 @@ use Rattle.format.specs.Opening.{opened, opening}
 use Rattle.format.specs.Admitted.{Admitted}
 use Rattle.fst.specs.Open.{opening_is, meta_is}
 use Rattle.fst.specs.declared.Meta.{Meta}
-use Rattle.fst.specs.declared.Opened.{Opened}
-use Rattle.fst.specs.declared.Opened.TheVariants.{Meta as Read, Refused as Shut}
-use Rattle.admission.specs.declared.Admission.{Admission}
-use Rattle.admission.specs.declared.Admission.TheVariants.{Admitted as Yes, Refused as No}
 use Rattle.admission.specs.Outcome.{Admits, Outcome}
 use Rattle.admission.specs.Exactly.{admitted_is}
-use Rattle.converting.specs.Converting.{conversion}
-use Rattle.convert.specs.Convert.{ConvertsBy, NotAdmitted, OfAdmitted, Converts, Marked, Says, OldFile, OldConverted, AgainConverted}
+use Rattle.convert.specs.Convert.{Converts, Marked, Says, OldFile, OldConverted, AgainConverted}
 use Rattle.convert.specs.ConvertLaws.{conversion_edition, same_meta, chain_only, admitted_again}
-use Rattle.convert.specs.declared.Converted.{Converted}
-use Rattle.convert.specs.declared.Converted.TheVariants.{Refused}
 use Rattle.convert.proofs.Finishing.{converts_as}
 
 -- ---- what the file says
 
-pub says_of : {s : List ℕ} {r : Opened} → opening_is r ≡ opening s → (m : Meta) → r ≡ Read m → Says s m.version m.len m.root
+pub says_of : {s : List ℕ} {r : Result Meta Refusal} → opening_is r ≡ opening s → (m : Meta) → r ≡ Ok m → Says s m.version m.len m.root
 says_of is m e = record { meta = meta_is m; opens = sym is ∙ ap opening_is e; version_is = refl; count_is = refl; root_is = refl }
 
 -- an admitted file opens
-pub opens_not : {s d t : List ℕ} {r : Opened} → Marked s d t → opening_is r ≡ opening s → (k : ℕ) → r ≡ Shut k → ⊥
+pub opens_not : {s d t : List ℕ} {r : Result Meta Refusal} → Marked s d t → opening_is r ≡ opening s → (k : Refusal) → r ≡ Err k → ⊥
 opens_not k is n e =
     let shut = sym is ∙ ap opening_is e in
     let o = k.admits.admitted.opens in
@@ -43,7 +38,7 @@ module _ {s d t : List ℕ} {version count root : ℕ} (marks : Marked s d t) (s
   meta_is_lem A = same_meta s A.opens says.opens
 
   -- another version
-  pub edition_again : (limit : ℕ) (o b : List ℕ) → ¬ (version ≡ 1) → AgainConverted limit s d t o b d t o b (Refused EDITION)
+  pub edition_again : (limit : ℕ) (o b : List ℕ) → ¬ (version ≡ 1) → AgainConverted limit s d t o b d t o b (Err EDITION)
   edition_again limit o b ne =
       record {
         depths_same = refl;
@@ -68,13 +63,13 @@ module _ {s d t : List ℕ} {version count root : ℕ} (marks : Marked s d t) (s
       }
 
 -- the second admission restores the tables
-pub restored : {limit : ℕ} {s d t o₀ b₀ d' t' o b e u : List ℕ} {r : Converted} (x : Admission) → Marked s d t
+pub restored : {limit : ℕ} {s d t o₀ b₀ d' t' o b e u : List ℕ} {r : Result ℕ Refusal} (x : Result ⊤ Refusal) → Marked s d t
     → OldConverted limit s d t o₀ b₀ d' t' o b r → Outcome s d' t' e u x → AgainConverted limit s d t o₀ b₀ e u o b r
 restored {s = s} {d} {t} {o₀} {b₀} {d'} {t'} {o} {b} {e} {u} {r} x marks done again =
     let X = marks.admits in
     let p = done.depths_kept in
     let q = done.sums_kept in
-    let yes : x ≡ Yes =
+    let yes : x ≡ (Ok tt) =
     admitted_is s d' t' e u x (omega (arith, X.room_depths, X.depths.kept.long, p.long)) (omega (arith, X.room_sums, X.sums.kept.long, q.long)) again
     X.admitted in
     let both = admitted_again X p q (subst (Outcome s d' t' e u) yes again) in
@@ -82,15 +77,15 @@ restored {s = s} {d} {t} {o₀} {b₀} {d'} {t'} {o} {b} {e} {u} {r} x marks don
 
 -- ---- the whole
 
-pub refused_whole : {limit : ℕ} {s d₀ t₀ d t o b : List ℕ} {x : Admission} → Outcome s d₀ t₀ d t x → (k : ℕ) → x ≡ No k
-    → Converts limit s d₀ t₀ o b d t o b (Refused k)
+pub refused_whole : {limit : ℕ} {s d₀ t₀ d t o b : List ℕ} {x : Result ⊤ Refusal} → Outcome s d₀ t₀ d t x → (k : Refusal) → x ≡ Err k
+    → Converts limit s d₀ t₀ o b d t o b (Err k)
 refused_whole {s = s} {d₀} {t₀} {d} {t} out k e =
     inl (record { why = k; refuses = subst (Outcome s d₀ t₀ d t) e out; answer = refl; out_is = refl; table_is = refl })
 
-pub marked_of : {s d t : List ℕ} (d₀ t₀ : List ℕ) (x : Admission) → Outcome s d₀ t₀ d t x → x ≡ Yes → Marked s d t
+pub marked_of : {s d t : List ℕ} (d₀ t₀ : List ℕ) (x : Result ⊤ Refusal) → Outcome s d₀ t₀ d t x → x ≡ Ok tt → Marked s d t
 marked_of {s} {d} {t} d₀ t₀ x out e = record { depths₀ = d₀; sums₀ = t₀; admits = subst (Outcome s d₀ t₀ d t) e out }
 
-pub admitted_whole : {limit : ℕ} {s d₀ t₀ d t o₀ b₀ e u o b : List ℕ} {x : Admission} {r : Converted} → Outcome s d₀ t₀ d t x → x ≡ Yes
+pub admitted_whole : {limit : ℕ} {s d₀ t₀ d t o₀ b₀ e u o b : List ℕ} {x : Result ⊤ Refusal} {r : Result ℕ Refusal} → Outcome s d₀ t₀ d t x → x ≡ Ok tt
     → AgainConverted limit s d t o₀ b₀ e u o b r → Converts limit s d₀ t₀ o₀ b₀ e u o b r
 admitted_whole {s = s} {d₀} {t₀} {d} {t} {e = e} {u} out is done =
     let X : Admits s d₀ t₀ d t = subst (Outcome s d₀ t₀ d t) is out in

@@ -1,29 +1,27 @@
 -- The new file and the table written, or refused for want of room.
 -- Assumes nothing.
-use mathlib.Core.Path.{◌≡◌, refl, sym, ap, ap₂, ◌∙◌, subst}
-use mathlib.Core.Logic.{◌⊎◌, ⊎_elim}
-use mathlib.Core.Bool.{Bool, true, false, cond, ◌&&◌}
+use mathlib.Core.Path.{◌≡◌, sym, ap, ◌∙◌}
+use Rattle.std.specs.Prelude.{Ok, Err, Result, ℕ}
+use Rattle.format.specs.declared.Refusal.{Refusal}
+use mathlib.Core.Logic.{⊎_elim}
 use mathlib.Core.List.{List, ◌++◌}
 use Prim.Native.Nat.{ℕ, ◌+◌, ◌≤◌, ◌<◌}
 use native.Mathlib.Omega.{arith}
 use borrow.Author.Tests.{le-leb, lt-leb}
-use lib.Dec.{leb}
 use lib.ListN.{length, get_or, take, drop, length-append, length-take, length-drop}
-use Rattle.format.specs.Limits.{max_len, SPACE}
+use Rattle.format.specs.Limits.{SPACE}
 use Rattle.format.specs.Bytes.{bytes_of}
 use Rattle.format.specs.Laws.BytesLaws.{length_bytes_of}
 use Rattle.format.specs.Packed.{TargetOk}
 use Rattle.format.specs.Paths.{Fst}
 use Rattle.buffers.specs.Put.{put}
 use Rattle.buffers.specs.PutLaws.{put_zero}
-use Rattle.converting.specs.Converting.{new_addr, Conversion, written, refused, placing}
+use Rattle.converting.specs.Converting.{Conversion, written, refused, placing}
 use Rattle.converting.specs.Laws.LayLaws.{new_ok}
 use Rattle.convert_marks.specs.Marks.{marked}
-use Rattle.convert_layout.specs.Layout.{laid_to, Writable, Narrow, LaidOut}
+use Rattle.convert_layout.specs.Layout.{laid_to, Narrow}
 use Rattle.convert_write.specs.Written.{header_of, file_of, FileWritable}
-use Rattle.convert.specs.Convert.{ConvertsBy, Finishable, Finished, answer_as, out_after, table_after}
-use Rattle.convert.specs.declared.Converted.{Converted}
-use Rattle.convert.specs.declared.Converted.TheVariants.{Len, Refused}
+use Rattle.convert.specs.Convert.{ConvertsBy, Finishable, Finished}
 
 pub length_file : (s nodes : List ℕ) (count root : ℕ) → 16 ≤ length s → length (file_of s nodes count root) ≡ 32 + length nodes
 length_file s nodes count root low =
@@ -40,7 +38,7 @@ length_file s nodes count root low =
       length-drop 8 s,
     )
 
-pub converts_as : {q q' : Conversion} {o₀ b₀ o b : List ℕ} {r : Converted} → q ≡ q' → ConvertsBy q o₀ b₀ o b r → ConvertsBy q' o₀ b₀ o b r
+pub converts_as : {q q' : Conversion} {o₀ b₀ o b : List ℕ} {r : Result ℕ Refusal} → q ≡ q' → ConvertsBy q o₀ b₀ o b r → ConvertsBy q' o₀ b₀ o b r
 converts_as e h = rw (← e) h
 
 module _ {f : Fst} {d t : List ℕ} {next : ℕ} (ok : Finishable f d t next) (count : ℕ) (o₀ b₀ : List ℕ) where
@@ -53,14 +51,14 @@ module _ {f : Fst} {d t : List ℕ} {next : ℕ} (ok : Finishable f d t next) (c
   file_len : length F ≡ next + 16
   file_len = omega (arith, length_file f.bytes (laid_to f d n).nodes count (get_or t f.root 0) ok.long, ok.laid_out.next_is)
 
-  refused_by : {o b : List ℕ} {r : Converted} → placing F (take n t) n (length o₀) (length b₀) ≡ refused SPACE → (r ≡ Refused SPACE) × (o ≡ o₀) × (b ≡ b₀)
+  refused_by : {o b : List ℕ} {r : Result ℕ Refusal} → placing F (take n t) n (length o₀) (length b₀) ≡ refused SPACE → (r ≡ Err SPACE) × (o ≡ o₀) × (b ≡ b₀)
       → Finished f count d t o₀ b₀ o b r
   refused_by e h = record { converts = converts_as (sym e) (record { answer = h.0; out_is = h.1; table_is = h.2 }) }
 
-  pub finish_short_out : {o b : List ℕ} {r : Converted} → length o₀ < next + 16 → (r ≡ Refused SPACE) × (o ≡ o₀) × (b ≡ b₀) → Finished f count d t o₀ b₀ o b r
+  pub finish_short_out : {o b : List ℕ} {r : Result ℕ Refusal} → length o₀ < next + 16 → (r ≡ Err SPACE) × (o ≡ o₀) × (b ≡ b₀) → Finished f count d t o₀ b₀ o b r
   finish_short_out l h = refused_by (rw (lt-leb (length F) (length o₀) (omega (arith, file_len)))) h
 
-  pub finish_short_table : {o b : List ℕ} {r : Converted} → next + 16 ≤ length o₀ → length b₀ < n → (r ≡ Refused SPACE) × (o ≡ o₀) × (b ≡ b₀)
+  pub finish_short_table : {o b : List ℕ} {r : Result ℕ Refusal} → next + 16 ≤ length o₀ → length b₀ < n → (r ≡ Err SPACE) × (o ≡ o₀) × (b ≡ b₀)
       → Finished f count d t o₀ b₀ o b r
   finish_short_table h l k = refused_by (rw (le-leb (length F) (length o₀) (omega (arith, file_len)), lt-leb n (length b₀) l)) k
 
@@ -95,7 +93,7 @@ module _ {f : Fst} {d t : List ℕ} {next : ℕ} (ok : Finishable f d t next) (c
       }
 
   pub finish_done : {o b : List ℕ} → next + 16 ≤ length o₀ → n ≤ length b₀ → o ≡ put o₀ 0 F → b ≡ take n t ++ drop n b₀
-      → Finished f count d t o₀ b₀ o b (Len (next + 16))
+      → Finished f count d t o₀ b₀ o b (Ok (next + 16))
   finish_done h g p q =
       let e : placing F (take n t) n (length o₀) (length b₀) ≡ written F (take n t) =
       rw (le-leb (length F) (length o₀) (omega (arith, file_len)), le-leb n (length b₀) g) in
@@ -103,7 +101,7 @@ module _ {f : Fst} {d t : List ℕ} {next : ℕ} (ok : Finishable f d t next) (c
       record {
         converts = converts_as (sym e)
             (record {
-              answer = ap Len (sym file_len);
+              answer = ap Ok (sym file_len);
               out_is = p ∙ put_zero o₀ F;
               table_is = q ∙ ap (λ (k : ℕ). take n t ++ drop k b₀) (sym m);
             });

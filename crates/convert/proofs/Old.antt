@@ -1,33 +1,30 @@
 -- What the marks and the layout of an admitted version 1 file are: those of the definition.
 -- Assumes nothing.
 use mathlib.Core.Path.{◌≡◌, refl, sym, ap, ap₂, ◌∙◌, subst}
+use Rattle.std.specs.Prelude.{Err, Result, ℕ}
+use Rattle.format.specs.declared.Refusal.{Refusal}
 use mathlib.Core.Bool.{Bool, true, false, cond}
 use mathlib.Core.List.Memᴰ
-use mathlib.Core.List.{List, [], ◌++◌, Memᴰ}
+use mathlib.Core.List.{List, [], Memᴰ}
 use Prim.Native.Nat.{ℕ, ◌+◌, ◌≤◌, ◌<◌}
 use native.Mathlib.Omega.{arith}
-use lib.ListN.{length, get_or, take, drop, length-take}
+use lib.ListN.{length, get_or, take, length-take}
 use lib.Seq.{ext_get_or, get_or-take}
 use Rattle.format.specs.Limits.{max_len, LARGE}
-use Rattle.format.specs.Node.{Node, sound}
-use Rattle.format.specs.Packed.{up_from}
 use Rattle.format.specs.Laws.PackedLaws.{length_up_from, get_d_up_from}
 use Rattle.format.specs.Paths.{Fst, fst_with, fst_of, node_in}
 use Rattle.format.specs.Admitted.{RootChain, Admitted}
 use Rattle.format.specs.Laws.OpeningLaws.{root_inside}
 use Rattle.format.specs.Laws.ChainLaws.{root_chain_sound, root_chain_low}
 use Rattle.admission_node.specs.Entries.{Kept}
-use Rattle.admission_node.specs.KeptLaws.{kept_then}
-use Rattle.converting.specs.Converting.{vanishes, new_addr, Laid, lay_out, chain_of, laid, moved_to, converted, table_of, refused, placing, conversion}
+use Rattle.converting.specs.Converting.{vanishes, new_addr, Laid, lay_out, chain_of, laid, moved_to, converted, table_of, placing}
 use Rattle.converting.specs.Laws.ConvertedLaws.{old_has_bytes, old_low, converted_is, length_converted}
-use Rattle.convert_marks.specs.Marks.{marked, Markable, MarksNodes}
+use Rattle.convert_marks.specs.Marks.{Markable, MarksNodes}
 use Rattle.convert_marks.specs.MarkLaws.{marked_member}
 use Rattle.convert_layout.specs.Layout.{laid_to, MarkedSound, Layable, LaidOut}
 use Rattle.convert_write.specs.Written.{file_of}
-use Rattle.convert.specs.Convert.{ConvertsBy, OldFile, OldConverted, Finishable, Finished}
+use Rattle.convert.specs.Convert.{OldFile, OldConverted, Finishable, Finished}
 use Rattle.convert.specs.ConvertLaws.{conversion_large, conversion_placing, conversion_same}
-use Rattle.convert.specs.declared.Converted.{Converted}
-use Rattle.convert.specs.declared.Converted.TheVariants.{Refused}
 use Rattle.convert.proofs.Finishing.{converts_as}
 
 table_len : {s : List ℕ} (A : Admitted s) → length (table_of A) ≡ length s
@@ -85,7 +82,7 @@ module _ {s : List ℕ} {root count : ℕ} {d₀ t₀ : List ℕ} (old : OldFile
 
     module _ {limit : ℕ} (le : limit ≤ max_len) {t : List ℕ} (sums_kept : Kept (length s) t₀ t) (o₀ b₀ : List ℕ) where
       -- the new file passes the limit
-      pub old_over : limit < 32 + length (laid_to f d (length s)).nodes → OldConverted limit s d₀ t₀ o₀ b₀ d t o₀ b₀ (Refused LARGE)
+      pub old_over : limit < 32 + length (laid_to f d (length s)).nodes → OldConverted limit s d₀ t₀ o₀ b₀ d t o₀ b₀ (Err LARGE)
       old_over l =
           record {
             depths_kept = marks.kept;
@@ -124,7 +121,7 @@ module _ {s : List ℕ} {root count : ℕ} {d₀ t₀ : List ℕ} (old : OldFile
             ext_get_or 0 (take (length s) t) (table_of A) (m ∙ sym (table_len A)) (λ j l.
             get_or-take (length s) t j 0 (omega arith) ∙ entry_is_lem j (omega arith) ∙ sym (table_at A j (omega arith)))
 
-        pub old_finished : {o b : List ℕ} {r : Converted} → Finished f count d t o₀ b₀ o b r → OldConverted limit s d₀ t₀ o₀ b₀ d t o b r
+        pub old_finished : {o b : List ℕ} {r : Result ℕ Refusal} → Finished f count d t o₀ b₀ o b r → OldConverted limit s d₀ t₀ o₀ b₀ d t o b r
         old_finished {o} {b} {r} done =
             record {
               depths_kept = marks.kept;

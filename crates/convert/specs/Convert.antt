@@ -6,7 +6,8 @@
 --     Converts limit s ..         the whole, where the new file may have limit bytes
 --     Marked, Says, OldFile, OldConverted, AgainConverted, Finishable, Finished     what the inner functions ask and answer
 -- Assumes nothing.
-use Rattle.std.specs.Prelude.{◌≡◌, ◌⊎◌, ℕ, ◌+◌, ◌≤◌, ◌<◌, length, get_or, take, drop}
+use Rattle.std.specs.Prelude.{◌≡◌, ◌⊎◌, ℕ, ◌≤◌, ◌<◌, length, get_or, take, drop, Ok, Err, Result}
+use Rattle.format.specs.declared.Refusal.{Refusal}
 use mathlib.Core.List.{List, ◌++◌, Memᴰ}
 use Rattle.format.specs.Limits.{max_len}
 use Rattle.format.specs.Opening.{Meta, opened, opening}
@@ -18,12 +19,10 @@ use Rattle.converting.specs.Converting.{Conversion, written, refused, placing, c
 use Rattle.convert_marks.specs.Marks.{Hops}
 use Rattle.convert_layout.specs.Layout.{laid_to, MarkedSound, LaidOut}
 use Rattle.convert_write.specs.Written.{file_of}
-use Rattle.convert.specs.declared.Converted.{Converted}
-use Rattle.convert.specs.declared.Converted.TheVariants.{Len, Refused}
 
-abbrev pub answer_as : Conversion → Converted
-answer_as (written file table) = Len (length file)
-answer_as (refused k) = Refused k
+abbrev pub answer_as : Conversion → Result ℕ Refusal
+answer_as (written file table) = Ok (length file)
+answer_as (refused k) = Err k
 
 -- the new file from the first byte on, and the rest as given; a refusal leaves all as it was
 abbrev pub out_after : Conversion → List ℕ → List ℕ
@@ -34,7 +33,7 @@ abbrev pub table_after : Conversion → List ℕ → List ℕ
 table_after (written file table) t = table ++ drop (length table) t
 table_after (refused k) t = t
 
-pub record ConvertsBy (q : Conversion) (out₀ table₀ out table : List ℕ) (r : Converted) : Type 0 where
+pub record ConvertsBy (q : Conversion) (out₀ table₀ out table : List ℕ) (r : Result ℕ Refusal) : Type 0 where
   pub answer : r ≡ answer_as q
   pub out_is : out ≡ out_after q out₀
   pub table_is : table ≡ table_after q table₀
@@ -42,19 +41,19 @@ pub record ConvertsBy (q : Conversion) (out₀ table₀ out table : List ℕ) (r
 -- ---- the contract
 
 -- admission's refusals, with its two tables as it leaves them
-pub record NotAdmitted (s d₀ t₀ out₀ table₀ d t out table : List ℕ) (r : Converted) : Type 0 where
-  pub why : ℕ
+pub record NotAdmitted (s d₀ t₀ out₀ table₀ d t out table : List ℕ) (r : Result ℕ Refusal) : Type 0 where
+  pub why : Refusal
   pub refuses : RefusedFor s d₀ t₀ d t why
-  pub answer : r ≡ Refused why
+  pub answer : r ≡ Err why
   pub out_is : out ≡ out₀
   pub table_is : table ≡ table₀
 
 -- admission's two tables are as it leaves them, whatever is answered
-pub record OfAdmitted (limit : ℕ) (s d₀ t₀ out₀ table₀ d t out table : List ℕ) (r : Converted) : Type 0 where
+pub record OfAdmitted (limit : ℕ) (s d₀ t₀ out₀ table₀ d t out table : List ℕ) (r : Result ℕ Refusal) : Type 0 where
   pub admits : Admits s d₀ t₀ d t
   pub converts : ConvertsBy (conversion limit admits.admitted (length out₀) (length table₀)) out₀ table₀ out table r
 
-abbrev pub Converts : ℕ → List ℕ → List ℕ → List ℕ → List ℕ → List ℕ → List ℕ → List ℕ → List ℕ → List ℕ → Converted → Type 0
+abbrev pub Converts : ℕ → List ℕ → List ℕ → List ℕ → List ℕ → List ℕ → List ℕ → List ℕ → List ℕ → List ℕ → Result ℕ Refusal → Type 0
 Converts limit s d₀ t₀ out₀ table₀ d t out table r =
     NotAdmitted s d₀ t₀ out₀ table₀ d t out table r ⊎ OfAdmitted limit s d₀ t₀ out₀ table₀ d t out table r
 
@@ -85,13 +84,13 @@ pub record OldFile (s : List ℕ) (root count : ℕ) (d t : List ℕ) : Type 0 w
   pub off : (j : ℕ) → j < length s → ¬ Memᴰ j admitted.nodes → get_or d j 0 ≡ 0
 
 -- the two work tables are changed within the file only
-pub record OldConverted (limit : ℕ) (s d₀ t₀ out₀ table₀ d t out table : List ℕ) (r : Converted) : Type 0 where
+pub record OldConverted (limit : ℕ) (s d₀ t₀ out₀ table₀ d t out table : List ℕ) (r : Result ℕ Refusal) : Type 0 where
   pub depths_kept : Kept (length s) d₀ d
   pub sums_kept : Kept (length s) t₀ t
   pub each : (A : Admitted s) → ConvertsBy (conversion limit A (length out₀) (length table₀)) out₀ table₀ out table r
 
 -- what is admitted, converted: the two work tables are as they were
-pub record AgainConverted (limit : ℕ) (s d₀ t₀ out₀ table₀ d t out table : List ℕ) (r : Converted) : Type 0 where
+pub record AgainConverted (limit : ℕ) (s d₀ t₀ out₀ table₀ d t out table : List ℕ) (r : Result ℕ Refusal) : Type 0 where
   pub depths_same : d ≡ d₀
   pub sums_same : t ≡ t₀
   pub each : (A : Admitted s) → ConvertsBy (conversion limit A (length out₀) (length table₀)) out₀ table₀ out table r
@@ -107,7 +106,7 @@ pub record Finishable (f : Fst) (d t : List ℕ) (next : ℕ) : Type 0 where
   pub laid_out : LaidOut f d t max_len next
 
 -- the new file and the table, by the layout
-pub record Finished (f : Fst) (count : ℕ) (d t out₀ table₀ out table : List ℕ) (r : Converted) : Type 0 where
+pub record Finished (f : Fst) (count : ℕ) (d t out₀ table₀ out table : List ℕ) (r : Result ℕ Refusal) : Type 0 where
   pub converts : ConvertsBy
       (placing (file_of f.bytes (laid_to f d (length f.bytes)).nodes count (get_or t f.root 0)) (take (length f.bytes) t) (length f.bytes) (length out₀)
       (length table₀))

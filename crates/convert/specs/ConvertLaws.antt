@@ -5,7 +5,7 @@
 --     admitted_again                    a second admission leaves the tables as the first did, whatever was in them meanwhile
 -- Assumes nothing.
 use Rattle.std.specs.Prelude.{◌≡◌, refl, cond, ◌⊎◌, ℕ, ◌+◌, ◌-◌, ◌≤◌, ◌<◌, eqb, ltb, length, get_or, take, drop}
-use Rattle.std.proofs.Common.{sym, ap, ap₂, ◌∙◌, subst, inl, inr, ⊎_elim, arith, length-take, ext_get_or, get_or-drop}
+use Rattle.std.proofs.Common.{sym, ap, ap₂, ◌∙◌, subst, inl, inr, ⊎_elim, arith, ext_get_or, get_or-drop}
 use mathlib.Core.List.{List, ◌++◌, Memᴰ}
 use Rattle.std.proofs.Math.Decide.{ℕ_discrete}
 use borrow.Author.Tests.{eq-eqb, ne_eqb, lt-ltb, le-ltb}
@@ -16,7 +16,6 @@ use Rattle.format.specs.Tables.{longest, largest_sum, InTable}
 use Rattle.format.specs.Admitted.{RootChain, Admitted}
 use Rattle.format.specs.Laws.ChainLaws.{root_chain_unique}
 use Rattle.format.specs.Laws.ReachedLaws.{reached_stays}
-use Rattle.format.specs.Laws.OpeningLaws.{opened_facts}
 use Rattle.admission_node.specs.Entries.{Kept}
 use Rattle.admission.specs.Outcome.{Holds, Admits}
 use Rattle.format.specs.Bytes.{bytes_of}

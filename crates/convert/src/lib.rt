@@ -4,33 +4,24 @@
 #![tactic(auto)]
 
 ghost use Rattle.std.specs.Prelude.{◌≡◌, ◌≤◌};
+ghost use Rattle.format.specs.Limits as L;
 ghost use Rattle.format.specs.Limits.{max_len};
 ghost use Rattle.format.specs.Paths.{fst_with};
 ghost use Rattle.admission.specs.Outcome.{Outcome};
 ghost use Rattle.convert.specs.Convert.{Marked, Says, OldFile, OldConverted, AgainConverted, Finishable, Finished, Converts};
 
-use admission::{Admission, admit};
+use admission::admit;
 use convert_layout::{TRAILER, lay_out, put_table};
 use convert_marks::mark;
 use convert_write::write_file;
-use format::{EDITION, LARGE, MAX_LEN, SPACE};
-use fst::Opened;
-
-// What converting answers.
-#[derive(Clone, Copy)]
-pub enum Converted {
-    // the number of bytes of the new file, which stands from the output's first byte on
-    Len(usize),
-    // a refusal, which leaves output and table as they were
-    Refused(u8),
-}
+use format::{MAX_LEN, Refusal};
 
 // SPACE, which leaves output and table as they are.
-fn no_space(out: &mut [u8], table: &mut [u32]) -> Converted
-    ensures { (result ≡ Converted.Refused 8) × (out.new ≡ out.old)
+fn no_space(out: &mut [u8], table: &mut [u32]) -> Result<usize, Refusal>
+    ensures { (result ≡ Err L.SPACE) × (out.new ≡ out.old)
         × (table.new ≡ table.old) }
 {
-    Converted::Refused(SPACE)
+    Err(Refusal::Space)
 }
 
 // Writes the new file, whose nodes end before next, and the table, where both have room.
@@ -43,7 +34,7 @@ fn finish(
     sums: &[u64],
     out: &mut [u8],
     table: &mut [u32],
-) -> Converted
+) -> Result<usize, Refusal>
     requires { Finishable (fst_with file.now 1 root) depths.now sums.now next }
     ensures { Finished (fst_with file.now 1 root) count depths.now
         sums.now out.old table.old out.new
@@ -58,7 +49,7 @@ fn finish(
     }
     write_file(file, root, count, depths, sums, out);
     put_table(sums, file.len(), table);
-    Converted::Len(len)
+    Ok(len)
 }
 
 // Converts an admitted version 1 file; the two work tables are left as they were used.
@@ -71,7 +62,7 @@ fn convert_old(
     sums: &mut [u64],
     out: &mut [u8],
     table: &mut [u32],
-) -> Converted
+) -> Result<usize, Refusal>
     requires { OldFile file.now root count depths.old sums.old × (limit ≤ max_len) }
     ensures { OldConverted limit file.now depths.old
         sums.old out.old table.old depths.new
@@ -80,13 +71,13 @@ fn convert_old(
     mark(file, root, depths);
     let layout = lay_out(file, root, limit, depths, sums);
     match layout {
-        None => Converted::Refused(LARGE),
+        None => Err(Refusal::Large),
         Some(next) => finish(file, root, count, next, depths, sums, out, table),
     }
 }
 
 // Restores both work tables: admission fills them as it did before.
-fn restore(file: &[u8], depths: &mut [u16], sums: &mut [u64]) -> Admission
+fn restore(file: &[u8], depths: &mut [u16], sums: &mut [u64]) -> Result<(), Refusal>
     ensures { Outcome file.now depths.old sums.old
         depths.new sums.new result }
 {
@@ -104,7 +95,7 @@ fn convert_opened(
     sums: &mut [u64],
     out: &mut [u8],
     table: &mut [u32],
-) -> Converted
+) -> Result<usize, Refusal>
     requires { Marked file.now depths.old sums.old × Says file.now version count root
         × (limit ≤ max_len) }
     ensures { AgainConverted limit file.now depths.old
@@ -113,10 +104,10 @@ fn convert_opened(
 {
     let other_version = version != 1;
     if other_version {
-        return Converted::Refused(EDITION);
+        return Err(Refusal::Edition);
     }
     let done = convert_old(file, root, count, limit, depths, sums, out, table);
-    restore(file, depths, sums);
+    let _ = restore(file, depths, sums);
     done
 }
 
@@ -128,19 +119,17 @@ fn convert_admitted(
     sums: &mut [u64],
     out: &mut [u8],
     table: &mut [u32],
-) -> Converted
+) -> Result<usize, Refusal>
     requires { Marked file.now depths.old sums.old × (limit ≤ max_len) }
     ensures { AgainConverted limit file.now depths.old
         sums.old out.old table.old depths.new
         sums.new out.new table.new result }
 {
-    match fst::open(file) {
-        Opened::Meta(m) => convert_opened(
-            file, m.version, m.len, m.root, limit, depths, sums, out, table,
-        ),
-        // it is not: an admitted file opens
-        Opened::Refused(why) => Converted::Refused(why),
-    }
+    // it opens: it is admitted
+    let m = fst::open(file)?;
+    convert_opened(
+        file, m.version, m.len, m.root, limit, depths, sums, out, table,
+    )
 }
 
 // Converts a file, where the new one may have limit bytes.
@@ -151,16 +140,14 @@ pub fn convert_within(
     sums: &mut [u64],
     out: &mut [u8],
     table: &mut [u32],
-) -> Converted
+) -> Result<usize, Refusal>
     requires { limit ≤ max_len }
     ensures { Converts limit file.now depths.old sums.old
         out.old table.old depths.new sums.new
         out.new table.new result }
 {
-    match admit(file, depths, sums) {
-        Admission::Refused(why) => Converted::Refused(why),
-        Admission::Admitted => convert_admitted(file, limit, depths, sums, out, table),
-    }
+    admit(file, depths, sums)?;
+    convert_admitted(file, limit, depths, sums, out, table)
 }
 
 // Converts a version 1 file to version 2: admission's refusals, then EDITION, LARGE, SPACE. Depths and sums are admission's, and are left
@@ -171,7 +158,7 @@ pub fn convert(
     sums: &mut [u64],
     out: &mut [u8],
     table: &mut [u32],
-) -> Converted
+) -> Result<usize, Refusal>
     ensures { Converts max_len file.now depths.old
         sums.old out.old table.old depths.new
         sums.new out.new table.new result }

@@ -1,6 +1,8 @@
 -- What packing a gathered record answers: its bytes, and never a refusal.
 -- Assumes nothing.
 use mathlib.Core.Path.{◌≡◌, sym, ap, ◌∙◌, subst}
+use Rattle.std.specs.Prelude.{Ok, Err, Result, ℕ}
+use Rattle.format.specs.declared.Refusal.{Refusal}
 use mathlib.Core.List.{List}
 use Prim.Native.Nat.{ℕ, ◌≤◌}
 use native.Mathlib.Omega.{arith}
@@ -12,8 +14,6 @@ use Rattle.format.specs.Node.{Node}
 use Rattle.format.specs.Packed.{BuilderNode, Packing, written, packed}
 use Rattle.node_compile.specs.Compile.{builder_with, answer_as, buffer_after}
 use Rattle.node_compile.specs.Parts.{RecordFits, Fitted, fitting}
-use Rattle.node_compile.specs.declared.Compiled.{Compiled}
-use Rattle.node_compile.specs.declared.Compiled.TheVariants.{Len, Refused}
 use Rattle.converting.specs.Converting.{record_by}
 use Rattle.convert_size.specs.Sizes.{entry_in}
 use Rattle.convert_node.specs.Packs.{Gathered, Packable, PackedFront}
@@ -36,17 +36,17 @@ module _ (m : Node) {moved inputs outputs targets : List ℕ} (n : ℕ) (is : n 
   pub pack_fits : {first room : ℕ} → Packable m first moved room → RecordFits first b
   pack_fits {first} p = subst (RecordFits first) (sym same) p.sizable.fits
 
-  module _ {first : ℕ} {out₀ out : List ℕ} {r : Compiled} (p : Packable m first moved (length out₀)) (c : Fitted (packed first b) out₀ out r) where
+  module _ {first : ℕ} {out₀ out : List ℕ} {r : Result ℕ Refusal} (p : Packable m first moved (length out₀)) (c : Fitted (packed first b) out₀ out r) where
     fitting_is : fitting (packed first b) (length out₀) ≡ written (packed first (record_by (entry_in moved) m))
     fitting_is =
         ap (λ (x : BuilderNode). fitting (packed first x) (length out₀)) same
         ∙ rw (le-leb (length (packed first (record_by (entry_in moved) m))) (length out₀) p.fits)
 
-    answer_is_lem : r ≡ Len (length (packed first (record_by (entry_in moved) m)))
+    answer_is_lem : r ≡ Ok (length (packed first (record_by (entry_in moved) m)))
     answer_is_lem = c.answer ∙ ap answer_as fitting_is
 
-    pub pack_done : (k : ℕ) → r ≡ Len k → PackedFront (packed first (record_by (entry_in moved) m)) out₀ out k
+    pub pack_done : (k : ℕ) → r ≡ Ok k → PackedFront (packed first (record_by (entry_in moved) m)) out₀ out k
     pack_done k e = record { buffer = c.buffer ∙ ap (λ (x : Packing). buffer_after x out₀) fitting_is; count = let q = answer_is_lem in cc }
 
-    pub pack_never : (k : ℕ) → r ≡ Refused k → ⊥
+    pub pack_never : (k : Refusal) → r ≡ Err k → ⊥
     pack_never k e = let q = answer_is_lem in let z : ◌≡◌ {A = ℕ} 0 1 = cc in omega arith

@@ -15,7 +15,6 @@ use convert_one::{idx_of, pack_one};
 use convert_size::new_target;
 use le_bytes::small;
 use node::Node;
-use node_compile::Compiled;
 
 // The inputs, the outputs and the new targets of a node's transitions, each to the front of its buffer.
 fn gather(
@@ -70,9 +69,9 @@ fn pack(
         out,
     );
     match done {
-        Compiled::Len(len) => len,
+        Ok(len) => len,
         // it is not: there is room
-        Compiled::Refused(_) => 0,
+        Err(_) => 0,
     }
 }
 

@@ -11,8 +11,8 @@ ghost use Rattle.format.specs.Packed.{delta_of, output_size, sizes_of, last_addr
 ghost use Rattle.convert_one.specs.One.{Code, state_for, one_for, one_bytes};
 
 use common_inputs::common_idx;
-use format::FIRST_NODE;
 use le_bytes::{pack_size, pack_uint_in, small};
+use node_compile::{delta_of, leads_next};
 
 // ---- the parts
 
@@ -29,17 +29,6 @@ pub fn idx_of(file: &[u8], a: usize) -> u8
     low
 }
 
-// How far a target lies before F; 0 for target 0.
-pub fn delta_of(first: usize, target: usize) -> u64
-    requires { target ≤ first }
-    ensures { result ≡ delta_of first target }
-{
-    if target == 0 {
-        return 0;
-    }
-    (first - target) as u64
-}
-
 // The bytes that each output takes where n is the largest: none where all are 0.
 pub fn output_size(n: u64) -> usize
     ensures { result ≡ output_size n }
@@ -48,25 +37,6 @@ pub fn output_size(n: u64) -> usize
         return 0;
     }
     small(pack_size(n))
-}
-
-// The address that the packer was left with by the node before: F - 1, or 1 where there is none.
-fn last_addr(first: usize) -> usize
-    requires { first_node ≤ first }
-    ensures { result ≡ last_addr first }
-{
-    if first == FIRST_NODE {
-        return 1;
-    }
-    first - 1
-}
-
-// To the node before, with output 0.
-fn leads_next(first: usize, target: usize, output: u64) -> bool
-    requires { first_node ≤ first }
-    ensures { result ≡ (eqb target (last_addr first) && eqb output 0) }
-{
-    target == last_addr(first) && output == 0
 }
 
 // The bytes of the state, and of the input where the state byte does not keep it.

@@ -13,11 +13,11 @@ ghost use Rattle.converting.specs.Converting.{record_by};
 ghost use Rattle.convert_size.specs.Sizes.{entry_in, delta_size_by, Mosts, Sizable, SizableAt, SizedAt};
 
 use common_inputs::common_idx;
-use convert_one::{delta_of, idx_of, one_len, output_size};
+use convert_one::{idx_of, one_len, output_size};
 use format::TRANS_INDEX_THRESHOLD;
 use le_bytes::{pack_size, small};
 use node::Node;
-use node_compile::packs_to_nothing;
+use node_compile::{delta_of, packs_to_nothing};
 
 // The largest output of a node, its final output included, and its largest delta.
 #[derive(Clone, Copy)]

@@ -10,6 +10,7 @@
 --     Conversion, conversion limit A room entries    what converting answers into an output of room bytes and a table of so many entries
 -- Assumes nothing.
 use Rattle.std.specs.Prelude.{◌≡◌, Bool, true, false, cond, ◌&&◌, List, [], ◌∷◌, ◌++◌, map, ℕ, ◌+◌, eqb, ltb, leb, length, take, drop}
+use Rattle.format.specs.declared.Refusal.{Refusal}
 use Rattle.format.specs.declared.Transition.{Transition}
 use Rattle.format.specs.Limits.{LARGE, SPACE, EDITION}
 use Rattle.format.specs.Bytes.{bytes_of}
@@ -97,7 +98,7 @@ table_of {s} A = up_from (moved_to A) 0 (length s)
 pub data Conversion : Type 0 where
   -- the new file and the table
   written : List ℕ → List ℕ → Conversion
-  refused : ℕ → Conversion
+  refused : Refusal → Conversion
 
 -- SPACE where the output has less room than the file, or the table fewer than n entries
 abbrev pub placing : List ℕ → List ℕ → ℕ → ℕ → ℕ → Conversion

@@ -6,8 +6,9 @@
 --     counted_none      with root 0 all its entries are 0
 --     blank_counted     a file without bytes is counted, whatever the tables are, and they stay as they were
 -- Assumes nothing.
-use Rattle.std.specs.Prelude.{◌≡◌, refl, List, [], ℕ, ◌≤◌, ◌<◌, length, get_or}
+use Rattle.std.specs.Prelude.{◌≡◌, refl, List, [], ℕ, ◌≤◌, ◌<◌, length, get_or, Ok, Err, Result, ⊤}
 use Rattle.std.proofs.Common.{ap, subst, ⊎_elim, arith}
+use Rattle.format.specs.declared.Refusal.{Refusal}
 use Rattle.format.specs.Limits.{max_sum}
 use Rattle.format.specs.Opening.{Meta, opened, opening}
 use Rattle.format.specs.Paths.{Fst, fst_of, Path, here, follow}
@@ -18,8 +19,6 @@ use Rattle.format.specs.Laws.KeysLaws.{keys_zero_le}
 use Rattle.format.specs.Laws.OpeningLaws.{blank_root}
 use Rattle.format.specs.Laws.BlankLaws.{blank_admitted}
 use Rattle.admission.specs.Exactly.{not_refused}
-use Rattle.counting.specs.declared.Counting.{Counting}
-use Rattle.counting.specs.declared.Counting.TheVariants.{Counted, Refused}
 use Rattle.counting.specs.CountOutcomes.{FewKeys, ManyKeys, CountRefusedFor, not_opened, no_space, not_admitted, too_many, Counts, CountOutcome}
 use Rattle.counting.proofs.CountLaws.{many_root, root_many, few_not_many}
 
@@ -34,7 +33,7 @@ pub record FewAdmitted (s : List ℕ) : Type 0 where
 same_file : (s : List ℕ) {m m' : Meta} → opening s ≡ opened m → opening s ≡ opened m' → fst_of s m ≡ fst_of s m'
 same_file s {m = m} {m' = m'} e e' = let same : m ≡ m' = cc in rw same
 
-not_turned : {s d₀ s₀ c₀ d t c : List ℕ} {r : ℕ} → length s ≤ length d₀ → length s ≤ length s₀ → length s ≤ length c₀ → FewAdmitted s
+not_turned : {s d₀ s₀ c₀ d t c : List ℕ} {r : Refusal} → length s ≤ length d₀ → length s ≤ length s₀ → length s ≤ length c₀ → FewAdmitted s
     → ¬ CountRefusedFor s d₀ s₀ c₀ d t c r
 not_turned h g k a (not_opened e p q w) = let o = a.admitted.opens in let z : ◌≡◌ {A = ℕ} 0 1 = cc in omega arith
 not_turned h g k a (no_space m o e short p q w) = ⊎_elim (λ x. omega arith) (λ y. ⊎_elim (λ x. omega arith) (λ x. omega arith) y) short
@@ -42,16 +41,16 @@ not_turned h g k a (not_admitted m o rd rs rc why w) = not_refused h g a.admitte
 not_turned {s} h g k a (too_many A rc e many w) =
     few_not_many (subst (λ (f : Fst). FewKeys f) (same_file s a.admitted.opens A.admitted.opens) a.few) many
 
-counted_is : (s d₀ s₀ c₀ d t c : List ℕ) (r : Counting) → length s ≤ length d₀ → length s ≤ length s₀ → length s ≤ length c₀
-    → CountOutcome s d₀ s₀ c₀ d t c r → FewAdmitted s → r ≡ Counted
-counted_is s d₀ s₀ c₀ d t c Counted h g k o a = refl
-counted_is s d₀ s₀ c₀ d t c (Refused n) h g k o a = absurd (not_turned h g k a o)
+counted_is : (s d₀ s₀ c₀ d t c : List ℕ) (r : Result ⊤ Refusal) → length s ≤ length d₀ → length s ≤ length s₀ → length s ≤ length c₀
+    → CountOutcome s d₀ s₀ c₀ d t c r → FewAdmitted s → r ≡ Ok tt
+counted_is s d₀ s₀ c₀ d t c (Ok tt) h g k o a = refl
+counted_is s d₀ s₀ c₀ d t c (Err n) h g k o a = absurd (not_turned h g k a o)
 
 is_counted : {s d₀ s₀ c₀ d t c : List ℕ} → Counts s d₀ s₀ c₀ d t c → FewAdmitted s
 is_counted o = record { admitted = o.admits.admitted; few = o.few }
 
-pub count_exactly : (s d₀ s₀ c₀ d t c : List ℕ) (r : Counting) → length s ≤ length d₀ → length s ≤ length s₀ → length s ≤ length c₀
-    → CountOutcome s d₀ s₀ c₀ d t c r → (r ≡ Counted → FewAdmitted s) × (FewAdmitted s → r ≡ Counted)
+pub count_exactly : (s d₀ s₀ c₀ d t c : List ℕ) (r : Result ⊤ Refusal) → length s ≤ length d₀ → length s ≤ length s₀ → length s ≤ length c₀
+    → CountOutcome s d₀ s₀ c₀ d t c r → (r ≡ Ok tt → FewAdmitted s) × (FewAdmitted s → r ≡ (Ok tt))
 count_exactly s d₀ s₀ c₀ d t c r h g k o =
     (λ e. is_counted (subst (λ x. CountOutcome s d₀ s₀ c₀ d t c x) e o), counted_is s d₀ s₀ c₀ d t c r h g k o)
 
@@ -87,7 +86,7 @@ blank_few =
           omega (arith, ap (keys_from f) zero, keys_zero_le f);
     }
 
-pub blank_counted : (d₀ s₀ c₀ d t c : List ℕ) (r : Counting) → CountOutcome [] d₀ s₀ c₀ d t c r → (r ≡ Counted) × (d ≡ d₀) × (t ≡ s₀) × (c ≡ c₀)
+pub blank_counted : (d₀ s₀ c₀ d t c : List ℕ) (r : Result ⊤ Refusal) → CountOutcome [] d₀ s₀ c₀ d t c r → (r ≡ (Ok tt)) × (d ≡ d₀) × (t ≡ s₀) × (c ≡ c₀)
 blank_counted d₀ s₀ c₀ d t c r o =
     let is = (count_exactly [] d₀ s₀ c₀ d t c r (omega arith) (omega arith) (omega arith) o).1 blank_few in
     let all = subst (λ x. CountOutcome [] d₀ s₀ c₀ d t c x) is o in

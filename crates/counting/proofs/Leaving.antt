@@ -3,6 +3,9 @@
 -- cannot but be reached, and that is enough for each claim here, since each can be decided or denied.
 -- Assumes nothing.
 use mathlib.Core.Path.{◌≡◌, refl, sym, ap, ◌∙◌, subst}
+use Rattle.std.specs.Prelude.{Ok, Err, Result, ⊤}
+use Rattle.format.specs.declared.Refusal.{Refusal}
+use Rattle.fst.specs.declared.Meta.{Meta}
 use mathlib.Core.Bool.{true}
 use mathlib.Core.Logic.{inl, inr, ⊎_elim}
 use mathlib.Core.List.{List}
@@ -22,13 +25,9 @@ use Rattle.format.specs.Laws.KeysLaws.{keys_zero_le, keys_path_le}
 use Rattle.format.specs.Laws.ReachedLaws.{reached_by, reached_stays}
 use Rattle.format.specs.Laws.ChainLaws.{root_chain_sound}
 use Rattle.fst.specs.declared.Meta as Code
-use Rattle.fst.specs.declared.Opened.{Opened}
-use Rattle.fst.specs.declared.Opened.TheVariants.{Meta as Read, Refused as Turned}
 use Rattle.fst.specs.Open.{meta_is, opening_is}
 use Rattle.admission.specs.Outcome.{Wiped, RefusedFor, Admits, Opens}
 use Rattle.admission.specs.Outcome as Admission
-use Rattle.counting.specs.declared.Counting.{Counting}
-use Rattle.counting.specs.declared.Counting.TheVariants.{Counted, Refused}
 use Rattle.counting.specs.CountOutcomes.{FewKeys, ManyKeys, CountRefusedFor, not_opened, no_space, not_admitted, too_many, Counts, CountOutcome}
 use Rattle.counting.specs.CountPasses.{HasEntry, Countable, OverOne, Passed, Leaves}
 use Rattle.counting.proofs.CountLaws.{root_many}
@@ -105,9 +104,9 @@ module _ {s d₀ s₀ d t : List ℕ} (A : Admits s d₀ s₀ d t) where
         | no high ↦ root_many file (omega arith)
       ]
 
-  leaves_outcome : (c₀ c : List ℕ) → length s ≤ length c₀ → (r : Counting) → Leaves file d c₀ c r → CountOutcome s d₀ s₀ c₀ d t c r
-  leaves_outcome c₀ c room Counted all = all_counts room all
-  leaves_outcome c₀ c room (Refused n) not = too_many A room not.is (over_many not.one) not.wiped
+  leaves_outcome : (c₀ c : List ℕ) → length s ≤ length c₀ → (r : Result ⊤ Refusal) → Leaves file d c₀ c r → CountOutcome s d₀ s₀ c₀ d t c r
+  leaves_outcome c₀ c room (Ok tt) all = all_counts room all
+  leaves_outcome c₀ c room (Err n) not = too_many A room not.is (over_many not.one) not.wiped
 
 -- ---- the file as it was opened
 
@@ -123,11 +122,11 @@ module _ {s d₀ s₀ d t : List ℕ} {v root : ℕ} (c₀ : List ℕ) (o : Open
   pub admitted_countable : Admits s d₀ s₀ d t → Countable (fst_with s v root) d c₀
   admitted_countable A = subst (λ (f : Fst). Countable f d c₀) (sym (same_file o A.admitted)) (entered_countable A room)
 
-  pub admitted_counted : (c : List ℕ) (r : Counting) → Admits s d₀ s₀ d t → Leaves (fst_with s v root) d c₀ c r → CountOutcome s d₀ s₀ c₀ d t c r
+  pub admitted_counted : (c : List ℕ) (r : Result ⊤ Refusal) → Admits s d₀ s₀ d t → Leaves (fst_with s v root) d c₀ c r → CountOutcome s d₀ s₀ c₀ d t c r
   admitted_counted c r A l = leaves_outcome A c₀ c room r (subst (λ (f : Fst). Leaves f d c₀ c r) (same_file o A.admitted) l)
 
   -- a refusal of admission leaves the third table as it was
-  pub admission_refused : {r : ℕ} → RefusedFor s d₀ s₀ d t r → CountRefusedFor s d₀ s₀ c₀ d t c₀ r
+  pub admission_refused : {r : Refusal} → RefusedFor s d₀ s₀ d t r → CountRefusedFor s d₀ s₀ c₀ d t c₀ r
   admission_refused (Admission.not_opened e p q) = not_opened e p q refl
   admission_refused (Admission.no_space m e is short p q) = no_space m e is (⊎_elim inl (λ x. inr (inl x)) short) p q refl
   admission_refused (Admission.no_nodes m e rd rs is none p q) = not_admitted m e rd rs room (Admission.no_nodes m e rd rs is none p q) refl
@@ -140,9 +139,9 @@ module _ {s d₀ s₀ d t : List ℕ} {v root : ℕ} (c₀ : List ℕ) (o : Open
 pub space_refused : {s : List ℕ} {v root : ℕ} (d₀ s₀ c₀ : List ℕ) → Opens s v root → length c₀ < length s → CountRefusedFor s d₀ s₀ c₀ d₀ s₀ c₀ SPACE
 space_refused d₀ s₀ c₀ o short = no_space o.meta o.opens refl (inr (inr short)) refl refl refl
 
-module _ {s : List ℕ} {r : Opened} (e : opening_is r ≡ opening s) where
-  pub opening_refused : (d₀ s₀ c₀ : List ℕ) (n : ℕ) → r ≡ Turned n → CountRefusedFor s d₀ s₀ c₀ d₀ s₀ c₀ n
+module _ {s : List ℕ} {r : Result Meta Refusal} (e : opening_is r ≡ opening s) where
+  pub opening_refused : (d₀ s₀ c₀ : List ℕ) (n : Refusal) → r ≡ Err n → CountRefusedFor s d₀ s₀ c₀ d₀ s₀ c₀ n
   opening_refused d₀ s₀ c₀ n is = not_opened (sym e ∙ ap opening_is is) refl refl refl
 
-  pub opening_opens : (m : Code.Meta) → r ≡ Read m → Opens s m.version m.root
+  pub opening_opens : (m : Code.Meta) → r ≡ Ok m → Opens s m.version m.root
   opening_opens m is = record { meta = meta_is m; opens = sym e ∙ ap opening_is is; version = refl; root_is = refl }

@@ -6,14 +6,13 @@
 --     CountOutcome s ..       the answer
 -- Of a table, the first name is as it was lent and the second as it is left: d₀ d the depths, s₀ t the sums, c₀ c the numbers of keys.
 -- Assumes nothing.
-use Rattle.std.specs.Prelude.{◌≡◌, List, ◌⊎◌, ℕ, ◌≤◌, ◌<◌, length}
+use Rattle.std.specs.Prelude.{◌≡◌, List, ◌⊎◌, ℕ, ◌≤◌, ◌<◌, length, Ok, Err, Result, ⊤}
+use Rattle.format.specs.declared.Refusal.{Refusal}
 use Rattle.format.specs.Limits.{max_sum, SPACE, COUNT}
 use Rattle.format.specs.Opening.{Meta, opened, refused, opening}
 use Rattle.format.specs.Paths.{Fst, fst_of, Reached}
 use Rattle.format.specs.Tables.{keys_from, InTable}
 use Rattle.admission.specs.Outcome.{Holds, Wiped, RefusedFor, Admits}
-use Rattle.counting.specs.declared.Counting.{Counting}
-use Rattle.counting.specs.declared.Counting.TheVariants.{Counted, Refused}
 
 -- ---- the numbers
 
@@ -29,7 +28,7 @@ pub record ManyKeys (f : Fst) : Type 0 where
 
 -- opening's refusals and SPACE leave the tables as they were; admission's NODE, DEEP and SUM leave zeros over the file in its two and the
 -- third as it was; COUNT, judged last, leaves zeros over the file in the third and the other two as admission left them
-pub data CountRefusedFor (s d₀ s₀ c₀ d t c : List ℕ) (r : ℕ) : Type 0 where
+pub data CountRefusedFor (s d₀ s₀ c₀ d t c : List ℕ) (r : Refusal) : Type 0 where
   not_opened : opening s ≡ refused r → d ≡ d₀ → t ≡ s₀ → c ≡ c₀ → CountRefusedFor s d₀ s₀ c₀ d t c r
   no_space : (m : Meta) → opening s ≡ opened m → r ≡ SPACE → (length d₀ < length s) ⊎ ((length s₀ < length s) ⊎ (length c₀ < length s)) → d ≡ d₀ → t ≡ s₀ → c ≡ c₀
       → CountRefusedFor s d₀ s₀ c₀ d t c r
@@ -45,6 +44,6 @@ pub record Counts (s d₀ s₀ c₀ d t c : List ℕ) : Type 0 where
   pub few : FewKeys (fst_of s admits.admitted.meta)
   pub counts : Holds (keys_from (fst_of s admits.admitted.meta)) (InTable (fst_of s admits.admitted.meta)) (length s) c₀ c
 
-abbrev pub CountOutcome : List ℕ → List ℕ → List ℕ → List ℕ → List ℕ → List ℕ → List ℕ → Counting → Type 0
-CountOutcome s d₀ s₀ c₀ d t c Counted = Counts s d₀ s₀ c₀ d t c
-CountOutcome s d₀ s₀ c₀ d t c (Refused r) = CountRefusedFor s d₀ s₀ c₀ d t c r
+abbrev pub CountOutcome : List ℕ → List ℕ → List ℕ → List ℕ → List ℕ → List ℕ → List ℕ → Result ⊤ Refusal → Type 0
+CountOutcome s d₀ s₀ c₀ d t c (Ok tt) = Counts s d₀ s₀ c₀ d t c
+CountOutcome s d₀ s₀ c₀ d t c (Err r) = CountRefusedFor s d₀ s₀ c₀ d t c r

@@ -5,7 +5,8 @@
 --     Countable, Passed       what the pass asks and answers
 --     Leaves                  the same, with the table wiped where a number does not fit
 -- Assumes nothing.
-use Rattle.std.specs.Prelude.{◌≡◌, Bool, true, false, ℕ, ◌≤◌, ◌<◌, length, get_or}
+use Rattle.std.specs.Prelude.{◌≡◌, Bool, true, false, ℕ, ◌≤◌, ◌<◌, length, get_or, Ok, Err, Result, ⊤}
+use Rattle.format.specs.declared.Refusal.{Refusal}
 use mathlib.Core.List.{List, Memᴰ}
 use Rattle.format.specs.declared.Transition.{Transition}
 use Rattle.format.specs.Limits.{max_sum, COUNT}
@@ -14,8 +15,6 @@ use Rattle.format.specs.Paths.{Fst, node_in}
 use Rattle.format.specs.Tables.{keys_from}
 use Rattle.admission_node.specs.Entries.{Kept}
 use Rattle.admission.specs.Outcome.{Wiped}
-use Rattle.counting.specs.declared.Counting.{Counting}
-use Rattle.counting.specs.declared.Counting.TheVariants.{Counted, Refused}
 
 -- ---- the pass
 
@@ -62,11 +61,11 @@ pub record Passed (f : Fst) (d c₀ c : List ℕ) (r : Bool) : Type 0 where
 
 -- ---- the pass with its refusal
 
-pub record NotCounted (f : Fst) (d c₀ c : List ℕ) (r : ℕ) : Type 0 where
+pub record NotCounted (f : Fst) (d c₀ c : List ℕ) (r : Refusal) : Type 0 where
   pub is : r ≡ COUNT
   pub one : OverOne f d
   pub wiped : Wiped (length f.bytes) c₀ c
 
-abbrev pub Leaves : Fst → List ℕ → List ℕ → List ℕ → Counting → Type 0
-Leaves f d c₀ c Counted = Passed f d c₀ c true
-Leaves f d c₀ c (Refused r) = NotCounted f d c₀ c r
+abbrev pub Leaves : Fst → List ℕ → List ℕ → List ℕ → Result ⊤ Refusal → Type 0
+Leaves f d c₀ c (Ok tt) = Passed f d c₀ c true
+Leaves f d c₀ c (Err r) = NotCounted f d c₀ c r

@@ -9,20 +9,12 @@ ghost use Rattle.admission.specs.Outcome.{Opens};
 ghost use Rattle.counting.specs.CountPasses.{ZerosTo, Countable, Passed, Leaves};
 ghost use Rattle.counting.specs.CountOutcomes.{CountOutcome};
 
-use admission::Admission;
 use counting_node::count_at;
-use format::{COUNT, SPACE};
-use fst::Opened;
-
-// What filling the table answers: it is filled, or the number of a refusal.
-#[derive(Clone, Copy)]
-pub enum Counting {
-    Counted,
-    Refused(u8),
-}
+use format::Refusal;
 
 // Zeros from an address on, up to the next one that has an entry in the depths; answers that, or n. A loop of its own is quicker, since
 // most addresses have none.
+// n is the file's length, and either table may be longer.
 fn zeros_to(depths: &[u16], from: usize, n: usize, counts: &mut [u64]) -> usize
     requires { (from ≤ n) × (n ≤ length depths.now) × (n ≤ length counts.old) }
     ensures { ZerosTo depths.now n from counts.old
@@ -64,17 +56,17 @@ fn count_nodes(
     root: usize,
     depths: &[u16],
     counts: &mut [u64],
-) -> Counting
+) -> Result<(), Refusal>
     requires { Countable (fst_with file.now version root) depths.now counts.old }
     ensures { Leaves (fst_with file.now version root) depths.now
         counts.old counts.new result }
 {
     let n = file.len();
     if fill(file, version, root, depths, counts) {
-        return Counting::Counted;
+        return Ok(());
     }
     counts[..n].fill(0);
-    Counting::Refused(COUNT)
+    Err(Refusal::Count)
 }
 
 // Admits a file that opens, with this version and root, and fills the table.
@@ -85,7 +77,7 @@ fn count_opened(
     depths: &mut [u16],
     sums: &mut [u64],
     counts: &mut [u64],
-) -> Counting
+) -> Result<(), Refusal>
     requires { Opens file.now version root }
     ensures { CountOutcome file.now depths.old sums.old
         counts.old depths.new sums.new counts.new result }
@@ -93,22 +85,23 @@ fn count_opened(
     // the third table is judged with the other two, before any node
     let short = counts.len() < file.len();
     if short {
-        return Counting::Refused(SPACE);
+        return Err(Refusal::Space);
     }
-    match admission::admit(file, depths, sums) {
-        Admission::Refused(why) => Counting::Refused(why),
-        Admission::Admitted => count_nodes(file, version, root, depths, counts),
-    }
+    admission::admit(file, depths, sums)?;
+    count_nodes(file, version, root, depths, counts)
 }
 
 // Admits a file, fills admission's two tables and then the third with the number of keys from each reached node, or refuses it: opening's
 // refusals, then SPACE, then NODE, DEEP and SUM of admission, then COUNT, where a reached node has more than 2^64 - 1 keys.
-pub fn count_keys(file: &[u8], depths: &mut [u16], sums: &mut [u64], counts: &mut [u64]) -> Counting
+pub fn count_keys(
+    file: &[u8],
+    depths: &mut [u16],
+    sums: &mut [u64],
+    counts: &mut [u64],
+) -> Result<(), Refusal>
     ensures { CountOutcome file.now depths.old sums.old
         counts.old depths.new sums.new counts.new result }
 {
-    match fst::open(file) {
-        Opened::Refused(why) => Counting::Refused(why),
-        Opened::Meta(m) => count_opened(file, m.version, m.root, depths, sums, counts),
-    }
+    let m = fst::open(file)?;
+    count_opened(file, m.version, m.root, depths, sums, counts)
 }

@@ -1,6 +1,7 @@
 -- `F.find` by what its tests answer: one law for each refusal before the walk, and one for the walk.
 -- Assumes nothing.
 use mathlib.Core.Path.{◌≡◌}
+use Rattle.format.specs.declared.Refusal.{Refusal}
 use mathlib.Core.Bool.{true, false}
 use mathlib.Core.List.{List}
 use Prim.Native.Nat.{ℕ, ◌≤◌, ◌<◌}
@@ -16,7 +17,7 @@ use Rattle.paging.specs.Paging.{Page, refused_page, room_test}
 use Rattle.finding.specs.Finding.{page_by, find}
 
 module _ (s : List ℕ) (p : Pattern) (lo hi : Bound) (most a b : ℕ) where
-  pub find_unopened : (n : ℕ) → opening s ≡ O.Opening.refused n → find s p lo hi most a b ≡ refused_page n
+  pub find_unopened : (n : Refusal) → opening s ≡ O.Opening.refused n → find s p lo hi most a b ≡ refused_page n
   unfolding find
   find_unopened n e = rw e
 

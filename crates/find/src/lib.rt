@@ -2,31 +2,20 @@
 // between two bounds that fit, each in a row of 256 bytes with its value beside it, on any file, admitted or not.
 #![tactic(auto)]
 
-ghost use Rattle.std.specs.Prelude.{◌≡◌, ◌*◌, ◌≤◌, length};
+ghost use Rattle.std.specs.Prelude.{◌*◌, ◌≤◌, length};
 ghost use Rattle.paging.specs.Paging as P;
 ghost use Rattle.pattern.specs.Pattern.{start_by};
 ghost use Rattle.finding.specs.Finding as F;
 ghost use Rattle.stream_start.specs.Views.{bound_is};
 ghost use Rattle.patterned_held.specs.HeldPatterns.{given_is};
-ghost use Rattle.range_fill.specs.RangedRows.{RangedBy, refused_range};
+ghost use Rattle.range_fill.specs.RangedRows.{RangedBy};
 
 use find_fill::fill;
-use format::{BOUND, MAX_KEY, PATTERN, SPACE};
-use fst::Opened;
+use format::{MAX_KEY, Refusal};
 use patterned::start;
-use range_fill::{Ranged, Stop};
+use range_fill::{Ranged, refused};
 use range_rows::{bounds_right, has_room};
-use stream_start::{Begins, Bound};
-
-// A page that is refused before any key.
-fn refused(why: u8) -> Ranged
-    ensures { result ≡ refused_range why }
-{
-    Ranged {
-        count: 0,
-        stop: Stop::Refused(why),
-    }
-}
+use stream_start::Bound;
 
 // The walk, where the buffers have room.
 fn find_from(
@@ -51,8 +40,8 @@ fn find_from(
     let answer = started.answer;
     let patterned = started.patterned;
     match answer {
-        Begins::Refused(why) => refused(why),
-        Begins::Began => fill(file, patterned, most, rows, values),
+        Err(why) => refused(why),
+        Ok(()) => fill(file, patterned, most, rows, values),
     }
 }
 
@@ -79,16 +68,16 @@ pub fn find(
 {
     let opened = fst::open(file);
     match opened {
-        Opened::Refused(why) => refused(why),
-        Opened::Meta(_) => {
+        Err(why) => refused(why),
+        Ok(_) => {
             if MAX_KEY < positions.len() {
-                return refused(PATTERN);
+                return refused(Refusal::Pattern);
             }
-            if bounds_right(lower_kind, lower, upper_kind, upper) {} else {
-                return refused(BOUND);
+            if !bounds_right(lower_kind, lower, upper_kind, upper) {
+                return refused(Refusal::Bound);
             }
-            if has_room(most, rows.len(), values.len()) {} else {
-                return refused(SPACE);
+            if !has_room(most, rows.len(), values.len()) {
+                return refused(Refusal::Space);
             }
             find_from(
                 file, positions, rest, lower_kind, lower, upper_kind, upper, most, rows, values,

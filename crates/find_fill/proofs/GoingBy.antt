@@ -4,6 +4,8 @@
 --     going_more, going_end, going_refused                      the ways out
 -- Assumes nothing.
 use mathlib.Core.Path.{◌≡◌, refl, sym, ap, ap₂, subst, ◌∙◌}
+use Rattle.std.specs.Prelude.{Ok, Err, Some, None}
+use Rattle.format.specs.declared.Refusal.{Refusal}
 use mathlib.Core.List.{List, [], ◌∷◌, ◌++◌}
 use Prim.Native.Nat.{ℕ, ◌+◌, ◌-◌, ◌*◌, ◌≤◌, ◌<◌}
 use native.Mathlib.Omega.{arith}
@@ -23,13 +25,12 @@ use Rattle.paging.proofs.FoldLaws.{rows_none, rows_snoc, values_none, values_sno
 use Rattle.finding.specs.Finding.{fold_by}
 use Rattle.finding.proofs.FoldByLaws.{FoldedBy, by_none, by_key, by_more, by_end, by_refused}
 use Rattle.stream_start.specs.Views.{view_is}
-use Rattle.stream_step.specs.declared.Answer.TheVariants.{Key, End, Refused}
 use Rattle.stream_step.specs.SteppedLaws.{Told, step_end, step_refused, step_text, step_fits}
 use Rattle.patterned.specs.declared.Patterned.{Patterned}
 use Rattle.patterned.specs.declared.PatternedStep.{PatternedStep}
 use Rattle.patterned_held.specs.HeldPatterns.{held_is}
 use Rattle.patterned.specs.Patterns.{SteppedBy}
-use Rattle.range_fill.specs.declared.Stop.TheVariants.{End as Ended, More, Refused as Stopped}
+use Rattle.range_fill.specs.declared.Stop.TheVariants.{End as Ended, More}
 use Rattle.range_fill.specs.RangedRows.{stop_as, RangedBy}
 
 pub record Going (s : List ℕ) (p : P.Pattern) (w : Page) (most : ℕ) (rows₀ values₀ rows values b : List ℕ) (here : Patterned) (count : ℕ) : Type 0 where
@@ -72,10 +73,10 @@ module _ {s : List ℕ} {p : P.Pattern} {w : Page} {most : ℕ} {rows₀ values�
       subst (λ (q : Page). RangedBy q rows₀ rows values₀ values (record { count = count; stop = stop_as why })) (sym is)
       (record { count = g.count_is; stop = refl; rows_are = g.rows_are; values_are = g.values_are })
 
-  pub going_more : most ≤ count → RangedBy w rows₀ rows values₀ values (record { count = most; stop = More })
+  pub going_more : most ≤ count → RangedBy w rows₀ rows values₀ values (record { count = most; stop = Ok More })
   going_more full =
       let e : count ≡ most = omega (arith, g.within) in
-      subst (λ (j : ℕ). RangedBy w rows₀ rows values₀ values (record { count = j; stop = More })) e (stops more (by_more g.folded (omega arith)))
+      subst (λ (j : ℕ). RangedBy w rows₀ rows values₀ values (record { count = j; stop = Ok More })) e (stops more (by_more g.folded (omega arith)))
 
   -- a call of next
   module _ (left : count < most) {b : List ℕ} (same : length b ≡ max_path) {o : PatternedStep}
@@ -90,16 +91,16 @@ module _ {s : List ℕ} {p : P.Pattern} {w : Page} {most : ℕ} {rows₀ values�
     answer_is_lem : {a : R.Answer} → (next_by s (held_is here.pattern) (view_is here.reading) (length b₀)).answer ≡ a → (next_by s p (view_is here.reading) max_path).answer ≡ a
     answer_is_lem e = ap (λ (x : R.Step). x.answer) call_is_lem ∙ e
 
-    pub going_end : o.answer ≡ End → RangedBy w rows₀ rows values₀ values (record { count = count; stop = Ended })
+    pub going_end : o.answer ≡ Ok None → RangedBy w rows₀ rows values₀ values (record { count = count; stop = Ok Ended })
     going_end e = stops ended (by_end g.folded (omega arith) (answer_is_lem (step_end call_told e)))
 
-    pub going_refused : (n : ℕ) → o.answer ≡ Refused n → RangedBy w rows₀ rows values₀ values (record { count = count; stop = Stopped n })
+    pub going_refused : (n : Refusal) → o.answer ≡ Err n → RangedBy w rows₀ rows values₀ values (record { count = count; stop = Err n })
     going_refused n e = stops (G.Stop.refused n) (by_refused g.folded (omega arith) n (answer_is_lem (step_refused call_told n e)))
 
-    pub key_fits : (n v : ℕ) → o.answer ≡ Key n v → n ≤ max_path
+    pub key_fits : (n v : ℕ) → o.answer ≡ Ok (Some (n, v)) → n ≤ max_path
     key_fits n v e = omega (arith, g.space, step_fits call_told n v e (same ∙ sym g.space))
 
-    pub going_key : row_len * most ≤ length rows₀ → most ≤ length values₀ → (n v : ℕ) → o.answer ≡ Key n v → {rows' : List ℕ}
+    pub going_key : row_len * most ≤ length rows₀ → most ≤ length values₀ → (n v : ℕ) → o.answer ≡ Ok (Some (n, v)) → {rows' : List ℕ}
         → rows' ≡ put rows (count * 256) (n ∷ take n b) → Going s p w most rows₀ values₀ rows' (set values count v) b o.patterned (count + 1)
     going_key row_room value_room n v e {rows'} put_is =
         let k = take n b in

@@ -12,7 +12,6 @@ use format::MAX_KEY;
 use patterned::{Patterned, next};
 use range_fill::{Ranged, Stop};
 use range_rows::{ROW, put_row};
-use stream_step::Answer;
 
 // The keys of a reading by pattern, up to `most`. A refusal stands beside the keys before it.
 pub fn fill(
@@ -34,19 +33,19 @@ pub fn fill(
         let answer = step.answer;
         here = step.patterned;
         match answer {
-            Answer::End => {
+            Ok(None) => {
                 return Ranged {
                     count,
-                    stop: Stop::End,
+                    stop: Ok(Stop::End),
                 };
             }
-            Answer::Refused(why) => {
+            Err(why) => {
                 return Ranged {
                     count,
-                    stop: Stop::Refused(why),
+                    stop: Err(why),
                 };
             }
-            Answer::Key(n, value) => {
+            Ok(Some((n, value))) => {
                 put_row(&key, n, count * ROW, rows);
                 values[count] = value;
             }
@@ -54,6 +53,6 @@ pub fn fill(
     }
     Ranged {
         count: most,
-        stop: Stop::More, // as many as asked for
+        stop: Ok(Stop::More), // as many as asked for
     }
 }

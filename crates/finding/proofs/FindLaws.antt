@@ -10,6 +10,7 @@ use mathlib.Core.List.Memᴰ
 use mathlib.Core.List.{List, [], ◌∷◌, ◌++◌, map, Memᴰ}
 use borrow.Author.Tests.{le-leb, lt-leb}
 use Rattle.std.proofs.lemmas.List.{length-map, length-replicate}
+use Rattle.format.specs.declared.Refusal.{Refusal}
 use Rattle.format.specs.Limits.{max_path, BOUND, SPACE, PATTERN}
 use Rattle.format.specs.Paths.{fst_of}
 use Rattle.format.specs.Admitted.{Admitted}
@@ -72,13 +73,13 @@ calls_allowed s (suc n) c on =
 
 -- ---- a list of answers without refusals
 
-unrefused_then_lem : (a : Answer) (l : List Answer) → ((n : ℕ) → ¬ (a ≡ Answer.refused n)) → unrefused_then a l ≡ a ∷ l
+unrefused_then_lem : (a : Answer) (l : List Answer) → ((n : Refusal) → ¬ (a ≡ Answer.refused n)) → unrefused_then a l ≡ a ∷ l
 unrefused_then_lem (key k v) l h = refl
 unrefused_then_lem end l h = refl
 unrefused_then_lem (Answer.refused n) l h = absurd (h n refl)
 
 none_refused : {s : List ℕ} (p : Pattern) (r : View) (cs : List (Call s))
-    → ((cs₁ cs₂ : List (Call s)) (c : Call s) → cs ≡ cs₁ ++ (c ∷ cs₂) → (n : ℕ) → ¬ ((call_by p (reading_after_by p r cs₁) c).answer ≡ Answer.refused n))
+    → ((cs₁ cs₂ : List (Call s)) (c : Call s) → cs ≡ cs₁ ++ (c ∷ cs₂) → (n : Refusal) → ¬ ((call_by p (reading_after_by p r cs₁) c).answer ≡ Answer.refused n))
     → unrefused (answers_by p r cs) ≡ answers_by p r cs
 none_refused p r [] h = refl
 none_refused {s} p r (c ∷ cs) h =

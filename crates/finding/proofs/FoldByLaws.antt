@@ -4,6 +4,7 @@
 -- Assumes nothing.
 use Rattle.std.specs.Prelude.{◌≡◌, refl, List, [], ◌∷◌, ◌++◌, ℕ, zero, suc, ◌+◌, ◌-◌, ◌<◌}
 use Rattle.std.proofs.Common.{sym, ap, ap₂, ◌∙◌, append_assoc, append-nil, add-one, arith}
+use Rattle.format.specs.declared.Refusal.{Refusal}
 use Rattle.format.specs.Limits.{max_path}
 use Rattle.reading.specs.Reading.{View, Answer, key, end}
 use Rattle.reading.specs.Demand.{Entry, entry}
@@ -58,5 +59,5 @@ module _ {w : Page} {es : List Entry} {n : ℕ} {s : List ℕ} {p : Pattern} {r 
   pub by_end : 0 < n → (next_by s p r max_path).answer ≡ end → w ≡ page es ended
   by_end some is = stops ended (stopped end some is)
 
-  pub by_refused : 0 < n → (c : ℕ) → (next_by s p r max_path).answer ≡ Answer.refused c → w ≡ page es (Stop.refused c)
+  pub by_refused : 0 < n → (c : Refusal) → (next_by s p r max_path).answer ≡ Answer.refused c → w ≡ page es (Stop.refused c)
   by_refused some c is = stops (Stop.refused c) (stopped (Answer.refused c) some is)

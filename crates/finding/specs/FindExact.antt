@@ -5,6 +5,7 @@
 --     FindPages A p lo hi calls         what page after page hands out
 -- Assumes nothing.
 use Rattle.std.specs.Prelude.{◌≡◌, ℕ, suc, ◌≤◌, ◌<◌, length}
+use Rattle.format.specs.declared.Refusal.{Refusal}
 use mathlib.Core.List.{List, [], ◌∷◌, ◌++◌, map, Memᴰ}
 use Rattle.format.specs.Paths.{fst_of}
 use Rattle.format.specs.Admitted.{Admitted}
@@ -25,7 +26,7 @@ pub record FindExact {s : List ℕ} (A : Admitted s) (p : Pattern) (lo hi : Boun
       → Memᴰ (entry k v) w.entries
   -- up to `most`
   pub at_most : length w.entries ≤ most
-  pub not_refused : (n : ℕ) → ¬ (w.stop ≡ Stop.refused n)
+  pub not_refused : (n : Refusal) → ¬ (w.stop ≡ Stop.refused n)
   -- "ended" exactly where fewer were left than asked for, and then none is left
   pub ended_fewer : w.stop ≡ ended → length w.entries < most
   pub fewer_ended : length w.entries < most → w.stop ≡ ended

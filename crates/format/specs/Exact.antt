@@ -3,6 +3,7 @@
 --     KeyExact s f v space     a search for v answers a key that has it, or none exactly where no held key has it
 -- Assumes nothing.
 use Rattle.std.specs.Prelude.{◌≡◌, List, ℕ, ◌≤◌}
+use Rattle.format.specs.declared.Refusal.{Refusal}
 use Rattle.format.specs.Limits.{max_path}
 use Rattle.format.specs.Paths.{Fst, Held}
 use Rattle.format.specs.Lookup.{Answer, get, KeyAnswer, get_key}
@@ -13,7 +14,7 @@ pub record GetExact (s : List ℕ) (f : Fst) (k : List ℕ) : Type 0 where
   pub held_get : (v : ℕ) → get s k ≡ Answer.value v → Held f k v
   pub get_none : ((v : ℕ) → ¬ Held f k v) → get s k ≡ Answer.none
   pub none_held : get s k ≡ Answer.none → (v : ℕ) → ¬ Held f k v
-  pub get_not_refused : (n : ℕ) → ¬ (get s k ≡ Answer.refused n)
+  pub get_not_refused : (n : Refusal) → ¬ (get s k ≡ Answer.refused n)
 
 -- both ways for each answer; a short buffer is refused, and so finds nothing
 pub record KeyExact (s : List ℕ) (f : Fst) (v space : ℕ) : Type 0 where
@@ -21,4 +22,4 @@ pub record KeyExact (s : List ℕ) (f : Fst) (v space : ℕ) : Type 0 where
   pub get_key_held : max_path ≤ space → (k : List ℕ) → Held f k v → get_key s v space ≡ KeyAnswer.found k
   pub get_key_none : max_path ≤ space → ((k : List ℕ) → ¬ Held f k v) → get_key s v space ≡ KeyAnswer.none
   pub none_key_held : max_path ≤ space → get_key s v space ≡ KeyAnswer.none → (k : List ℕ) → ¬ Held f k v
-  pub not_refused : max_path ≤ space → (n : ℕ) → ¬ (get_key s v space ≡ KeyAnswer.refused n)
+  pub not_refused : max_path ≤ space → (n : Refusal) → ¬ (get_key s v space ≡ KeyAnswer.refused n)

@@ -21,3 +21,4 @@ pub mod NumberedLaws
 pub mod StringLaws
 pub mod NumberOfLaws
 pub mod KeysLaws
+pub mod RefusalLaws

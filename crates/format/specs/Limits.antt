@@ -1,6 +1,8 @@
 -- The limits of document 01, and the refusals of documents 01 and 02, by name, once.
 -- Assumes nothing.
 use Rattle.std.specs.Prelude.{ℕ}
+use Rattle.format.specs.declared.Refusal.{Refusal}
+use Rattle.format.specs.declared.Refusal.TheVariants.{Short, Version, Root, Large, Node, Deep, Sum, Space, Bound, Record, State, Pattern, List, Cards, Edition, Carry, Name, Full, Count, Seat}
 
 -- the first byte that a node may take: the header ends before it
 abbrev pub first_node : ℕ
@@ -34,73 +36,96 @@ max_levels = 256
 abbrev pub max_sum : ℕ
 max_sum = 18446744073709551615
 
--- ---- the refusals
+-- ---- the refusals, in capitals: Node, State and Bound are other words of the definitions
 
-abbrev pub SHORT : ℕ
-SHORT = 1
+abbrev pub SHORT : Refusal
+SHORT = Short
 
-abbrev pub VERSION : ℕ
-VERSION = 2
+abbrev pub VERSION : Refusal
+VERSION = Version
 
-abbrev pub ROOT : ℕ
-ROOT = 3
+abbrev pub ROOT : Refusal
+ROOT = Root
 
-abbrev pub LARGE : ℕ
-LARGE = 4
+abbrev pub LARGE : Refusal
+LARGE = Large
 
-abbrev pub NODE : ℕ
-NODE = 5
+abbrev pub NODE : Refusal
+NODE = Node
 
-abbrev pub DEEP : ℕ
-DEEP = 6
+abbrev pub DEEP : Refusal
+DEEP = Deep
 
-abbrev pub SUM : ℕ
-SUM = 7
+abbrev pub SUM : Refusal
+SUM = Sum
 
-abbrev pub SPACE : ℕ
-SPACE = 8
+abbrev pub SPACE : Refusal
+SPACE = Space
 
-abbrev pub BOUND : ℕ
-BOUND = 9
+abbrev pub BOUND : Refusal
+BOUND = Bound
 
-abbrev pub RECORD : ℕ
-RECORD = 10
+abbrev pub RECORD : Refusal
+RECORD = Record
 
-abbrev pub STATE : ℕ
-STATE = 11
+abbrev pub STATE : Refusal
+STATE = State
 
 -- over 255 positions of a pattern
-abbrev pub PATTERN : ℕ
-PATTERN = 12
+abbrev pub PATTERN : Refusal
+PATTERN = Pattern
 
 -- a list to pack that is not one
-abbrev pub LIST : ℕ
-LIST = 13
+abbrev pub LIST : Refusal
+LIST = List
 
 -- no file, or over eight
-abbrev pub CARDS : ℕ
-CARDS = 14
+abbrev pub CARDS : Refusal
+CARDS = Cards
 
 -- a file to convert that is not of version 1
-abbrev pub EDITION : ℕ
-EDITION = 15
+abbrev pub EDITION : Refusal
+EDITION = Edition
 
 -- a held level that the new file does not have
-abbrev pub CARRY : ℕ
-CARRY = 16
+abbrev pub CARRY : Refusal
+CARRY = Carry
 
 -- a mark's name of a wrong length, or of no mark
-abbrev pub NAME : ℕ
-NAME = 17
+abbrev pub NAME : Refusal
+NAME = Name
 
 -- a seventeenth mark
-abbrev pub FULL : ℕ
-FULL = 18
+abbrev pub FULL : Refusal
+FULL = Full
 
 -- over 2^64 - 1 keys, or a table that cannot be right
-abbrev pub COUNT : ℕ
-COUNT = 19
+abbrev pub COUNT : Refusal
+COUNT = Count
 
 -- a seat's number over seven, or a seat without a reading
-abbrev pub SEAT : ℕ
-SEAT = 20
+abbrev pub SEAT : Refusal
+SEAT = Seat
+
+-- the numbers of document 01's table, and from 12 on of document 02's
+abbrev pub number : Refusal → ℕ
+number Short = 1
+number Version = 2
+number Root = 3
+number Large = 4
+number Node = 5
+number Deep = 6
+number Sum = 7
+number Space = 8
+number Bound = 9
+number Record = 10
+number State = 11
+number Pattern = 12
+number List = 13
+number Cards = 14
+number Edition = 15
+number Carry = 16
+number Name = 17
+number Full = 18
+number Count = 19
+number Seat = 20

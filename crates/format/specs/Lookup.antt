@@ -6,6 +6,7 @@
 --     Numbered s                 document 01's word: on such a file the search by value is exact
 -- Assumes nothing.
 use Rattle.std.specs.Prelude.{◌≡◌, Bool, true, false, cond, ◌&&◌, List, [], ◌∷◌, ℕ, zero, suc, ◌+◌, ◌-◌, ◌≤◌, ◌<◌, leb, eqb, length}
+use Rattle.format.specs.declared.Refusal.{Refusal}
 use Rattle.format.specs.declared.Transition.{Transition}
 use Rattle.format.specs.Limits.{max_path, max_sum, NODE, DEEP, SUM, SPACE}
 use Rattle.format.specs.Node.{Node, Judgement, sound, unsound, Place, at, absent, Search, find_input, transition_at}
@@ -16,7 +17,7 @@ use Rattle.format.specs.Tables.{largest_sum}
 use Rattle.format.specs.Admitted.{Admitted}
 
 -- a sum past 2^64 - 1 leads to a node: 5 for the node, then 7 for the sum
-abbrev pub past_sum : Judgement → ℕ
+abbrev pub past_sum : Judgement → Refusal
 past_sum (sound m) = SUM
 past_sum unsound = NODE
 
@@ -25,7 +26,7 @@ past_sum unsound = NODE
 pub data Answer : Type 0 where
   value : ℕ → Answer
   none : Answer
-  refused : ℕ → Answer
+  refused : Refusal → Answer
 
 -- a node that is entered is judged: 5 where it is not sound
 abbrev pub entered : Judgement → (Node → Answer) → Answer
@@ -63,7 +64,7 @@ get s k = opened_as (opening s) (λ m. cond (eqb (length s) 0) none (get_from (f
 pub data KeyAnswer : Type 0 where
   found : List ℕ → KeyAnswer
   none : KeyAnswer
-  refused : ℕ → KeyAnswer
+  refused : Refusal → KeyAnswer
 
 -- place i of the first transition of ts; the outputs before it fit
 unfoldable pub fitting_from : ℕ → Place → List Transition → ℕ → Place

@@ -7,6 +7,7 @@
 -- Assumes nothing.
 use Rattle.std.specs.Prelude.{Bool, true, false, cond, ◌&&◌, List, [], ℕ, ◌+◌, ◌-◌, ltb, leb, eqb, length, take, drop}
 use Rattle.std.proofs.Math.Option.{Option, none, some}
+use Rattle.format.specs.declared.Refusal.{Refusal}
 use Rattle.format.specs.Limits.{first_node, min_len, max_len, SHORT, VERSION, ROOT, LARGE}
 use Rattle.format.specs.Bytes.{le}
 
@@ -51,7 +52,7 @@ root_test v root len = cond (eqb root 0) (eqb len (least_len v)) (leb first_node
 
 pub data Opening : Type 0 where
   opened : Meta → Opening
-  refused : ℕ → Opening
+  refused : Refusal → Opening
 
 -- no bytes are a blank card and open; else SHORT, LARGE, VERSION, SHORT for this version, ROOT, in this order
 unfoldable pub opening : List ℕ → Opening

@@ -9,6 +9,7 @@
 --     node_addr F b         the address of the packed node: its last byte, or 0 for the record that packs to nothing
 -- Assumes nothing.
 use Rattle.std.specs.Prelude.{◌≡◌, Bool, true, false, cond, not, ◌&&◌, ◌||◌, ◌⊎◌, List, [], ◌∷◌, ◌++◌, map, ℕ, zero, suc, ◌+◌, ◌-◌, ◌*◌, ◌^◌, ◌≤◌, ◌<◌, ltb, leb, eqb, length, get_or}
+use Rattle.format.specs.declared.Refusal.{Refusal}
 use Rattle.buffers.specs.Decide.{implies, all_below}
 use Rattle.format.specs.Limits.{first_node, max_len, max_trans, index_threshold, SPACE, RECORD}
 use Rattle.format.specs.Bytes.{bytes_of, pack_size, largest}
@@ -173,7 +174,7 @@ packed first b =
 
 pub data Packing : Type 0 where
   written : List ℕ → Packing
-  refused : ℕ → Packing
+  refused : Refusal → Packing
 
 -- RECORD, then SPACE
 unfoldable pub packing : ℕ → BuilderNode → ℕ → Packing

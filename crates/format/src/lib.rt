@@ -1,51 +1,86 @@
-// What every layer shares: the limits of document 01, the refusals of documents 01 and 02 by number, and a transition.
-// The meaning of the format stands in specs/; docs/FORMAT.md walks through it. `limits` and `refusals` hold each number here to the
-// definition of its name.
+// What every layer shares: the limits of document 01, the refusals of documents 01 and 02, and a transition.
+// The meaning of the format stands in specs/; docs/FORMAT.md walks through it. `limits` and `From<Refusal>` hold
+// each number here to the definition of its name.
 #![tactic(auto)]
 
-ghost use Rattle.std.specs.Prelude.{◌≡◌, [], ◌∷◌};
+ghost use Rattle.std.specs.Prelude.{◌≡◌};
 ghost use Rattle.format.specs.Limits as L;
+ghost use Rattle.format.specs.Limits.{number};
 
-// Refusals, by the numbers of document 01's table, and from 12 on of document 02's.
-pub const SHORT: u8 = 1;
+// Why a call refuses, in the order of document 01's table, and from `Pattern` on of document 02's.
+#[derive(Clone, Copy, PartialEq, Eq)]
+pub enum Refusal {
+    // a file shorter than its header and trailer
+    Short,
+    // a version that is none of 1 to 3
+    Version,
+    // a root that does not lie in the file
+    Root,
+    // a length past the largest
+    Large,
+    // a node that is not sound
+    Node,
+    // a path longer than the longest key
+    Deep,
+    // a path whose sum is past the largest value
+    Sum,
+    // a buffer or a table too short
+    Space,
+    // a bound longer than the longest key
+    Bound,
+    // a record that no node has
+    Record,
+    // a reading that no call has made
+    State,
+    // over 255 positions of a pattern
+    Pattern,
+    // a list to pack that is not one
+    List,
+    // no file, or over eight
+    Cards,
+    // a file to convert that is not of version 1
+    Edition,
+    // a held level that the new file does not have
+    Carry,
+    // a mark's name of a wrong length, or of no mark
+    Name,
+    // a seventeenth mark
+    Full,
+    // over 2^64 - 1 keys, or a table that cannot be right
+    Count,
+    // a seat's number over seven, or a seat without a reading
+    Seat,
+}
 
-pub const VERSION: u8 = 2;
+// The number of a refusal in the papers and in C, which is the one that the definitions give it.
+impl From<Refusal> for u8 {
+    ghost from_gives = { λ why n. n ≡ number why };
 
-pub const ROOT: u8 = 3;
-
-pub const LARGE: u8 = 4;
-
-pub const NODE: u8 = 5;
-
-pub const DEEP: u8 = 6;
-
-pub const SUM: u8 = 7;
-
-pub const SPACE: u8 = 8;
-
-pub const BOUND: u8 = 9;
-
-pub const RECORD: u8 = 10;
-
-pub const STATE: u8 = 11;
-
-pub const PATTERN: u8 = 12;
-
-pub const LIST: u8 = 13;
-
-pub const CARDS: u8 = 14;
-
-pub const EDITION: u8 = 15;
-
-pub const CARRY: u8 = 16;
-
-pub const NAME: u8 = 17;
-
-pub const FULL: u8 = 18;
-
-pub const COUNT: u8 = 19;
-
-pub const SEAT: u8 = 20;
+    fn from(why: Refusal) -> u8 {
+        match why {
+            Refusal::Short => 1,
+            Refusal::Version => 2,
+            Refusal::Root => 3,
+            Refusal::Large => 4,
+            Refusal::Node => 5,
+            Refusal::Deep => 6,
+            Refusal::Sum => 7,
+            Refusal::Space => 8,
+            Refusal::Bound => 9,
+            Refusal::Record => 10,
+            Refusal::State => 11,
+            Refusal::Pattern => 12,
+            Refusal::List => 13,
+            Refusal::Cards => 14,
+            Refusal::Edition => 15,
+            Refusal::Carry => 16,
+            Refusal::Name => 17,
+            Refusal::Full => 18,
+            Refusal::Count => 19,
+            Refusal::Seat => 20,
+        }
+    }
+}
 
 // The first byte of a file that a node may take: the header ends before it.
 pub const FIRST_NODE: usize = 16;
@@ -114,16 +149,4 @@ pub fn limits() -> Named
         levels: LEVELS,
         sum: u64::MAX,
     }
-}
-
-// Each refusal has the number that the definitions give it.
-pub fn refusals() -> [u8; 20]
-    ensures { result ≡ L.SHORT ∷ L.VERSION ∷ L.ROOT ∷ L.LARGE ∷ L.NODE ∷ L.DEEP ∷ L.SUM ∷ L.SPACE
-        ∷ L.BOUND ∷ L.RECORD ∷ L.STATE ∷ L.PATTERN ∷ L.LIST ∷ L.CARDS ∷ L.EDITION ∷ L.CARRY ∷ L.NAME
-        ∷ L.FULL ∷ L.COUNT ∷ L.SEAT ∷ [] }
-{
-    [
-        SHORT, VERSION, ROOT, LARGE, NODE, DEEP, SUM, SPACE, BOUND, RECORD, STATE, PATTERN, LIST,
-        CARDS, EDITION, CARRY, NAME, FULL, COUNT, SEAT,
-    ]
 }

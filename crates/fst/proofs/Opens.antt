@@ -11,7 +11,7 @@ use borrow.Author.Tests.{le-leb, lt-leb, eq-eqb, ne_eqb}
 use lib.Dec.{eqb}
 use lib.ListN.{length}
 use Rattle.buffers.specs.DecideLaws.{decides_eq, decides_iff, decides_same}
-use Rattle.format.specs.Limits.{min_len}
+use Rattle.format.specs.Limits.{min_len, SHORT}
 use Rattle.format.specs.Opening.{trailer_len, least_len, number_at, meta_of, root_test, opened, refused, opening}
 use Rattle.format.specs.Laws.OpeningLaws.{blank_meta, opening_blank, opening_short, root_none, root_some}
 use Rattle.std.specs.Prelude.{Option as Maybe, None}
@@ -42,7 +42,7 @@ rule_is r v w root n len e f is = rw (← e, ← f) is
 pub blank_is_meta : meta_is (record { version = 0; ty = 0; len = 0; root = 0; checksum = None }) ≡ meta_of []
 blank_is_meta = sym blank_meta
 
-pub opening_of_few : (s : List ℕ) → length s < min_len → opening s ≡ cond (eqb (length s) 0) (opened (meta_of [])) (refused 1)
+pub opening_of_few : (s : List ℕ) → length s < min_len → opening s ≡ cond (eqb (length s) 0) (opened (meta_of [])) (refused SHORT)
 opening_of_few s few =
     elim (ℕ_discrete (length s) 0) [
       | yes z ↦ opening_blank s z ∙ rw (eq-eqb (length s) 0 z)

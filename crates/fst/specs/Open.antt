@@ -4,12 +4,11 @@
 --     opening_is r      what opening answered
 -- Assumes nothing.
 use Rattle.std.proofs.Math.Option.{Option, none, some}
-use Rattle.std.specs.Prelude.{Option as Maybe, Some, None, ℕ}
+use Rattle.std.specs.Prelude.{Option as Maybe, Some, None, ℕ, Ok, Err, Result}
+use Rattle.format.specs.declared.Refusal.{Refusal}
 use Rattle.format.specs.Opening as F
 use Rattle.format.specs.Opening.{Opening, opened, refused}
 use Rattle.fst.specs.declared.Meta.{Meta}
-use Rattle.fst.specs.declared.Opened.{Opened}
-use Rattle.fst.specs.declared.Opened.TheVariants.{Meta as Read, Refused}
 
 abbrev pub checksum_is : Maybe ℕ → Option ℕ
 checksum_is (Some n) = some n
@@ -18,6 +17,6 @@ checksum_is None = none
 abbrev pub meta_is : Meta → F.Meta
 meta_is m = record { version = m.version; ty = m.ty; len = m.len; root = m.root; checksum = checksum_is m.checksum }
 
-abbrev pub opening_is : Opened → Opening
-opening_is (Read m) = opened (meta_is m)
-opening_is (Refused n) = refused n
+abbrev pub opening_is : Result Meta Refusal → Opening
+opening_is (Ok m) = opened (meta_is m)
+opening_is (Err n) = refused n

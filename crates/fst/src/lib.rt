@@ -4,12 +4,13 @@
 
 ghost use Rattle.std.specs.Prelude.{◌≡◌, ◌+◌, ◌-◌, ◌≤◌, ◌<◌, length, cond, [], eqb};
 ghost use Rattle.std.proofs.Math.Option.{some, none};
+ghost use Rattle.format.specs.Limits as L;
 ghost use Rattle.format.specs.Opening.{trailer_len, least_len, number_at, meta_of, root_test, opened, refused, opening};
 ghost use Rattle.format.specs.Node.{node_at};
 ghost use Rattle.format.specs.Lookup.{past_sum};
 ghost use Rattle.fst.specs.Open.{opening_is, meta_is, checksum_is};
 
-use format::{FIRST_NODE, LARGE, MAX_LEN, MIN_LEN, NODE, ROOT, SHORT, SUM, VERSION};
+use format::{FIRST_NODE, MAX_LEN, MIN_LEN, Refusal};
 use le_bytes::{read_u32_le, read_u64_le};
 
 // What the header and the trailer say.
@@ -22,13 +23,6 @@ pub struct Meta {
     pub root: usize,
     // that of version 3, read and not verified; versions 1 and 2 have none
     pub checksum: Option<u32>,
-}
-
-// What opening answers: what the file says, or the number of a refusal.
-#[derive(Clone, Copy)]
-pub enum Opened {
-    Meta(Meta),
-    Refused(u8),
 }
 
 // How many bytes stand after the root's node.
@@ -93,19 +87,19 @@ fn blank() -> Meta
 }
 
 // Opens a file of n bytes that has no room for header and trailer.
-fn of_few(n: usize) -> Opened
-    ensures { opening_is result ≡ cond (eqb n 0) (opened (meta_of [])) (refused 1) }
+fn of_few(n: usize) -> Result<Meta, Refusal>
+    ensures { opening_is result ≡ cond (eqb n 0) (opened (meta_of [])) (refused L.SHORT) }
 {
     if n == 0 {
-        Opened::Meta(blank())
+        Ok(blank())
     } else {
-        Opened::Refused(SHORT)
+        Err(Refusal::Short)
     }
 }
 
 // Opens a file: what it says, or SHORT, LARGE, VERSION, SHORT for its version, or ROOT, judged in this order.
 // A file without bytes is a blank card, and none of its bytes is read.
-pub fn open(file: &[u8]) -> Opened
+pub fn open(file: &[u8]) -> Result<Meta, Refusal>
     ensures { opening_is result ≡ opening file.now }
 {
     let n = file.len();
@@ -115,31 +109,31 @@ pub fn open(file: &[u8]) -> Opened
     }
     let too_large = MAX_LEN < n;
     if too_large {
-        return Opened::Refused(LARGE);
+        return Err(Refusal::Large);
     }
     let version = read_u64_le(file);
     if version < 1 {
-        return Opened::Refused(VERSION);
+        return Err(Refusal::Version);
     }
     let too_new = 3 < version;
     if too_new {
-        return Opened::Refused(VERSION);
+        return Err(Refusal::Version);
     }
     let trailer = trailer_len(version);
     let least = len_without_nodes(trailer);
     if n < least {
-        return Opened::Refused(SHORT);
+        return Err(Refusal::Short);
     }
     let len_at = n - trailer;
     let root_at = len_at + 8;
     let root = read_u64_le(&file[root_at..]) as usize;
     if !root_right(version, root, n) {
-        return Opened::Refused(ROOT);
+        return Err(Refusal::Root);
     }
     let ty = read_u64_le(&file[8..]);
     let len = read_u64_le(&file[len_at..]);
     let checksum = checksum_of(file, version);
-    Opened::Meta(Meta {
+    Ok(Meta {
         version,
         ty,
         len,
@@ -149,11 +143,11 @@ pub fn open(file: &[u8]) -> Opened
 }
 
 // The refusal where the sum that leads to the node at addr passes 2^64 - 1: the node is judged first.
-pub fn past_sum(file: &[u8], version: u64, root: usize, addr: usize) -> u8
+pub fn past_sum(file: &[u8], version: u64, root: usize, addr: usize) -> Refusal
     ensures { result ≡ past_sum (node_at file.now version root addr) }
 {
     match node::node_at(file, version, root, addr) {
-        Err(_) => NODE,
-        Ok(_) => SUM,
+        Err(_) => Refusal::Node,
+        Ok(_) => Refusal::Sum,
     }
 }

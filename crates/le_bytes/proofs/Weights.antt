@@ -1,6 +1,7 @@
 -- A number of up to 8 bytes, each with its weight: 256 ^ i for byte i.
 --     le_take_lt      k bytes stand for a number below 256 ^ k
 --     le_snoc         one byte more adds it with its weight
+--     le_four         four bytes, each with its weight
 --     le_eight        eight bytes, each with its weight
 --     cut_eight       eight bytes, shifted up and down again, are the lowest k of them
 --     le_padded       bytes before zeros stand for what they stand for alone
@@ -46,6 +47,16 @@ le_eight s h =
     let e5 = le_snoc s 5 (omega arith) in
     let e6 = le_snoc s 6 (omega arith) in
     let e7 = le_snoc s 7 (omega arith) in
+    omega arith
+
+-- four bytes, each with its weight
+pub le_four : (s : List ℕ) → 4 ≤ length s → le (take 4 s) ≡ get_or s 0 0 + get_or s 1 0 * 2 ^ 8 + get_or s 2 0 * 2 ^ 16 + get_or s 3 0 * 2 ^ 24
+unfolding le
+le_four s h =
+    let e0 = le_snoc s 0 (omega arith) in
+    let e1 = le_snoc s 1 (omega arith) in
+    let e2 = le_snoc s 2 (omega arith) in
+    let e3 = le_snoc s 3 (omega arith) in
     omega arith
 
 -- a shift up by k of a word of j + k bits and back down drops all but the j lowest bits

@@ -11,13 +11,6 @@ ghost use Rattle.le_bytes.specs.Size.{PackedIn};
 
 use buffers::copy_front;
 
-// A byte as a number of 64 bits.
-pub fn wide(x: u8) -> u64
-    ensures { result ≡ x }
-{
-    x as u64
-}
-
 // A byte as a count or a place.
 pub fn small(x: u8) -> usize
     ensures { result ≡ x }
@@ -30,7 +23,7 @@ pub fn read_u32_le(slice: &[u8]) -> u32
     requires { 4 ≤ length slice.now }
     ensures { result ≡ le (take 4 slice.now) }
 {
-    unpack_uint(slice, 4) as u32
+    u32::from_le_bytes([slice[0], slice[1], slice[2], slice[3]])
 }
 
 // The number that the first 8 bytes of slice stand for.
@@ -38,7 +31,7 @@ pub fn read_u64_le(slice: &[u8]) -> u64
     requires { 8 ≤ length slice.now }
     ensures { result ≡ le (take 8 slice.now) }
 {
-    unpack_uint(slice, 8)
+    load8(slice)
 }
 
 // The number that the first nbytes bytes of slice stand for; 0 bytes stand for 0.
@@ -65,28 +58,14 @@ fn unpack_wide(slice: &[u8], nbytes: usize) -> u64
     (load8(slice) << above) >> above
 }
 
-// The number that the first 8 bytes of slice stand for, in steps that compile to one load. The weight is not
-// multiplied after the last byte, since 256^8 has no 64 bits.
+// The number that the first 8 bytes of slice stand for.
 fn load8(slice: &[u8]) -> u64
     requires { 8 ≤ length slice.now }
     ensures { result ≡ le (take 8 slice.now) }
 {
-    let mut n = u64::from(slice[0]);
-    let mut weight: u64 = 256;
-    n += u64::from(slice[1]) * weight;
-    weight *= 256;
-    n += u64::from(slice[2]) * weight;
-    weight *= 256;
-    n += u64::from(slice[3]) * weight;
-    weight *= 256;
-    n += u64::from(slice[4]) * weight;
-    weight *= 256;
-    n += u64::from(slice[5]) * weight;
-    weight *= 256;
-    n += u64::from(slice[6]) * weight;
-    weight *= 256;
-    n += u64::from(slice[7]) * weight;
-    n
+    u64::from_le_bytes([
+        slice[0], slice[1], slice[2], slice[3], slice[4], slice[5], slice[6], slice[7],
+    ])
 }
 
 // The same where fewer than 8 bytes are there: they are copied before zeros, which add nothing.
@@ -122,6 +101,7 @@ pub fn pack_uint_in(out: &mut [u8], at: usize, n: u64, nbytes: usize)
 }
 
 // Number i of n numbers of size bytes that stand last first from place at on.
+// at, size and n stand as in `numbers_down`, of which the contract speaks: for a slice in their place it would have to be proved that the slice is that part of the file.
 pub fn number_of(file: &[u8], at: usize, size: usize, n: usize, i: usize) -> u64
     requires { (at + n * size ≤ length file.now) × (size ≤ 8) × (i < n) }
     ensures { result ≡ get_or (numbers_down file.now at size n) i 0 }

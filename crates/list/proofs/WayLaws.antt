@@ -2,6 +2,7 @@
 -- buffer; and a listing that begins is on its way.
 -- Assumes nothing.
 use mathlib.Core.Path.{◌≡◌, refl, sym, ap, ◌∙◌, subst}
+use Rattle.std.specs.Prelude.{Ok}
 use mathlib.Core.List.{List}
 use Prim.Native.Nat.{ℕ, ◌≤◌, ◌<◌}
 use native.Mathlib.Omega.{arith}
@@ -20,7 +21,6 @@ use Rattle.reading.proofs.ProgressLaws.{left}
 use Rattle.reading.proofs.WholeLaws.{OnWay, OnWayNext, goes_on, comes_to_end, on_way_start, on_way_next}
 use Rattle.stream.specs.Plains.{plain_is}
 use Rattle.stream.specs.declared.Started.{Started}
-use Rattle.stream_start.specs.declared.Begins.TheVariants.{Began}
 use Rattle.listing.specs.declared.Line.TheVariants.{Key, Last}
 use Rattle.listing.specs.declared.Listed.{Listed}
 use Rattle.listing.specs.Listing.{Line, State, state, more, last, line_by, line_of}
@@ -99,7 +99,7 @@ module _ (s : List ℕ) (p : Plain) (keys : ℕ) (buf₀ buf : List ℕ) (r : Li
 
 -- ---- the beginning
 
-pub way_begins : {s d₀ s₀ c₀ d t c : List ℕ} (r : Started) → Begins s d₀ s₀ c₀ d t c r → r.answer ≡ Began → Stands s (plain_is r.plain).view
+pub way_begins : {s d₀ s₀ c₀ d t c : List ℕ} (r : Started) → Begins s d₀ s₀ c₀ d t c r → r.answer ≡ Ok tt → Stands s (plain_is r.plain).view
 way_begins r (too_large h e p q w) is = let z : ◌≡◌ {A = ℕ} 0 1 = cc in absurd (omega arith)
 way_begins r (not_counted h n e p) is = let z : ◌≡◌ {A = ℕ} 0 1 = cc in absurd (omega arith)
 way_begins {s} {c = c} r (begins h e a st) is =

@@ -6,11 +6,11 @@ ghost use Rattle.std.specs.Prelude.{◌≤◌, length};
 ghost use Rattle.stream.specs.Plains.{plain_is};
 ghost use Rattle.list.specs.Stands.{Stands};
 
+use format::Refusal;
 use listing::{LINE, Line};
 use std::io;
 use std::io::Read;
 use stream::Plain;
-use stream_start::Begins;
 
 // The longest file that is listed, and one byte more by which a longer one is seen.
 const ROOM: u64 = 4_097;
@@ -25,7 +25,7 @@ fn put(rt: &impl Print, line: &[u8], n: usize) -> bool
 }
 
 // Writes the one line of a file that is not listed.
-fn refuse(rt: &impl Print, why: u8) {
+fn refuse(rt: &impl Print, why: Refusal) {
     let mut line = [0u8; LINE];
     let n = listing_lines::refused_line(why, &mut line);
     put(rt, &line, n);
@@ -65,8 +65,8 @@ fn list(rt: &impl Print, file: &[u8]) {
     let mut counts = [0u64; CELLS];
     let begun = listing_start::begin(file, &mut depths, &mut sums, &mut counts);
     match begun.answer {
-        Begins::Refused(why) => refuse(rt, why),
-        Begins::Began => lines(rt, file, begun.plain),
+        Err(why) => refuse(rt, why),
+        Ok(()) => lines(rt, file, begun.plain),
     }
 }
 

@@ -2,6 +2,8 @@
 --     lined_short, lined_key, lined_end, lined_refused     the four ways out of `next_line`
 -- Assumes nothing.
 use mathlib.Core.Path.{◌≡◌, refl, sym, ap, ◌∙◌, subst}
+use Rattle.std.specs.Prelude.{Ok, Err, Some, None}
+use Rattle.format.specs.declared.Refusal.{Refusal}
 use mathlib.Core.List.{List}
 use Prim.Native.Nat.{ℕ, ◌≤◌, ◌<◌}
 use native.Mathlib.Omega.{arith}
@@ -14,7 +16,6 @@ use Rattle.stream.specs.Plains.{plain_is, PlainStepped}
 use Rattle.stream.specs.PlainsLaws.{plain_told}
 use Rattle.stream_step.specs.SteppedLaws.{step_end, step_refused, step_text}
 use Rattle.stream.specs.declared.Step.{Step}
-use Rattle.stream_step.specs.declared.Answer.TheVariants.{Key, End, Refused}
 use Rattle.listing.specs.declared.Line.TheVariants.{Key as KeyLine, Last, Short}
 use Rattle.listing.specs.declared.Listed.{Listed}
 use Rattle.listing_lines.specs.Lines.{key_line, end_line, refused_line, Written}
@@ -38,13 +39,13 @@ module _ (s : List ℕ) (v : Plain) (keys space : ℕ) (room : space ≡ max_pat
   lined : (x : Rattle.listing.specs.Listing.Line) → line_of s (state v keys) ≡ x → Wrote x line₀ line r → Lined (line_of s (state v keys)) (state v keys) line₀ line r
   lined x e q = record { short = λ g. absurd (omega arith); wrote = λ _. subst (λ z. Wrote z line₀ line r) (sym e) q }
 
-  pub lined_key : (n value : ℕ) → o.answer ≡ Key n value → Written (key_line (take n buf) value) line₀ line len → r.line ≡ KeyLine len → r.keys ≡ counted keys
+  pub lined_key : (n value : ℕ) → o.answer ≡ Ok (Some (n, value)) → Written (key_line (take n buf) value) line₀ line len → r.line ≡ KeyLine len → r.keys ≡ counted keys
       → Lined (line_of s (state v keys)) (state v keys) line₀ line r
   lined_key n value e wr is count =
       lined (more (key_line (take n buf) value) (state (plain_is r.plain) (counted keys))) (by_line (key (take n buf) value) (step_text (plain_told h) n value e))
       (is ∙ ap KeyLine wr.answer, wr.buffer, ap (state (plain_is r.plain)) count, omega (arith, wr.answer, wr.short))
 
-  pub lined_end : o.answer ≡ End → Written (end_line keys (plain_is o.plain).view.total) line₀ line len → r.line ≡ Last len → r.keys ≡ keys
+  pub lined_end : o.answer ≡ Ok None → Written (end_line keys (plain_is o.plain).view.total) line₀ line len → r.line ≡ Last len → r.keys ≡ keys
       → Lined (line_of s (state v keys)) (state v keys) line₀ line r
   lined_end e wr is count =
       let t : (plain_is r.plain).view.total ≡ (plain_is o.plain).view.total = ap (λ (x : Plain). x.view.total) rest in
@@ -52,7 +53,7 @@ module _ (s : List ℕ) (v : Plain) (keys space : ℕ) (room : space ≡ max_pat
       lined (last (end_line keys (plain_is o.plain).view.total) (state (plain_is r.plain) keys)) q
       (is ∙ ap Last wr.answer, wr.buffer, ap (state (plain_is r.plain)) count, omega (arith, wr.answer, wr.short))
 
-  pub lined_refused : (n : ℕ) → o.answer ≡ Refused n → Written (refused_line n) line₀ line len → r.line ≡ Last len → r.keys ≡ keys
+  pub lined_refused : (n : Refusal) → o.answer ≡ Err n → Written (refused_line n) line₀ line len → r.line ≡ Last len → r.keys ≡ keys
       → Lined (line_of s (state v keys)) (state v keys) line₀ line r
   lined_refused n e wr is count =
       lined (last (refused_line n) (state (plain_is r.plain) keys)) (by_line (R.Answer.refused n) (step_refused (plain_told h) n e))

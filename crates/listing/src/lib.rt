@@ -8,7 +8,6 @@ ghost use Rattle.listing.specs.Lined.{Lined};
 
 use format::MAX_KEY;
 use stream::Plain;
-use stream_step::Answer;
 
 // The room that the longest line takes: 510 digits, a space, 20 digits, a newline.
 pub const LINE: usize = 532;
@@ -47,15 +46,15 @@ pub fn next_line(file: &[u8], plain: Plain, keys: u64, line: &mut [u8]) -> Liste
     let answer = step.answer;
     let after = step.plain;
     match answer {
-        Answer::Key(n, value) => {
-            let len = listing_lines::key_line(&key, n, value, line);
+        Ok(Some((n, value))) => {
+            let len = listing_lines::key_line(&key[..n], value, line);
             Listed {
                 line: Line::Key(len),
                 keys: stream_descend::counted(keys),
                 plain: after,
             }
         }
-        Answer::End => {
+        Ok(None) => {
             let total = after.reading.total;
             let len = listing_lines::end_line(keys, total, line);
             Listed {
@@ -64,7 +63,7 @@ pub fn next_line(file: &[u8], plain: Plain, keys: u64, line: &mut [u8]) -> Liste
                 plain: after,
             }
         }
-        Answer::Refused(why) => {
+        Err(why) => {
             let len = listing_lines::refused_line(why, line);
             Listed {
                 line: Line::Last(len),

@@ -6,7 +6,7 @@
 --     decimal n               n in decimal, with no zero in front; `0` for 0
 --     key_line k v             the line of the key k, whose value is v
 --     end_line keys followed   the last line of a listing
---     refused_line n           the only line where the file is refused
+--     refused_line why         the only line where the file is refused: `refused` and the refusal's number
 --     longest_line             the bytes that the longest line takes
 --     Written v out₀ out r    what writing the line v answers and leaves in a lent buffer
 -- Read back, for the laws:
@@ -17,6 +17,8 @@
 --     Bytes k                 every element of k is a byte
 -- Assumes nothing.
 use Rattle.std.specs.Prelude.{◌≡◌, cond, List, [], ◌∷◌, ◌++◌, ℕ, zero, suc, ◌+◌, ◌-◌, ◌*◌, ◌/◌, ◌%◌, ◌≤◌, ◌<◌, ltb, eqb, length, get_or, drop}
+use Rattle.format.specs.declared.Refusal.{Refusal}
+use Rattle.format.specs.Limits.{number}
 
 -- ---- keys and numbers
 
@@ -51,8 +53,8 @@ unfoldable pub end_line : ℕ → ℕ → List ℕ
 end_line keys followed = 101 ∷ 110 ∷ 100 ∷ 32 ∷ (decimal keys ++ (32 ∷ (decimal followed ++ (10 ∷ []))))
 
 -- `refused `
-unfoldable pub refused_line : ℕ → List ℕ
-refused_line n = 114 ∷ 101 ∷ 102 ∷ 117 ∷ 115 ∷ 101 ∷ 100 ∷ 32 ∷ (decimal n ++ (10 ∷ []))
+unfoldable pub refused_line : Refusal → List ℕ
+refused_line why = 114 ∷ 101 ∷ 102 ∷ 117 ∷ 115 ∷ 101 ∷ 100 ∷ 32 ∷ (decimal (number why) ++ (10 ∷ []))
 
 -- ---- the buffer
 

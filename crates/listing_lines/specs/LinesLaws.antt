@@ -3,8 +3,9 @@
 -- Assumes nothing.
 use Rattle.std.specs.Prelude.{◌≡◌, refl, Bool, true, false, List, [], ◌∷◌, ◌++◌, ℕ, zero, suc, ◌+◌, ◌-◌, ◌*◌, ◌/◌, ◌%◌, ◌^◌, ◌≤◌, ◌<◌, ltb, length, get_or, take}
 use Rattle.std.proofs.Common.{sym, ap, ap₂, ◌∙◌, pow-suc, mul_comm, add-one, arith, lt-ltb, le-ltb, ltb-true, ltb-false, ne_eqb, length-append, take-suc}
+use Rattle.format.specs.declared.Refusal.{Refusal}
 use Rattle.listing_lines.specs.Lines.{hex_digit, hex_of, key_text, decimal_up_to, decimal, key_line, end_line, refused_line, longest_line}
-use Rattle.format.specs.Limits.{max_path}
+use Rattle.format.specs.Limits.{max_path, number, RECORD}
 use Rattle.listing_lines.specs.Lines.{value_from, value_of, hex_value, from_hex, key_of, DecimalOf, Bytes}
 
 -- ---- lengths
@@ -67,9 +68,9 @@ pub length_end_line : (keys followed : ℕ) → length (end_line keys followed) 
 unfolding end_line
 length_end_line keys followed = simp length-append (omega (arith, length_decimal keys, length_decimal followed))
 
-pub length_refused_line : (n : ℕ) → length (refused_line n) ≤ longest_line
+pub length_refused_line : (why : Refusal) → length (refused_line why) ≤ longest_line
 unfolding refused_line
-length_refused_line n = simp length-append (omega (arith, length_decimal n))
+length_refused_line why = simp length-append (omega (arith, length_decimal (number why)))
 
 -- ---- one byte more
 
@@ -305,7 +306,7 @@ unfolding hex_digit hex_of key_text decimal_up_to decimal key_line
 example_00fa_120 = refl
 
 -- `refused 10`
-example_refused_10 : refused_line 10 ≡ 114 ∷ 101 ∷ 102 ∷ 117 ∷ 115 ∷ 101 ∷ 100 ∷ 32 ∷ 49 ∷ 48 ∷ 10 ∷ []
+example_refused_10 : refused_line RECORD ≡ 114 ∷ 101 ∷ 102 ∷ 117 ∷ 115 ∷ 101 ∷ 100 ∷ 32 ∷ 49 ∷ 48 ∷ 10 ∷ []
 unfolding decimal_up_to decimal refused_line
 example_refused_10 = refl
 

@@ -1,15 +1,17 @@
 // The lines of a listing, written byte by byte into a lent buffer: a key's, the last, and the only one of a file that is refused.
 #![tactic(auto)]
 
-ghost use Rattle.std.specs.Prelude.{◌≡◌, ◌+◌, ◌*◌, ◌≤◌, ◌<◌, length, take};
+ghost use Rattle.std.specs.Prelude.{◌≡◌, ◌+◌, ◌*◌, ◌≤◌, ◌<◌, length};
 ghost use Rattle.listing_lines.specs.Lines.{hex_digit, hex_of, key_text, decimal, key_line, end_line, refused_line};
 ghost use Rattle.listing_lines.specs.Lines.{longest_line, Written};
 ghost use Rattle.format.specs.Limits.{max_path};
 ghost use Rattle.buffers.specs.Put.{PutAt};
 
+use format::Refusal;
+
 // ---- the parts, written
 
-// The digit of a number below 16, in lower case: 87 + 10 is `a`.
+// The digit of a number below 16, in lower case: 87 + 10 is `a`. No plainer by `char::from_digit`: it answers an `Option` of a `char`.
 fn hex_digit(d: u8) -> u8
     requires { d < 16 }
     ensures { result ≡ hex_digit d }
@@ -27,14 +29,13 @@ fn put_text(line: &mut [u8], at: usize, text: &[u8]) -> usize
     end
 }
 
-// Writes the first n bytes of key in hexadecimal from place at on; returns the place past them.
-fn put_hex(line: &mut [u8], at: usize, key: &[u8], n: usize) -> usize
-    requires { (n ≤ length key.now) × (at + 2 * n ≤ length line.old) }
-    ensures { PutAt line.old at (hex_of (take n key.now))
-        line.new result }
+// Writes the bytes of key in hexadecimal from place at on; returns the place past them.
+fn put_hex(line: &mut [u8], at: usize, key: &[u8]) -> usize
+    requires { at + 2 * length key.now ≤ length line.old }
+    ensures { PutAt line.old at (hex_of key.now) line.new result }
 {
     let mut p = at;
-    for x in &key[..n] {
+    for x in key {
         line[p] = hex_digit(*x / 16);
         line[p + 1] = hex_digit(*x % 16);
         p += 2;
@@ -42,17 +43,15 @@ fn put_hex(line: &mut [u8], at: usize, key: &[u8], n: usize) -> usize
     p
 }
 
-// Writes the first n bytes of key, or `-` for none, from the line's first byte on; returns the place
-// past them.
-fn put_key(line: &mut [u8], key: &[u8], n: usize) -> usize
-    requires { (n ≤ length key.now) × (n ≤ max_path) × (longest_line ≤ length line.old) }
-    ensures { PutAt line.old 0 (key_text (take n key.now))
-        line.new result }
+// Writes the bytes of key, or `-` for none, from the line's first byte on; returns the place past them.
+fn put_key(line: &mut [u8], key: &[u8]) -> usize
+    requires { (length key.now ≤ max_path) × (longest_line ≤ length line.old) }
+    ensures { PutAt line.old 0 (key_text key.now) line.new result }
 {
-    if n == 0 {
+    if key.is_empty() {
         return put_text(line, 0, b"-");
     }
-    put_hex(line, 0, key, n)
+    put_hex(line, 0, key)
 }
 
 // How many decimal digits n has.
@@ -68,7 +67,8 @@ fn digit_count(n: u64) -> usize
     count
 }
 
-// Writes n in decimal from place at on, the last digit first; returns the place past it.
+// Writes n in decimal from place at on, the last digit first; returns the place past it. By hand, since no clause of std says which bytes
+// `write!` leaves in a slice.
 fn put_number(line: &mut [u8], at: usize, n: u64) -> usize
     requires { at + length (decimal n) ≤ length line.old }
     ensures { PutAt line.old at (decimal n) line.new result }
@@ -84,13 +84,12 @@ fn put_number(line: &mut [u8], at: usize, n: u64) -> usize
 
 // ---- the lines
 
-// The line of the key that is the first n bytes of key: the key, a space, its value, a newline.
-pub fn key_line(key: &[u8], n: usize, value: u64, line: &mut [u8]) -> usize
-    requires { (n ≤ length key.now) × (n ≤ max_path) × (longest_line ≤ length line.old) }
-    ensures { Written (key_line (take n key.now) value) line.old
-        line.new result }
+// The line of a key: the key, a space, its value, a newline.
+pub fn key_line(key: &[u8], value: u64, line: &mut [u8]) -> usize
+    requires { (length key.now ≤ max_path) × (longest_line ≤ length line.old) }
+    ensures { Written (key_line key.now value) line.old line.new result }
 {
-    let space_at = put_key(line, key, n);
+    let space_at = put_key(line, key);
     let value_at = put_text(line, space_at, b" ");
     let newline_at = put_number(line, value_at, value);
     put_text(line, newline_at, b"\n")
@@ -109,11 +108,11 @@ pub fn end_line(keys: u64, followed: u64, line: &mut [u8]) -> usize
 }
 
 // The only line where the file is refused: `refused` and the refusal's number.
-pub fn refused_line(number: u8, line: &mut [u8]) -> usize
+pub fn refused_line(why: Refusal, line: &mut [u8]) -> usize
     requires { longest_line ≤ length line.old }
-    ensures { Written (refused_line number) line.old line.new result }
+    ensures { Written (refused_line why) line.old line.new result }
 {
     let number_at = put_text(line, 0, b"refused ");
-    let newline_at = put_number(line, number_at, number as u64);
+    let newline_at = put_number(line, number_at, u64::from(u8::from(why)));
     put_text(line, newline_at, b"\n")
 }

@@ -2,6 +2,8 @@
 --     begins_counted     the unbounded reading of a file whose keys are counted begins
 -- Assumes nothing.
 use mathlib.Core.Path.{◌≡◌, refl, sym}
+use Rattle.std.specs.Prelude.{Ok, Err, Result, ⊤}
+use Rattle.format.specs.declared.Refusal.{Refusal}
 use mathlib.Core.Logic.{inl, ⊎_elim}
 use mathlib.Core.List.{List}
 use Prim.Native.Nat.{ℕ, ◌≤◌, ◌<◌}
@@ -15,8 +17,6 @@ use Rattle.plain.specs.Plain.{Plain, begun, start_plain}
 use Rattle.plain.proofs.PlainLaws.{start_plain_only}
 use Rattle.stream.specs.Plains.{began_is, begun_is}
 use Rattle.stream.specs.declared.Started.{Started}
-use Rattle.stream_start.specs.declared.Begins.{Begins}
-use Rattle.stream_start.specs.declared.Begins.TheVariants.{Began, Refused as NotBegun}
 use Rattle.listing_start.specs.Begun.{Begins as BeginsAs, begins}
 
 -- the table is long enough and as filled, so the start is not refused
@@ -30,6 +30,6 @@ pub begins_counted : {s d₀ s₀ c₀ d t c : List ℕ} (r : Started) → lengt
     → BeginsAs s d₀ s₀ c₀ d t c r
 begins_counted {s} {d₀} {s₀} {c₀} {d} {t} {c} r h a e = by r.answer refl e
   where
-    by : (b : Begins) → r.answer ≡ b → began_is b r.plain ≡ start_plain s unbounded unbounded c → BeginsAs s d₀ s₀ c₀ d t c r
-    by Began is q = begins h is a (sym q)
-    by (NotBegun n) is q = let w = (unbounded_begins a).1 in let z : ◌≡◌ {A = ℕ} 0 1 = cc in absurd (omega arith)
+    by : (b : Result ⊤ Refusal) → r.answer ≡ b → began_is b r.plain ≡ start_plain s unbounded unbounded c → BeginsAs s d₀ s₀ c₀ d t c r
+    by (Ok tt) is q = begins h is a (sym q)
+    by (Err n) is q = let w = (unbounded_begins a).1 in let z : ◌≡◌ {A = ℕ} 0 1 = cc in absurd (omega arith)

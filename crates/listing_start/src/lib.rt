@@ -3,8 +3,7 @@
 
 ghost use Rattle.listing_start.specs.Begun.{Begins};
 
-use counting::Counting;
-use format::LARGE;
+use format::Refusal;
 use stream::Started;
 use stream_start::Bound;
 
@@ -18,11 +17,11 @@ pub fn begin(file: &[u8], depths: &mut [u16], sums: &mut [u64], counts: &mut [u6
         counts.old depths.new sums.new counts.new result }
 {
     if LARGEST < file.len() {
-        return stream::refused(LARGE);
+        return stream::refused(Refusal::Large);
     }
     match counting::count_keys(file, depths, sums, counts) {
-        Counting::Refused(why) => stream::refused(why),
-        Counting::Counted => stream::start(
+        Err(why) => stream::refused(why),
+        Ok(()) => stream::start(
             file,
             Bound::Unbounded,
             &file[..0],

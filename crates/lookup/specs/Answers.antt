@@ -2,11 +2,11 @@
 --     answer_is r              what a lookup by key answered
 -- Assumes nothing.
 use Rattle.format.specs.Lookup as L
+use Rattle.std.specs.Prelude.{Ok, Err, Some, None, Result, Option, ℕ}
+use Rattle.format.specs.declared.Refusal.{Refusal}
 use Rattle.format.specs.Lookup.{value}
-use Rattle.lookup.specs.declared.Answer.{Answer}
-use Rattle.lookup.specs.declared.Answer.TheVariants.{Value, None, Refused}
 
-abbrev pub answer_is : Answer → L.Answer
-answer_is (Value v) = value v
-answer_is None = L.Answer.none
-answer_is (Refused n) = L.Answer.refused n
+abbrev pub answer_is : Result (Option ℕ) Refusal → L.Answer
+answer_is (Ok (Some v)) = value v
+answer_is (Ok None) = L.Answer.none
+answer_is (Err n) = L.Answer.refused n

@@ -8,35 +8,32 @@ ghost use Rattle.format.specs.Lookup.{get_from};
 ghost use Rattle.lookup.specs.Answers.{answer_is};
 ghost use Rattle.format.specs.Paths.{fst_with};
 
-use format::{NODE, SUM};
-use fst::Opened;
-
-// What a lookup by key answers: the key's value, that the key is not held, or the number of a refusal.
-#[derive(Clone, Copy)]
-pub enum Answer {
-    Value(u64),
-    None,
-    Refused(u8),
-}
+use format::Refusal;
 
 // The answer where the key ends at the node at last, with this running sum.
-fn at_end(file: &[u8], version: u64, root: usize, last: usize, sum: u64) -> Answer
+fn at_end(
+    file: &[u8],
+    version: u64,
+    root: usize,
+    last: usize,
+    sum: u64,
+) -> Result<Option<u64>, Refusal>
     ensures { answer_is result ≡ get_from (fst_with file.now version root) [] last sum }
 {
     let Ok(m) = node::node_at(file, version, root, last) else {
-        return Answer::Refused(NODE);
+        return Err(Refusal::Node);
     };
     if !m.is_final {
-        return Answer::None;
+        return Ok(None);
     }
     match sum.checked_add(m.final_output) {
-        Some(value) => Answer::Value(value),
-        None => Answer::Refused(SUM),
+        Some(value) => Ok(Some(value)),
+        None => Err(Refusal::Sum),
     }
 }
 
 // Follows the key from the root of a file that opens.
-fn get_from(file: &[u8], version: u64, root: usize, key: &[u8]) -> Answer
+fn get_from(file: &[u8], version: u64, root: usize, key: &[u8]) -> Result<Option<u64>, Refusal>
     ensures { answer_is result ≡ get_from (fst_with file.now version root)
         key.now root 0 }
 {
@@ -44,14 +41,14 @@ fn get_from(file: &[u8], version: u64, root: usize, key: &[u8]) -> Answer
     let mut sum: u64 = 0;
     for &b in key {
         let Ok(way) = node_step::step_at(file, version, root, addr, b) else {
-            return Answer::Refused(NODE);
+            return Err(Refusal::Node);
         };
         let Ok((out, target)) = way else {
-            return Answer::None;
+            return Ok(None);
         };
         addr = target;
         let Some(total) = sum.checked_add(out) else {
-            return Answer::Refused(fst::past_sum(file, version, root, addr));
+            return Err(fst::past_sum(file, version, root, addr));
         };
         sum = total;
     }
@@ -60,18 +57,13 @@ fn get_from(file: &[u8], version: u64, root: usize, key: &[u8]) -> Answer
 
 // The value of a key of any length. Opening's refusals; then for each node as it is entered, the last included, NODE for the node and
 // SUM for the running sum up to it; at the end SUM with the final output.
-pub fn get(file: &[u8], key: &[u8]) -> Answer
+pub fn get(file: &[u8], key: &[u8]) -> Result<Option<u64>, Refusal>
     ensures { answer_is result ≡ L.get file.now key.now }
 {
-    let opened = fst::open(file);
-    match opened {
-        Opened::Refused(why) => Answer::Refused(why),
-        Opened::Meta(m) => {
-            // version 0 is a file without bytes, which has no node to enter
-            if m.version == 0 {
-                return Answer::None;
-            }
-            get_from(file, m.version, m.root, key)
-        }
+    let m = fst::open(file)?;
+    // version 0 is a file without bytes, which has no node to enter
+    if m.version == 0 {
+        return Ok(None);
     }
+    get_from(file, m.version, m.root, key)
 }

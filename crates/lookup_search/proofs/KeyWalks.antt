@@ -3,6 +3,7 @@
 --     Searching f v₀ k room a v    the search for v₀ has taken the bytes k to the node at a, with v left
 -- Assumes nothing.
 use mathlib.Core.Path.{◌≡◌, refl, sym, ap, ◌∙◌}
+use Rattle.format.specs.declared.Refusal.{Refusal}
 use mathlib.Core.Bool.{true, false, ◌&&◌}
 use mathlib.Core.List.{List, [], ◌∷◌, ◌++◌}
 use Prim.Native.Nat.{ℕ, suc, ◌+◌, ◌-◌, ◌<◌}
@@ -34,7 +35,7 @@ unfolding with_bytes
 with_bytes_none [] = refl
 with_bytes_none (b ∷ k) = ap (with_byte b) (with_bytes_none k)
 
-pub with_bytes_refused : (k : List ℕ) (n : ℕ) → with_bytes k (KeyAnswer.refused n) ≡ KeyAnswer.refused n
+pub with_bytes_refused : (k : List ℕ) (n : Refusal) → with_bytes k (KeyAnswer.refused n) ≡ KeyAnswer.refused n
 unfolding with_bytes
 with_bytes_refused [] n = refl
 with_bytes_refused (b ∷ k) n = ap (with_byte b) (with_bytes_refused k n)

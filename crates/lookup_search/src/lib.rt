@@ -8,16 +8,8 @@ ghost use Rattle.format.specs.Lookup.{get_key_from};
 ghost use Rattle.format.specs.Paths.{fst_with};
 ghost use Rattle.lookup_search.specs.KeyAnswers.{key_is, KeyFits};
 
-use format::{DEEP, MAX_KEY, NODE};
+use format::{MAX_KEY, Refusal};
 use node_choice::Choice;
-
-// What a lookup by value answers: the length of the key that was found, that none was, or the number of a refusal.
-#[derive(Clone, Copy)]
-pub enum KeyAnswer {
-    Key(usize),
-    None,
-    Refused(u8),
-}
 
 // Searches from the root of a file that opens; the key's bytes stand at the front of path where a key is found.
 pub fn find_key(
@@ -26,7 +18,7 @@ pub fn find_key(
     root: usize,
     value: u64,
     path: &mut [u8; MAX_KEY],
-) -> KeyAnswer
+) -> Result<Option<usize>, Refusal>
     requires { length path.old ≡ max_path }
     ensures path_after { key_is result path.new ≡ get_key_from max_path
         (fst_with file.now version root) root value }
@@ -38,16 +30,16 @@ pub fn find_key(
     // no for over the places of path: one node more than it has places is entered
     loop {
         let Ok(choice) = node_fit::fit_at(file, version, root, addr, left) else {
-            return KeyAnswer::Refused(NODE);
+            return Err(Refusal::Node);
         };
         match choice {
-            Choice::Ends => return KeyAnswer::Key(n),
-            Choice::Absent => return KeyAnswer::None,
+            Choice::Ends => return Ok(Some(n)),
+            Choice::Absent => return Ok(None),
             Choice::To(inp, out, target) => {
                 // a key has at most 255 bytes
                 let too_deep = MAX_KEY <= n;
                 if too_deep {
-                    return KeyAnswer::Refused(DEEP);
+                    return Err(Refusal::Deep);
                 }
                 path[n] = inp;
                 left -= out;

@@ -10,6 +10,7 @@ use Rattle.std.proofs.Math.Path.{refl}
 use Rattle.std.proofs.Common.{sym, ◌∙◌, ap, subst, ⊎_elim, inl, le-leb, eq-eqb, ne_eqb, eqb-true}
 use Rattle.std.proofs.Math.Bool.{true, false, cond}
 use Rattle.std.proofs.Math.Option.{Option, none, some}
+use Rattle.format.specs.declared.Refusal.{Refusal}
 use native.Mathlib.Omega.{arith}
 use Rattle.format.specs.Limits.{max_path, max_levels, STATE, NAME, FULL}
 use Rattle.format.specs.Opening.{Meta, Opening, opened, opening}
@@ -72,19 +73,19 @@ module _ (s : List ℕ) (r : Plain) (ms : List Mark) where
         by (opened m) q = rw (q, wrong) (by_marks (marks_test (length s) ms))
         by (Opening.refused c) q = rw q
 
-    mark_wrong : (n : List ℕ) → (c : ℕ) × (mark s r ms n ≡ Marking.refused c)
+    mark_wrong : (n : List ℕ) → (c : Refusal) × (mark s r ms n ≡ Marking.refused c)
     unfolding mark
     mark_wrong n = by (opening s) refl
       where
-        by : (o : Opening) → opening s ≡ o → (c : ℕ) × (mark s r ms n ≡ Marking.refused c)
+        by : (o : Opening) → opening s ≡ o → (c : Refusal) × (mark s r ms n ≡ Marking.refused c)
         by (opened m) q = (STATE, rw (q, wrong))
         by (Opening.refused c) q = (c, rw q)
 
-    back_wrong : (n : List ℕ) → (c : ℕ) × (back s r ms n ≡ Return.refused c)
+    back_wrong : (n : List ℕ) → (c : Refusal) × (back s r ms n ≡ Return.refused c)
     unfolding back
     back_wrong n = by (opening s) refl
       where
-        by : (o : Opening) → opening s ≡ o → (c : ℕ) × (back s r ms n ≡ Return.refused c)
+        by : (o : Opening) → opening s ≡ o → (c : Refusal) × (back s r ms n ≡ Return.refused c)
         by (opened m) q = (STATE, rw (q, wrong))
         by (Opening.refused c) q = (c, rw q)
 
@@ -101,7 +102,7 @@ unfolding next
 next_state s m r opens e = rw (opens, e)
 
 -- a refused call of the reading without the number is one of the plain reading
-refused_plain : (p : Plain) (o : Step) (n : ℕ) → o ≡ refuse p.view n → counted_step p o ≡ refuse_with p n
+refused_plain : (p : Plain) (o : Step) (n : Refusal) → o ≡ refuse p.view n → counted_step p o ≡ refuse_with p n
 refused_plain p o n e = ap (counted_step p) e
 
 -- ---- operations
@@ -133,7 +134,7 @@ module _ {s : List ℕ} (A : Admitted s) (lo hi : Bound) (short_lo : length (bou
       subst (λ (v : View). followed v c ≤ n) (view_at_lem cs (cs ++ (c ∷ []))) ((demand (cs ++ (c ∷ []))).demand.limit cs [] c refl n longest)
 
   abbrev RefusedExactly : Plain → Call s → Type 0
-  RefusedExactly r c = (Allowed c → (n : ℕ) → ¬ ((call_plain r c).answer ≡ Answer.refused n)) × (¬ Allowed c → (n : ℕ) × (call_plain r c ≡ refuse_with r n))
+  RefusedExactly r c = (Allowed c → (n : Refusal) → ¬ ((call_plain r c).answer ≡ Answer.refused n)) × (¬ Allowed c → (n : Refusal) × (call_plain r c ≡ refuse_with r n))
 
   answer_at : (cs : List (Call s)) (c : Call s) → (call_plain (plain_after r₀ cs) c).answer ≡ (call (reading_after (demand cs).demand.reading cs) c).answer
   answer_at cs c = ap (λ (p : Plain). (call_plain (plain_after p cs) c).answer) (sym (demand_first cs)) ∙ (demand cs).same_call c
@@ -362,7 +363,7 @@ module _ {s : List ℕ} (A : Admitted s) (lo hi : Bound) (short_lo : length (bou
         limit = λ ds₁ ds₂ c is n longest.
             subst (λ (r : Plain). followed r.view c ≤ n) (sym (kept cs ds₁).reading_is) (limit_at (history_of cs ds₁).calls c n longest);
         next_refused = λ ds₁ ds₂ c is.
-            subst (λ (o : PlainStep). (Allowed c → (n : ℕ) → ¬ (o.answer ≡ Answer.refused n)) × (¬ Allowed c → (n : ℕ) × (o ≡ refuse_with (after cs ds₁).reading n)))
+            subst (λ (o : PlainStep). (Allowed c → (n : Refusal) → ¬ (o.answer ≡ Answer.refused n)) × (¬ Allowed c → (n : Refusal) × (o ≡ refuse_with (after cs ds₁).reading n)))
             (sym (next_as (after cs ds₁) (history_of cs ds₁) (kept cs ds₁) c))
             (subst (λ (r : Plain). RefusedExactly r c) (sym (kept cs ds₁).reading_is) (refused_at (history_of cs ds₁).calls c));
         mark_told = λ ds₁ ds₂ g n is. mark_as (after cs ds₁) (history_of cs ds₁) (kept cs ds₁) g n;

@@ -7,6 +7,7 @@
 -- Assumes nothing.
 use Rattle.std.specs.Prelude.{Bool, true, false, cond, ◌&&◌, ◌||◌, not, List, [], ◌∷◌, ℕ, leb, eqb, length}
 use Rattle.std.proofs.Math.Option.{Option, none, some}
+use Rattle.format.specs.declared.Refusal.{Refusal}
 use Rattle.format.specs.Limits.{STATE, NAME, FULL}
 use Rattle.format.specs.Opening.{opening}
 use Rattle.reading.specs.Reading.{on_opened, state_test, Answer}
@@ -74,7 +75,7 @@ marks_test len ms = leb (length ms) 16 && each_right len ms
 
 pub data Marking : Type 0 where
   has_marks : List Mark → Marking
-  refused : ℕ → Marking
+  refused : Refusal → Marking
 
 -- opening's refusals, STATE, NAME, FULL
 unfoldable pub mark : List ℕ → Plain → List Mark → List ℕ → Marking
@@ -89,7 +90,7 @@ mark s r ms n =
 
 pub data Return : Type 0 where
   at : Plain → Return
-  refused : ℕ → Return
+  refused : Refusal → Return
 
 abbrev pub found : Option Plain → Return
 found (some r) = at r
@@ -106,7 +107,7 @@ back s r ms n =
     (Return.refused STATE))
     (λ c. Return.refused c)
 
-abbrev pub refuse_with : Plain → ℕ → PlainStep
+abbrev pub refuse_with : Plain → Refusal → PlainStep
 refuse_with r n = record { answer = Answer.refused n; reading = r }
 
 -- opening's refusals, STATE for the marks or the reading, then next

@@ -10,6 +10,7 @@
 -- Assumes nothing.
 use Rattle.std.specs.Prelude.{◌≡◌, Bool, true, false, cond, ◌&&◌, ◌⊎◌, List, [], ◌∷◌, ◌++◌, map, ℕ, ◌≤◌, eqb, length}
 use Rattle.std.proofs.Math.Option.{Option, none, some}
+use Rattle.format.specs.declared.Refusal.{Refusal}
 use Rattle.format.specs.Limits.{NAME, FULL}
 use Rattle.format.specs.Paths.{fst_of, Held}
 use Rattle.format.specs.Admitted.{Admitted}
@@ -110,14 +111,14 @@ as_mark r m = named m.name (plain_after r m.held)
 -- what a mark answers with the history h, from the start r: each way with its reason, so that it is refused exactly for these
 pub data MarkTold {s : List ℕ} (h : History s) (g : Given s) (n : List ℕ) (w : Now) : Marking → Type 0 where
   taken : length g.file ≡ length s → name_test n ≡ true → room_for n h.noted ≡ true → MarkTold h g n w (has_marks (put n w.reading w.marks))
-  other_file : ¬ (length g.file ≡ length s) → (c : ℕ) → MarkTold h g n w (Marking.refused c)
+  other_file : ¬ (length g.file ≡ length s) → (c : Refusal) → MarkTold h g n w (Marking.refused c)
   no_name : length g.file ≡ length s → name_test n ≡ false → MarkTold h g n w (Marking.refused NAME)
   full : length g.file ≡ length s → name_test n ≡ true → room_for n h.noted ≡ false → MarkTold h g n w (Marking.refused FULL)
 
 -- and a return
 pub data BackTold {s : List ℕ} (r : Plain) (h : History s) (g : Given s) (n : List ℕ) : Return → Type 0 where
   returned : length g.file ≡ length s → name_test n ≡ true → (cs : List (Call s)) → marked n h.noted ≡ some cs → BackTold r h g n (at (plain_after r cs))
-  other_file : ¬ (length g.file ≡ length s) → (c : ℕ) → BackTold r h g n (Return.refused c)
+  other_file : ¬ (length g.file ≡ length s) → (c : Refusal) → BackTold r h g n (Return.refused c)
   no_name : length g.file ≡ length s → name_test n ≡ false → BackTold r h g n (Return.refused NAME)
   not_marked : length g.file ≡ length s → name_test n ≡ true → marked n h.noted ≡ none → BackTold r h g n (Return.refused NAME)
 
@@ -149,8 +150,8 @@ pub record MarkedRun {s : List ℕ} (A : Admitted s) (lo hi : Bound) (t : List �
       → ((k : List ℕ) (v : ℕ) → Held (fst_of s A.meta) k v → length k ≤ n) → followed (now_from first cs ds₁).reading.view c ≤ n
   -- what is refused, exactly
   pub next_refused : (ds₁ ds₂ : List (Did s)) (c : Call s) → ds ≡ ds₁ ++ (reads c ∷ ds₂)
-      → (Allowed c → (n : ℕ) → ¬ ((next_now (now_from first cs ds₁) c).answer ≡ Answer.refused n))
-      × (¬ Allowed c → (n : ℕ) × (next_now (now_from first cs ds₁) c ≡ refuse_with (now_from first cs ds₁).reading n))
+      → (Allowed c → (n : Refusal) → ¬ ((next_now (now_from first cs ds₁) c).answer ≡ Answer.refused n))
+      × (¬ Allowed c → (n : Refusal) × (next_now (now_from first cs ds₁) c ≡ refuse_with (now_from first cs ds₁).reading n))
   pub mark_told : (ds₁ ds₂ : List (Did s)) (g : Given s) (n : List ℕ) → ds ≡ ds₁ ++ (marks g n ∷ ds₂)
       → MarkTold (history_of cs ds₁) g n (now_from first cs ds₁) (mark_now (now_from first cs ds₁) g n)
   pub back_told : (ds₁ ds₂ : List (Did s)) (g : Given s) (n : List ℕ) → ds ≡ ds₁ ++ (returns g n ∷ ds₂)

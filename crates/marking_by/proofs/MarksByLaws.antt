@@ -9,6 +9,7 @@ use Rattle.std.proofs.Math.Path.{refl}
 use Rattle.std.proofs.Common.{sym, ◌∙◌, ap, subst, ⊎_elim, inl, le-leb, eq-eqb, ne_eqb, eqb-true}
 use Rattle.std.proofs.Math.Bool.{true, false, cond}
 use Rattle.std.proofs.Math.Option.{Option, none, some}
+use Rattle.format.specs.declared.Refusal.{Refusal}
 use native.Mathlib.Omega.{arith}
 use Rattle.format.specs.Limits.{max_path, max_levels, STATE, NAME, FULL}
 use Rattle.format.specs.Opening.{Meta, Opening, opened, opening}
@@ -82,19 +83,19 @@ module _ (q : Pattern) (s : List ℕ) (v : View) (ms : List Mark) where
         by (opened m) e = rw (e, wrong) (by_marks (marks_test (length s) ms))
         by (Opening.refused c) e = rw e
 
-    mark_wrong : (n : List ℕ) → (c : ℕ) × (mark_by s q v ms n ≡ Marking.refused c)
+    mark_wrong : (n : List ℕ) → (c : Refusal) × (mark_by s q v ms n ≡ Marking.refused c)
     unfolding mark_by
     mark_wrong n = by (opening s) refl
       where
-        by : (o : Opening) → opening s ≡ o → (c : ℕ) × (mark_by s q v ms n ≡ Marking.refused c)
+        by : (o : Opening) → opening s ≡ o → (c : Refusal) × (mark_by s q v ms n ≡ Marking.refused c)
         by (opened m) e = (STATE, rw (e, wrong))
         by (Opening.refused c) e = (c, rw e)
 
-    back_wrong : (n : List ℕ) → (c : ℕ) × (back_by s q (stored v) ms n ≡ Return.refused c)
+    back_wrong : (n : List ℕ) → (c : Refusal) × (back_by s q (stored v) ms n ≡ Return.refused c)
     unfolding back_by
     back_wrong n = by (opening s) refl
       where
-        by : (o : Opening) → opening s ≡ o → (c : ℕ) × (back_by s q (stored v) ms n ≡ Return.refused c)
+        by : (o : Opening) → opening s ≡ o → (c : Refusal) × (back_by s q (stored v) ms n ≡ Return.refused c)
         by (opened m) e = (STATE, rw (e, wrong))
         by (Opening.refused c) e = (c, rw e)
 
@@ -122,7 +123,7 @@ module _ {s : List ℕ} (A : Admitted s) (lo hi : Bound) (short_lo : length (bou
   few_positions = le-leb (length q.positions) max_path short
 
   abbrev RefusedExactly : View → Call s → Type 0
-  RefusedExactly r c = (Allowed c → (n : ℕ) → ¬ ((call_by q r c).answer ≡ Answer.refused n)) × (¬ Allowed c → (n : ℕ) × (call_by q r c ≡ refuse r n))
+  RefusedExactly r c = (Allowed c → (n : Refusal) → ¬ ((call_by q r c).answer ≡ Answer.refused n)) × (¬ Allowed c → (n : Refusal) × (call_by q r c ≡ refuse r n))
 
   refused_at : (cs : List (Call s)) (c : Call s) → RefusedExactly (reading_after_by q r₀ cs) c
   refused_at cs c =
@@ -334,7 +335,7 @@ module _ {s : List ℕ} (A : Admitted s) (lo hi : Bound) (short_lo : length (bou
         demand_first = demand_first (history_of cs ds).calls;
         nexts = λ ds₁ ds₂ c is. next_at cs ds₁ c;
         next_refused = λ ds₁ ds₂ c is.
-            subst (λ (o : Step). (Allowed c → (n : ℕ) → ¬ (o.answer ≡ Answer.refused n)) × (¬ Allowed c → (n : ℕ) × (o ≡ refuse (after cs ds₁).reading n)))
+            subst (λ (o : Step). (Allowed c → (n : Refusal) → ¬ (o.answer ≡ Answer.refused n)) × (¬ Allowed c → (n : Refusal) × (o ≡ refuse (after cs ds₁).reading n)))
             (sym (next_as (after cs ds₁) (history_of cs ds₁) (kept cs ds₁) c))
             (subst (λ (r : View). RefusedExactly r c) (sym (kept cs ds₁).reading_is) (refused_at (history_of cs ds₁).calls c));
         mark_told = λ ds₁ ds₂ g n is. mark_as (after cs ds₁) (history_of cs ds₁) (kept cs ds₁) g n;

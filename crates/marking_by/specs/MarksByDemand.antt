@@ -9,6 +9,7 @@
 -- Assumes nothing.
 use Rattle.std.specs.Prelude.{◌≡◌, true, false, List, [], ◌∷◌, ◌++◌, map, ℕ, length}
 use Rattle.std.proofs.Math.Option.{none, some}
+use Rattle.format.specs.declared.Refusal.{Refusal}
 use Rattle.format.specs.Limits.{NAME}
 use Rattle.format.specs.Admitted.{Admitted}
 use Rattle.format.specs.Strings.{Bound}
@@ -69,7 +70,7 @@ as_mark_by q r m = named m.name (stored (reading_after_by q r m.held))
 pub data BackToldBy {s : List ℕ} (q : Pattern) (r : View) (h : History s) (g : Given s) (n : List ℕ) : Return → Type 0 where
   returned : length g.file ≡ length s → name_test n ≡ true → (cs : List (Call s)) → marked n h.noted ≡ some cs
       → BackToldBy q r h g n (at (stored (reading_after_by q r cs)))
-  other_file : ¬ (length g.file ≡ length s) → (c : ℕ) → BackToldBy q r h g n (Return.refused c)
+  other_file : ¬ (length g.file ≡ length s) → (c : Refusal) → BackToldBy q r h g n (Return.refused c)
   no_name : length g.file ≡ length s → name_test n ≡ false → BackToldBy q r h g n (Return.refused NAME)
   not_marked : length g.file ≡ length s → name_test n ≡ true → marked n h.noted ≡ none → BackToldBy q r h g n (Return.refused NAME)
 
@@ -88,8 +89,8 @@ pub record MarkedRunBy {s : List ℕ} (A : Admitted s) (q : Pattern) (lo hi : Bo
       → next_now_by q (now_from_by q first cs ds₁) c ≡ call_by q (reading_after_by q first (history_of cs ds₁).calls) c
   -- what is refused, exactly
   pub next_refused : (ds₁ ds₂ : List (Did s)) (c : Call s) → ds ≡ ds₁ ++ (reads c ∷ ds₂)
-      → (Allowed c → (n : ℕ) → ¬ ((next_now_by q (now_from_by q first cs ds₁) c).answer ≡ Answer.refused n))
-      × (¬ Allowed c → (n : ℕ) × (next_now_by q (now_from_by q first cs ds₁) c ≡ refuse (now_from_by q first cs ds₁).reading n))
+      → (Allowed c → (n : Refusal) → ¬ ((next_now_by q (now_from_by q first cs ds₁) c).answer ≡ Answer.refused n))
+      × (¬ Allowed c → (n : Refusal) × (next_now_by q (now_from_by q first cs ds₁) c ≡ refuse (now_from_by q first cs ds₁).reading n))
   pub mark_told : (ds₁ ds₂ : List (Did s)) (g : Given s) (n : List ℕ) → ds ≡ ds₁ ++ (marks g n ∷ ds₂)
       → MarkTold (history_of cs ds₁) g n (stored_now (now_from_by q first cs ds₁)) (mark_now_by q (now_from_by q first cs ds₁) g n)
   pub back_told : (ds₁ ds₂ : List (Did s)) (g : Given s) (n : List ℕ) → ds ≡ ds₁ ++ (returns g n ∷ ds₂)

@@ -14,7 +14,8 @@ use native.Mathlib.Omega.{arith}
 use borrow.Author.Tests.{lt-leb, le-leb, leb-true}
 use lib.Dec.{leb}
 use lib.ListN.{length, get_or, set}
-use Rattle.std.specs.Prelude.{Some, None}
+use Rattle.std.specs.Prelude.{Some, None, Ok, Err}
+use Rattle.format.specs.declared.Refusal.{Refusal}
 use Rattle.format.specs.Limits.{STATE, NAME, FULL}
 use Rattle.format.specs.Opening as O
 use Rattle.format.specs.Opening.{opening}
@@ -28,7 +29,6 @@ use Rattle.stream_start.specs.declared.Reading.{Reading}
 use Rattle.stream_start.specs.Views.{view_is}
 use Rattle.stream_start.specs.StackLaws.{stack_length}
 use Rattle.stream_bounds.specs.State.{state_right}
-use Rattle.stream_step.specs.declared.Answer.TheVariants as A
 use Rattle.stream.specs.declared.Plain.{Plain}
 use Rattle.stream.specs.declared.Step.{Step}
 use Rattle.stream.specs.Plains.{plain_is, PlainStepped}
@@ -36,7 +36,6 @@ use Rattle.marks_held.specs.declared.Mark.{Mark}
 use Rattle.marks_held.specs.declared.Marks.{Marks}
 use Rattle.marks_held.specs.MarkViews.{stated, no_mark, mark_is, marks_is, SeekTold, put_at}
 use Rattle.marks_held.specs.MarkViewsLaws.{stated_length, stated_set, stated_more, mark_at_lem, marked_place, put_place, place_lt, marked_nowhere}
-use Rattle.marks.specs.declared.Change.TheVariants as C
 use Rattle.marks.specs.declared.Marking.{Marking}
 use Rattle.marks.specs.declared.Return.{Return}
 use Rattle.marks.specs.MarkAnswers.{both_test, set_in, back_in, MarkingTold, ReturnTold}
@@ -111,29 +110,25 @@ module _ (m : Marks) (sixteen : length m.marks ≡ 16) (few : m.count ≤ 16) (p
   long = stated_length m.count no_mark (map mark_is m.marks)
 
   module _ (ne : ¬ (length n ≡ 0)) (le : length n ≤ 8) (r : Marking) where
-    pub set_told : (i : ℕ) → SeekTold (stated (length n) 0 held) (marks_is m) 0 (Some i) → r.answer ≡ C.Done → r.marks ≡ put_at m m.count i placed
+    pub set_told : (i : ℕ) → SeekTold n (marks_is m) 0 (Some i) → r.answer ≡ Ok tt → r.marks ≡ put_at m m.count i placed
         → MarkingTold (set_in (plain_is p) (marks_is m) n) (marks_is m) r
     set_told i t e is =
-        let told : SeekTold n (marks_is m) 0 (Some i) = rw holds at t in
-        let lt = place_lt n (marks_is m) 0 i told in
-        marking_as_lem (set_at (plain_is p) (marks_is m) n ne le i told)
+        let lt = place_lt n (marks_is m) 0 i t in
+        marking_as_lem (set_at (plain_is p) (marks_is m) n ne le i t)
         (record {
           answer = e;
           marks =
               ap marks_is is ∙ stated_set m.count m.marks i placed (omega (arith, long)) (omega arith) ∙ ap (set (marks_is m) i) placed_is;
         })
 
-    pub set_full : SeekTold (stated (length n) 0 held) (marks_is m) 0 None → 16 ≤ m.count → MarkingTold (M.Marking.refused FULL) (marks_is m) r
+    pub set_full : SeekTold n (marks_is m) 0 None → 16 ≤ m.count → MarkingTold (M.Marking.refused FULL) (marks_is m) r
         → MarkingTold (set_in (plain_is p) (marks_is m) n) (marks_is m) r
-    set_full t h q =
-        let told : SeekTold n (marks_is m) 0 None = rw holds at t in
-        marking_as_lem (set_none_left (plain_is p) (marks_is m) n ne le told (omega (arith, long))) q
+    set_full t h q = marking_as_lem (set_none_left (plain_is p) (marks_is m) n ne le t (omega (arith, long))) q
 
-    pub set_more : SeekTold (stated (length n) 0 held) (marks_is m) 0 None → m.count < 16 → r.answer ≡ C.Done → r.marks ≡ put_at m (m.count + 1) m.count placed
+    pub set_more : SeekTold n (marks_is m) 0 None → m.count < 16 → r.answer ≡ Ok tt → r.marks ≡ put_at m (m.count + 1) m.count placed
         → MarkingTold (set_in (plain_is p) (marks_is m) n) (marks_is m) r
     set_more t h e is =
-        let told : SeekTold n (marks_is m) 0 None = rw holds at t in
-        marking_as_lem (set_added (plain_is p) (marks_is m) n ne le told (omega (arith, long)))
+        marking_as_lem (set_added (plain_is p) (marks_is m) n ne le t (omega (arith, long)))
         (record {
           answer = e;
           marks =
@@ -152,22 +147,20 @@ module _ (ms : List M.Mark) (n : List ℕ) (given : P.Plain) (r : Return) where
   pub back_long : 8 < length n → ReturnTold (M.Return.refused NAME) given r → ReturnTold (back_in ms n) given r
   back_long e h = return_as_lem (back_no (name_long n e)) h
 
-module _ (m : Marks) (sixteen : length m.marks ≡ 16) (few : m.count ≤ 16) (n held : List ℕ) (holds : stated (length n) 0 held ≡ n) (ne : ¬ (length n ≡ 0)) (le : length n ≤ 8)
+module _ (m : Marks) (sixteen : length m.marks ≡ 16) (few : m.count ≤ 16) (n : List ℕ) (ne : ¬ (length n ≡ 0)) (le : length n ≤ 8)
     (given : P.Plain) (r : Return) where
-  pub back_nowhere : SeekTold (stated (length n) 0 held) (marks_is m) 0 None → ReturnTold (M.Return.refused NAME) given r → ReturnTold (back_in (marks_is m) n) given r
+  pub back_nowhere : SeekTold n (marks_is m) 0 None → ReturnTold (M.Return.refused NAME) given r → ReturnTold (back_in (marks_is m) n) given r
   back_nowhere t h =
-      let told : SeekTold n (marks_is m) 0 None = rw holds at t in
-      let none_there : marked n (marks_is m) ≡ none = marked_nowhere n (marks_is m) 0 told in
+      let none_there : marked n (marks_is m) ≡ none = marked_nowhere n (marks_is m) 0 t in
       let is : back_in (marks_is m) n ≡ M.Return.refused NAME = rw (name_right_lem n ne le, none_there) in
       return_as_lem is h
 
-  pub back_told : (i : ℕ) (d : Mark) → SeekTold (stated (length n) 0 held) (marks_is m) 0 (Some i) → r.answer ≡ C.Done → r.reading ≡ (get_or m.marks i d).reading
+  pub back_told : (i : ℕ) (d : Mark) → SeekTold n (marks_is m) 0 (Some i) → r.answer ≡ Ok tt → r.reading ≡ (get_or m.marks i d).reading
       → ReturnTold (back_in (marks_is m) n) given r
   back_told i d t e is =
-      let told : SeekTold n (marks_is m) 0 (Some i) = rw holds at t in
-      let lt : i < m.count = omega (arith, place_lt n (marks_is m) 0 i told, stated_length m.count no_mark (map mark_is m.marks)) in
+      let lt : i < m.count = omega (arith, place_lt n (marks_is m) 0 i t, stated_length m.count no_mark (map mark_is m.marks)) in
       let held_there : marked n (marks_is m) ≡ some (plain_is (get_or m.marks i d).reading) =
-      marked_place n (marks_is m) i told ∙ ap (λ (x : M.Mark). some x.held) (mark_at_lem m sixteen few i d lt) in
+      marked_place n (marks_is m) i t ∙ ap (λ (x : M.Mark). some x.held) (mark_at_lem m sixteen few i d lt) in
       let back : back_in (marks_is m) n ≡ M.at (plain_is (get_or m.marks i d).reading) = rw (name_right_lem n ne le, held_there) in
       return_as_lem back (record { answer = e; reading = ap plain_is is })
 
@@ -199,5 +192,5 @@ module _ (s : List ℕ) (p : P.Plain) (ms : List M.Mark) (o : O.Opening) (opens 
         (sym (ap₂ (λ (o : O.Opening) (b : Bool). on_opened o (λ m. cond b (next_plain s p space) (refuse_with p STATE)) (λ c. refuse_with p c)) opens right)) h
 
 -- a refused call of next
-pub next_refused : (p : Plain) (n : ℕ) (buf : List ℕ) → PlainStepped (refuse_with (plain_is p) n) buf buf (record { answer = A.Refused n; plain = p })
+pub next_refused : (p : Plain) (n : Refusal) (buf : List ℕ) → PlainStepped (refuse_with (plain_is p) n) buf buf (record { answer = Err n; plain = p })
 next_refused p n buf = record { gave = record { answer = refl; plain = refl }; buffer = refl }

@@ -4,7 +4,8 @@
 --     MarkingTold          what a mark gives back, where the definition answers w
 --     ReturnTold           what going back gives back
 -- Assumes nothing.
-use Rattle.std.specs.Prelude.{◌≡◌, Bool, cond, ◌&&◌, List, ℕ}
+use Rattle.std.specs.Prelude.{◌≡◌, Bool, cond, ◌&&◌, List, ℕ, Ok, Err, Result, ⊤}
+use Rattle.format.specs.declared.Refusal.{Refusal}
 use Rattle.format.specs.Limits.{NAME, FULL}
 use Rattle.reading.specs.Reading.{state_test}
 use Rattle.plain.specs.Plain.{Plain}
@@ -13,8 +14,6 @@ use Rattle.marking.specs.MarkCalls.{name_test, room_for, put, marked, found, mar
 use Rattle.marking.specs.MarksDemand.{marks_after, reading_at}
 use Rattle.stream.specs.Plains.{plain_is}
 use Rattle.marks_held.specs.MarkViews.{marks_is}
-use Rattle.marks.specs.declared.Change.{Change}
-use Rattle.marks.specs.declared.Change.TheVariants.{Done, Refused}
 use Rattle.marks.specs.declared.Marking.{Marking}
 use Rattle.marks.specs.declared.Return.{Return}
 
@@ -27,13 +26,13 @@ set_in p ms n = cond (name_test n) (cond (room_for n ms) (M.has_marks (put n p m
 abbrev pub back_in : List M.Mark → List ℕ → M.Return
 back_in ms n = cond (name_test n) (found (marked n ms)) (M.Return.refused NAME)
 
-abbrev pub marking_as : M.Marking → Change
-marking_as (M.has_marks ms) = Done
-marking_as (M.Marking.refused n) = Refused n
+abbrev pub marking_as : M.Marking → Result ⊤ Refusal
+marking_as (M.has_marks ms) = Ok tt
+marking_as (M.Marking.refused n) = Err n
 
-abbrev pub return_as : M.Return → Change
-return_as (M.at p) = Done
-return_as (M.Return.refused n) = Refused n
+abbrev pub return_as : M.Return → Result ⊤ Refusal
+return_as (M.at p) = Ok tt
+return_as (M.Return.refused n) = Err n
 
 pub record MarkingTold (w : M.Marking) (given : List M.Mark) (r : Marking) : Type 0 where
   pub answer : r.answer ≡ marking_as w

@@ -8,30 +8,21 @@ ghost use Rattle.stream.specs.Plains.{plain_is, PlainStepped};
 ghost use Rattle.marks_held.specs.MarkViews.{marks_is};
 ghost use Rattle.marks.specs.MarkAnswers.{both_test, set_in, back_in, MarkingTold, ReturnTold};
 
-use format::{FULL, NAME, STATE};
-use fst::Opened;
+use format::Refusal;
 use marks_held::{MARKS, MAX_NAME, Marks};
 use stream::{Plain, Step};
-use stream_step::Answer;
-
-// Whether a mark was set, or a reading taken back, or the number of a refusal.
-#[derive(Clone, Copy)]
-pub enum Change {
-    Done,
-    Refused(u8),
-}
 
 // What marking gives back. After a refusal the marks are those given.
 #[derive(Clone, Copy)]
 pub struct Marking {
-    pub answer: Change,
+    pub answer: Result<(), Refusal>,
     pub marks: Marks,
 }
 
 // What going back gives back. After a refusal the reading is the one given.
 #[derive(Clone, Copy)]
 pub struct Return {
-    pub answer: Change,
+    pub answer: Result<(), Refusal>,
     pub reading: Plain,
 }
 
@@ -54,11 +45,11 @@ pub fn state_right(reading: Plain, marks: Marks, len: usize) -> bool
 // ---- mark
 
 // A refused mark.
-pub fn refused(why: u8, marks: Marks) -> Marking
+pub fn refused(why: Refusal, marks: Marks) -> Marking
     ensures { MarkingTold (M.Marking.refused why) (marks_is marks) result }
 {
     Marking {
-        answer: Change::Refused(why),
+        answer: Err(why),
         marks,
     }
 }
@@ -71,29 +62,27 @@ pub fn set_mark(reading: Plain, marks: Marks, name: &[u8]) -> Marking
 {
     let len = name.len();
     if len == 0 {
-        return refused(NAME, marks);
+        return refused(Refusal::Name, marks);
     }
     if MAX_NAME < len {
-        return refused(NAME, marks);
+        return refused(Refusal::Name, marks);
     }
-    let held = marks_held::hold_name(name);
-    let place = marks_held::name_from(marks, 0, held, len);
     let mark = marks_held::Mark {
         name_len: len,
-        name: held,
+        name: marks_held::hold_name(name),
         reading,
     };
-    match place {
+    match marks_held::name_from(marks, 0, name) {
         Some(i) => Marking {
-            answer: Change::Done,
+            answer: Ok(()),
             marks: marks_held::put_mark(marks, marks.count, i, mark),
         },
         None => {
             if MARKS <= marks.count {
-                return refused(FULL, marks);
+                return refused(Refusal::Full, marks);
             }
             Marking {
-                answer: Change::Done,
+                answer: Ok(()),
                 marks: marks_held::put_mark(marks, marks.count + 1, marks.count, mark),
             }
         }
@@ -108,10 +97,10 @@ pub fn mark(file: &[u8], reading: Plain, marks: Marks, name: &[u8]) -> Marking
 {
     let opened = fst::open(file);
     match opened {
-        Opened::Refused(why) => refused(why, marks),
-        Opened::Meta(_) => {
+        Err(why) => refused(why, marks),
+        Ok(_) => {
             if !state_right(reading, marks, file.len()) {
-                return refused(STATE, marks);
+                return refused(Refusal::State, marks);
             }
             set_mark(reading, marks, name)
         }
@@ -121,11 +110,11 @@ pub fn mark(file: &[u8], reading: Plain, marks: Marks, name: &[u8]) -> Marking
 // ---- go back
 
 // A refused return.
-pub fn stay(why: u8, reading: Plain) -> Return
+pub fn stay(why: Refusal, reading: Plain) -> Return
     ensures { ReturnTold (M.Return.refused why) (plain_is reading) result }
 {
     Return {
-        answer: Change::Refused(why),
+        answer: Err(why),
         reading,
     }
 }
@@ -137,23 +126,17 @@ pub fn take_back(reading: Plain, marks: Marks, name: &[u8]) -> Return
 {
     let len = name.len();
     if len == 0 {
-        return stay(NAME, reading);
+        return stay(Refusal::Name, reading);
     }
     if MAX_NAME < len {
-        return stay(NAME, reading);
+        return stay(Refusal::Name, reading);
     }
-    let held = marks_held::hold_name(name);
-    let place = marks_held::name_from(marks, 0, held, len);
-    match place {
-        None => stay(NAME, reading),
-        Some(i) => {
-            let marked = marks.marks[i];
-            let back = marked.reading;
-            Return {
-                answer: Change::Done,
-                reading: back,
-            }
-        }
+    match marks_held::name_from(marks, 0, name) {
+        None => stay(Refusal::Name, reading),
+        Some(i) => Return {
+            answer: Ok(()),
+            reading: marks.marks[i].reading,
+        },
     }
 }
 
@@ -165,10 +148,10 @@ pub fn go_back(file: &[u8], reading: Plain, marks: Marks, name: &[u8]) -> Return
 {
     let opened = fst::open(file);
     match opened {
-        Opened::Refused(why) => stay(why, reading),
-        Opened::Meta(_) => {
+        Err(why) => stay(why, reading),
+        Ok(_) => {
             if !state_right(reading, marks, file.len()) {
-                return stay(STATE, reading);
+                return stay(Refusal::State, reading);
             }
             take_back(reading, marks, name)
         }
@@ -184,14 +167,14 @@ pub fn next_marked(file: &[u8], reading: Plain, marks: Marks, key: &mut [u8]) ->
 {
     let opened = fst::open(file);
     match opened {
-        Opened::Refused(why) => Step {
-            answer: Answer::Refused(why),
+        Err(why) => Step {
+            answer: Err(why),
             plain: reading,
         },
-        Opened::Meta(_) => {
+        Ok(_) => {
             if !marks_held::marks_right(marks, file.len()) {
                 return Step {
-                    answer: Answer::Refused(STATE),
+                    answer: Err(Refusal::State),
                     plain: reading,
                 };
             }

@@ -5,6 +5,8 @@
 --     told_view                          the reading inside, after a return
 -- Assumes nothing.
 use mathlib.Core.Path.{◌≡◌, refl, sym, ap, ap₂, ◌∙◌, subst}
+use Rattle.std.specs.Prelude.{Err}
+use Rattle.format.specs.declared.Refusal.{Refusal}
 use mathlib.Core.Bool.{Bool, true, false, cond}
 use mathlib.Core.List.{List, map}
 use Prim.Native.Nat.{ℕ, ◌≤◌, ◌<◌}
@@ -26,7 +28,6 @@ use Rattle.marking.proofs.NamedLaws.{both_right}
 use Rattle.marking.proofs.MarksRightLaws.{test_right}
 use Rattle.marking.specs.MarksDemand.{reading_at}
 use Rattle.stream_start.specs.Views.{view_is}
-use Rattle.stream_step.specs.declared.Answer.TheVariants as A
 use Rattle.stream.specs.Plains.{plain_is}
 use Rattle.patterned_fit.specs.PositionLaws.{positions_length}
 use Rattle.patterned_held.specs.declared.Pattern.{Pattern}
@@ -86,5 +87,5 @@ pub told_view : (w : M.Return) (p : P.Plain) (q : P.Plain) → q ≡ reading_at 
 told_view (M.at x) p q e = ap (λ (y : P.Plain). y.view) e
 told_view (M.Return.refused c) p q e = ap (λ (y : P.Plain). y.view) e
 
-pub next_by_refused : (r : Patterned) (n : ℕ) (buf : List ℕ) → SteppedBy (refuse (view_is r.reading) n) r.pattern buf buf (record { answer = A.Refused n; patterned = r })
+pub next_by_refused : (r : Patterned) (n : Refusal) (buf : List ℕ) → SteppedBy (refuse (view_is r.reading) n) r.pattern buf buf (record { answer = Err n; patterned = r })
 next_by_refused r n buf = record { answer = refl; reading = refl; pattern = refl; buffer = refl }

@@ -11,19 +11,17 @@ ghost use Rattle.marks_held.specs.MarkViews.{marks_is};
 ghost use Rattle.marks.specs.MarkAnswers.{MarkingTold, ReturnTold};
 ghost use Rattle.marks_by.specs.MarksBy.{mark_by, back_by, next_marked_by, ReturnByTold};
 
-use format::{MAX_KEY, PATTERN, STATE};
-use fst::Opened;
-use marks::{Change, Marking, Return};
+use format::{MAX_KEY, Refusal};
+use marks::{Marking, Return};
 use marks_held::Marks;
 use patterned::{Patterned, PatternedStep};
 use patterned_held::Pattern;
 use stream::Plain;
-use stream_step::Answer;
 
 // What going back gives back. After a refusal the reading is the one given.
 #[derive(Clone, Copy)]
 pub struct ReturnBy {
-    pub answer: Change,
+    pub answer: Result<(), Refusal>,
     pub patterned: Patterned,
 }
 
@@ -37,13 +35,13 @@ pub fn mark_by(file: &[u8], patterned: Patterned, marks: Marks, name: &[u8]) -> 
     let plain = Plain { reading, keys: 0 };
     let opened = fst::open(file);
     match opened {
-        Opened::Refused(why) => marks::refused(why, marks),
-        Opened::Meta(_) => {
+        Err(why) => marks::refused(why, marks),
+        Ok(_) => {
             if !marks::state_right(plain, marks, file.len()) {
-                return marks::refused(STATE, marks);
+                return marks::refused(Refusal::State, marks);
             }
             if MAX_KEY < pattern.len {
-                return marks::refused(PATTERN, marks);
+                return marks::refused(Refusal::Pattern, marks);
             }
             marks::set_mark(plain, marks, name)
         }
@@ -57,13 +55,13 @@ fn back_by(file: &[u8], plain: Plain, pattern: Pattern, marks: Marks, name: &[u8
 {
     let opened = fst::open(file);
     match opened {
-        Opened::Refused(why) => marks::stay(why, plain),
-        Opened::Meta(_) => {
+        Err(why) => marks::stay(why, plain),
+        Ok(_) => {
             if !marks::state_right(plain, marks, file.len()) {
-                return marks::stay(STATE, plain);
+                return marks::stay(Refusal::State, plain);
             }
             if MAX_KEY < pattern.len {
-                return marks::stay(PATTERN, plain);
+                return marks::stay(Refusal::Pattern, plain);
             }
             marks::take_back(plain, marks, name)
         }
@@ -103,14 +101,14 @@ pub fn next_marked_by(
 {
     let opened = fst::open(file);
     match opened {
-        Opened::Refused(why) => PatternedStep {
-            answer: Answer::Refused(why),
+        Err(why) => PatternedStep {
+            answer: Err(why),
             patterned,
         },
-        Opened::Meta(_) => {
+        Ok(_) => {
             if !marks_held::marks_right(marks, file.len()) {
                 return PatternedStep {
-                    answer: Answer::Refused(STATE),
+                    answer: Err(Refusal::State),
                     patterned,
                 };
             }

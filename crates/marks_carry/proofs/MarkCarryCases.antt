@@ -3,6 +3,8 @@
 --     patterned_refused, patterned_right     a reading by pattern
 -- Assumes nothing.
 use mathlib.Core.Path.{◌≡◌, refl, sym, ap, ◌∙◌, subst}
+use Rattle.std.specs.Prelude.{Ok, Err, Result, ⊤}
+use Rattle.format.specs.declared.Refusal.{Refusal}
 use mathlib.Core.Bool.{true}
 use mathlib.Core.List.{List}
 use Prim.Native.Nat.{ℕ}
@@ -17,50 +19,47 @@ use Rattle.patterned.specs.declared.Patterned.{Patterned}
 use Rattle.patterned_held.specs.HeldPatterns.{held_is}
 use Rattle.carrying.specs.Carry as C
 use Rattle.carrying.specs.Carry.{carry_plain, carry_by, with_keys}
-use Rattle.carry.specs.declared.Carries.TheVariants as Answer
 use Rattle.carry.specs.declared.Carried.{Carried}
 use Rattle.carry.specs.declared.CarriedBy.{CarriedBy}
 use Rattle.carry.specs.Carries.{PlainCarried, PatternedCarried}
 use Rattle.marking.specs.MarkCalls.{Mark}
-use Rattle.marks_carry.specs.declared.Judged.{Judged}
-use Rattle.marks_carry.specs.declared.Judged.TheVariants.{Right, Refused}
 use Rattle.marks_carry.specs.MarksCarry.{carry_marked, carry_marked_by, judging, on_judged}
 use Rattle.marks_carry.specs.MarksCarryLaws.{marked_judged}
 
 module _ (old new : List ℕ) (ms : List Mark) where
   module _ (given : Plain) where
-    marked_plain : (j : Judged) → j ≡ judging old new ms
+    marked_plain : (j : Result ⊤ Refusal) → j ≡ judging old new ms
         → with_keys given.keys (on_judged j (C.carry old new (view_is given.reading))) ≡ carry_marked old new (plain_is given) ms
     marked_plain j is =
-        ap (λ (i : Judged). with_keys given.keys (on_judged i (C.carry old new (view_is given.reading)))) is
+        ap (λ (i : Result ⊤ Refusal). with_keys given.keys (on_judged i (C.carry old new (view_is given.reading)))) is
         ∙ ap (with_keys given.keys) (sym (marked_judged true old new (view_is given.reading) ms))
 
-    pub plain_refused : (why : ℕ) → Refused why ≡ judging old new ms
-        → PlainCarried (carry_marked old new (plain_is given) ms) given (record { answer = Answer.Refused why; plain = given })
+    pub plain_refused : (why : Refusal) → Err why ≡ judging old new ms
+        → PlainCarried (carry_marked old new (plain_is given) ms) given (record { answer = Err why; plain = given })
     plain_refused why is =
-        subst (λ (q : C.CarriedPlain). PlainCarried q given (record { answer = Answer.Refused why; plain = given })) (marked_plain (Refused why) is)
+        subst (λ (q : C.CarriedPlain). PlainCarried q given (record { answer = Err why; plain = given })) (marked_plain (Err why) is)
         (record { answer = refl; carried = λ v e. absurd (let z : ◌≡◌ {A = ℕ} 0 1 = cc in omega arith); kept = λ n e. refl })
 
-    pub plain_right : Right ≡ judging old new ms → (r : Carried) → PlainCarried (carry_plain old new (plain_is given)) given r
+    pub plain_right : (Ok tt) ≡ judging old new ms → (r : Carried) → PlainCarried (carry_plain old new (plain_is given)) given r
         → PlainCarried (carry_marked old new (plain_is given) ms) given r
-    plain_right is r h = subst (λ (q : C.CarriedPlain). PlainCarried q given r) (marked_plain Right is) h
+    plain_right is r h = subst (λ (q : C.CarriedPlain). PlainCarried q given r) (marked_plain (Ok tt) is) h
 
   module _ (given : Patterned) where
-    marked_patterned : (j : Judged) → j ≡ judging old new ms
+    marked_patterned : (j : Result ⊤ Refusal) → j ≡ judging old new ms
         → on_judged j (carry_by old new (held_is given.pattern) (view_is given.reading))
         ≡ carry_marked_by old new (held_is given.pattern) (view_is given.reading) ms
     marked_patterned j is =
-        ap (λ (i : Judged). on_judged i (carry_by old new (held_is given.pattern) (view_is given.reading))) is
+        ap (λ (i : Result ⊤ Refusal). on_judged i (carry_by old new (held_is given.pattern) (view_is given.reading))) is
         ∙ sym (marked_judged (leb (length (held_is given.pattern).positions) max_path) old new (view_is given.reading) ms)
 
-    pub patterned_refused : (why : ℕ) → Refused why ≡ judging old new ms
+    pub patterned_refused : (why : Refusal) → Err why ≡ judging old new ms
         → PatternedCarried (carry_marked_by old new (held_is given.pattern) (view_is given.reading) ms) given
-        (record { answer = Answer.Refused why; patterned = given })
+        (record { answer = Err why; patterned = given })
     patterned_refused why is =
-        subst (λ (q : C.Carried). PatternedCarried q given (record { answer = Answer.Refused why; patterned = given })) (marked_patterned (Refused why) is)
+        subst (λ (q : C.Carried). PatternedCarried q given (record { answer = Err why; patterned = given })) (marked_patterned (Err why) is)
         (record { answer = refl; carried = λ v e. absurd (let z : ◌≡◌ {A = ℕ} 0 1 = cc in omega arith); pattern = refl; kept = λ n e. refl })
 
-    pub patterned_right : Right ≡ judging old new ms → (r : CarriedBy)
+    pub patterned_right : (Ok tt) ≡ judging old new ms → (r : CarriedBy)
         → PatternedCarried (carry_by old new (held_is given.pattern) (view_is given.reading)) given r
         → PatternedCarried (carry_marked_by old new (held_is given.pattern) (view_is given.reading) ms) given r
-    patterned_right is r h = subst (λ (q : C.Carried). PatternedCarried q given r) (marked_patterned Right is) h
+    patterned_right is r h = subst (λ (q : C.Carried). PatternedCarried q given r) (marked_patterned (Ok tt) is) h

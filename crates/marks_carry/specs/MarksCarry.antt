@@ -4,7 +4,8 @@
 --     carry_marked, carry_marked_by       a plain reading; a reading by pattern, of which PATTERN is judged after STATE
 --     judging, on_judged                what is judged of the two files and the marks; carrying behind it
 -- Assumes nothing.
-use Rattle.std.specs.Prelude.{Bool, true, cond, ◌&&◌, List, ℕ, leb, length}
+use Rattle.std.specs.Prelude.{Bool, true, cond, ◌&&◌, List, ℕ, leb, length, Ok, Err, Result, ⊤}
+use Rattle.format.specs.declared.Refusal.{Refusal}
 use Rattle.format.specs.Limits.{max_path, STATE}
 use Rattle.format.specs.Opening.{opening}
 use Rattle.reading.specs.Reading.{View, on_opened, state_test}
@@ -12,8 +13,6 @@ use Rattle.plain.specs.Plain.{Plain}
 use Rattle.pattern.specs.Pattern.{Pattern}
 use Rattle.carrying.specs.Carry.{Carried, carry_with, CarriedPlain, with_keys}
 use Rattle.marking.specs.MarkCalls.{Mark, marks_test}
-use Rattle.marks_carry.specs.declared.Judged.{Judged}
-use Rattle.marks_carry.specs.declared.Judged.TheVariants.{Right, Refused}
 
 unfoldable pub carry_marked_with : Bool → List ℕ → List ℕ → View → List Mark → Carried
 carry_marked_with fits old new r ms =
@@ -32,10 +31,10 @@ carry_marked_by old new p r ms = carry_marked_with (leb (length p.positions) max
 
 -- ---- as the code goes
 
-unfoldable pub judging : List ℕ → List ℕ → List Mark → Judged
+unfoldable pub judging : List ℕ → List ℕ → List Mark → Result ⊤ Refusal
 judging old new ms =
-    on_opened (opening old) (λ m. on_opened (opening new) (λ q. cond (marks_test (length old) ms) Right (Refused STATE)) (λ n. Refused n)) (λ n. Refused n)
+    on_opened (opening old) (λ m. on_opened (opening new) (λ q. cond (marks_test (length old) ms) (Ok tt) (Err STATE)) (λ n. Err n)) (λ n. Err n)
 
-abbrev pub on_judged : Judged → Carried → Carried
-on_judged Right c = c
-on_judged (Refused n) c = Carried.refused n
+abbrev pub on_judged : Result ⊤ Refusal → Carried → Carried
+on_judged (Ok tt) c = c
+on_judged (Err n) c = Carried.refused n

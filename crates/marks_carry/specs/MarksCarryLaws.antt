@@ -4,18 +4,17 @@
 --     marked_carries       with right marks it is carrying
 --     marks_wrong          with wrong marks, between two files that open, it is STATE
 -- Assumes nothing.
-use Rattle.std.specs.Prelude.{◌≡◌, Bool, cond, ◌&&◌, List, ℕ, length}
+use Rattle.std.specs.Prelude.{◌≡◌, Bool, cond, ◌&&◌, List, ℕ, length, Ok, Err, Result, ⊤}
 use Rattle.std.proofs.Math.Path.{refl, ap}
 use Rattle.std.proofs.Common.{◌∙◌}
 use Rattle.std.proofs.Math.Bool.{true, false}
+use Rattle.format.specs.declared.Refusal.{Refusal}
 use Rattle.format.specs.Limits.{STATE}
 use Rattle.format.specs.Opening as O
 use Rattle.format.specs.Opening.{Meta, opened, opening}
 use Rattle.reading.specs.Reading.{View, on_opened, state_test}
 use Rattle.carrying.specs.Carry.{Carried, carry_with}
 use Rattle.marking.specs.MarkCalls.{Mark, marks_test}
-use Rattle.marks_carry.specs.declared.Judged.{Judged}
-use Rattle.marks_carry.specs.declared.Judged.TheVariants.{Right, Refused}
 use Rattle.marks_carry.specs.MarksCarry.{carry_marked_with, judging, on_judged}
 
 both_wrong : (a : Bool) (c : Carried) → cond (a && false) c (Carried.refused STATE) ≡ Carried.refused STATE
@@ -23,7 +22,7 @@ both_wrong true c = refl
 both_wrong false c = refl
 
 pub judged_as : (old new : List ℕ) (ms : List Mark) (o p : O.Opening) (b : Bool) → opening old ≡ o → opening new ≡ p → marks_test (length old) ms ≡ b
-    → on_opened o (λ m. on_opened p (λ q. cond b Right (Refused STATE)) (λ n. Refused n)) (λ n. Refused n) ≡ judging old new ms
+    → on_opened o (λ m. on_opened p (λ q. cond b (Ok tt) (Err STATE)) (λ n. Err n)) (λ n. Err n) ≡ judging old new ms
 unfolding judging
 judged_as old new ms o p b e e' t = rw (e, e', t)
 
@@ -44,7 +43,7 @@ module _ (fits : Bool) (old new : List ℕ) (r : View) (ms : List Mark) where
   unfolding carry_marked_with
   marks_wrong m q e e' wrong = rw (e, e', wrong) (both_wrong (state_test r (length old)) (carry_with fits old new r))
 
-  abbrev carrying : Judged → Carried
+  abbrev carrying : Result ⊤ Refusal → Carried
   carrying j = on_judged j (carry_with fits old new r)
 
   pub marked_judged : carry_marked_with fits old new r ms ≡ on_judged (judging old new ms) (carry_with fits old new r)

@@ -10,40 +10,22 @@ ghost use Rattle.marks_held.specs.MarkViews.{marks_is};
 ghost use Rattle.carry.specs.Carries.{PlainCarried, PatternedCarried};
 ghost use Rattle.marks_carry.specs.MarksCarry.{carry_marked, carry_marked_by, judging};
 
-use carry::{Carried, CarriedBy, Carries};
-use format::STATE;
-use fst::Opened;
+use carry::{Carried, CarriedBy};
+use format::Refusal;
 use marks_held::Marks;
 use patterned::Patterned;
 use stream::Plain;
 
-// Whether two files and the marks let a reading be carried, or the number of a refusal.
-#[derive(Clone, Copy)]
-enum Judged {
-    Right,
-    Refused(u8),
-}
-
 // The old file's refusals, the new file's, STATE for marks that are not right by the old file's length.
-fn judge(old: &[u8], new: &[u8], marks: Marks) -> Judged
+fn judge(old: &[u8], new: &[u8], marks: Marks) -> Result<(), Refusal>
     ensures { result ≡ judging old.now new.now (marks_is marks) }
 {
-    let opened = fst::open(old);
-    match opened {
-        Opened::Refused(why) => Judged::Refused(why),
-        Opened::Meta(_) => {
-            let opened_new = fst::open(new);
-            match opened_new {
-                Opened::Refused(why) => Judged::Refused(why),
-                Opened::Meta(_) => {
-                    if marks_held::marks_right(marks, old.len()) {
-                        return Judged::Right;
-                    }
-                    Judged::Refused(STATE)
-                }
-            }
-        }
+    fst::open(old)?;
+    fst::open(new)?;
+    if marks_held::marks_right(marks, old.len()) {
+        return Ok(());
     }
+    Err(Refusal::State)
 }
 
 // A plain reading of the old file as a reading of the new one, without marks. Opening's refusals of the old file, then of the new one, then STATE for the
@@ -53,11 +35,11 @@ pub fn carry_marked(old: &[u8], new: &[u8], reading: Plain, marks: Marks) -> Car
         (plain_is reading) (marks_is marks)) reading result }
 {
     match judge(old, new, marks) {
-        Judged::Refused(why) => Carried {
-            answer: Carries::Refused(why),
+        Err(why) => Carried {
+            answer: Err(why),
             plain: reading,
         },
-        Judged::Right => carry::carry(old, new, reading),
+        Ok(()) => carry::carry(old, new, reading),
     }
 }
 
@@ -67,10 +49,10 @@ pub fn carry_marked_by(old: &[u8], new: &[u8], patterned: Patterned, marks: Mark
         (held_is patterned.pattern) (view_is patterned.reading) (marks_is marks)) patterned result }
 {
     match judge(old, new, marks) {
-        Judged::Refused(why) => CarriedBy {
-            answer: Carries::Refused(why),
+        Err(why) => CarriedBy {
+            answer: Err(why),
             patterned,
         },
-        Judged::Right => carry::carry_by(old, new, patterned),
+        Ok(()) => carry::carry_by(old, new, patterned),
     }
 }

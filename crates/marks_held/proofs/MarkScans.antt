@@ -34,9 +34,8 @@ use Rattle.marks_held.specs.MarkViewsLaws.{stated_length, stated_take, mark_at_l
 
 -- ---- two names
 
-pub names_differ : (held name : List ℕ) (n m : ℕ) → ¬ (n ≡ m) → false ≡ same_name (stated n 0 held) (stated m 0 name)
-names_differ held name n m ne =
-    sym (same_not (stated n 0 held) (stated m 0 name) (λ e. ne (sym (stated_length n 0 held) ∙ ap length e ∙ stated_length m 0 name)))
+pub names_differ : (held name : List ℕ) (n : ℕ) → ¬ (n ≡ length name) → false ≡ same_name (stated n 0 held) name
+names_differ held name n ne = sym (same_not (stated n 0 held) name (λ e. ne (sym (stated_length n 0 held) ∙ ap length e)))
 
 same_bytes : (a b : List ℕ) → pointwise eqb a b ≡ same_name a b
 unfolding same_name
@@ -45,10 +44,8 @@ same_bytes [] (y ∷ b) = refl
 same_bytes (x ∷ a) [] = refl
 same_bytes (x ∷ a) (y ∷ b) = ap (λ (r : Bool). eqb x y && r) (same_bytes a b)
 
-pub names_compared : (held name : List ℕ) (n m : ℕ) → length held ≡ 8 → length name ≡ 8 → m ≤ 8 → n ≡ m
-    → pointwise eqb (take m held) (take m name) ≡ same_name (stated n 0 held) (stated m 0 name)
-names_compared held name n m eight eight' small e =
-    rw (e, stated_take m 0 held (omega arith), stated_take m 0 name (omega arith)) (same_bytes (take m held) (take m name))
+pub names_compared : (held name : List ℕ) (n : ℕ) → length held ≡ 8 → length name ≤ 8 → n ≡ length name → pointwise eqb (take n held) name ≡ same_name (stated n 0 held) name
+names_compared held name n eight small e = rw (stated_take n 0 held (omega arith)) (same_bytes (take n held) name)
 
 -- ---- one mark
 

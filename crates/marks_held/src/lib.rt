@@ -39,12 +39,13 @@ struct Name {
 pub fn no_marks() -> Marks
     ensures { result ≡ no_marks }
 {
-    let none = stream::refused(0);
-    let reading = none.plain;
     let empty = Mark {
         name_len: 0,
         name: [0; MAX_NAME],
-        reading,
+        reading: Plain {
+            reading: stream_start::no_reading(),
+            keys: 0,
+        },
     };
     Marks {
         count: 0,
@@ -62,22 +63,22 @@ pub fn hold_name(name: &[u8]) -> [u8; MAX_NAME]
     held
 }
 
-// Whether a held name of n bytes, more than it has room for perhaps, is the one of the first m bytes.
-fn same_name(held: [u8; MAX_NAME], n: usize, name: [u8; MAX_NAME], m: usize) -> bool
-    requires { m ≤ 8 }
-    ensures { result ≡ M.same_name (stated n 0 held) (stated m 0 name) }
+// Whether a held name of n bytes, more than it has room for perhaps, is this one.
+fn same_name(held: [u8; MAX_NAME], n: usize, name: &[u8]) -> bool
+    requires { length name.now ≤ 8 }
+    ensures { result ≡ M.same_name (stated n 0 held) name.now }
 {
-    n == m && held[..m] == name[..m]
+    n == name.len() && &held[..n] == name
 }
 
-// The first place of a name of the first len bytes, from a place on.
-pub fn name_from(marks: Marks, from: usize, name: [u8; MAX_NAME], len: usize) -> Option<usize>
-    requires { (marks.count ≤ 16) × (len ≤ 8) × (from ≤ marks.count) }
-    ensures { SeekTold (stated len 0 name) (marks_is marks) from result }
+// The first place of a name, from a place on.
+pub fn name_from(marks: Marks, from: usize, name: &[u8]) -> Option<usize>
+    requires { (marks.count ≤ 16) × (length name.now ≤ 8) × (from ≤ marks.count) }
+    ensures { SeekTold name.now (marks_is marks) from result }
 {
     for i in from..marks.count {
         let held = &marks.marks[i];
-        if same_name(held.name, held.name_len, name, len) {
+        if same_name(held.name, held.name_len, name) {
             return Some(i);
         }
     }
@@ -104,6 +105,14 @@ fn names_of(marks: Marks) -> [Name; MARKS]
     names
 }
 
+// Whether two names by themselves are the same.
+fn same_names(a: Name, b: Name) -> bool
+    requires { b.len ≤ 8 }
+    ensures { result ≡ M.same_name (stated a.len 0 a.bytes) (stated b.len 0 b.bytes) }
+{
+    same_name(a.bytes, a.len, &b.bytes[..b.len])
+}
+
 // Whether the name at a place is right: of 1 to 8 bytes, and no later mark has it.
 fn name_right(names: [Name; MARKS], count: usize, i: usize) -> bool
     requires { (count ≤ 16) × (i < count) }
@@ -118,8 +127,7 @@ fn name_right(names: [Name; MARKS], count: usize, i: usize) -> bool
         return false;
     }
     for j in i + 1..count {
-        let later = names[j];
-        if same_name(later.bytes, later.len, held.bytes, held.len) {
+        if same_names(names[j], held) {
             return false;
         }
     }

@@ -4,6 +4,8 @@
 -- Assumes nothing.
 use Rattle.std.specs.Prelude.{◌≡◌, refl, List, [], ◌∷◌, ◌++◌, map, ℕ, zero, suc, ◌+◌, replicate}
 use Rattle.std.proofs.Math.Option.{none, some}
+use Rattle.format.specs.declared.Refusal.{Refusal}
+use Rattle.format.specs.Limits.{SHORT, STATE, NAME, FULL}
 use Rattle.format.specs.Bytes.{le, bytes_of}
 use Rattle.format.specs.CommonInputs.{common_inputs_inv}
 use Rattle.format.specs.Node.{head_len, input_of, ntrans_of, sizes_byte, index_len, size_of, down_from, bytes_down, numbers_down, transitions_of, node_of, sound_test, node_at, find_from}
@@ -31,7 +33,7 @@ now_is p ms = record { reading = p; held = ms }
 pub data Said : Type 0 where
   keys : List ℕ → ℕ → ℕ → Said
   ends : ℕ → Said
-  no : ℕ → Said
+  no : Refusal → Said
 
 abbrev pub said_of : Answer → ℕ → Said
 said_of (key k v) t = keys k v t
@@ -104,9 +106,9 @@ full (suc n) = full n ++ (marks ((n + 65) ∷ []) ∷ [])
 
 -- held marks that are wrong: next and mark answer STATE
 pub record Wrong (ms : List Mark) : Type 0 where
-  pub next_refuses : says (now_is r ms) (go ∷ []) ≡ no 11 ∷ []
-  pub mark_refuses : says (now_is r ms) (marks x ∷ []) ≡ no 11 ∷ []
-  pub back_refuses : says (now_is r ms) (returns x ∷ []) ≡ no 11 ∷ []
+  pub next_refuses : says (now_is r ms) (go ∷ []) ≡ no STATE ∷ []
+  pub mark_refuses : says (now_is r ms) (marks x ∷ []) ≡ no STATE ∷ []
+  pub back_refuses : says (now_is r ms) (returns x ∷ []) ≡ no STATE ∷ []
 
 pub record MarksTable : Type 0 where
   -- back to "x" after the end: the answers that followed, with the total as it was there
@@ -117,13 +119,13 @@ pub record MarksTable : Type 0 where
   -- a return keeps a mark that was set later
   pub both_stand : says fresh (marks x ∷ go ∷ marks y ∷ returns x ∷ go ∷ returns y ∷ go ∷ []) ≡ a 1 ∷ a 1 ∷ t 2 ∷ []
   -- names
-  pub lengths : says fresh (marks [] ∷ marks (replicate 1 97) ∷ marks (replicate 8 97) ∷ marks (replicate 9 97) ∷ []) ≡ no 17 ∷ no 17 ∷ []
+  pub lengths : says fresh (marks [] ∷ marks (replicate 1 97) ∷ marks (replicate 8 97) ∷ marks (replicate 9 97) ∷ []) ≡ no NAME ∷ no NAME ∷ []
   pub zero_counts : says fresh (marks (97 ∷ []) ∷ go ∷ marks (97 ∷ 0 ∷ []) ∷ returns (97 ∷ []) ∷ go ∷ []) ≡ a 1 ∷ a 1 ∷ []
-  pub seventeenth : says fresh (full 16 ++ (marks x ∷ marks (65 ∷ []) ∷ marks [] ∷ [])) ≡ no 18 ∷ no 17 ∷ []
-  pub never_marked : says fresh (returns x ∷ returns (replicate 9 97) ∷ []) ≡ no 17 ∷ no 17 ∷ []
+  pub seventeenth : says fresh (full 16 ++ (marks x ∷ marks (65 ∷ []) ∷ marks [] ∷ [])) ≡ no FULL ∷ no NAME ∷ []
+  pub never_marked : says fresh (returns x ∷ returns (replicate 9 97) ∷ []) ≡ no NAME ∷ no NAME ∷ []
   -- a file of another length, and one that does not open
-  pub other_length : (back [] r (named x r ∷ []) x ≡ Return.refused 11) × (mark [] r [] x ≡ Marking.refused 11)
-  pub not_opened : (back (replicate 3 0) r (named x r ∷ []) x ≡ Return.refused 1) × (mark (replicate 3 0) r [] x ≡ Marking.refused 1)
+  pub other_length : (back [] r (named x r ∷ []) x ≡ Return.refused STATE) × (mark [] r [] x ≡ Marking.refused STATE)
+  pub not_opened : (back (replicate 3 0) r (named x r ∷ []) x ≡ Return.refused SHORT) × (mark (replicate 3 0) r [] x ≡ Marking.refused SHORT)
   -- an empty key pending, marked, handed out, and back
   pub pending : says (now_is (plain_with (record { len = 50; bound = unbounded; bound_len = 0; empty = some 7; total = 0; levels = [] }) 1) []) (marks x ∷ go ∷ go ∷ returns x ∷ go ∷ [])
       ≡ keys [] 7 0 ∷ ends 0 ∷ keys [] 7 0 ∷ []

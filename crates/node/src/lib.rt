@@ -9,7 +9,7 @@ ghost use Rattle.node.specs.Read.{Searchable, empty_node, Judges, transitions_in
 ghost use Rattle.format.specs.declared.State.TheVariants.{OneTransNext, OneTrans, AnyTrans};
 
 use format::{State, Transition};
-use le_bytes::{number_of, small, unpack_uint};
+use le_bytes::{number_of, unpack_uint};
 use node_sound::{head_len, input_of, is_sound, shape_of};
 
 // The numbers of a sound node, for the functions below.
@@ -80,7 +80,7 @@ pub fn one_node(file: &[u8], version: u64, root: usize, addr: usize) -> Node
         × (result.state ≡ OneTrans) }
 {
     let len = head_len(file, addr);
-    let sizes = small(file[addr - len]);
+    let sizes = usize::from(file[addr - len]);
     let tsize = sizes / 16;
     let osize = sizes % 16;
     let first = addr + 1 - (osize + tsize + 1 + len);
@@ -127,7 +127,7 @@ fn node_of(file: &[u8], version: u64, root: usize, addr: usize) -> Node
     requires { SoundAt file.now version root addr }
     ensures { Judges file.now version root addr (Ok result) }
 {
-    let state = small(file[addr]);
+    let state = usize::from(file[addr]);
     if state < 128 {
         return any_node(file, version, root, addr);
     }
@@ -243,6 +243,7 @@ pub fn transition(file: &[u8], node: Node, i: usize) -> Transition
 
 // The place of b among n ascending inputs that stand last first from place at on: those above b
 // stand first.
+// at and n, here and in `find_in`, stand as in `bytes_down`, of which the contract speaks: for a slice in their place it would have to be proved that the slice is that part of the file.
 fn seek(file: &[u8], at: usize, n: usize, b: u8) -> Result<usize, usize>
     requires { (at + n ≤ length file.now) × Ascending (bytes_down file.now at n) }
     ensures { Finds (bytes_down file.now at n) b result }
@@ -269,7 +270,7 @@ pub fn find_in(file: &[u8], at: usize, n: usize, index_len: usize, b: u8) -> Res
     ensures { Finds (bytes_down file.now at n) b result }
 {
     if index_len != 0 {
-        let e = small(file[at + n + (b as usize)]);
+        let e = usize::from(file[at + n + (b as usize)]);
         let is_place = e < n;
         if is_place {
             return Ok(e);

@@ -7,7 +7,7 @@ ghost use Rattle.node.specs.Read.{transitions_in, Readable};
 ghost use Rattle.node_way.specs.Ways.{any_node};
 ghost use Rattle.node_choice.specs.Choices.{Leading, fitting_in, fit_of};
 
-use le_bytes::{number_of, small};
+use le_bytes::number_of;
 use node::Unsound;
 use node_sound::{head_len, input_of};
 use node_way::target_of;
@@ -27,6 +27,7 @@ pub enum Choice {
 pub type Fit = Result<Choice, Unsound>;
 
 // How many of the leading numbers of n are not above what is left.
+// at, size and n, and the places in `any_choice`, stand as in `numbers_down`, of which the contract speaks: for a slice in their place it would have to be proved that the slice is that part of the file.
 fn fitting(file: &[u8], at: usize, size: usize, n: usize, left: u64) -> usize
     requires { (at + n * size ≤ length file.now) × (size ≤ 8) }
     ensures { Leading (numbers_down file.now at size n) left result }
@@ -81,7 +82,7 @@ pub fn one_choice(file: &[u8], version: u64, root: usize, addr: usize, left: u64
     ensures { Ok result ≡ fit_of (node_at file.now version root addr) left }
 {
     let len = head_len(file, addr);
-    let sizes = small(file[addr - len]);
+    let sizes = usize::from(file[addr - len]);
     let tsize = sizes / 16;
     let osize = sizes % 16;
     let first = addr + 1 - (osize + tsize + 1 + len);

@@ -5,11 +5,10 @@
 --     ReadsBack b F bs             the bytes bs read back as the record b in every file of version 2 or 3 that has them at F
 --     Compiles b F out₀ out r      packing b at F into the buffer out₀ answers r and leaves out
 -- Assumes nothing.
-use Rattle.std.specs.Prelude.{◌≡◌, Bool, List, ◌++◌, ℕ, ◌≤◌, length, take, drop}
+use Rattle.std.specs.Prelude.{◌≡◌, Bool, List, ◌++◌, ℕ, ◌≤◌, length, take, drop, Ok, Err, Result}
+use Rattle.format.specs.declared.Refusal.{Refusal}
 use Rattle.format.specs.Node.{Useful, sound, node_at}
 use Rattle.format.specs.Packed.{BuilderNode, Packing, written, refused, packing, node_addr, record_node}
-use Rattle.node_compile.specs.declared.Compiled.{Compiled}
-use Rattle.node_compile.specs.declared.Compiled.TheVariants.{Len, Refused}
 
 abbrev pub builder_with : Bool → ℕ → List ℕ → List ℕ → List ℕ → BuilderNode
 builder_with final final_output inputs outputs targets = record {
@@ -20,9 +19,9 @@ builder_with final final_output inputs outputs targets = record {
   targets = targets;
 }
 
-abbrev pub answer_as : Packing → Compiled
-answer_as (written bs) = Len (length bs)
-answer_as (refused k) = Refused k
+abbrev pub answer_as : Packing → Result ℕ Refusal
+answer_as (written bs) = Ok (length bs)
+answer_as (refused k) = Err k
 
 -- a refusal leaves the buffer as it was
 abbrev pub buffer_after : Packing → List ℕ → List ℕ
@@ -35,7 +34,7 @@ pub record ReadsBack (b : BuilderNode) (first : ℕ) (bs : List ℕ) : Type 0 wh
       → Useful b.final (length b.inputs) (node_addr first b) root
       → node_at (pre ++ (bs ++ post)) v root (node_addr first b) ≡ sound (record_node first b)
 
-pub record Compiles (b : BuilderNode) (first : ℕ) (out₀ out : List ℕ) (r : Compiled) : Type 0 where
+pub record Compiles (b : BuilderNode) (first : ℕ) (out₀ out : List ℕ) (r : Result ℕ Refusal) : Type 0 where
   pub answer : r ≡ answer_as (packing first b (length out₀))
   pub buffer : out ≡ buffer_after (packing first b (length out₀)) out₀
-  pub reads_back : (n : ℕ) → r ≡ Len n → ReadsBack b first (take n out)
+  pub reads_back : (n : ℕ) → r ≡ Ok n → ReadsBack b first (take n out)

@@ -7,13 +7,13 @@
 --     AnyFits F b osize tsize room     what writing them asks: the record fits, and they have room
 --     Fitted bs out₀ out r             what writing a node's bytes bs answers and leaves, where only SPACE can refuse
 -- Assumes nothing.
-use Rattle.std.specs.Prelude.{◌≡◌, Bool, cond, List, [], ◌∷◌, ◌++◌, map, ℕ, ◌+◌, ◌*◌, ◌≤◌, leb, length}
+use Rattle.std.specs.Prelude.{◌≡◌, Bool, cond, List, [], ◌∷◌, ◌++◌, map, ℕ, ◌+◌, ◌*◌, ◌≤◌, leb, length, Result}
+use Rattle.format.specs.declared.Refusal.{Refusal}
 use Rattle.format.specs.Limits.{first_node, max_trans, SPACE}
 use Rattle.format.specs.Bytes.{largest}
 use Rattle.format.specs.CommonInputs.{common_idx}
 use Rattle.format.specs.Node.{Ascending, end_len, index_len}
 use Rattle.format.specs.Packed.{BuilderNode, TargetsOk, RecordOk, delta_of, input_bytes, output_size, delta_size, head_of, packed_any, Packing, written, refused}
-use Rattle.node_compile.specs.declared.Compiled.{Compiled}
 use Rattle.node_compile.specs.Compile.{answer_as, buffer_after}
 
 -- ---- a node's bytes
@@ -63,6 +63,6 @@ any_len final n osize tsize = end_len final osize + n * osize + n * tsize + n + 
 abbrev pub fitting : List ℕ → ℕ → Packing
 fitting bs room = cond (leb (length bs) room) (written bs) (refused SPACE)
 
-pub record Fitted (bs out₀ out : List ℕ) (r : Compiled) : Type 0 where
+pub record Fitted (bs out₀ out : List ℕ) (r : Result ℕ Refusal) : Type 0 where
   pub answer : r ≡ answer_as (fitting bs (length out₀))
   pub buffer : out ≡ buffer_after (fitting bs (length out₀)) out₀

@@ -16,19 +16,10 @@ ghost use Rattle.node_compile.specs.Parts.{state_bytes, any_in, any_bytes, Recor
 ghost use Rattle.buffers.specs.Put.{PutAt};
 
 use common_inputs::common_idx;
-use format::{FIRST_NODE, MAX_LEN, MAX_TRANS, RECORD, SPACE, TRANS_INDEX_THRESHOLD};
+use format::{FIRST_NODE, MAX_LEN, MAX_TRANS, Refusal, TRANS_INDEX_THRESHOLD};
 use le_bytes::{pack_size, pack_uint_in};
 use node_parts::{put_bytes, put_head, put_index};
 use node_record::{inputs_ascend, targets_ok};
-
-// What packing answers.
-#[derive(Clone, Copy)]
-pub enum Compiled {
-    // the number of bytes written, from the buffer's first byte on
-    Len(usize),
-    // a refusal, which leaves the buffer as it was: RECORD, or SPACE
-    Refused(u8),
-}
 
 // ---- RECORD
 
@@ -68,7 +59,7 @@ fn largest_of(numbers: &[u64]) -> u64
 }
 
 // How far a target lies before F; 0 for target 0.
-fn delta_of(first: usize, target: usize) -> u64
+pub fn delta_of(first: usize, target: usize) -> u64
     requires { target ≤ first }
     ensures { result ≡ delta_of first target }
 {
@@ -181,15 +172,15 @@ fn put_state(out: &mut [u8], at: usize, form: u8, input: u8) -> usize
 // ---- the three forms
 
 // Packs a node of the form 11: one transition, with output 0, to the node before.
-fn compile_next(input: u8, out: &mut [u8]) -> Compiled
+fn compile_next(input: u8, out: &mut [u8]) -> Result<usize, Refusal>
     ensures { Fitted (packed_next input) out.old out.new result }
 {
     let len = input_len(input) + 1;
     if out.len() < len {
-        return Compiled::Refused(SPACE);
+        return Err(Refusal::Space);
     }
     put_state(out, 0, 192, input);
-    Compiled::Len(len)
+    Ok(len)
 }
 
 // Writes a node of the form 10 with an output of osize bytes and a delta of tsize bytes; returns its
@@ -208,7 +199,13 @@ fn put_one(out: &mut [u8], input: u8, output: u64, osize: usize, delta: u64, tsi
 }
 
 // Packs a node of the form 10: one transition.
-fn compile_one(first: usize, input: u8, output: u64, target: usize, out: &mut [u8]) -> Compiled
+fn compile_one(
+    first: usize,
+    input: u8,
+    output: u64,
+    target: usize,
+    out: &mut [u8],
+) -> Result<usize, Refusal>
     requires { target ≤ first }
     ensures { Fitted (packed_one input output (delta_of first target)) out.old
         out.new result }
@@ -219,10 +216,10 @@ fn compile_one(first: usize, input: u8, output: u64, target: usize, out: &mut [u
     // output, delta, sizes byte, input, state
     let len = osize + tsize + 1 + input_len(input) + 1;
     if out.len() < len {
-        return Compiled::Refused(SPACE);
+        return Err(Refusal::Space);
     }
     put_one(out, input, output, osize, delta, tsize);
-    Compiled::Len(len)
+    Ok(len)
 }
 
 // The bytes of the final output.
@@ -294,7 +291,7 @@ fn compile_any(
     targets: &[usize],
     first: usize,
     out: &mut [u8],
-) -> Compiled
+) -> Result<usize, Refusal>
     requires { RecordFits first (builder_with is_final final_output inputs.now outputs.now
         targets.now) }
     ensures { Fitted
@@ -305,7 +302,7 @@ fn compile_any(
     let tsize = delta_size(first, targets);
     let len = any_len(is_final, inputs.len(), osize, tsize);
     if out.len() < len {
-        return Compiled::Refused(SPACE);
+        return Err(Refusal::Space);
     }
     put_any(
         out,
@@ -318,7 +315,7 @@ fn compile_any(
         osize,
         tsize,
     );
-    Compiled::Len(len)
+    Ok(len)
 }
 
 // ---- the packer
@@ -349,7 +346,7 @@ fn last_addr(first: usize) -> usize
 }
 
 // To the node before, with output 0.
-fn leads_next(first: usize, target: usize, output: u64) -> bool
+pub fn leads_next(first: usize, target: usize, output: u64) -> bool
     requires { first_node ≤ first }
     ensures { result ≡ (eqb target (last_addr first) && eqb output 0) }
 {
@@ -366,7 +363,7 @@ pub fn compile_record(
     targets: &[usize],
     first: usize,
     out: &mut [u8],
-) -> Compiled
+) -> Result<usize, Refusal>
     requires { RecordFits first (builder_with is_final final_output inputs.now outputs.now
         targets.now) }
     ensures { Fitted
@@ -374,7 +371,7 @@ pub fn compile_record(
         out.old out.new result }
 {
     if packs_to_nothing(is_final, inputs.len(), final_output) {
-        return Compiled::Len(0);
+        return Ok(0);
     }
     if has_one(is_final, inputs.len()) {
         if leads_next(first, targets[0], outputs[0]) {
@@ -395,13 +392,13 @@ pub fn compile(
     targets: &[usize],
     first: usize,
     out: &mut [u8],
-) -> Compiled
+) -> Result<usize, Refusal>
     ensures { Compiles
         (builder_with is_final final_output inputs.now outputs.now targets.now) first
         out.old out.new result }
 {
     if !record_ok(is_final, final_output, inputs, outputs, targets, first) {
-        return Compiled::Refused(RECORD);
+        return Err(Refusal::Record);
     }
     compile_record(is_final, final_output, inputs, outputs, targets, first, out)
 }

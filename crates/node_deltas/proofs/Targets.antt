@@ -53,21 +53,12 @@ at_most_size s at k n m bytes room reach = record { each = each }
         let below : le part < 256 ^ k = rw len at small in
         omega arith
 
-pub at_most_up : {s : List ℕ} {at k n m : ℕ} (m' : ℕ) → m ≤ m' → AtMost s at k n m → AtMost s at k n m'
-at_most_up m' h a = record { each = λ j l. le_trans (a.each j l) h }
-
 -- ---- the largest, one number after the other
-
-pub at_most_none : (s : List ℕ) (at k m : ℕ) → AtMost s at k 0 m
-at_most_none s at k m = record { each = λ j l. absurd (omega arith) }
 
 pub at_most_more : {s : List ℕ} {at k i m : ℕ} (d m' : ℕ) → d ≡ le (take k (drop (at + i * k) s)) → m ≤ m' → d ≤ m' → AtMost s at k i m
     → AtMost s at k (i + 1) m'
 at_most_more {s} {at} {k} {i} {m} d m' is_d h g a =
     record { each = below_more (λ j. le (take k (drop (at + j * k) s)) ≤ m') i (λ j l. le_trans (a.each j l) h) (rw (← is_d) g) }
-
-pub at_most_all : {s : List ℕ} {at k i m : ℕ} (n : ℕ) → n ≤ i → AtMost s at k i m → AtMost s at k n m
-at_most_all n past a = record { each = λ j l. a.each j (omega arith) }
 
 -- ---- numbers of a few bytes
 
@@ -111,9 +102,6 @@ two_is s at i x y h is_x is_y = omega (arith, number_two s (at + i * 2) h)
 pub record Most3 (s : List ℕ) (at n most : ℕ) : Type 0 where
   pub each : (j : ℕ) → j < n → le (take 3 (drop (at + j * 3) s)) * 256 ≤ most
 
-pub most3_none : (s : List ℕ) (at n most : ℕ) → n ≡ 0 → Most3 s at n most
-most3_none s at n most z = record { each = λ j l. absurd (omega arith) }
-
 -- one number more, which is read from the byte before it
 pub most3_more : {s : List ℕ} {at n most : ℕ} (p x most' : ℕ) → p + 1 ≡ at + n * 3 → p + 4 ≤ length s → x ≡ le (take 4 (drop p s)) → most ≤ most'
     → x ≤ most' → Most3 s at n most → Most3 s at (n + 1) most'
@@ -132,9 +120,6 @@ most3_four {s} {at} {n} {most} p x y z w most' place room is_x is_y is_z is_w up
     let c = most3_more (p + 6) z most' (omega arith) (omega arith) is_z (le_refl most') oz b in
     let e : n + 1 + 1 + 1 + 1 ≡ n + 4 = omega arith in
     rw e at (most3_more (p + 9) w most' (omega arith) (omega arith) is_w (le_refl most') ow c)
-
-pub most3_all : {s : List ℕ} {at n most : ℕ} → Most3 s at n most → AtMost s at 3 n (most / 256)
-most3_all {s} {at} {n} {most} m = record { each = λ j l. omega (arith, m.each j l) }
 
 -- ---- the loop
 

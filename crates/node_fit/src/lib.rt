@@ -8,7 +8,6 @@ ghost use Rattle.node_sound.specs.Shapes.{AtForm};
 ghost use Rattle.node_choice.specs.Choices.{fit_of};
 
 use format::FIRST_NODE;
-use le_bytes::small;
 use node::Unsound;
 use node_choice::{Choice, Fit, any_choice, ends, next_choice, one_choice};
 use node_sound::{next_sound, one_sound, parts_right, shape_of, sizes_right, useful};
@@ -50,29 +49,6 @@ fn any_fit(file: &[u8], version: u64, root: usize, addr: usize, left: u64) -> Fi
     Ok(any_choice(file, first, outputs, ntrans, tsize, osize, index_len, left))
 }
 
-// A node with one transition, judged and followed.
-fn one_fit(file: &[u8], version: u64, root: usize, addr: usize, left: u64) -> Fit
-    requires { AtForm file.now root addr × (128 ≤ get_or file.now addr 0)
-        × (get_or file.now addr 0 < 192) }
-    ensures { result ≡ fit_of (node_at file.now version root addr) left }
-{
-    if one_sound(file, version, root, addr) {
-        return Ok(one_choice(file, version, root, addr, left));
-    }
-    Err(Unsound)
-}
-
-// A node with one transition to the node just below it, judged and followed.
-fn next_fit(file: &[u8], version: u64, root: usize, addr: usize, left: u64) -> Fit
-    requires { AtForm file.now root addr × (192 ≤ get_or file.now addr 0) }
-    ensures { result ≡ fit_of (node_at file.now version root addr) left }
-{
-    if next_sound(file, version, root, addr) {
-        return Ok(next_choice(file, version, root, addr, left));
-    }
-    Err(Unsound)
-}
-
 // Address 0, which only a file with bytes has: final, and with no transition.
 #[tactic(auto, using(node_choice::specs::FitOfLaws::fit_blank, node_choice::specs::FitOfLaws::fit_empty_ends, node_choice::specs::FitOfLaws::fit_empty_none))]
 fn zero_fit(file: &[u8], version: u64, root: usize, left: u64) -> Fit
@@ -105,12 +81,14 @@ pub fn fit_at(file: &[u8], version: u64, root: usize, addr: usize, left: u64) ->
     if file.len() <= addr {
         return Err(Unsound);
     }
-    let state = small(file[addr]);
-    if state < 128 {
-        return any_fit(file, version, root, addr, left);
+    match file[addr] {
+        0..=127 => any_fit(file, version, root, addr, left),
+        128..=191 if one_sound(file, version, root, addr) => Ok(one_choice(
+            file, version, root, addr, left,
+        )),
+        192..=255 if next_sound(file, version, root, addr) => Ok(next_choice(
+            file, version, root, addr, left,
+        )),
+        _ => Err(Unsound),
     }
-    if state < 192 {
-        return one_fit(file, version, root, addr, left);
-    }
-    next_fit(file, version, root, addr, left)
 }

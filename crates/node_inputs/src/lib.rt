@@ -11,6 +11,7 @@ ghost use Rattle.node_inputs.specs.Inputs.{Falls, Probed, below};
 // Whether n inputs, stored last first from place at on, ascend strictly: whether the stored bytes
 // fall, pair by pair. The pairs are tested in groups of 4, 8 or 16 that may overlap, so that none is
 // left over.
+// at and n, here and below, stand as in `bytes_down`, of which the contract speaks: for a slice in their place it would have to be proved that the slice is that part of the file.
 pub fn ascends(file: &[u8], at: usize, n: usize) -> bool
     requires { at + n ≤ length file.now }
     ensures { Decides result (Ascending (bytes_down file.now at n)) }

@@ -131,6 +131,7 @@ pub fn useful(is_final: bool, n: usize, addr: usize, root: usize) -> bool
 
 // Whether the inputs ascend, each delta leads to a right target, and the index is right: what takes
 // time of a node with any number of transitions.
+// The places and n stand as in `bytes_down` and `numbers_down`, of which the contract speaks: for a slice in their place it would have to be proved that the slice is that part of the file.
 pub fn parts_right(
     file: &[u8],
     first: usize,

@@ -7,7 +7,6 @@ ghost use Rattle.node_sound.specs.Shapes.{AtForm};
 ghost use Rattle.node_way.specs.Ways.{step_of};
 
 use format::FIRST_NODE;
-use le_bytes::small;
 use node::Unsound;
 use node_sound::{next_sound, one_sound, parts_right, shape_of, sizes_right, useful};
 use node_way::{Step, any_way, next_way, one_way};
@@ -46,29 +45,6 @@ fn any_step(file: &[u8], version: u64, root: usize, addr: usize, b: u8) -> Step
     Ok(any_way(file, first, outputs, ntrans, tsize, osize, index_len, b))
 }
 
-// A node with one transition, judged and followed.
-fn one_step(file: &[u8], version: u64, root: usize, addr: usize, b: u8) -> Step
-    requires { AtForm file.now root addr × (128 ≤ get_or file.now addr 0)
-        × (get_or file.now addr 0 < 192) }
-    ensures { result ≡ step_of (node_at file.now version root addr) b }
-{
-    if one_sound(file, version, root, addr) {
-        return Ok(one_way(file, version, root, addr, b));
-    }
-    Err(Unsound)
-}
-
-// A node with one transition to the node just below it, judged and followed.
-fn next_step(file: &[u8], version: u64, root: usize, addr: usize, b: u8) -> Step
-    requires { AtForm file.now root addr × (192 ≤ get_or file.now addr 0) }
-    ensures { result ≡ step_of (node_at file.now version root addr) b }
-{
-    if next_sound(file, version, root, addr) {
-        return Ok(next_way(file, version, root, addr, b));
-    }
-    Err(Unsound)
-}
-
 // Judges the node at addr and follows b from it: what `node_at`, `find_input`, `output` and
 // `transition_addr` say together, with no node made between them.
 pub fn step_at(file: &[u8], version: u64, root: usize, addr: usize, b: u8) -> Step
@@ -91,12 +67,14 @@ pub fn step_at(file: &[u8], version: u64, root: usize, addr: usize, b: u8) -> St
     if file.len() <= addr {
         return Err(Unsound);
     }
-    let state = small(file[addr]);
-    if state < 128 {
-        return any_step(file, version, root, addr, b);
+    match file[addr] {
+        0..=127 => any_step(file, version, root, addr, b),
+        128..=191 if one_sound(file, version, root, addr) => Ok(one_way(
+            file, version, root, addr, b,
+        )),
+        192..=255 if next_sound(file, version, root, addr) => Ok(next_way(
+            file, version, root, addr, b,
+        )),
+        _ => Err(Unsound),
     }
-    if state < 192 {
-        return one_step(file, version, root, addr, b);
-    }
-    next_step(file, version, root, addr, b)
 }

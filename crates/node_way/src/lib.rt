@@ -6,7 +6,7 @@ ghost use Rattle.format.specs.Node.{SoundAt, node_at, numbers_down, target_of};
 ghost use Rattle.node.specs.Read.{transitions_in, Readable};
 ghost use Rattle.node_way.specs.Ways.{any_node, way_at, PlaceRight, way_in, step_of};
 
-use le_bytes::{number_of, small};
+use le_bytes::number_of;
 use node::{Unsound, find_in, place_beside};
 use node_sound::{head_len, input_of};
 
@@ -28,6 +28,7 @@ pub fn target_of(first: usize, delta: u64) -> usize
 }
 
 // Where finding an input leads in a node with any number of transitions: by the output and the delta at its place, or nowhere.
+// The places and n, here and in `any_way`, stand as in `numbers_down`, of which the contract speaks: for a slice in their place it would have to be proved that the slice is that part of the file.
 fn way_at(
     file: &[u8],
     first: usize,
@@ -78,7 +79,7 @@ pub fn one_way(file: &[u8], version: u64, root: usize, addr: usize, b: u8) -> Wa
     ensures { Ok result ≡ step_of (node_at file.now version root addr) b }
 {
     let len = head_len(file, addr);
-    let sizes = small(file[addr - len]);
+    let sizes = usize::from(file[addr - len]);
     let tsize = sizes / 16;
     let osize = sizes % 16;
     let first = addr + 1 - (osize + tsize + 1 + len);

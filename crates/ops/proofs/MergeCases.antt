@@ -6,6 +6,8 @@
 --     key_put                             the key of a head is what was written
 -- Assumes nothing.
 use mathlib.Core.Path.{◌≡◌, refl, sym, ap, ap₂, ◌∙◌, subst}
+use Rattle.std.specs.Prelude.{replicate, Ok, Err, Some, None, Result}
+use Rattle.format.specs.declared.Refusal.{Refusal}
 use mathlib.Core.Bool.{Bool, true, false, cond, ◌&&◌}
 use mathlib.Core.Logic.{⊎_elim, ◌⊎◌, inl, inr}
 use mathlib.Core.List.{List, [], ◌∷◌, ◌++◌, map}
@@ -21,7 +23,6 @@ use Rattle.ops_spec.specs.Ops as O
 use Rattle.ops_spec.specs.Ops.{Indexed, next_item, after_steps, step_all}
 use Rattle.ops_spec.specs.OpsFuelLaws.{rounds_by, rounds_by_lem, next_item_by}
 use Rattle.ops_spec.specs.OpsShortLaws.{item_short}
-use Rattle.stream_start.specs.declared.Begins.TheVariants as B
 use Rattle.stream.specs.declared.Plain.{Plain}
 use Rattle.ops_round.specs.declared.Card.{Card}
 use Rattle.ops_round.specs.Cards.{cards_is}
@@ -37,7 +38,6 @@ use Rattle.ops_rounds.specs.declared.Called.{Called}
 use Rattle.ops_rounds.specs.Turns.{ItemIs, CalledAs, CalledBy}
 use Rattle.ops.specs.declared.Cards.{Cards}
 use Rattle.ops.specs.declared.Begun.{Begun}
-use Rattle.ops.specs.declared.Merged.TheVariants.{Item, End, Refused}
 use Rattle.ops.specs.declared.Step.{Step}
 use Rattle.ops.specs.Merges.{count_test, fresh_card, BegunAs, BegunBy, refused_step, held_item, MergedBy}
 
@@ -71,17 +71,17 @@ eight_places (a ∷ b ∷ c ∷ f ∷ g ∷ h ∷ i ∷ j ∷ k ∷ ps) d e = ab
 pub begun_as : (o : Op) (n : ℕ) (ps : List Plain) (d : Plain) (x₀ x₁ x₂ x₃ x₄ x₅ x₆ x₇ : Card) → length ps ≡ 8 → 0 < n → n ≤ 8
     → x₀ ≡ fresh_card (get_or ps 0 d) → x₁ ≡ fresh_card (get_or ps 1 d) → x₂ ≡ fresh_card (get_or ps 2 d) → x₃ ≡ fresh_card (get_or ps 3 d)
     → x₄ ≡ fresh_card (get_or ps 4 d) → x₅ ≡ fresh_card (get_or ps 5 d) → x₆ ≡ fresh_card (get_or ps 6 d) → x₇ ≡ fresh_card (get_or ps 7 d)
-    → BegunBy o n ps (record { answer = B.Began; cards = record { op = o; count = n; cards = x₀ ∷ x₁ ∷ x₂ ∷ x₃ ∷ x₄ ∷ x₅ ∷ x₆ ∷ x₇ ∷ [] } })
+    → BegunBy o n ps (record { answer = Ok tt; cards = record { op = o; count = n; cards = x₀ ∷ x₁ ∷ x₂ ∷ x₃ ∷ x₄ ∷ x₅ ∷ x₆ ∷ x₇ ∷ [] } })
 begun_as o n ps d x₀ x₁ x₂ x₃ x₄ x₅ x₆ x₇ len some few e₀ e₁ e₂ e₃ e₄ e₅ e₆ e₇ =
     let all : ◌≡◌ {A = List Card} (x₀ ∷ x₁ ∷ x₂ ∷ x₃ ∷ x₄ ∷ x₅ ∷ x₆ ∷ x₇ ∷ []) (map fresh_card ps) =
     rw (e₀, e₁, e₂, e₃, e₄, e₅, e₆, e₇) (sym (ap (map fresh_card) (eight_places ps d len))) in
     record {
       is = subst
-          (λ (b : Bool). BegunAs b o n ps (record { answer = B.Began; cards = record { op = o; count = n; cards = x₀ ∷ x₁ ∷ x₂ ∷ x₃ ∷ x₄ ∷ x₅ ∷ x₆ ∷ x₇ ∷ [] } }))
+          (λ (b : Bool). BegunAs b o n ps (record { answer = Ok tt; cards = record { op = o; count = n; cards = x₀ ∷ x₁ ∷ x₂ ∷ x₃ ∷ x₄ ∷ x₅ ∷ x₆ ∷ x₇ ∷ [] } }))
           (sym (count_some n some few)) (refl, ap (λ (cs : List Card). record { op = o; count = n; cards = cs }) all);
     }
 
-pub begun_none : (o : Op) (n : ℕ) (ps : List Plain) (r : Begun) → count_test n ≡ false → r.answer ≡ B.Refused CARDS → BegunBy o n ps r
+pub begun_none : (o : Op) (n : ℕ) (ps : List Plain) (r : Begun) → count_test n ≡ false → r.answer ≡ Err CARDS → BegunBy o n ps r
 begun_none o n ps r e is = record { is = subst (λ (b : Bool). BegunAs b o n ps r) (sym e) is }
 
 -- ---- a call
@@ -108,20 +108,20 @@ module _ (fs : List (List ℕ)) (c : Cards) (space : ℕ) (buf : List ℕ) where
     held_rounds len = ap (λ (b : Bool). cond b (next_item (op_is c.op) X space) (O.Merged.refused CARDS)) (count_some c.count some few) ∙ item_rounds len
 
     module _ (d : Called) (by : CalledBy fs c.count c.cards (rounds_by (op_is c.op) space false X) d) where
-      as_came : (a : Came) → d.came ≡ a → CalledAs fs c.count (rounds_by (op_is c.op) space false X) d a
+      as_came : (a : Result Came Refusal) → d.came ≡ a → CalledAs fs c.count (rounds_by (op_is c.op) space false X) d a
       as_came a e = subst (CalledAs fs c.count (rounds_by (op_is c.op) space false X) d) e by.is
 
-      pub merged_refused : (n : ℕ) → d.came ≡ C.Refused n → (r : Step) → r ≡ refused_step n c → MergedBy fs c (held_item fs c space) buf buf r
+      pub merged_refused : (n : Refusal) → d.came ≡ Err n → (r : Step) → r ≡ refused_step n c → MergedBy fs c (held_item fs c space) buf buf r
       merged_refused n e r is =
-          subst (λ (m : O.Merged). MergedBy fs c m buf buf r) (sym (held_rounds by.given ∙ as_came (C.Refused n) e)) (record { is = is; buffer = refl })
+          subst (λ (m : O.Merged). MergedBy fs c m buf buf r) (sym (held_rounds by.given ∙ as_came (Err n) e)) (record { is = is; buffer = refl })
 
-      pub merged_end : d.came ≡ C.End
+      pub merged_end : d.came ≡ Ok C.End
           → MergedBy fs c (held_item fs c space) buf buf
           (record {
-            answer = End;
+            answer = Ok None;
             count = 0;
-            files = (refused_step 0 c).files;
-            values = (refused_step 0 c).values;
+            files = replicate 8 0;
+            values = replicate 8 0;
             cards = record { op = c.op; count = c.count; cards = d.cards };
           })
       merged_end e =
@@ -129,45 +129,45 @@ module _ (fs : List (List ℕ)) (c : Cards) (space : ℕ) (buf : List ℕ) where
           (λ (m : O.Merged).
           MergedBy fs c m buf buf
           (record {
-            answer = End;
+            answer = Ok None;
             count = 0;
-            files = (refused_step 0 c).files;
-            values = (refused_step 0 c).values;
+            files = replicate 8 0;
+            values = replicate 8 0;
             cards = record { op = c.op; count = c.count; cards = d.cards };
           }))
-          (sym (held_rounds by.given ∙ as_came C.End e))
+          (sym (held_rounds by.given ∙ as_came (Ok C.End) e))
           (record { answer = refl; count = refl; files = refl; values = refl; cards = record { op = refl; count = refl; cards = refl }; buffer = refl })
 
-      pub item_room : d.came ≡ C.Item → max_path ≤ space
+      pub item_room : d.came ≡ Ok C.Item → max_path ≤ space
       item_room e = ⊎_elim (λ (short : space < max_path). absurd (never short)) (λ (h : max_path ≤ space). h) (lt_or space max_path)
         where
           never : ¬ (space < max_path)
           never short =
               let w = item_short space short (op_is c.op) X in
-              let i : ItemIs fs c.count (rounds_by (op_is c.op) space false X) d.key d.pairs d.cards = as_came C.Item e in
+              let i : ItemIs fs c.count (rounds_by (op_is c.op) space false X) d.key d.pairs d.cards = as_came (Ok C.Item) e in
               let p = sym w.1 ∙ item_rounds by.given ∙ i.is in
               let z : ◌≡◌ {A = ℕ} 0 1 = cc in
               omega arith
 
-      pub item_fits : d.came ≡ C.Item → d.key.levels ≤ 256
-      item_fits e = let i : ItemIs fs c.count (rounds_by (op_is c.op) space false X) d.key d.pairs d.cards = as_came C.Item e in i.few
+      pub item_fits : d.came ≡ Ok C.Item → d.key.levels ≤ 256
+      item_fits e = let i : ItemIs fs c.count (rounds_by (op_is c.op) space false X) d.key d.pairs d.cards = as_came (Ok C.Item) e in i.few
 
-      pub merged_item : d.came ≡ C.Item → (n : ℕ) → n ≡ length (head_key d.key) → (after : List ℕ) → after ≡ head_key d.key ++ drop (length (head_key d.key)) buf
+      pub merged_item : d.came ≡ Ok C.Item → (n : ℕ) → n ≡ length (head_key d.key) → (after : List ℕ) → after ≡ head_key d.key ++ drop (length (head_key d.key)) buf
           → MergedBy fs c (held_item fs c space) buf after
           (record {
-            answer = Item n;
+            answer = Ok (Some n);
             count = d.pairs.count;
             files = d.pairs.files;
             values = d.pairs.values;
             cards = record { op = c.op; count = c.count; cards = d.cards };
           })
       merged_item e n is after put =
-          let i : ItemIs fs c.count (rounds_by (op_is c.op) space false X) d.key d.pairs d.cards = as_came C.Item e in
+          let i : ItemIs fs c.count (rounds_by (op_is c.op) space false X) d.key d.pairs d.cards = as_came (Ok C.Item) e in
           subst
           (λ (m : O.Merged).
           MergedBy fs c m buf after
           (record {
-            answer = Item n;
+            answer = Ok (Some n);
             count = d.pairs.count;
             files = d.pairs.files;
             values = d.pairs.values;
@@ -175,7 +175,7 @@ module _ (fs : List (List ℕ)) (c : Cards) (space : ℕ) (buf : List ℕ) where
           }))
           (sym (held_rounds by.given ∙ i.is))
           (record {
-            answer = ap Item is;
+            answer = ap (λ (x : ℕ). Ok (Some x)) is;
             count = i.are.count;
             files = the_files i.are;
             values = the_values i.are;

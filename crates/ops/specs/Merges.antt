@@ -4,11 +4,11 @@
 --     held_item fs c space                a call with the cards c: CARDS by the held count, then `next_item` on the first of them
 --     MergedBy fs c m buf₀ buf r         what a call gives back whose definition answers m, with the buffer before and after
 -- Assumes nothing.
-use Rattle.std.specs.Prelude.{◌≡◌, Bool, true, false, cond, ◌&&◌, List, [], ◌∷◌, ◌++◌, map, ℕ, ltb, leb, length, drop, replicate}
+use Rattle.std.specs.Prelude.{◌≡◌, Bool, true, false, cond, ◌&&◌, List, [], ◌∷◌, ◌++◌, map, ℕ, ltb, leb, length, drop, replicate, Ok, Err, Some, None}
+use Rattle.format.specs.declared.Refusal.{Refusal}
 use Rattle.format.specs.Limits.{CARDS}
 use Rattle.ops_spec.specs.Ops as O
 use Rattle.ops_spec.specs.Ops.{Indexed, next_item}
-use Rattle.stream_start.specs.declared.Begins.TheVariants as B
 use Rattle.stream.specs.declared.Plain.{Plain}
 use Rattle.ops_round.specs.declared.Slot.TheVariants.{Used}
 use Rattle.ops_round.specs.declared.Card.{Card}
@@ -18,7 +18,6 @@ use Rattle.ops_decide.specs.declared.Op.{Op}
 use Rattle.ops_decide.specs.Verdicts.{op_is}
 use Rattle.ops.specs.declared.Cards.{Cards}
 use Rattle.ops.specs.declared.Begun.{Begun}
-use Rattle.ops.specs.declared.Merged.TheVariants.{Item, End, Refused}
 use Rattle.ops.specs.declared.Step.{Step}
 
 -- one to eight
@@ -31,16 +30,16 @@ abbrev pub fresh_card : Plain → Card
 fresh_card p = record { reading = p; slot = Used; value = 0 }
 
 abbrev pub BegunAs : Bool → Op → ℕ → List Plain → Begun → Type 0
-BegunAs true o n ps r = (r.answer ≡ B.Began) × (r.cards ≡ record { op = o; count = n; cards = map fresh_card ps })
-BegunAs false o n ps r = r.answer ≡ B.Refused CARDS
+BegunAs true o n ps r = (r.answer ≡ Ok tt) × (r.cards ≡ record { op = o; count = n; cards = map fresh_card ps })
+BegunAs false o n ps r = r.answer ≡ Err CARDS
 
 pub record BegunBy (o : Op) (n : ℕ) (ps : List Plain) (r : Begun) : Type 0 where
   pub is : BegunAs (count_test n) o n ps r
 
 -- ---- a call
 
-abbrev pub refused_step : ℕ → Cards → Step
-refused_step why c = record { answer = Refused why; count = 0; files = replicate 8 0; values = replicate 8 0; cards = c }
+abbrev pub refused_step : Refusal → Cards → Step
+refused_step why c = record { answer = Err why; count = 0; files = replicate 8 0; values = replicate 8 0; cards = c }
 
 abbrev pub held_item : List (List ℕ) → Cards → ℕ → O.Merged
 held_item fs c space = cond (count_test c.count) (next_item (op_is c.op) (cards_is fs c.count c.cards) space) (O.Merged.refused CARDS)
@@ -52,7 +51,7 @@ pub record CardsAfter (fs : List (List ℕ)) (c : Cards) (ds : List O.Card) (aft
   pub cards : cards_is fs c.count after.cards ≡ ds
 
 pub record ItemBy (fs : List (List ℕ)) (c : Cards) (k : List ℕ) (ps : List Indexed) (ds : List O.Card) (buf₀ buf : List ℕ) (r : Step) : Type 0 where
-  pub answer : r.answer ≡ Item (length k)
+  pub answer : r.answer ≡ Ok (Some (length k))
   pub count : r.count ≡ length ps
   pub files : r.files ≡ map (λ (x : Indexed). x.index) (padded ps)
   pub values : r.values ≡ map (λ (x : Indexed). x.value) (padded ps)
@@ -60,14 +59,14 @@ pub record ItemBy (fs : List (List ℕ)) (c : Cards) (k : List ℕ) (ps : List I
   pub buffer : buf ≡ k ++ drop (length k) buf₀
 
 pub record EndBy (fs : List (List ℕ)) (c : Cards) (ds : List O.Card) (buf₀ buf : List ℕ) (r : Step) : Type 0 where
-  pub answer : r.answer ≡ End
+  pub answer : r.answer ≡ Ok None
   pub count : r.count ≡ 0
   pub files : r.files ≡ replicate 8 0
   pub values : r.values ≡ replicate 8 0
   pub cards : CardsAfter fs c ds r.cards
   pub buffer : buf ≡ buf₀
 
-pub record RefusedBy (c : Cards) (n : ℕ) (buf₀ buf : List ℕ) (r : Step) : Type 0 where
+pub record RefusedBy (c : Cards) (n : Refusal) (buf₀ buf : List ℕ) (r : Step) : Type 0 where
   pub is : r ≡ refused_step n c
   pub buffer : buf ≡ buf₀
 

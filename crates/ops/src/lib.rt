@@ -7,13 +7,12 @@ ghost use Rattle.format.specs.Limits.{max_levels};
 ghost use Rattle.ops_keys.specs.Heads.{head_key};
 ghost use Rattle.ops.specs.Merges.{fresh_card, BegunBy, refused_step, held_item, MergedBy};
 
-use format::CARDS;
+use format::Refusal;
 use ops_decide::Op;
 use ops_keys::{Head, key_len};
 use ops_round::{Card, Slot};
 use ops_rounds::{Came, rounds};
 use stream::Plain;
-use stream_start::Begins;
 
 // An operation over the readings of the first count cards, passed by value. Cards from count on carry no meaning.
 #[derive(Clone, Copy)]
@@ -26,23 +25,15 @@ pub struct Cards {
 // What begin gives back. After a refusal the cards carry no meaning.
 #[derive(Clone, Copy)]
 pub struct Begun {
-    pub answer: Begins,
+    pub answer: Result<(), Refusal>,
     pub cards: Cards,
-}
-
-// What a call hands out: an item whose key has so many bytes, the end, or the number of a refusal.
-#[derive(Clone, Copy)]
-pub enum Merged {
-    Item(usize),
-    End,
-    Refused(u8),
 }
 
 // What a call gives back: its answer, the item's values with the numbers of their files, in order of value and then of file, and the cards after it. The
 // values and the numbers are 0 from count on, and where there is no item.
 #[derive(Clone, Copy)]
 pub struct Step {
-    pub answer: Merged,
+    pub answer: Result<Option<usize>, Refusal>,
     pub count: usize,
     pub files: [u8; 8],
     pub values: [u64; 8],
@@ -79,19 +70,19 @@ pub fn begin(op: Op, count: usize, readings: [Plain; 8]) -> Begun
     let all = Cards { op, count, cards };
     if count == 0 {
         return Begun {
-            answer: Begins::Refused(CARDS),
+            answer: Err(Refusal::Cards),
             cards: all,
         };
     }
     let too_many = count > 8;
     if too_many {
         return Begun {
-            answer: Begins::Refused(CARDS),
+            answer: Err(Refusal::Cards),
             cards: all,
         };
     }
     Begun {
-        answer: Begins::Began,
+        answer: Ok(()),
         cards: all,
     }
 }
@@ -99,11 +90,11 @@ pub fn begin(op: Op, count: usize, readings: [Plain; 8]) -> Begun
 // ---- next_item
 
 // A call that is refused, with the cards as they were given.
-fn refused(why: u8, cards: Cards) -> Step
+fn refused(why: Refusal, cards: Cards) -> Step
     ensures { result ≡ refused_step why cards }
 {
     Step {
-        answer: Merged::Refused(why),
+        answer: Err(why),
         count: 0,
         files: [0; 8],
         values: [0; 8],
@@ -136,10 +127,10 @@ pub fn next_item(files: [&[u8]; 8], cards: Cards, key: &mut [u8]) -> Step
     let count = cards.count;
     let all = cards.cards;
     if count == 0 {
-        return refused(CARDS, cards);
+        return refused(Refusal::Cards, cards);
     }
     if 8 < count {
-        return refused(CARDS, cards);
+        return refused(Refusal::Cards, cards);
     }
     let called = rounds(files, op, count, all, key.len());
     let came = called.came;
@@ -147,9 +138,9 @@ pub fn next_item(files: [&[u8]; 8], cards: Cards, key: &mut [u8]) -> Step
     let pairs = called.pairs;
     let after = called.cards;
     match came {
-        Came::Refused(why) => refused(why, cards),
-        Came::End => Step {
-            answer: Merged::End,
+        Err(why) => refused(why, cards),
+        Ok(Came::End) => Step {
+            answer: Ok(None),
             count: 0,
             files: [0; 8],
             values: [0; 8],
@@ -159,13 +150,13 @@ pub fn next_item(files: [&[u8]; 8], cards: Cards, key: &mut [u8]) -> Step
                 cards: after,
             },
         },
-        Came::Item => {
+        Ok(Came::Item) => {
             let numbers = pairs.files;
             let values = pairs.values;
             let n = put_key(head, key);
             // by `return`, since the value of a `match` is copied once more
             return Step {
-                answer: Merged::Item(n),
+                answer: Ok(Some(n)),
                 count: pairs.count,
                 files: numbers,
                 values,

@@ -14,6 +14,7 @@
 -- one is refused, or it answers as it would with the right file; that is `one_a_call` too, which speaks of every call that is not refused.
 -- Assumes nothing.
 use Rattle.std.specs.Prelude.{◌≡◌, ◌⊎◌, ℕ, ◌<◌, ◌≤◌, length, take, replicate}
+use Rattle.format.specs.declared.Refusal.{Refusal}
 use mathlib.Core.List.{List, [], ◌∷◌, ◌++◌, map, Memᴰ}
 use Rattle.format.specs.Limits.{max_path}
 use Rattle.format.specs.Strings.{Rising}
@@ -55,7 +56,7 @@ lend (f ∷ fs) (c ∷ cs) = card_is f c.reading c.slot ∷ lend fs cs
 pub data Told : Type 0 where
   item : List ℕ → List Indexed → Told
   end : Told
-  refused : ℕ → Told
+  refused : Refusal → Told
 
 pub record ItemStep : Type 0 where
   pub answer : Told
@@ -107,9 +108,9 @@ pub record OpsExact (op : Op) (cs : List Source) (calls : List (OpsCall cs)) : T
   pub end_exactly : 0 < ends → handed ≡ length items
   -- refusals
   pub allowed : (pre post : List (OpsCall cs)) (c : OpsCall cs) → calls ≡ pre ++ (c ∷ post) → AllowedCall c
-      → (n : ℕ) → ¬ ((call_item op (cards_after op (cards_of cs) pre) c).answer ≡ refused n)
+      → (n : Refusal) → ¬ ((call_item op (cards_after op (cards_of cs) pre) c).answer ≡ refused n)
   pub short : (pre post : List (OpsCall cs)) (c : OpsCall cs) → calls ≡ pre ++ (c ∷ post) → c.space < max_path
-      → (n : ℕ) × ((call_item op (cards_after op (cards_of cs) pre) c).answer ≡ refused n)
-  pub unchanged : (pre post : List (OpsCall cs)) (c : OpsCall cs) → calls ≡ pre ++ (c ∷ post) → (n : ℕ)
+      → (n : Refusal) × ((call_item op (cards_after op (cards_of cs) pre) c).answer ≡ refused n)
+  pub unchanged : (pre post : List (OpsCall cs)) (c : OpsCall cs) → calls ≡ pre ++ (c ∷ post) → (n : Refusal)
       → (call_item op (cards_after op (cards_of cs) pre) c).answer ≡ refused n
       → (call_item op (cards_after op (cards_of cs) pre) c).cards ≡ cards_after op (cards_of cs) pre

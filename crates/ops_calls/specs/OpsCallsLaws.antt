@@ -9,6 +9,7 @@ use Rattle.std.proofs.Common.{sym, ap, ap₂, ◌∙◌, subst, ⊎_elim, inl, i
 use mathlib.Core.List.Memᴰ
 use mathlib.Core.List.{List, [], ◌∷◌, ◌++◌, map, Memᴰ}
 use Rattle.std.proofs.Math.Seq.{take-nil}
+use Rattle.format.specs.declared.Refusal.{Refusal}
 use Rattle.format.specs.Limits.{max_path}
 use Rattle.reading.specs.Reading.{Answer, key, end}
 use Rattle.reading.proofs.RunLaws.{lt_or}
@@ -176,7 +177,7 @@ eq_or a b =
 pub ahead_len : (s : List ℕ) (p : Plain) (es : List Entry) → Ahead s p es → p.view.len ≡ length s
 ahead_len s p es h = ⊎_elim (λ (e : length s ≡ p.view.len). sym e) (λ (ne : ¬ (length s ≡ p.view.len)). absurd (by es h (other_refused s p max_path ne))) (eq_or (length s) p.view.len)
   where
-    by : (es : List Entry) → Ahead s p es → ¬ ((n : ℕ) × ((next_plain s p max_path).answer ≡ Answer.refused n))
+    by : (es : List Entry) → Ahead s p es → ¬ ((n : Refusal) × ((next_plain s p max_path).answer ≡ Answer.refused n))
     by _ (ahead_end p' e) w = let q = sym (ap (λ (o : PlainStep). o.answer) e) ∙ w.1 in let z : ◌≡◌ {A = ℕ} 0 1 = cc in omega arith
     by _ (ahead_key x p' e k l more) w = let q = sym (ap (λ (o : PlainStep). o.answer) e) ∙ w.1 in let z : ◌≡◌ {A = ℕ} 0 1 = cc in omega arith
 
@@ -198,11 +199,11 @@ starts_length (o ∷ S) = ap suc (starts_length S)
 
 -- ---- refusals
 
-not_refused : (m : Merged) (o : Outcome) → SameAnswer m o → (ds : List Card) (n : ℕ) → ¬ ((step_by ds m).answer ≡ C.refused n)
+not_refused : (m : Merged) (o : Outcome) → SameAnswer m o → (ds : List Card) (n : Refusal) → ¬ ((step_by ds m).answer ≡ C.refused n)
 not_refused _ _ (both_item st) ds n e = let z : ◌≡◌ {A = ℕ} 0 1 = cc in omega arith
 not_refused _ _ (both_ending st) ds n e = let z : ◌≡◌ {A = ℕ} 0 1 = cc in omega arith
 
-refused_same : (ds : List Card) (m : Merged) (n : ℕ) → (step_by ds m).answer ≡ C.refused n → (step_by ds m).cards ≡ ds
+refused_same : (ds : List Card) (m : Merged) (n : Refusal) → (step_by ds m).answer ≡ C.refused n → (step_by ds m).cards ≡ ds
 refused_same ds (O.item k ps es) n e = let z : ◌≡◌ {A = ℕ} 0 1 = cc in absurd (omega arith)
 refused_same ds (O.ending es) n e = let z : ◌≡◌ {A = ℕ} 0 1 = cc in absurd (omega arith)
 refused_same ds (Merged.refused k) n e = refl

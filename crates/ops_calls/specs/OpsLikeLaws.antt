@@ -8,6 +8,7 @@ use Prim.{Unit, tt}
 use Rattle.std.specs.Prelude.{◌≡◌, refl, Bool, true, false, cond, ◌&&◌, ◌||◌, ◌⊎◌, List, [], ◌∷◌, ℕ, zero, suc, ◌+◌, ◌-◌, ◌<◌, ◌≤◌, ltb, leb, eqb, length}
 use Rattle.std.proofs.Common.{sym, ap, ap₂, ◌∙◌, subst, ⊎_elim, inl, inr, arith, ne_eqb}
 use Rattle.std.proofs.Math.Option.{Option, none, some}
+use Rattle.format.specs.declared.Refusal.{Refusal}
 use Rattle.format.specs.Limits.{max_path, max_levels, SPACE, STATE, CARDS}
 use Rattle.format.specs.Opening.{Meta, Opening, opened, opening}
 use Rattle.format.specs.Opening as Opening
@@ -58,7 +59,7 @@ plain_len s p space = by (next s p.view space).reading (next s p.view space).ans
     by r (Answer.refused n) h = h
 
 -- a file of another length
-pub other_refused : (s : List ℕ) (p : Plain) (space : ℕ) → ¬ (length s ≡ p.view.len) → (n : ℕ) × ((next_plain s p space).answer ≡ Answer.refused n)
+pub other_refused : (s : List ℕ) (p : Plain) (space : ℕ) → ¬ (length s ≡ p.view.len) → (n : Refusal) × ((next_plain s p space).answer ≡ Answer.refused n)
 unfolding next
 other_refused s p space ne = by (opening s)
   where
@@ -71,7 +72,7 @@ other_refused s p space ne = by (opening s)
         both false y z e = refl
 
     by : (o : Opening)
-        → (n : ℕ)
+        → (n : Refusal)
         × ((counted_step p (on_opened o (λ m. cond (state_test p.view (length s)) (cond (leb max_path space) (walk (fst_of s m) p.view p.view.empty) (refuse p.view SPACE)) (refuse p.view STATE)) (λ n. refuse p.view n))
         ).answer
         ≡ Answer.refused n)
@@ -95,7 +96,7 @@ like_length (card at a b e f more) = ap suc (like_length more)
 -- ---- the steps of a round
 
 pub data StepOr : List (List ℕ) → Stepped → Stepped → Type 0 where
-  or_halted : {gs : List (List ℕ)} {o : Stepped} (n : ℕ) → StepOr gs o (halted n)
+  or_halted : {gs : List (List ℕ)} {o : Stepped} (n : Refusal) → StepOr gs o (halted n)
   both_cards : {gs : List (List ℕ)} {cs ds : List Card} {b : Bool} → Like gs cs ds → StepOr gs (cards cs b) (cards ds b)
 
 with_like : {g : List ℕ} {gs : List (List ℕ)} (c d : Card) (b : Bool) (o p : Stepped) → c.file ≡ g → c.reading.view.len ≡ length c.file → c.reading ≡ d.reading → c.slot ≡ d.slot
@@ -233,7 +234,7 @@ decide_like difference like = difference_like like
 -- ---- a call
 
 pub data SameOr : List (List ℕ) → Merged → Merged → Type 0 where
-  or_refused : {gs : List (List ℕ)} {m : Merged} (n : ℕ) → SameOr gs m (Merged.refused n)
+  or_refused : {gs : List (List ℕ)} {m : Merged} (n : Refusal) → SameOr gs m (Merged.refused n)
   same_item : {k : List ℕ} {ps : List Indexed} {gs : List (List ℕ)} {cs ds : List Card} → Like gs cs ds → SameOr gs (item k ps cs) (item k ps ds)
   same_ending : {gs : List (List ℕ)} {cs ds : List Card} → Like gs cs ds → SameOr gs (ending cs) (ending ds)
 

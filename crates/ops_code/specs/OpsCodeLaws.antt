@@ -7,9 +7,10 @@
 --     CodeCalls, code_told     a list of calls by the contract of `next_item` tells what the definition answers
 --     code_from_begin  so of calls from what `begin` gave, of which `ops_exact` speaks
 -- Assumes nothing.
-use Rattle.std.specs.Prelude.{◌≡◌, refl, Bool, true, cond, List, [], ◌∷◌, map, ℕ, zero, suc, ◌-◌, ◌≤◌, length, take, drop, replicate}
+use Rattle.std.specs.Prelude.{◌≡◌, refl, Bool, true, cond, List, [], ◌∷◌, map, ℕ, zero, suc, ◌-◌, ◌≤◌, length, take, drop, replicate, Ok, Err, Some, None, Result, Option}
 use Rattle.std.proofs.Common.{sym, ap, ap₂, ◌∙◌, subst, arith}
 use Rattle.std.proofs.Math.Seq.{take-append_seam}
+use Rattle.format.specs.declared.Refusal.{Refusal}
 use Rattle.format.specs.Limits.{CARDS}
 use Rattle.plain.specs.Plain as P
 use Rattle.ops_spec.specs.Ops as O
@@ -25,8 +26,6 @@ use Rattle.ops_pairs.specs.Pairs.{padded, pairs_in}
 use Rattle.ops_decide.specs.declared.Op.{Op}
 use Rattle.ops_decide.specs.Verdicts.{op_is}
 use Rattle.ops.specs.declared.Cards.{Cards}
-use Rattle.ops.specs.declared.Merged.{Merged}
-use Rattle.ops.specs.declared.Merged.TheVariants.{Item, End, Refused}
 use Rattle.ops.specs.declared.Step.{Step}
 use Rattle.ops.specs.declared.Begun.{Begun}
 use Rattle.ops.specs.Merges.{count_test, fresh_card, BegunAs, BegunBy, held_item, ItemBy, MergedBy}
@@ -70,10 +69,10 @@ begin_is (o ∷ S) (f ∷ fs) (p ∷ ps) e r =
 -- ---- a list of calls
 
 -- what a call tells: the key stands in the buffer, its values and file numbers in the arrays
-abbrev pub told_of : Merged → Step → List ℕ → Told
-told_of (Item n) r buf = item (take n buf) (take r.count (pairs_in r.values r.files))
-told_of End r buf = end
-told_of (Refused n) r buf = refused n
+abbrev pub told_of : Result (Option ℕ) Refusal → Step → List ℕ → Told
+told_of (Ok (Some n)) r buf = item (take n buf) (take r.count (pairs_in r.values r.files))
+told_of (Ok None) r buf = end
+told_of (Err n) r buf = refused n
 
 -- calls of `next_item` by their contract, each with the cards that the one before gave back; files from the held count on may be any
 pub data CodeCalls (S : List Source) : Cards → List (OpsCall S) → List Told → Type 0 where
@@ -93,7 +92,7 @@ item_told fs c k ps ds buf₀ buf r h =
     let all : pairs_in r.values r.files ≡ padded ps = ap₂ pairs_in h.values h.files ∙ pairs_of (padded ps) in
     let pairs : take r.count (pairs_in r.values r.files) ≡ ps =
     ap₂ take h.count all ∙ take-append_seam ps (replicate (8 - length ps) (indexed 0 0)) in
-    ap (λ (m : Merged). told_of m r buf) h.answer ∙ ap₂ item key pairs
+    ap (λ (m : Result (Option ℕ) Refusal). told_of m r buf) h.answer ∙ ap₂ item key pairs
 
 -- one call: what it tells, and the cards after it with some files
 pub record CodeStep (op : O.Op) (n : ℕ) (r : Step) (told : Told) (w : ItemStep) : Type 0 where
@@ -109,7 +108,7 @@ code_step fs gs c (O.item k ps ds) buf₀ buf r h =
     record { same = item_told fs c k ps ds buf₀ buf r h; files = fs; cards = sym h.cards.cards; op_same = ap op_is h.cards.op; count_same = h.cards.count }
 code_step fs gs c (O.ending ds) buf₀ buf r h =
     record {
-      same = ap (λ (m : Merged). told_of m r buf) h.answer;
+      same = ap (λ (m : Result (Option ℕ) Refusal). told_of m r buf) h.answer;
       files = fs;
       cards = sym h.cards.cards;
       op_same = ap op_is h.cards.op;

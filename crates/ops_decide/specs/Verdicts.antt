@@ -1,8 +1,9 @@
 -- What a round comes to, against `decide` (crate ops_spec).
+--     op_of n                    the operation of a number
 --     op_is o                    the operation
 --     DecidedBy ks cs X n v r   r is the verdict v on the n cards X, of which the cs are seen: their files, readings and keys are kept
 -- Assumes nothing.
-use Rattle.std.specs.Prelude.{◌≡◌, List, ℕ, length}
+use Rattle.std.specs.Prelude.{◌≡◌, List, ℕ, cond, eqb, length}
 use Rattle.ops_spec.specs.Ops as O
 use Rattle.ops_spec.specs.Ops.{Indexed}
 use Rattle.ops_keys.specs.Heads.{place_key, Within}
@@ -13,6 +14,10 @@ use Rattle.ops_decide.specs.declared.Op.{Op}
 use Rattle.ops_decide.specs.declared.Op.TheVariants.{Union, Intersection, Difference, SymmetricDifference}
 use Rattle.ops_decide.specs.declared.Verdict.TheVariants.{This, NoMore, Another}
 use Rattle.ops_decide.specs.declared.Decided.{Decided}
+
+-- any number from 3 on stands for the symmetric difference
+abbrev pub op_of : ℕ → Op
+op_of n = cond (eqb n 0) Union (cond (eqb n 1) Intersection (cond (eqb n 2) Difference SymmetricDifference))
 
 abbrev pub op_is : Op → O.Op
 op_is Union = O.union

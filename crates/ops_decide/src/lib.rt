@@ -8,7 +8,7 @@ ghost use Rattle.ops_spec.specs.Ops.{Indexed};
 ghost use Rattle.ops_keys.specs.Heads.{place_key, Within};
 ghost use Rattle.ops_pairs.specs.Pairs.{PairsAre};
 ghost use Rattle.ops_seen.specs.Sights.{Sees, Ready};
-ghost use Rattle.ops_decide.specs.Verdicts.{op_is, DecidedBy};
+ghost use Rattle.ops_decide.specs.Verdicts.{op_is, op_of, DecidedBy};
 
 use ops_item::{collect, least_key, use_up};
 use ops_keys::{KEYS, Place, compare};
@@ -23,6 +23,18 @@ pub enum Op {
     Intersection,
     Difference,
     SymmetricDifference,
+}
+
+// The operation of a number, which the C interface and the comparisons give. Any number from 3 on stands for the symmetric difference.
+pub fn op_of(n: u64) -> Op
+    ensures { result ≡ op_of n }
+{
+    match n {
+        0 => Op::Union,
+        1 => Op::Intersection,
+        2 => Op::Difference,
+        _ => Op::SymmetricDifference,
+    }
 }
 
 // What a round comes to.

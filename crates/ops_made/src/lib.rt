@@ -5,8 +5,9 @@
 
 ghost use Rattle.std.specs.Prelude.{◌<◌};
 
-use ops::{Cards, Merged};
-use ops_decide::Op;
+use format::Refusal;
+use ops::Cards;
+use ops_decide::op_of;
 use ops_round::{Card, Slot};
 use seats_arrays::{plain_at, put_plain};
 use stream::Plain;
@@ -16,17 +17,7 @@ const END: u64 = 1_000;
 
 const REFUSED: u64 = 2_000;
 
-// Any number from 3 on stands for the symmetric difference.
-fn op_of(n: u64) -> Op {
-    match n {
-        0 => Op::Union,
-        1 => Op::Intersection,
-        2 => Op::Difference,
-        _ => Op::SymmetricDifference,
-    }
-}
-
-// Any number from 2 on stands for a reading that has ended.
+// By functions, as neither Slot nor From is of this crate. Any number from 2 on stands for a reading that has ended.
 fn slot_of(n: u8) -> Slot {
     match n {
         0 => Slot::Used,
@@ -117,11 +108,11 @@ fn put_cards(
 }
 
 // What a call answered, as a number.
-fn told(answer: Merged) -> u64 {
+fn told(answer: Result<Option<usize>, Refusal>) -> u64 {
     match answer {
-        Merged::Item(n) => n as u64,
-        Merged::End => END,
-        Merged::Refused(why) => REFUSED + (why as u64),
+        Ok(Some(n)) => n as u64,
+        Ok(None) => END,
+        Err(why) => REFUSED + u64::from(u8::from(why)),
     }
 }
 

@@ -7,9 +7,10 @@
 --     paged_as, refused_by                    by an equation between pages; a refusal before any item
 --     room_of, page_began, page_refused       what has_room shows; a page by what its starts came to
 -- Assumes nothing.
-use Rattle.std.specs.Prelude.{◌≡◌, refl, Bool, true, false, cond, ◌&&◌, ◌||◌, ◌⊎◌, List, [], ◌∷◌, ◌++◌, ℕ, ◌+◌, ◌-◌, ◌*◌, min, ◌≤◌, ◌<◌, ltb, leb, length, drop, get_or, set, replicate}
+use Rattle.std.specs.Prelude.{◌≡◌, refl, Bool, true, false, cond, ◌&&◌, ◌||◌, ◌⊎◌, List, [], ◌∷◌, ◌++◌, ℕ, ◌+◌, ◌-◌, ◌*◌, min, ◌≤◌, ◌<◌, ltb, leb, length, drop, get_or, set, replicate, Ok, Err, Result, ⊤}
 use Rattle.std.proofs.Common.{sym, ap, ap₂, subst, ◌∙◌, arith, length-take, length-append, length-set, lt-ltb, le-leb}
 use Rattle.std.proofs.lemmas.List.{length-map, length-replicate}
+use Rattle.format.specs.declared.Refusal.{Refusal}
 use Rattle.buffers.specs.DecideLaws.{decides_and, decides_le}
 use Rattle.buffers.specs.Put.{put}
 use Rattle.buffers.specs.PutLaws.{length_put}
@@ -43,13 +44,10 @@ use Rattle.ops_decide.specs.declared.Verdict.TheVariants.{This, NoMore, Another}
 use Rattle.ops_decide.specs.declared.Decided.{Decided}
 use Rattle.ops_decide.specs.Verdicts.{DecidedBy}
 use Rattle.ops_decide.specs.VerdictsLaws.{ThisOf, AnotherOf, this_by, over_by, another_by}
-use Rattle.stream_start.specs.declared.Begins.{Begins}
-use Rattle.stream_start.specs.declared.Begins.TheVariants as B
-use Rattle.stream_start.specs.declared.Begins.TheVariants.{Began}
 use Rattle.ops_starts.specs.declared.StartedCards.{StartedCards}
 use Rattle.ops_starts.specs.StartedCards.{StartsAs, StartsBy}
 use Rattle.ops_put.specs.ItemPut.{HasPlace, ItemPut}
-use Rattle.ops_page.specs.declared.Stop.TheVariants.{End, More, Refused}
+use Rattle.range_fill.specs.declared.Stop.TheVariants.{End, More}
 use Rattle.ops_page.specs.declared.Paged.{Paged}
 use Rattle.ops_page.specs.PagedItems.{stop_as, refused_paged, HasRoom, PagedBy}
 
@@ -134,7 +132,7 @@ module _ {w : ItemPage} {fs : List (List ℕ)} {op : O.Op} {n : ℕ} {all : List
         values_are = f.values_are;
       })
 
-  pub filled_more : most ≤ done → PagedBy w rows₀ rows counts₀ counts numbers₀ numbers values₀ values (record { count = done; stop = More })
+  pub filled_more : most ≤ done → PagedBy w rows₀ rows counts₀ counts numbers₀ numbers values₀ values (record { count = done; stop = Ok More })
   filled_more full = stops more (folded_more f.folded (omega arith))
 
   -- the next item's places lie within the buffers
@@ -184,20 +182,20 @@ module _ {w : ItemPage} {fs : List (List ℕ)} {op : O.Op} {n : ℕ} {all : List
 
     module _ (h : i < n) (d : Card) (e : Seen) where
       module _ (used : (get_or ss i e).slot ≡ Used) (ks' : List ℕ) (r : SeenStep) (by : SeenStepped (get_or fs i []) max_path (get_or all i d).reading i ks ks' r) where
-        pub filled_refused : done < most → r.halted ≡ true → PagedBy w rows₀ rows counts₀ counts numbers₀ numbers values₀ values (record { count = done; stop = Refused r.why })
-        filled_refused left t =
-            stops (G.Stop.refused r.why) (folded_refused f.folded (omega arith) r.why (called_is ∙ turn_halted f.turning few h d e used ks' r by t))
+        pub filled_refused : done < most → (why : Refusal) → r.answer ≡ Err why → PagedBy w rows₀ rows counts₀ counts numbers₀ numbers values₀ values (record { count = done; stop = Err why })
+        filled_refused left why t =
+            stops (G.Stop.refused why) (folded_refused f.folded (omega arith) why (called_is ∙ turn_halted f.turning few h d e used ks' r by why t))
 
-        pub filling_step : r.halted ≡ false
+        pub filling_step : r.answer ≡ Ok tt
             → Filling w fs op n (set all i r.card) ks' (set ss i r.seen) (i + 1) most rows₀ rows counts₀ counts numbers₀ numbers values₀ values done
         filling_step t = goes_on true (turning_on f.turning few h d e used ks' r by t)
 
-        pub card_less : r.halted ≡ false → to_do fs n (set all i r.card) (set ss i r.seen) (i + 1) < to_do fs n all ss i
+        pub card_less : r.answer ≡ Ok tt → to_do fs n (set all i r.card) (set ss i r.seen) (i + 1) < to_do fs n all ss i
         card_less t = step_less f.turning few h d e used ks' r by t
 
     module _ (h : i < n) (e : Seen) where
       pub filled_long : done < most → ((get_or ss i e).slot ≡ Holds) × (256 < (get_or ss i e).key.levels)
-          → PagedBy w rows₀ rows counts₀ counts numbers₀ numbers values₀ values (record { count = done; stop = Refused STATE })
+          → PagedBy w rows₀ rows counts₀ counts numbers₀ numbers values₀ values (record { count = done; stop = Err STATE })
       filled_long left long = stops (G.Stop.refused STATE) (folded_refused f.folded (omega arith) STATE (called_is ∙ turn_long f.turning few h e long))
 
       pub filling_skip : ((get_or ss i e).slot ≡ Holds) ⊎ ((get_or ss i e).slot ≡ Ended) → ((get_or ss i e).slot ≡ Holds → (get_or ss i e).key.levels ≤ 256)
@@ -227,7 +225,7 @@ module _ {w : ItemPage} {fs : List (List ℕ)} {op : O.Op} {n : ℕ} {all : List
         judged : (q : O.Verdict) → decide op Y ≡ q → next_item op f.cards max_path ≡ by_verdict Y (rounds_by op max_path true) q
         judged q e = called_is ∙ turn_judged f.turning few some full room_told ∙ ap (by_verdict Y (rounds_by op max_path true)) e
 
-        pub filled_end : done < most → v.verdict ≡ NoMore → PagedBy w rows₀ rows counts₀ counts numbers₀ numbers values₀ values (record { count = done; stop = End })
+        pub filled_end : done < most → v.verdict ≡ NoMore → PagedBy w rows₀ rows counts₀ counts numbers₀ numbers values₀ values (record { count = done; stop = Ok End })
         filled_end left e = stops ended (folded_end f.folded (omega arith) Y (judged O.no_more (over_by ks ss Y n v (decide op Y) here e)))
 
         another_of : v.verdict ≡ Another → AnotherOf ks ss Y n (decide op Y) v
@@ -314,7 +312,7 @@ pub paged_as : {v w : ItemPage} {rows₀ rows counts₀ counts numbers₀ number
 paged_as {v} {w} {rows₀} {rows} {counts₀} {counts} {numbers₀} {numbers} {values₀} {values} {r} e h =
     subst (λ (q : ItemPage). PagedBy q rows₀ rows counts₀ counts numbers₀ numbers values₀ values r) e h
 
-pub refused_by : {w : ItemPage} (n : ℕ) (rows counts numbers values : List ℕ) → w ≡ refused_items n → {r : Paged} → r ≡ refused_paged n
+pub refused_by : {w : ItemPage} (n : Refusal) (rows counts numbers values : List ℕ) → w ≡ refused_items n → {r : Paged} → r ≡ refused_paged n
     → PagedBy w rows rows counts counts numbers numbers values values r
 refused_by n rows counts numbers values is {r} e =
     paged_as (sym is)
@@ -340,11 +338,11 @@ room_of most rows counts numbers values e =
     record { row = d.0; count = d.1.0; number = d.1.1.0; value = d.1.1.1 }
 
 module _ (op : O.Op) (most : ℕ) (fs : List (List ℕ)) (n : ℕ) (m : Starts) (r : StartedCards) (by : StartsBy fs n m r) where
-  as_answer : (a : Begins) → r.answer ≡ a → StartsAs fs n m r.cards a
+  as_answer : (a : Result ⊤ Refusal) → r.answer ≡ a → StartsAs fs n m r.cards a
   as_answer a e = subst (StartsAs fs n m r.cards) e by.is
 
-  pub page_began : r.answer ≡ Began → fold op (cards_is fs n r.cards) most ≡ page_from op most m
-  page_began e = sym (ap (page_from op most) (as_answer Began e))
+  pub page_began : r.answer ≡ Ok tt → fold op (cards_is fs n r.cards) most ≡ page_from op most m
+  page_began e = sym (ap (page_from op most) (as_answer (Ok tt) e))
 
-  pub page_refused : (c : ℕ) → r.answer ≡ B.Refused c → page_from op most m ≡ refused_items c
-  page_refused c e = ap (page_from op most) (as_answer (B.Refused c) e)
+  pub page_refused : (c : Refusal) → r.answer ≡ Err c → page_from op most m ≡ refused_items c
+  page_refused c e = ap (page_from op most) (as_answer (Err c) e)

@@ -1,24 +1,18 @@
 -- What a page of items gives back, against `items` (crate ops_paging).
---     stop_as w                  the stop that stands for one of the definition
+--     stop_as w                  the stop that stands for one of the definition: that of a range
 --     refused_paged why          refused before any item
 --     HasRoom most ..           the four buffers have room for `most` items
 --     PagedBy w ..              the answer and the four buffers of a call whose definition answers w
 -- Assumes nothing.
-use Rattle.std.specs.Prelude.{◌≡◌, List, ℕ, ◌*◌, ◌≤◌, length}
-use Rattle.paging.specs.Paging as G
-use Rattle.paging.specs.Paging.{ended, more, row_len, rows_after, values_after}
+use Rattle.std.specs.Prelude.{◌≡◌, List, ℕ, ◌*◌, ◌≤◌, length, Err}
+use Rattle.format.specs.declared.Refusal.{Refusal}
+use Rattle.paging.specs.Paging.{row_len, rows_after, values_after}
 use Rattle.ops_paging.specs.ItemPaging.{ItemPage, lines_of, eights_after, index_of, value_of}
-use Rattle.ops_page.specs.declared.Stop.{Stop}
-use Rattle.ops_page.specs.declared.Stop.TheVariants.{End, More, Refused}
+pub use Rattle.range_fill.specs.RangedRows.{stop_as}
 use Rattle.ops_page.specs.declared.Paged.{Paged}
 
-abbrev pub stop_as : G.Stop → Stop
-stop_as ended = End
-stop_as more = More
-stop_as (G.Stop.refused n) = Refused n
-
-abbrev pub refused_paged : ℕ → Paged
-refused_paged why = record { count = 0; stop = Refused why }
+abbrev pub refused_paged : Refusal → Paged
+refused_paged why = record { count = 0; stop = Err why }
 
 pub record HasRoom (most : ℕ) (rows counts numbers values : List ℕ) : Type 0 where
   pub row : row_len * most ≤ length rows

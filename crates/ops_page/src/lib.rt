@@ -9,7 +9,7 @@ ghost use Rattle.ops_round.specs.Cards.{cards_is};
 ghost use Rattle.ops_decide.specs.Verdicts.{op_is};
 ghost use Rattle.ops_page.specs.PagedItems.{HasRoom, PagedBy, refused_paged};
 
-use format::{CARDS, MAX_KEY, SPACE, STATE};
+use format::{MAX_KEY, Refusal};
 use ops_decide::{Op, Verdict, decide};
 use ops_keys::{KEYS, head_at};
 use ops_put::{has_room, put_item};
@@ -17,30 +17,24 @@ use ops_round::Card;
 use ops_seen::{is_long, is_used, see};
 use ops_starts::starts;
 use ops_turn::step_seen;
-use stream_start::{Begins, Bound};
+use range_fill::Stop;
+use stream_start::Bound;
 
-// Why a page stopped: no item is left; as many were handed out as asked for; or the number of a refusal.
-#[derive(Clone, Copy)]
-pub enum Stop {
-    End,
-    More,
-    Refused(u8),
-}
-
-// What a page gives back: how many items were written, and why it stopped.
+// What a page gives back: how many items were written, and how it stopped or why it refuses. A refusal stands beside the items before it, so the two are
+// no Result.
 #[derive(Clone, Copy)]
 pub struct Paged {
     pub count: usize,
-    pub stop: Stop,
+    pub stop: Result<Stop, Refusal>,
 }
 
 // A page that is refused before any item.
-fn refused(why: u8) -> Paged
+fn refused(why: Refusal) -> Paged
     ensures { result ≡ refused_paged why }
 {
     Paged {
         count: 0,
-        stop: Stop::Refused(why),
+        stop: Err(why),
     }
 }
 
@@ -77,10 +71,10 @@ fn fill(
                 let card = all[i];
                 let reading = card.reading;
                 let step = step_seen(file, reading, i, &mut keys, MAX_KEY);
-                if step.halted {
+                if let Err(why) = step.answer {
                     return Paged {
                         count: done,
-                        stop: Stop::Refused(step.why),
+                        stop: Err(why),
                     };
                 }
                 let after = step.card;
@@ -93,7 +87,7 @@ fn fill(
             if is_long(one) {
                 return Paged {
                     count: done,
-                    stop: Stop::Refused(STATE),
+                    stop: Err(Refusal::State),
                 };
             }
             i += 1;
@@ -108,7 +102,7 @@ fn fill(
             Verdict::NoMore => {
                 return Paged {
                     count: done,
-                    stop: Stop::End,
+                    stop: Ok(Stop::End),
                 };
             }
             Verdict::This => {
@@ -129,7 +123,7 @@ fn fill(
     }
     Paged {
         count: done,
-        stop: Stop::More, // as many as asked for
+        stop: Ok(Stop::More), // as many as asked for
     }
 }
 
@@ -160,8 +154,8 @@ fn items_from(
     let answer = started.answer;
     let cards = started.cards;
     match answer {
-        Begins::Refused(why) => refused(why),
-        Begins::Began => fill(files, op, count, cards, most, rows, counts, numbers, values),
+        Err(why) => refused(why),
+        Ok(()) => fill(files, op, count, cards, most, rows, counts, numbers, values),
     }
 }
 
@@ -191,14 +185,14 @@ pub fn items(
         numbers.old numbers.new values.old values.new result }
 {
     if count == 0 {
-        return refused(CARDS);
+        return refused(Refusal::Cards);
     }
     let too_many = 8 < count;
     if too_many {
-        return refused(CARDS);
+        return refused(Refusal::Cards);
     }
     if has_room(most, rows.len(), counts.len(), numbers.len(), values.len()) {} else {
-        return refused(SPACE);
+        return refused(Refusal::Space);
     }
     items_from(
         op, count, files, lower_kind, lower, upper_kind, upper, most, rows, counts, numbers, values,

@@ -5,6 +5,7 @@
 -- Assumes nothing.
 use Rattle.std.specs.Prelude.{◌≡◌, refl, List, [], ◌∷◌, ◌++◌, ℕ, zero, suc, ◌+◌, ◌-◌, ◌*◌, ◌<◌, length}
 use Rattle.std.proofs.Common.{sym, ap, ap₂, ◌∙◌, append_assoc, append-nil, add-zero, add-one, arith}
+use Rattle.format.specs.declared.Refusal.{Refusal}
 use Rattle.buffers.specs.Put.{put}
 use Rattle.format.specs.Limits.{max_path}
 use Rattle.reading.specs.Demand.{Entry, entry}
@@ -57,7 +58,7 @@ module _ {w : ItemPage} {is : List Item} {n : ℕ} {op : Op} {cs : List Card} (h
       let at : n ≡ suc (n - 1) = omega arith in
       stops ended (ap (fold op cs) at ∙ fold_as op cs (n - 1) (ending ds) e)
 
-  pub folded_refused : 0 < n → (c : ℕ) → next_item op cs max_path ≡ Merged.refused c → w ≡ item_page is (Stop.refused c)
+  pub folded_refused : 0 < n → (c : Refusal) → next_item op cs max_path ≡ Merged.refused c → w ≡ item_page is (Stop.refused c)
   folded_refused some c e =
       let at : n ≡ suc (n - 1) = omega arith in
       stops (Stop.refused c) (ap (fold op cs) at ∙ fold_as op cs (n - 1) (Merged.refused c) e)

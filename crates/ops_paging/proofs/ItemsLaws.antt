@@ -11,6 +11,7 @@ use mathlib.Core.List.Memᴰ
 use mathlib.Core.List.{List, [], ◌∷◌, ◌++◌, map, Memᴰ}
 use Rattle.std.proofs.lemmas.Bool.{lt-leb}
 use Rattle.std.proofs.Math.Seq.{take-append_seam}
+use Rattle.format.specs.declared.Refusal.{Refusal}
 use Rattle.format.specs.Limits.{max_path, CARDS, SPACE}
 use Rattle.format.specs.Strings.{Before, Bound, AllAfter, Rising}
 use Rattle.reading.proofs.RunLaws.{lt_or}
@@ -183,7 +184,7 @@ module _ (op : Op) (lo hi : Bound) (cs : List Source) (same : SameBounds lo hi c
       front : (x : Item) → Memᴰ x p.items → Memᴰ x (take most W.items)
       front x on = subst (Memᴰ x) g.items on
 
-      no_refusal : {why : Stop} → p.stop ≡ why → ((n : ℕ) → ¬ (why ≡ Stop.refused n)) → (n : ℕ) → ¬ (p.stop ≡ Stop.refused n)
+      no_refusal : {why : Stop} → p.stop ≡ why → ((n : Refusal) → ¬ (why ≡ Stop.refused n)) → (n : Refusal) → ¬ (p.stop ≡ Stop.refused n)
       no_refusal is not_it n e = not_it n (sym is ∙ e)
 
       such_front : (x : Item) → Memᴰ x p.items → D.Belongs op cs x.key x.pairs

@@ -8,7 +8,8 @@
 use Prim.{tt}
 use Rattle.std.specs.Prelude.{◌≡◌, refl, Bool, true, false, cond, ◌&&◌, List, [], ◌∷◌, ℕ, suc, ◌-◌, ◌≤◌, ◌<◌, leb, eqb, length}
 use Rattle.std.proofs.Common.{sym, ap, ap₂, ◌∙◌, subst, arith, leb-true, ne_eqb, eqb-true}
-use Rattle.format.specs.Limits.{max_path, max_sum, SPACE, BOUND, COUNT}
+use Rattle.format.specs.declared.Refusal.{Refusal}
+use Rattle.format.specs.Limits.{max_path, max_sum, SPACE, BOUND, COUNT, STATE}
 use Rattle.format.specs.Opening.{Meta, Opening, opened, opening}
 use Rattle.format.specs.Opening as Opening
 use Rattle.format.specs.Paths.{fst_of}
@@ -41,8 +42,8 @@ wide_key n p p' r (key k v) e fits is = by (eqb p.keys 0) refl
   where
     by : (b : Bool) → eqb p.keys 0 ≡ b → WideKey n p p' r (key k v) e
     by true z =
-        let q : step_is (Answer.refused 11) p ≡ step_is (hand_out e) p' = rw z at is in
-        let w : Answer.refused 11 ≡ hand_out e = ap (λ (o : PlainStep). o.answer) q in
+        let q : step_is (Answer.refused STATE) p ≡ step_is (hand_out e) p' = rw z at is in
+        let w : Answer.refused STATE ≡ hand_out e = ap (λ (o : PlainStep). o.answer) q in
         let zero_one : ◌≡◌ {A = ℕ} 0 1 = cc in
         absurd (omega arith)
     by false z =
@@ -56,7 +57,7 @@ wide_key n p p' r (key k v) e fits is = by (eqb p.keys 0) refl
         omega arith in
         record {
           step =
-              ap (λ (b : Bool). cond b (step_is (Answer.refused 11) (plain_with p.view n)) (step_is (key k v) (plain_with r (n - 1)))) (ne_eqb n 0 some)
+              ap (λ (b : Bool). cond b (step_is (Answer.refused STATE) (plain_with p.view n)) (step_is (key k v) (plain_with r (n - 1)))) (ne_eqb n 0 some)
               ∙ ap₂ (λ (b : Answer) (x : View). step_is b (plain_with x (n - 1))) (ap (λ (o : PlainStep). o.answer) q) (ap (λ (x : Plain). x.view) same);
           fewer = let m : p.keys - 1 ≡ p'.keys = ap (λ (x : Plain). x.keys) same in omega arith;
         }
@@ -74,8 +75,8 @@ wide_end n p p' r (key k v) is = by (eqb p.keys 0) refl
   where
     by : (b : Bool) → eqb p.keys 0 ≡ b → counting (plain_with p.view n) r (key k v) ≡ step_is end (plain_with r n)
     by true z =
-        let q : step_is (Answer.refused 11) p ≡ step_is end p' = rw z at is in
-        let w : Answer.refused 11 ≡ end = ap (λ (o : PlainStep). o.answer) q in
+        let q : step_is (Answer.refused STATE) p ≡ step_is end p' = rw z at is in
+        let w : Answer.refused STATE ≡ end = ap (λ (o : PlainStep). o.answer) q in
         let zero_one : ◌≡◌ {A = ℕ} 0 1 = cc in
         absurd (omega arith)
     by false z =
@@ -126,7 +127,7 @@ pub number_fits : (s : List ℕ) (lo hi : Bound) (c : List ℕ) (p : Plain) → 
 unfolding start_plain
 number_fits s lo hi c p e = opens (opening s) e
   where
-    refused_not_begun : {n : ℕ} {q : Plain} → ¬ (Begun.refused n ≡ begun q)
+    refused_not_begun : {n : Refusal} {q : Plain} → ¬ (Begun.refused n ≡ begun q)
     refused_not_begun e = let z : ◌≡◌ {A = ℕ} 0 1 = cc in omega arith
 
     numbered : (w : Started) (t : Tally) → Fits t → then_number w t ≡ begun p → p.keys ≤ max_sum

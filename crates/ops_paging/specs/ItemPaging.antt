@@ -10,6 +10,7 @@
 -- admitted file whose keys can be counted. `more` says that `most` items were handed out, and nothing of the item after them.
 -- Assumes nothing.
 use Rattle.std.specs.Prelude.{Bool, cond, ◌&&◌, List, [], ◌∷◌, map, ℕ, zero, suc, ◌+◌, ◌*◌, ltb, leb, length, take}
+use Rattle.format.specs.declared.Refusal.{Refusal}
 use Rattle.buffers.specs.Put.{put}
 use Rattle.format.specs.Limits.{max_path, max_sum, SPACE, CARDS}
 use Rattle.format.specs.Strings.{Bound}
@@ -25,7 +26,7 @@ use Rattle.ops_pairs.specs.Pairs.{padded}
 
 pub data Starts : Type 0 where
   cards : List Card → Starts
-  refused : ℕ → Starts
+  refused : Refusal → Starts
 
 -- a reading without a table of keys: as many keys may come as a number can say
 abbrev pub wide_card : List ℕ → View → Card
@@ -50,7 +51,7 @@ pub record ItemPage : Type 0 where
 abbrev pub item_page : List Item → Stop → ItemPage
 item_page is why = record { items = is; stop = why }
 
-abbrev pub refused_items : ℕ → ItemPage
+abbrev pub refused_items : Refusal → ItemPage
 refused_items n = item_page [] (Stop.refused n)
 
 -- what a call's answer makes of the page of the calls after it: a refusal stands beside the items before it

@@ -6,6 +6,7 @@
 -- Assumes nothing.
 use Prim.{Unit}
 use Rattle.std.specs.Prelude.{◌≡◌, ℕ, ◌≤◌, ◌<◌, length}
+use Rattle.format.specs.declared.Refusal.{Refusal}
 use mathlib.Core.List.{List, [], ◌∷◌, map, Memᴰ}
 use Rattle.format.specs.Strings.{Before, Bound, Rising}
 use Rattle.paging.specs.Paging.{Stop, ended, more}
@@ -31,7 +32,7 @@ pub record ItemsExact (op : Op) (cs : List Source) (most : ℕ) (p : ItemPage) :
       → Memᴰ (item_is k ps) p.items
   -- up to `most`
   pub at_most : length p.items ≤ most
-  pub not_refused : (n : ℕ) → ¬ (p.stop ≡ Stop.refused n)
+  pub not_refused : (n : Refusal) → ¬ (p.stop ≡ Stop.refused n)
   -- "ended" exactly where fewer were left than asked for, and then none is left
   pub ended_fewer : p.stop ≡ ended → length p.items < most
   pub fewer_ended : length p.items < most → p.stop ≡ ended

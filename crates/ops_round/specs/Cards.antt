@@ -8,6 +8,7 @@
 -- Assumes nothing.
 use Prim.{Unit}
 use Rattle.std.specs.Prelude.{◌≡◌, true, false, List, [], ◌∷◌, ℕ, ◌≤◌, ◌<◌, take, get_or}
+use Rattle.format.specs.declared.Refusal.{Refusal}
 use Rattle.format.specs.Limits.{max_levels}
 use Rattle.ops_spec.specs.Ops as O
 use Rattle.ops_spec.specs.Ops.{with_card, step_one}
@@ -48,11 +49,11 @@ AllFew n cs = (i : ℕ) (d : Card) → i < n → Few (get_or cs i d)
 
 -- ---- steps
 
--- what a card's part in a round comes to: it was not stepped, it was, or the number of a refusal
+-- what a card's part in a round comes to: it was not stepped, it was, or why it refuses
 pub data Stepping : Type 0 where
   Still : Stepping
   Moved : Stepping
-  Halted : ℕ → Stepping
+  Halted : Refusal → Stepping
 
 -- a card after its part; after a refusal it carries no meaning
 pub record CardStep : Type 0 where

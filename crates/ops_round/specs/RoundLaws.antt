@@ -10,6 +10,7 @@ use mathlib.Core.List.{List, [], ◌∷◌, ◌++◌, append_assoc, append-nil}
 use native.Mathlib.Omega.{arith}
 use Rattle.std.proofs.Math.ListN.{take, drop, drop_of_length-le}
 use Rattle.std.proofs.Math.Seq.{take-length}
+use Rattle.format.specs.declared.Refusal.{Refusal}
 use Rattle.ops_spec.specs.Ops as O
 use Rattle.ops_spec.specs.Ops.{with_card, step_one, step_all}
 use Rattle.ops_round.specs.declared.Card.{Card}
@@ -64,7 +65,7 @@ module _ (fs : List (List ℕ)) (space n : ℕ) (cs all : List Card) (moved : Bo
         (then_step s.answer (card_is (get_or fs i []) s.card) (step_all space (drop (i + 1) (cards_is fs n all))))
     head_stepped = R.rest ∙ ap (then_steps moved (take i (cards_is fs n all))) (steps_head d h ∙ one.steps (step_all space (drop (i + 1) (cards_is fs n all))))
 
-    pub rounding_halted : (k : ℕ) → s.answer ≡ Halted k → step_all space (cards_is fs n cs) ≡ O.halted k
+    pub rounding_halted : (k : Refusal) → s.answer ≡ Halted k → step_all space (cards_is fs n cs) ≡ O.halted k
     rounding_halted k e =
         head_stepped
         ∙ ap (λ (x : Stepping). then_steps moved (take i (cards_is fs n all)) (then_step x (card_is (get_or fs i []) s.card) (step_all space (drop (i + 1) (cards_is fs n all))))) e

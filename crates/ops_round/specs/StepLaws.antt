@@ -4,9 +4,10 @@
 --     card_key_lem, card_end, card_refused       a used-up reading, by the answer of its call
 -- Assumes nothing.
 use Prim.{tt}
-use Rattle.std.specs.Prelude.{◌≡◌, refl, Bool, false, cond, List, [], ℕ, ◌<◌, ◌≤◌, leb, length}
+use Rattle.std.specs.Prelude.{◌≡◌, refl, Bool, false, cond, List, [], ℕ, ◌<◌, ◌≤◌, leb, length, Ok, Err, Some, None}
 use Rattle.std.proofs.Common.{sym, ap, ap₂, ◌∙◌, subst, arith, le-leb}
 use Rattle.std.proofs.lemmas.Bool.{lt-leb}
+use Rattle.format.specs.declared.Refusal.{Refusal}
 use Rattle.format.specs.Limits.{max_path, max_levels, STATE}
 use Rattle.reading.specs.Reading as R
 use Rattle.plain.specs.Plain as P
@@ -15,7 +16,6 @@ use Rattle.ops_spec.specs.Ops as O
 use Rattle.ops_spec.specs.Ops.{with_card, by_answer, step_one}
 use Rattle.ops_spec.specs.OpsAheadLaws.{plain_by_room, plain_few}
 use Rattle.stream_start.specs.StackLaws.{stack_length}
-use Rattle.stream_step.specs.declared.Answer.TheVariants.{Key, End, Refused}
 use Rattle.stream_step.specs.SteppedLaws.{Told, step_key, step_end, step_refused}
 use Rattle.stream.specs.declared.Plain.{Plain}
 use Rattle.stream.specs.declared.Step.{Step}
@@ -74,7 +74,7 @@ module _ (f : List ℕ) (space : ℕ) (p : Plain) (g : Step) (gave : CallGave (n
       → step_one space (card_is f (used_card p)) O.used others ≡ by_answer f (plain_is g.plain) a others
   used_as others a is = ap₂ (λ (q : P.Plain) (x : R.Answer). by_answer f q x others) (sym gave.plain) is
 
-  pub card_key_lem : (n v : ℕ) → g.answer ≡ Key n v
+  pub card_key_lem : (n v : ℕ) → g.answer ≡ Ok (Some (n, v))
       → OneStepped f space (used_card p) (record { answer = Moved; card = record { reading = g.plain; slot = Holds; value = v } })
   card_key_lem n v e =
       let q = step_key (told_by_lem gave) n v e in
@@ -83,8 +83,8 @@ module _ (f : List ℕ) (space : ℕ) (p : Plain) (g : Step) (gave : CallGave (n
       let few = plain_few f (plain_is p) space q.0 v q.1 in
       record { steps = λ others. used_as others (R.key q.0 v) q.1; few = omega arith }
 
-  pub card_end : (v : ℕ) → g.answer ≡ End → OneStepped f space (used_card p) (record { answer = Moved; card = record { reading = g.plain; slot = Ended; value = v } })
+  pub card_end : (v : ℕ) → g.answer ≡ Ok None → OneStepped f space (used_card p) (record { answer = Moved; card = record { reading = g.plain; slot = Ended; value = v } })
   card_end v e = record { steps = λ others. used_as others R.end (step_end (told_by_lem gave) e); few = tt }
 
-  pub card_refused : (c : Card) (n : ℕ) → g.answer ≡ Refused n → OneStepped f space (used_card p) (record { answer = Halted n; card = c })
+  pub card_refused : (c : Card) (n : Refusal) → g.answer ≡ Err n → OneStepped f space (used_card p) (record { answer = Halted n; card = c })
   card_refused c n e = record { steps = λ others. used_as others (R.Answer.refused n) (step_refused (told_by_lem gave) n e); few = tt }

@@ -5,6 +5,8 @@
 --     card_less, round_less              the measure falls
 -- Assumes nothing.
 use mathlib.Core.Path.{◌≡◌, refl, sym, ap, ◌∙◌, subst}
+use Rattle.std.specs.Prelude.{Ok, Err, Result}
+use Rattle.format.specs.declared.Refusal.{Refusal}
 use mathlib.Core.Bool.{Bool, true, false, ◌||◌}
 use mathlib.Core.Logic.{◌⊎◌}
 use mathlib.Core.List.{List, []}
@@ -48,25 +50,25 @@ module _ {fs : List (List ℕ)} {o : O.Op} {n space : ℕ} {cs all : List Card} 
   abbrev M : O.Merged
   M = rounds_by o space false (cards_is fs n cs)
 
-  called_as : (a : Came) (r : Called) → r.came ≡ a → CalledAs fs n M r a → CalledBy fs n cs M r
+  called_as : (a : Result Came Refusal) (r : Called) → r.came ≡ a → CalledAs fs n M r a → CalledBy fs n cs M r
   called_as a r e is = record { is = subst (CalledAs fs n M r) (sym e) is; given = R.given }
 
   -- ---- a card's part
 
   module _ (h : i < n) (d : Card) (e : Seen) where
     module _ (used : (get_or ss i e).slot ≡ Used) (ks' : List ℕ) (s : SeenStep) (by : SeenStepped (get_or fs i []) space (get_or all i d).reading i ks ks' s) where
-      pub called_halted : s.halted ≡ true → (r : Called) → r.came ≡ C.Refused s.why → CalledBy fs n cs M r
-      called_halted t r is = called_as (C.Refused s.why) r is (turn_halted R.turning small h d e used ks' s by t)
+      pub called_halted : (why : Refusal) → s.answer ≡ Err why → (r : Called) → r.came ≡ Err why → CalledBy fs n cs M r
+      called_halted why t r is = called_as (Err why) r is (turn_halted R.turning small h d e used ks' s by why t)
 
-      pub rounds_step : s.halted ≡ false → Rounds fs o n space cs (set all i s.card) ks' (set ss i s.seen) (i + 1) true
+      pub rounds_step : s.answer ≡ Ok tt → Rounds fs o n space cs (set all i s.card) ks' (set ss i s.seen) (i + 1) true
       rounds_step t = record { given = R.given; turning = turning_on R.turning small h d e used ks' s by t }
 
-      pub card_less : s.halted ≡ false → to_do fs n (set all i s.card) (set ss i s.seen) (i + 1) < to_do fs n all ss i
+      pub card_less : s.answer ≡ Ok tt → to_do fs n (set all i s.card) (set ss i s.seen) (i + 1) < to_do fs n all ss i
       card_less t = step_less R.turning small h d e used ks' s by t
 
   module _ (h : i < n) (e : Seen) where
-    pub called_long : ((get_or ss i e).slot ≡ Holds) × (256 < (get_or ss i e).key.levels) → (r : Called) → r.came ≡ C.Refused STATE → CalledBy fs n cs M r
-    called_long long r is = called_as (C.Refused STATE) r is (turn_long R.turning small h e long)
+    pub called_long : ((get_or ss i e).slot ≡ Holds) × (256 < (get_or ss i e).key.levels) → (r : Called) → r.came ≡ Err STATE → CalledBy fs n cs M r
+    called_long long r is = called_as (Err STATE) r is (turn_long R.turning small h e long)
 
     pub rounds_skip : ((get_or ss i e).slot ≡ Holds) ⊎ ((get_or ss i e).slot ≡ Ended) → ((get_or ss i e).slot ≡ Holds → (get_or ss i e).key.levels ≤ 256)
         → Rounds fs o n space cs all ks ss (i + 1) stepped
@@ -78,8 +80,8 @@ module _ {fs : List (List ℕ)} {o : O.Op} {n space : ℕ} {cs all : List Card} 
     abbrev Y : List O.Card
     Y = cards_is fs n (dealt_all all ss)
 
-    pub called_short : (stepped || leb max_path space) ≡ false → (r : Called) → r.came ≡ C.Refused SPACE → CalledBy fs n cs M r
-    called_short t r is = called_as (C.Refused SPACE) r is (turn_short R.turning small some full t)
+    pub called_short : (stepped || leb max_path space) ≡ false → (r : Called) → r.came ≡ Err SPACE → CalledBy fs n cs M r
+    called_short t r is = called_as (Err SPACE) r is (turn_short R.turning small some full t)
 
     pub rounds_ready : Ready ks n ss
     rounds_ready = turn_ready R.turning small some full
@@ -97,9 +99,9 @@ module _ {fs : List (List ℕ)} {o : O.Op} {n space : ℕ} {cs all : List Card} 
       kept_same : Kept Y Y
       kept_same = record { count = refl; file = λ j x. refl; reading = λ j x. refl }
 
-      pub called_end : v.verdict ≡ NoMore → (r : Called) → r.came ≡ C.End → AllDealt n all ss r.cards → CalledBy fs n cs M r
+      pub called_end : v.verdict ≡ NoMore → (r : Called) → r.came ≡ Ok C.End → AllDealt n all ss r.cards → CalledBy fs n cs M r
       called_end e r is dealt =
-          called_as C.End r is
+          called_as (Ok C.End) r is
           (judged O.no_more (over_by ks ss Y n v (decide o Y) here e)
           ∙ ap O.ending (sym (dealt_is R.turning small some full ss R.turning.seen_len Y sees kept_same r.cards dealt)))
 
@@ -110,7 +112,7 @@ module _ {fs : List (List ℕ)} {o : O.Op} {n space : ℕ} {cs all : List Card} 
       item_within e = (this_of e).few
 
       pub called_item : v.verdict ≡ This → (hd : Head) → hd.levels ≡ v.key.levels → head_key hd ≡ place_key ks v.key → (after : List Card) → AllDealt n all v.cards after
-          → CalledBy fs n cs M (record { came = C.Item; key = hd; pairs = v.pairs; cards = after })
+          → CalledBy fs n cs M (record { came = Ok C.Item; key = hd; pairs = v.pairs; cards = after })
       called_item e hd levels key after dealt =
           let a = this_of e in
           let fits = a.few.few in

@@ -2,7 +2,8 @@
 --     ItemIs fs n m k p cs               m is an item, with its key and its values as they are held
 --     CalledBy fs n cs m r               the rounds of a call with the cards cs whose definition answers m
 -- Assumes nothing.
-use Rattle.std.specs.Prelude.{◌≡◌, List, ℕ, ◌≤◌, length}
+use Rattle.std.specs.Prelude.{◌≡◌, List, ℕ, ◌≤◌, length, Ok, Err, Result}
+use Rattle.format.specs.declared.Refusal.{Refusal}
 use Rattle.format.specs.Limits.{max_levels}
 use Rattle.ops_spec.specs.Ops as O
 use Rattle.ops_spec.specs.Ops.{Indexed}
@@ -25,10 +26,10 @@ pub record ItemIs (fs : List (List ℕ)) (n : ℕ) (m : O.Merged) (k : Head) (p 
 
 -- ---- the rounds of a call
 
-abbrev pub CalledAs : List (List ℕ) → ℕ → O.Merged → Called → Came → Type 0
-CalledAs fs n m r C.Item = ItemIs fs n m r.key r.pairs r.cards
-CalledAs fs n m r C.End = m ≡ O.ending (cards_is fs n r.cards)
-CalledAs fs n m r (C.Refused c) = m ≡ O.Merged.refused c
+abbrev pub CalledAs : List (List ℕ) → ℕ → O.Merged → Called → Result Came Refusal → Type 0
+CalledAs fs n m r (Ok C.Item) = ItemIs fs n m r.key r.pairs r.cards
+CalledAs fs n m r (Ok C.End) = m ≡ O.ending (cards_is fs n r.cards)
+CalledAs fs n m r (Err c) = m ≡ O.Merged.refused c
 
 pub record CalledBy (fs : List (List ℕ)) (n : ℕ) (cs : List Card) (m : O.Merged) (r : Called) : Type 0 where
   pub is : CalledAs fs n m r r.came

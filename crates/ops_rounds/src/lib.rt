@@ -8,7 +8,7 @@ ghost use Rattle.ops_round.specs.Cards.{cards_is};
 ghost use Rattle.ops_decide.specs.Verdicts.{op_is};
 ghost use Rattle.ops_rounds.specs.Turns.{CalledBy};
 
-use format::{LEVELS, MAX_KEY, SPACE, STATE};
+use format::{LEVELS, MAX_KEY, Refusal};
 use ops_decide::{Op, Verdict, decide};
 use ops_keys::{Head, KEYS, head_at};
 use ops_pairs::Pairs;
@@ -21,21 +21,20 @@ use ops_turn::step_seen;
 pub enum Came {
     Item,
     End,
-    Refused(u8),
 }
 
 // The rounds of a call, with the item's key and values, and the cards afterwards. Without an item the key and the values carry no meaning, after a
 // refusal nothing.
 #[derive(Clone, Copy)]
 pub struct Called {
-    pub came: Came,
+    pub came: Result<Came, Refusal>,
     pub key: Head,
     pub pairs: Pairs,
     pub cards: [Card; 8],
 }
 
 // A call without an item.
-fn without(came: Came, cards: [Card; 8]) -> Called
+fn without(came: Result<Came, Refusal>, cards: [Card; 8]) -> Called
     ensures { (result.came ≡ came) × (result.cards ≡ cards) }
 {
     let pairs = ops_pairs::none();
@@ -82,8 +81,8 @@ pub fn rounds(files: [&[u8]; 8], op: Op, count: usize, cards: [Card; 8], space: 
                 let card = all[i];
                 let reading = card.reading;
                 let step = step_seen(file, reading, i, &mut keys, space);
-                if step.halted {
-                    return without(Came::Refused(step.why), all);
+                if let Err(why) = step.answer {
+                    return without(Err(why), all);
                 }
                 let after = step.card;
                 let shown = step.seen;
@@ -94,13 +93,13 @@ pub fn rounds(files: [&[u8]; 8], op: Op, count: usize, cards: [Card; 8], space: 
                 continue;
             }
             if is_long(one) {
-                return without(Came::Refused(STATE), all);
+                return without(Err(Refusal::State), all);
             }
             i += 1;
             continue;
         }
         if has_room(moved, space) {} else {
-            return without(Came::Refused(SPACE), all);
+            return without(Err(Refusal::Space), all);
         }
         let decided = decide(op, &keys, count, seen);
         let verdict = decided.verdict;
@@ -110,13 +109,13 @@ pub fn rounds(files: [&[u8]; 8], op: Op, count: usize, cards: [Card; 8], space: 
         match verdict {
             Verdict::NoMore => {
                 let last = deal(count, all, seen);
-                return without(Came::End, last);
+                return without(Ok(Came::End), last);
             }
             Verdict::This => {
                 let key = head_at(&keys, place);
                 let after = deal(count, all, marked);
                 return Called {
-                    came: Came::Item,
+                    came: Ok(Came::Item),
                     key,
                     pairs,
                     cards: after,

@@ -6,6 +6,7 @@
 -- Assumes nothing.
 use Rattle.std.specs.Prelude.{Bool, true, false, cond, ◌&&◌, ◌||◌, not, List, [], ◌∷◌, ℕ, zero, suc, ◌+◌, ◌%◌, ltb, leb, eqb, length}
 use Rattle.std.proofs.Math.Option.{Option, none, some}
+use Rattle.format.specs.declared.Refusal.{Refusal}
 use Rattle.format.specs.Limits.{max_path, max_levels, SPACE, STATE, CARDS}
 use Rattle.format.specs.Paths.{Fst, fst_with, fst_of}
 use Rattle.format.specs.Opening.{opening}
@@ -45,7 +46,7 @@ pub record Cards : Type 0 where
 
 pub data Stepped : Type 0 where
   cards : List Card → Bool → Stepped
-  halted : ℕ → Stepped
+  halted : Refusal → Stepped
 
 abbrev pub with_card : Card → Bool → Stepped → Stepped
 with_card c b (cards cs more) = cards (c ∷ cs) (b || more)
@@ -157,7 +158,7 @@ decide symmetric cs = at_least symmetric (least_key cs) cs
 pub data Merged : Type 0 where
   item : List ℕ → List Indexed → List Card → Merged
   ending : List Card → Merged
-  refused : ℕ → Merged
+  refused : Refusal → Merged
 
 -- how much a card has still to do
 abbrev pub file_of : List ℕ → Fst

@@ -7,6 +7,7 @@ use Rattle.std.specs.Prelude.{◌≡◌, Bool, true, false, ◌&&◌, ◌||◌, 
 use Rattle.std.proofs.Math.Path.{refl}
 use Rattle.std.proofs.Common.{sym, ◌∙◌, ap, subst}
 use Rattle.std.proofs.Math.Bool.{cond}
+use Rattle.format.specs.declared.Refusal.{Refusal}
 use mathlib.Core.List.{List, [], ◌∷◌}
 use borrow.Author.Tests.{lt-leb}
 use Rattle.format.specs.Limits.{max_path, SPACE, STATE, max_levels, CARDS}
@@ -19,17 +20,17 @@ use Rattle.ops_spec.specs.Ops.{Op, Slot, used, holds, ended, Card, Stepped, card
 use Rattle.ops_spec.specs.OpsFuelLaws.{cond_way, rounds_by, next_item_by}
 
 abbrev Refuses : View → Step → Type 0
-Refuses r o = (n : ℕ) × (o ≡ refuse r n)
+Refuses r o = (n : Refusal) × (o ≡ refuse r n)
 
 abbrev NoStep : Stepped → Type 0
 NoStep (cards ds now) = now ≡ false
 NoStep (halted n) = Unit {0}
 
 abbrev IsRefused : Merged → Type 0
-IsRefused m = (n : ℕ) × (m ≡ Merged.refused n)
+IsRefused m = (n : Refusal) × (m ≡ Merged.refused n)
 
 module _ (space : ℕ) (short : space < max_path) where
-  pub next_short_any : (s : List ℕ) (r : View) → (n : ℕ) × (next s r space ≡ refuse r n)
+  pub next_short_any : (s : List ℕ) (r : View) → (n : Refusal) × (next s r space ≡ refuse r n)
   unfolding next
   next_short_any s r = by (opening s)
     where
@@ -39,7 +40,7 @@ module _ (space : ℕ) (short : space < max_path) where
           cond_way (Refuses r) (state_test r (length s)) (λ _. let a = lt-leb max_path space short in (SPACE, rw a)) (λ _. (STATE, refl))
       by (Opening.refused n) = (n, refl)
 
-  pub plain_short_any : (s : List ℕ) (p : Plain) → (n : ℕ) × (next_plain s p space ≡ record { answer = Answer.refused n; reading = p })
+  pub plain_short_any : (s : List ℕ) (p : Plain) → (n : Refusal) × (next_plain s p space ≡ record { answer = Answer.refused n; reading = p })
   plain_short_any s p = let w = next_short_any s p.view in (w.0, ap (counted_step p) w.1)
 
   kept : (c : Card) (o : Stepped) → NoStep o → NoStep (with_card c false o)
@@ -65,7 +66,7 @@ module _ (space : ℕ) (short : space < max_path) where
       (SPACE, ap (λ (x : Bool). cond x (by_verdict ds more (decide op ds)) (Merged.refused SPACE)) b)
   short_after op more (halted n) h = (n, refl)
 
-  pub item_short : (op : Op) (cs : List Card) → (n : ℕ) × (next_item op cs space ≡ Merged.refused n)
+  pub item_short : (op : Op) (cs : List Card) → (n : Refusal) × (next_item op cs space ≡ Merged.refused n)
   item_short op cs =
       subst IsRefused (sym (next_item_by op cs space))
       (cond_way IsRefused (ltb 0 (length cs) && leb (length cs) 8) (λ _. short_after op (rounds_by op space true) (step_all space cs) (short_all cs)) (λ _. (CARDS, refl)))

@@ -4,7 +4,7 @@
 --     left_readings n c                  the readings of the first n cards
 --     CodeStands op S r buf             where they stand, by what r answers; CodeStandsLaws proves it (`code_stands`)
 -- Assumes nothing.
-use Rattle.std.specs.Prelude.{◌≡◌, true, List, map, ℕ, ◌≤◌, length, take}
+use Rattle.std.specs.Prelude.{◌≡◌, true, List, map, ℕ, ◌≤◌, length, take, Ok, Some, None}
 use Rattle.format.specs.Strings.{Before}
 use Rattle.plain.specs.Plain as P
 use Rattle.ops_spec.specs.Ops as O
@@ -15,7 +15,6 @@ use Rattle.stream.specs.Plains.{plain_is}
 use Rattle.ops_round.specs.declared.Card.{Card}
 use Rattle.ops_decide.specs.declared.Op.{Op}
 use Rattle.ops.specs.declared.Cards.{Cards}
-use Rattle.ops.specs.declared.Merged.TheVariants.{Item, End}
 use Rattle.ops.specs.declared.Step.{Step}
 use Rattle.ops.specs.declared.Begun.{Begun}
 use Rattle.ops.specs.Merges.{count_test, BegunBy, held_item, MergedBy}
@@ -49,5 +48,5 @@ left_readings n c = map (λ (d : Card). plain_is d.reading) (take n c.cards)
 
 pub record CodeStands (op : O.Op) (S : List Source) (r : Step) (buf : List ℕ) : Type 0 where
   -- the item's key stands in the buffer
-  pub after_item : (n : ℕ) → r.answer ≡ Item n → AllAt (λ x. ¬ Before x (take n buf)) S (left_readings (length S) r.cards)
-  pub after_end : r.answer ≡ End → EndsAt op S (left_readings (length S) r.cards)
+  pub after_item : (n : ℕ) → r.answer ≡ Ok (Some n) → AllAt (λ x. ¬ Before x (take n buf)) S (left_readings (length S) r.cards)
+  pub after_end : r.answer ≡ Ok None → EndsAt op S (left_readings (length S) r.cards)

@@ -1,8 +1,9 @@
 -- `code_stands`: where the readings stand that the code's own calls leave.
 --     code_left        the cards after a list of calls by the contract of `next_item` are those of the definition, with some files
 -- Assumes nothing.
-use Rattle.std.specs.Prelude.{◌≡◌, refl, Bool, true, false, ◌&&◌, List, [], ◌∷◌, map, ℕ, zero, suc, ◌<◌, ltb, leb, length, take}
+use Rattle.std.specs.Prelude.{◌≡◌, refl, Bool, true, false, ◌&&◌, List, [], ◌∷◌, map, ℕ, zero, suc, ◌<◌, ltb, leb, length, take, Result, Option}
 use Rattle.std.proofs.Common.{sym, ap, ◌∙◌, subst, ltb-true}
+use Rattle.format.specs.declared.Refusal.{Refusal}
 use Rattle.format.specs.Strings.{Before}
 use Rattle.plain.specs.Plain as P
 use Rattle.ops_spec.specs.Ops as O
@@ -17,7 +18,6 @@ use Rattle.ops_pairs.specs.Pairs.{pairs_in}
 use Rattle.ops_decide.specs.declared.Op.{Op}
 use Rattle.ops_decide.specs.Verdicts.{op_is}
 use Rattle.ops.specs.declared.Cards.{Cards}
-use Rattle.ops.specs.declared.Merged.{Merged}
 use Rattle.ops.specs.declared.Step.{Step}
 use Rattle.ops.specs.Merges.{count_test, BegunAs}
 use Rattle.ops_code.specs.OpsCodeLaws.{begin_is, told_of, CodeCalls, no_call, one_call, code_one}
@@ -90,6 +90,6 @@ code_stands S o pre call r buf x =
         record {
           after_item = λ n e.
               subst (λ (ps : List P.Plain). AllAt (λ y. ¬ Before y (take n buf)) S ps) left
-              (item (take n buf) (take r.count (pairs_in r.values r.files)) (sym w.same ∙ ap (λ (m : Merged). told_of m r buf) e));
-          after_end = λ e. subst (λ (ps : List P.Plain). EndsAt (op_is o) S ps) left (end (sym w.same ∙ ap (λ (m : Merged). told_of m r buf) e));
+              (item (take n buf) (take r.count (pairs_in r.values r.files)) (sym w.same ∙ ap (λ (m : Result (Option ℕ) Refusal). told_of m r buf) e));
+          after_end = λ e. subst (λ (ps : List P.Plain). EndsAt (op_is o) S ps) left (end (sym w.same ∙ ap (λ (m : Result (Option ℕ) Refusal). told_of m r buf) e));
         }

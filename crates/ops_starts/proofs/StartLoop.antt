@@ -4,6 +4,8 @@
 --     starting_none, starting_on, starting_refused, starting_all     at the start, after a file, and each way out
 -- Assumes nothing.
 use mathlib.Core.Path.{◌≡◌, refl, sym, ap, ap₂, ◌∙◌, subst}
+use Rattle.std.specs.Prelude.{Ok, Err, Result, ⊤}
+use Rattle.format.specs.declared.Refusal.{Refusal}
 use mathlib.Core.List.{List, [], ◌∷◌, ◌++◌, map, append_assoc, append-nil}
 use Prim.Native.Nat.{ℕ, suc, ◌+◌, ◌<◌, ◌≤◌}
 use native.Mathlib.Omega.{arith}
@@ -18,8 +20,6 @@ use Rattle.ops_paging.specs.ItemPaging.{Starts, wide_card, with_start, start_all
 use Rattle.ops_paging.specs.ItemPaging as P
 use Rattle.stream_start.specs.Views.{view_is, started_is, began_is}
 use Rattle.stream_start.specs.declared.Started.{Started}
-use Rattle.stream_start.specs.declared.Begins.{Begins}
-use Rattle.stream_start.specs.declared.Begins.TheVariants.{Began, Refused}
 use Rattle.ops_round.specs.declared.Card.{Card}
 use Rattle.ops_round.specs.Cards.{card_is, cards_is}
 use Rattle.ops_round.specs.CardsLaws.{cards_length, put_front}
@@ -61,13 +61,13 @@ module _ (fs : List (List ℕ)) (n : ℕ) (lo hi : S.Bound) (cs : List Card) (i 
         ∙ ap (λ (x : R.Started). before (take i (cards_is fs n cs)) (with_start (get_or fs i []) x (start_all lo hi (drop (i + 1) (take n fs))))) e
 
     module _ (s : Started) (one : started_is s ≡ R.start (get_or fs i []) lo hi) where
-      as_began : (a : Begins) → s.answer ≡ a → R.start (get_or fs i []) lo hi ≡ began_is a s.reading
-      as_began a e = sym one ∙ ap (λ (x : Begins). began_is x s.reading) e
+      as_began : (a : Result ⊤ Refusal) → s.answer ≡ a → R.start (get_or fs i []) lo hi ≡ began_is a s.reading
+      as_began a e = sym one ∙ ap (λ (x : Result ⊤ Refusal). began_is x s.reading) e
 
-      pub starting_refused : (c : ℕ) → s.answer ≡ Refused c → StartsBy fs n (start_all lo hi (take n fs)) (record { answer = Refused c; cards = cs })
-      starting_refused c e = record { is = head_started (R.Started.refused c) (as_began (Refused c) e) }
+      pub starting_refused : (c : Refusal) → s.answer ≡ Err c → StartsBy fs n (start_all lo hi (take n fs)) (record { answer = Err c; cards = cs })
+      starting_refused c e = record { is = head_started (R.Started.refused c) (as_began (Err c) e) }
 
-      pub starting_on : s.answer ≡ Began → (d : Card) → d ≡ wide_is s.reading → Starting fs n lo hi (set cs i d) (i + 1)
+      pub starting_on : s.answer ≡ Ok tt → (d : Card) → d ≡ wide_is s.reading → Starting fs n lo hi (set cs i d) (i + 1)
       starting_on e d is =
           let eight = T.eight in
           let v = view_is s.reading in
@@ -77,12 +77,12 @@ module _ (fs : List (List ℕ)) (n : ℕ) (lo hi : S.Bound) (cs : List Card) (i 
           record {
             within = omega arith;
             eight = length-set cs i d ∙ eight;
-            rest = head_started (R.started v) (as_began Began e)
+            rest = head_started (R.started v) (as_began (Ok tt) e)
                 ∙ one_more (take i (cards_is fs n cs)) (get_or fs i []) v (start_all lo hi (drop (i + 1) (take n fs)))
                 ∙ ap (λ (ds : List O.Card). before ds (start_all lo hi (drop (i + 1) (take n fs)))) (sym front);
           }
 
-  pub starting_all : n ≤ i → StartsBy fs n (start_all lo hi (take n fs)) (record { answer = Began; cards = cs })
+  pub starting_all : n ≤ i → StartsBy fs n (start_all lo hi (take n fs)) (record { answer = Ok tt; cards = cs })
   unfolding start_all
   starting_all h =
       let within = T.within in

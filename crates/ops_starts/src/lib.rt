@@ -6,9 +6,10 @@ ghost use Rattle.ops_paging.specs.ItemPaging as P;
 ghost use Rattle.stream_start.specs.Views.{bound_is};
 ghost use Rattle.ops_starts.specs.StartedCards.{wide_is, StartsBy};
 
+use format::Refusal;
 use ops_round::{Card, Slot};
 use stream::Plain;
-use stream_start::{Begins, Bound, Reading};
+use stream_start::{Bound, Reading};
 
 // As many keys may come as a number can say: a page is lent no table of keys.
 const ANY: u64 = u64::MAX;
@@ -16,7 +17,7 @@ const ANY: u64 = u64::MAX;
 // The cards of the starts beside the answer, in the form of stream_start::Started. After a refusal they carry no meaning.
 #[derive(Clone, Copy)]
 pub struct StartedCards {
-    pub answer: Begins,
+    pub answer: Result<(), Refusal>,
     pub cards: [Card; 8],
 }
 
@@ -51,19 +52,19 @@ pub fn starts(
     for i in 0..count {
         let started = stream_start::start(files[i], lower_kind, lower, upper_kind, upper);
         match started.answer {
-            Begins::Refused(why) => {
+            Err(why) => {
                 return StartedCards {
-                    answer: Begins::Refused(why),
+                    answer: Err(why),
                     cards,
                 };
             }
-            Begins::Began => {
+            Ok(()) => {
                 cards[i] = wide(started.reading);
             }
         }
     }
     StartedCards {
-        answer: Begins::Began,
+        answer: Ok(()),
         cards,
     }
 }

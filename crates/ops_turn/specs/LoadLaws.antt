@@ -7,6 +7,7 @@ use Rattle.std.specs.Prelude.{◌≡◌, Bool, true, false, cond, ◌⊎◌, ℕ
 use Rattle.std.proofs.Math.Path.{refl, ap, subst}
 use Rattle.std.proofs.Common.{sym, ◌∙◌, inl, inr}
 use Rattle.std.proofs.Math.Option.{Option, none, some}
+use Rattle.format.specs.declared.Refusal.{Refusal}
 use mathlib.Core.List.{List, [], ◌∷◌, ◌++◌}
 use native.Mathlib.Omega.{arith}
 use Rattle.format.specs.Limits.{STATE, max_levels}
@@ -53,7 +54,7 @@ module _ (space : ℕ) (x y : Card) (a : Stepping) (goes : (a ≡ Still) ⊎ (a 
   same_by b (inl q) e = let f : cards (x ∷ []) false ≡ cards (y ∷ []) false = e ∙ ap (λ (z : Stepping). then_step z y (cards [] false)) q in cc
   same_by b (inr q) e = let f : cards (x ∷ []) false ≡ cards (y ∷ []) true = e ∙ ap (λ (z : Stepping). then_step z y (cards [] false)) q in cc
 
-  not_halted : (b : Stepping) → (b ≡ Still) ⊎ (b ≡ Moved) → (m : ℕ) → halted m ≡ then_step b y (cards [] false) → ⊥
+  not_halted : (b : Stepping) → (b ≡ Still) ⊎ (b ≡ Moved) → (m : Refusal) → halted m ≡ then_step b y (cards [] false) → ⊥
   not_halted b (inl q) m e =
       let f : halted m ≡ cards (y ∷ []) false = e ∙ ap (λ (z : Stepping). then_step z y (cards [] false)) q in
       let z : ◌≡◌ {A = ℕ} 0 1 = cc in

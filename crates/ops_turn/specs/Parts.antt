@@ -1,26 +1,25 @@
 -- The cards of a page or a call, with what is seen of them beside them.
 --     dealt_all cs ss             the cards with the slots and values seen
---     after_is a                  what an answer makes of a card
+--     after_is a                  what an answer makes of a card: the slot and the value afterwards
 --     SeenStepped f space p i ks₀ ks r   the step of a reading whose key is used up
 --     weight x, load X           what a card, what all have still to do: a key that is held counts one more
 --     Turning space fs o n X all ks ss i stepped     the call from the cards X goes on, the first i cards of this round have had their part, and
 --                                `stepped` says whether a reading was stepped in this call
 -- Assumes nothing.
-use Rattle.std.specs.Prelude.{◌≡◌, Bool, true, false, ◌||◌, List, [], ◌∷◌, ℕ, ◌+◌, ◌*◌, ◌<◌, length, get_or}
+use Rattle.std.specs.Prelude.{◌≡◌, Bool, true, false, ◌||◌, List, [], ◌∷◌, ℕ, ◌+◌, ◌*◌, ◌<◌, length, get_or, Ok, Err, Some, None, Result, Option}
+use Rattle.format.specs.declared.Refusal.{Refusal}
 use Rattle.ops_spec.specs.Ops as O
 use Rattle.ops_spec.specs.Ops.{slot_left}
 use Rattle.ops_spec.specs.OpsFuelLaws.{rounds_by}
-use Rattle.stream_step.specs.declared.Answer.{Answer}
-use Rattle.stream_step.specs.declared.Answer.TheVariants.{Key, End, Refused}
 use Rattle.stream.specs.declared.Plain.{Plain}
 use Rattle.ops_keys.specs.Heads.{KeyAt}
+use Rattle.ops_round.specs.declared.Slot.{Slot}
 use Rattle.ops_round.specs.declared.Slot.TheVariants.{Used, Holds, Ended}
 use Rattle.ops_round.specs.declared.Card.{Card}
 use Rattle.ops_round.specs.Cards.{cards_is, Moved, Halted, used_card, OneStepped}
 use Rattle.ops_round.specs.RoundLaws.{Rounding}
 use Rattle.ops_seen.specs.declared.Seen.{Seen}
 use Rattle.ops_seen.specs.Sights.{dealt_card, SeenOf}
-use Rattle.ops_turn.specs.declared.After.{After}
 use Rattle.ops_turn.specs.declared.SeenStep.{SeenStep}
 
 unfoldable pub dealt_all : List Card → List Seen → List Card
@@ -30,14 +29,14 @@ dealt_all (c ∷ cs) (s ∷ ss) = dealt_card c s ∷ dealt_all cs ss
 
 -- ---- one card
 
-abbrev pub after_is : Answer → After
-after_is (Key n v) = record { halted = false; why = 0; slot = Holds; value = v }
-after_is End = record { halted = false; why = 0; slot = Ended; value = 0 }
-after_is (Refused n) = record { halted = true; why = n; slot = Used; value = 0 }
+abbrev pub after_is : Result (Option (ℕ × ℕ)) Refusal → Result (Slot × ℕ) Refusal
+after_is (Ok (Some (n, v))) = Ok (Holds, v)
+after_is (Ok None) = Ok (Ended, 0)
+after_is (Err n) = Err n
 
 pub record SeenStepped (f : List ℕ) (space : ℕ) (p : Plain) (i : ℕ) (ks₀ ks : List ℕ) (r : SeenStep) : Type 0 where
-  pub halts : r.halted ≡ true → OneStepped f space (used_card p) (record { answer = Halted r.why; card = r.card })
-  pub goes : r.halted ≡ false → OneStepped f space (used_card p) (record { answer = Moved; card = r.card })
+  pub halts : (why : Refusal) → r.answer ≡ Err why → OneStepped f space (used_card p) (record { answer = Halted why; card = r.card })
+  pub goes : r.answer ≡ Ok tt → OneStepped f space (used_card p) (record { answer = Moved; card = r.card })
   pub seen : SeenOf r.card i ks₀ ks r.seen
 
 -- ---- what is still to do

@@ -7,19 +7,18 @@
 --     dealt_is                              the cards dealt by what is seen afterwards
 --     to_do, step_less, again_less           the measure, and that it falls
 -- Assumes nothing.
-use Rattle.std.specs.Prelude.{◌≡◌, refl, Bool, true, false, cond, ◌||◌, ◌⊎◌, List, [], ◌∷◌, ◌++◌, map, ℕ, zero, suc, ◌+◌, ◌-◌, ◌*◌, ◌<◌, ◌≤◌, leb, length, take, drop, get_or, set}
+use Rattle.std.specs.Prelude.{◌≡◌, refl, Bool, true, false, cond, ◌||◌, ◌⊎◌, List, [], ◌∷◌, ◌++◌, map, ℕ, zero, suc, ◌+◌, ◌-◌, ◌*◌, ◌<◌, ◌≤◌, leb, length, take, drop, get_or, set, Ok, Err, Some, None, Result, Option, ⊤}
 use Rattle.std.proofs.Common.{sym, ap, ap₂, ◌∙◌, subst, ⊎_elim, inl, inr, arith, length-set, take-append-drop, get_or-take, ext_get_or, get_or-set_same, get_or-set_other}
 use Rattle.std.specs.Borrow.{Bor}
 use Rattle.std.proofs.Math.ListN.{get_or-map}
 use Rattle.std.proofs.lemmas.List.{set-get_or}
+use Rattle.format.specs.declared.Refusal.{Refusal}
 use Rattle.format.specs.Limits.{max_path, max_levels, SPACE, STATE}
 use Rattle.reading.proofs.RunLaws.{lt_or}
 use Rattle.plain.specs.Plain.{next_plain}
 use Rattle.ops_spec.specs.Ops as O
 use Rattle.ops_spec.specs.Ops.{step_one, step_all, after_steps, by_verdict, decide}
 use Rattle.ops_spec.specs.OpsFuelLaws.{rounds_by, rounds_by_lem}
-use Rattle.stream_step.specs.declared.Answer.{Answer}
-use Rattle.stream_step.specs.declared.Answer.TheVariants.{Key, End, Refused}
 use Rattle.stream.specs.declared.Plain.{Plain}
 use Rattle.stream.specs.declared.Step.{Step}
 use Rattle.stream.specs.Plains.{plain_is, CallGave}
@@ -35,7 +34,6 @@ use Rattle.ops_round.specs.StepLaws.{card_ended, card_held, card_long, card_key_
 use Rattle.ops_seen.specs.declared.Seen.{Seen}
 use Rattle.ops_seen.specs.Sights.{dealt_card, SeenOf, SeenAt, AllSeen, AllDealt, Sees, SameKeys, Ready, Kept}
 use Rattle.ops_seen.specs.SightsLaws.{key_kept, see_few, see_sees, deal_is}
-use Rattle.ops_turn.specs.declared.After.{After}
 use Rattle.ops_turn.specs.declared.SeenStep.{SeenStep}
 use Rattle.ops_turn.specs.Parts.{dealt_all, after_is, SeenStepped, weight, load, Turning}
 use Rattle.ops_turn.specs.LoadLaws.{load_append, load_one, load_step}
@@ -94,37 +92,33 @@ load_none = refl
 
 module _ (f : List ℕ) (space : ℕ) (p : Plain) (i : ℕ) (ks₀ ks : List ℕ) (g : Step) (gave : CallGave (next_plain f (plain_is p) space) g) (key : Place)
     (put : BytesPut g.plain i ks₀ ks key) where
-  abbrev step_of : After → SeenStep
-  step_of t =
-      record {
-        halted = t.halted;
-        why = t.why;
-        card = record { reading = g.plain; slot = t.slot; value = t.value };
-        seen = record { key = key; slot = t.slot; value = t.value };
-      }
+  abbrev step_of : Result (Slot × ℕ) Refusal → SeenStep
+  step_of (Ok (t, v)) = record { answer = Ok tt; card = record { reading = g.plain; slot = t; value = v }; seen = record { key = key; slot = t; value = v } }
+  step_of (Err n) = record { answer = Err n; card = record { reading = g.plain; slot = Used; value = 0 }; seen = record { key = key; slot = Used; value = 0 } }
 
-  by_answer : (a : Answer) → g.answer ≡ a → SeenStepped f space p i ks₀ ks (step_of (after_is a))
-  by_answer (Key n v) e =
+  by_answer : (a : Result (Option (ℕ × ℕ)) Refusal) → g.answer ≡ a → SeenStepped f space p i ks₀ ks (step_of (after_is a))
+  by_answer (Ok (Some (n, v))) e =
       record {
-        halts = λ z. let x : ◌≡◌ {A = ℕ} 0 1 = cc in absurd (omega arith);
+        halts = λ w z. let x : ◌≡◌ {A = ℕ} 0 1 = cc in absurd (omega arith);
         goes = λ z. card_key_lem f space p g gave n v e;
         seen = record { slot = refl; value = refl; put = put };
       }
-  by_answer End e =
+  by_answer (Ok None) e =
       record {
-        halts = λ z. let x : ◌≡◌ {A = ℕ} 0 1 = cc in absurd (omega arith);
+        halts = λ w z. let x : ◌≡◌ {A = ℕ} 0 1 = cc in absurd (omega arith);
         goes = λ z. card_end f space p g gave 0 e;
         seen = record { slot = refl; value = refl; put = put };
       }
-  by_answer (Refused n) e =
+  by_answer (Err n) e =
       record {
-        halts = λ z. card_refused f space p g gave (record { reading = g.plain; slot = Used; value = 0 }) n e;
+        halts = λ w z. let same : n ≡ w = cc in card_refused f space p g gave (record { reading = g.plain; slot = Used; value = 0 }) w (e ∙ ap Err same);
         goes = λ z. let x : ◌≡◌ {A = ℕ} 0 1 = cc in absurd (omega arith);
         seen = record { slot = refl; value = refl; put = put };
       }
 
-  pub stepped_as : (t : After) → t ≡ after_is g.answer → SeenStepped f space p i ks₀ ks (step_of t)
-  stepped_as t e = subst (λ (x : After). SeenStepped f space p i ks₀ ks (step_of x)) (sym e) (by_answer g.answer refl)
+  -- by what the answer made of the card
+  pub stepped_as : (t : Result (Slot × ℕ) Refusal) → t ≡ after_is g.answer → (u : Result (Slot × ℕ) Refusal) → t ≡ u → SeenStepped f space p i ks₀ ks (step_of u)
+  stepped_as t e u is = subst (λ (x : Result (Slot × ℕ) Refusal). SeenStepped f space p i ks₀ ks (step_of x)) (sym e ∙ is) (by_answer g.answer refl)
 
 -- ---- the measure
 
@@ -187,7 +181,7 @@ module _ {space : ℕ} {fs : List (List ℕ)} {o : O.Op} {n : ℕ} {X : List O.C
     here : get_or D i d ≡ dealt_card c s
     here = let a = T.cards_len in let b = T.seen_len in dealt_at all ss i d e (omega arith) (omega arith)
 
-    halts : (why : ℕ) (x : Card) → OneStepped f space (get_or D i d) (record { answer = Halted why; card = x }) → rounds_by o space false X ≡ O.Merged.refused why
+    halts : (why : Refusal) (x : Card) → OneStepped f space (get_or D i d) (record { answer = Halted why; card = x }) → rounds_by o space false X ≡ O.Merged.refused why
     halts why x one =
         by_steps
         ∙ ap (after_steps o space T.before (rounds_by o space true))
@@ -206,10 +200,10 @@ module _ {space : ℕ} {fs : List (List ℕ)} {o : O.Op} {n : ℕ} {X : List O.C
             few = one.few;
           })
 
-      pub turn_halted : r.halted ≡ true → rounds_by o space false X ≡ O.Merged.refused r.why
-      turn_halted t = halts r.why r.card (one_of (Halted r.why) (by.halts t))
+      pub turn_halted : (why : Refusal) → r.answer ≡ Err why → rounds_by o space false X ≡ O.Merged.refused why
+      turn_halted why t = halts why r.card (one_of (Halted why) (by.halts why t))
 
-      module _ (t : r.halted ≡ false) where
+      module _ (t : r.answer ≡ Ok tt) where
         one : OneStepped f space (get_or D i d) (record { answer = Moved; card = r.card })
         one = one_of Moved (by.goes t)
 

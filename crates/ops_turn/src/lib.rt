@@ -4,53 +4,27 @@
 ghost use Rattle.std.specs.Prelude.{◌≡◌, ◌<◌, length};
 ghost use Rattle.ops_turn.specs.Parts.{after_is, SeenStepped};
 
+use format::Refusal;
 use ops_keys::{KEYS, put_bytes};
 use ops_round::{Card, Slot, step_used};
 use ops_seen::Seen;
 use stream::Plain;
-use stream_step::Answer;
 
-// What a call of next makes of its card: a refusal's number, or the slot and the value afterwards. The rest carries no meaning.
-#[derive(Clone, Copy)]
-struct After {
-    halted: bool,
-    why: u8,
-    slot: Slot,
-    value: u64,
-}
-
-// A card after its step with what is seen of it, or the number of a refusal, where the rest carries no meaning.
+// A card after its step with what is seen of it. Also after a refusal what is seen is the card's, and its bytes are among the eight keys.
 #[derive(Clone, Copy)]
 pub struct SeenStep {
-    pub halted: bool,
-    pub why: u8,
+    pub answer: Result<(), Refusal>,
     pub card: Card,
     pub seen: Seen,
 }
 
-// What an answer makes of a card.
-fn after_of(answer: Answer) -> After
+// What an answer makes of a card: the slot and the value afterwards, or why it refuses.
+fn after_of(answer: Result<Option<(usize, u64)>, Refusal>) -> Result<(Slot, u64), Refusal>
     ensures { result ≡ after_is answer }
 {
-    match answer {
-        Answer::Key(_, value) => After {
-            halted: false,
-            why: 0,
-            slot: Slot::Holds,
-            value,
-        },
-        Answer::End => After {
-            halted: false,
-            why: 0,
-            slot: Slot::Ended,
-            value: 0,
-        },
-        Answer::Refused(why) => After {
-            halted: true,
-            why,
-            slot: Slot::Used,
-            value: 0,
-        },
+    match answer? {
+        Some((_, value)) => Ok((Slot::Holds, value)),
+        None => Ok((Slot::Ended, 0)),
     }
 }
 
@@ -70,20 +44,17 @@ pub fn step_seen(
     let answer = step.answer;
     let plain = step.plain;
     let key = put_bytes(plain, i, keys);
-    let after = after_of(answer);
-    let slot = after.slot;
+    let (answer, slot, value) = match after_of(answer) {
+        Ok((slot, value)) => (Ok(()), slot, value),
+        Err(why) => (Err(why), Slot::Used, 0),
+    };
     SeenStep {
-        halted: after.halted,
-        why: after.why,
+        answer,
         card: Card {
             reading: plain,
             slot,
-            value: after.value,
+            value,
         },
-        seen: Seen {
-            key,
-            slot,
-            value: after.value,
-        },
+        seen: Seen { key, slot, value },
     }
 }

@@ -2,12 +2,12 @@
 // caller: it answers on every input. It promises nothing of the items that it writes: what they are is promised of `ops::next_item`.
 #![tactic(auto)]
 
-use ops::{Cards, Merged};
-use ops_decide::Op;
+use format::Refusal;
+use ops::Cards;
+use ops_decide::{Op, op_of};
 use ops_round::Card;
 use stream::{Plain, Started};
 use stream_arrays::kind_of;
-use stream_start::Begins;
 
 // The bytes of an item: room for the longest key, and the number of the file of each pair.
 const ROW: usize = 263;
@@ -28,16 +28,6 @@ const REFUSED: u64 = 4_294_969_296;
 const ITEM_PUT: u64 = 0;
 
 const ENDED: u64 = 1;
-
-// Any number from 3 on stands for the symmetric difference.
-fn op_of(n: u64) -> Op {
-    match n {
-        0 => Op::Union,
-        1 => Op::Intersection,
-        2 => Op::Difference,
-        _ => Op::SymmetricDifference,
-    }
-}
 
 // ---- the arguments taken apart
 
@@ -171,15 +161,15 @@ fn call(files: [&[u8]; 8], cards: Cards, row: &mut [u8], item: &mut [u64]) -> Ca
     let numbers = step.files;
     let values = step.values;
     match answer {
-        Merged::Refused(why) => Called {
-            came: REFUSED + (why as u64),
+        Err(why) => Called {
+            came: REFUSED + u64::from(u8::from(why)),
             cards: after,
         },
-        Merged::End => Called {
+        Ok(None) => Called {
             came: ENDED,
             cards: after,
         },
-        Merged::Item(n) => {
+        Ok(Some(n)) => {
             put_item(n, &key, count, numbers, values, row, item);
             Called {
                 came: ITEM_PUT,
@@ -241,7 +231,7 @@ fn start_at(
     i: usize,
 ) -> Started {
     if 8 <= i {
-        return stream::refused(0);
+        return stream::refused(Refusal::Cards);
     }
     let from = begins_at(ends, i);
     let to = ends[i] as usize;
@@ -260,8 +250,8 @@ fn start_at(
 fn refusal(started: Started) -> u64 {
     let answer = started.answer;
     match answer {
-        Begins::Began => 0,
-        Begins::Refused(why) => START_REFUSED + (why as u64),
+        Ok(()) => 0,
+        Err(why) => START_REFUSED + u64::from(u8::from(why)),
     }
 }
 
@@ -301,8 +291,8 @@ fn run<'a>(
     let answer = begun.answer;
     let cards = begun.cards;
     match answer {
-        Begins::Refused(why) => REFUSED + (why as u64),
-        Begins::Began => {
+        Err(why) => REFUSED + u64::from(u8::from(why)),
+        Ok(()) => {
             let files = [a, b, c, d, e, f, g, h];
             items(files, cards, rows, numbers, followed)
         }

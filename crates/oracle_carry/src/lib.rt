@@ -10,7 +10,6 @@ ghost use Rattle.carrying.specs.Carry.{carry_plain, carry_by};
 ghost use Rattle.stream_arrays.specs.Arrays.{held, held_is, held_plain};
 ghost use Rattle.oracle_carry.specs.CarryTells.{CarryTold, CarryByTold};
 
-use carry::Carries;
 use patterned::Patterned;
 use patterned_held::Pattern;
 use stream::Plain;
@@ -48,8 +47,8 @@ pub extern "C" fn oracle_carry(
     let carried = carry::carry(old, new, plain);
     let answer = carried.answer;
     match answer {
-        Carries::Refused(why) => why as u64,
-        Carries::Carried => {
+        Err(why) => u64::from(u8::from(why)),
+        Ok(()) => {
             let after = carried.plain;
             let reading = after.reading;
             put(reading, head, bound, addrs, inps, trans, outs);
@@ -96,8 +95,8 @@ pub extern "C" fn oracle_carry_by(
     let carried = carry::carry_by(old, new, patterned);
     let answer = carried.answer;
     match answer {
-        Carries::Refused(why) => why as u64,
-        Carries::Carried => {
+        Err(why) => u64::from(u8::from(why)),
+        Ok(()) => {
             let after = carried.patterned;
             let reading = after.reading;
             put(reading, head, bound, addrs, inps, trans, outs);

@@ -5,8 +5,6 @@
 
 ghost use Rattle.oracle_convert.specs.ConvertTells.{ConvertTold};
 
-use convert::Converted;
-
 // The length of the new file, or 2^32 plus the refusal.
 #[unsafe(no_mangle)]
 pub extern "C" fn oracle_convert(
@@ -22,7 +20,7 @@ pub extern "C" fn oracle_convert(
         sums.new out.new table.new result }
 {
     match convert::convert_within(file, limit as usize, depths, sums, out, table) {
-        Converted::Len(n) => n as u64,
-        Converted::Refused(why) => 4_294_967_296 + (why as u64),
+        Ok(n) => n as u64,
+        Err(why) => 4_294_967_296 + u64::from(u8::from(why)),
     }
 }

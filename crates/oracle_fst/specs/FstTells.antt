@@ -2,19 +2,20 @@
 --     front v out              out with v at its front where it has room for v, else out as it was
 --     checksum_number c         a checksum, 2 ^ 32 for none
 --     OpenTold o out₀ out r    what is told of the opening o of a file
---     admission_is r            the answer of admission that the number r stands for
---     counting_is r             the answer of filling the table of keys that it stands for
+--     done_number a            the number that stands for an answer without a value: 0, or the refusal
+--     AdmitTold s .. r         admission's answer and tables, and the number r that stands for the answer
+--     CountTold s .. r         the same of filling the table of keys
 --     GetTold a out₀ out r     what is told of the answer a to a lookup by key
 --     KeyTold w buf₀ buf r     what is told of the answer w to a search by value
 -- Assumes nothing.
-use Rattle.std.specs.Prelude.{◌≡◌, cond, List, [], ◌∷◌, ◌++◌, ℕ, zero, suc, ◌+◌, leb, length, drop}
+use Rattle.std.specs.Prelude.{◌≡◌, cond, List, [], ◌∷◌, ◌++◌, ℕ, ◌+◌, leb, length, drop, Ok, Err, Result, ⊤}
 use Rattle.std.proofs.Math.Option.{Option, none, some}
+use Rattle.format.specs.Limits.{number}
+use Rattle.format.specs.declared.Refusal.{Refusal}
 use Rattle.format.specs.Opening.{Meta, Opening, opened, refused}
 use Rattle.format.specs.Lookup as L
-use Rattle.admission.specs.declared.Admission.{Admission}
-use Rattle.admission.specs.declared.Admission.TheVariants.{Admitted, Refused}
-use Rattle.counting.specs.declared.Counting.{Counting}
-use Rattle.counting.specs.declared.Counting.TheVariants.{Counted, Refused as NotCounted}
+use Rattle.admission.specs.Outcome.{Outcome}
+use Rattle.counting.specs.CountOutcomes.{CountOutcome}
 use Rattle.lookup_search.specs.KeyAnswers.{key_buffer_after}
 
 unfoldable pub front : List ℕ → List ℕ → List ℕ
@@ -28,7 +29,7 @@ checksum_number none = 4294967296
 
 abbrev pub open_number : Opening → ℕ
 open_number (opened m) = 0
-open_number (refused n) = n
+open_number (refused n) = number n
 
 abbrev pub open_numbers : Meta → List ℕ
 open_numbers m = m.version ∷ (m.ty ∷ (m.len ∷ (m.root ∷ (checksum_number m.checksum ∷ []))))
@@ -41,24 +42,28 @@ pub record OpenTold (o : Opening) (out₀ out : List ℕ) (r : ℕ) : Type 0 whe
   pub answer : r ≡ open_number o
   pub buffer : out ≡ open_buffer o out₀
 
--- ---- admission: 0, or the refusal, which is never 0
+-- ---- admission and the table of keys: 0, or the refusal, whose number is never 0
 
-abbrev pub admission_is : ℕ → Admission
-admission_is zero = Admitted
-admission_is (suc n) = Refused (suc n)
+abbrev pub done_number : Result ⊤ Refusal → ℕ
+done_number (Ok tt) = 0
+done_number (Err n) = number n
 
--- ---- the table of keys: 0, or the refusal, which is never 0
+pub record AdmitTold (s d₀ s₀ d t : List ℕ) (r : ℕ) : Type 0 where
+  pub answer : Result ⊤ Refusal
+  pub outcome : Outcome s d₀ s₀ d t answer
+  pub told : r ≡ done_number answer
 
-abbrev pub counting_is : ℕ → Counting
-counting_is zero = Counted
-counting_is (suc n) = NotCounted (suc n)
+pub record CountTold (s d₀ s₀ c₀ d t c : List ℕ) (r : ℕ) : Type 0 where
+  pub answer : Result ⊤ Refusal
+  pub outcome : CountOutcome s d₀ s₀ c₀ d t c answer
+  pub told : r ≡ done_number answer
 
 -- ---- a value for a key: 0 and the value, 100 for none, or the refusal
 
 abbrev pub get_number : L.Answer → ℕ
 get_number (L.Answer.value v) = 0
 get_number L.Answer.none = 100
-get_number (L.Answer.refused n) = n
+get_number (L.Answer.refused n) = number n
 
 abbrev pub get_buffer : L.Answer → List ℕ → List ℕ
 get_buffer (L.Answer.value v) out = front (v ∷ []) out
@@ -74,7 +79,7 @@ pub record GetTold (a : L.Answer) (out₀ out : List ℕ) (r : ℕ) : Type 0 whe
 abbrev pub key_number : L.KeyAnswer → ℕ
 key_number (L.KeyAnswer.found k) = length k
 key_number L.KeyAnswer.none = 1000
-key_number (L.KeyAnswer.refused n) = 2000 + n
+key_number (L.KeyAnswer.refused n) = 2000 + number n
 
 pub record KeyTold (w : L.KeyAnswer) (buf₀ buf : List ℕ) (r : ℕ) : Type 0 where
   pub answer : r ≡ key_number w

@@ -7,15 +7,7 @@ ghost use Rattle.std.specs.Prelude.{◌≡◌, [], ◌∷◌, length};
 ghost use Rattle.format.specs.Opening.{opening};
 ghost use Rattle.format.specs.Lookup as L;
 ghost use Rattle.fst.specs.Open.{checksum_is};
-ghost use Rattle.admission.specs.Outcome.{Outcome};
-ghost use Rattle.counting.specs.CountOutcomes.{CountOutcome};
-ghost use Rattle.oracle_fst.specs.FstTells.{front, checksum_number, OpenTold, admission_is, counting_is, GetTold, KeyTold};
-
-use admission::Admission;
-use counting::Counting;
-use fst::Opened;
-use lookup::Answer;
-use lookup_search::KeyAnswer;
+ghost use Rattle.oracle_fst.specs.FstTells.{front, checksum_number, OpenTold, AdmitTold, CountTold, GetTold, KeyTold};
 
 // ---- opening
 
@@ -26,18 +18,15 @@ fn checksum_number(c: Option<u32>) -> u64
     c.map_or(4_294_967_296, u64::from)
 }
 
-// Puts five numbers at the front of out where it has room for them.
-fn put_five(out: &mut [u64], a: u64, b: u64, c: u64, d: u64, e: u64)
-    ensures { out.new ≡ front (a ∷ (b ∷ (c ∷ (d ∷ (e ∷ []))))) out.old }
+// Puts the numbers at the front of out where it has room for them.
+#[tactic(auto, unfolding(crate::specs::FstTells::front))]
+fn put(out: &mut [u64], numbers: &[u64])
+    ensures { out.new ≡ front numbers.now out.old }
 {
-    if out.len() < 5 {
-        return;
+    let n = numbers.len();
+    if n <= out.len() {
+        out[..n].copy_from_slice(numbers);
     }
-    out[0] = a;
-    out[1] = b;
-    out[2] = c;
-    out[3] = d;
-    out[4] = e;
 }
 
 // 0 for a file that opens, with version, type, count, root and checksum (2^32 for none) at the front of out where it has
@@ -48,11 +37,11 @@ pub extern "C" fn oracle_open(file: &[u8], out: &mut [u64]) -> u64
         result }
 {
     match fst::open(file) {
-        Opened::Refused(why) => why as u64,
-        Opened::Meta(m) => {
+        Err(why) => u64::from(u8::from(why)),
+        Ok(m) => {
             let stored = m.checksum;
             let checksum = checksum_number(stored);
-            put_five(out, m.version, m.ty, m.len, m.root as u64, checksum);
+            put(out, &[m.version, m.ty, m.len, m.root as u64, checksum]);
             0
         }
     }
@@ -63,12 +52,12 @@ pub extern "C" fn oracle_open(file: &[u8], out: &mut [u64]) -> u64
 // 0 for an admitted file, else the refusal; the two tables are left as admission leaves them.
 #[unsafe(no_mangle)]
 pub extern "C" fn oracle_admit(file: &[u8], depths: &mut [u16], sums: &mut [u64]) -> u64
-    ensures { Outcome file.now depths.old sums.old
-        depths.new sums.new (admission_is result) }
+    ensures { AdmitTold file.now depths.old sums.old
+        depths.new sums.new result }
 {
     match admission::admit(file, depths, sums) {
-        Admission::Admitted => 0,
-        Admission::Refused(why) => why as u64,
+        Ok(()) => 0,
+        Err(why) => u64::from(u8::from(why)),
     }
 }
 
@@ -82,27 +71,17 @@ pub extern "C" fn oracle_count_keys(
     sums: &mut [u64],
     counts: &mut [u64],
 ) -> u64
-    ensures { CountOutcome file.now depths.old sums.old
+    ensures { CountTold file.now depths.old sums.old
         counts.old depths.new sums.new counts.new
-        (counting_is result) }
+        result }
 {
     match counting::count_keys(file, depths, sums, counts) {
-        Counting::Counted => 0,
-        Counting::Refused(why) => why as u64,
+        Ok(()) => 0,
+        Err(why) => u64::from(u8::from(why)),
     }
 }
 
 // ---- lookup
-
-// Puts a number at the front of out where it has room for it.
-fn put_one(out: &mut [u64], a: u64)
-    ensures { out.new ≡ front (a ∷ []) out.old }
-{
-    if out.len() < 1 {
-        return;
-    }
-    out[0] = a;
-}
 
 // 0 for a held key, with its value at the front of out where it has a place; 100 where the key is not held; else the
 // refusal. The rest of out stays.
@@ -112,12 +91,12 @@ pub extern "C" fn oracle_get(file: &[u8], key: &[u8], out: &mut [u64]) -> u64
         out.new result }
 {
     match lookup::get(file, key) {
-        Answer::Value(v) => {
-            put_one(out, v);
+        Ok(Some(v)) => {
+            put(out, &[v]);
             0
         }
-        Answer::None => 100,
-        Answer::Refused(why) => why as u64,
+        Ok(None) => 100,
+        Err(why) => u64::from(u8::from(why)),
     }
 }
 
@@ -129,8 +108,8 @@ pub extern "C" fn oracle_get_key(file: &[u8], value: u64, key: &mut [u8]) -> u64
         key.old key.new result }
 {
     match lookup_key::get_key(file, value, key) {
-        KeyAnswer::Key(n) => n as u64,
-        KeyAnswer::None => 1000,
-        KeyAnswer::Refused(why) => 2000 + (why as u64),
+        Ok(Some(n)) => n as u64,
+        Ok(None) => 1000,
+        Err(why) => 2000 + u64::from(u8::from(why)),
     }
 }

@@ -2,20 +2,18 @@
 // is promised of the calls of crates marks and marks_by that are made here.
 #![tactic(auto)]
 
-use marks::Change;
+use format::Refusal;
 use oracle_marks_held::{Held, Ran, held_by, told};
 use patterned::Patterned;
 use patterned_held::Pattern;
 use stream::Plain;
 use stream_arrays::kind_of;
-use stream_start::Begins;
-use stream_step::Answer;
 
 // A reading of either kind in the place of the one before.
-fn begun(answer: Begins, plain: Plain, pattern: Pattern, held: Held) -> Ran {
+fn begun(answer: Result<(), Refusal>, plain: Plain, pattern: Pattern, held: Held) -> Ran {
     match answer {
-        Begins::Refused(why) => told(3000 + (why as u64), 0, held),
-        Begins::Began => {
+        Err(why) => told(3000 + u64::from(u8::from(why)), 0, held),
+        Ok(()) => {
             let marks = held.marks;
             told(
                 1002,
@@ -61,11 +59,11 @@ pub fn started(
 }
 
 // What a next answered.
-fn stepped(answer: Answer, held: Held) -> Ran {
+fn stepped(answer: Result<Option<(usize, u64)>, Refusal>, held: Held) -> Ran {
     match answer {
-        Answer::Key(n, value) => told(n as u64, value, held),
-        Answer::End => told(1000, 0, held),
-        Answer::Refused(why) => told(2000 + (why as u64), 0, held),
+        Ok(Some((n, value))) => told(n as u64, value, held),
+        Ok(None) => told(1000, 0, held),
+        Err(why) => told(2000 + u64::from(u8::from(why)), 0, held),
     }
 }
 
@@ -95,10 +93,10 @@ pub fn next_of(file: &[u8], by: u64, held: Held, key: &mut [u8]) -> Ran {
 }
 
 // What a mark or a return answered.
-fn done(answer: Change, held: Held) -> Ran {
+fn done(answer: Result<(), Refusal>, held: Held) -> Ran {
     match answer {
-        Change::Done => told(1002, 0, held),
-        Change::Refused(why) => told(2000 + (why as u64), 0, held),
+        Ok(()) => told(1002, 0, held),
+        Err(why) => told(2000 + u64::from(u8::from(why)), 0, held),
     }
 }
 

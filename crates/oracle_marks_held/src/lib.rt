@@ -53,8 +53,10 @@ pub fn held_by(patterned: Patterned, marks: Marks) -> Held {
 
 // No reading, no pattern and no marks.
 pub fn nothing() -> Held {
-    let none = stream::refused(0);
-    let plain = none.plain;
+    let plain = Plain {
+        reading: stream_start::no_reading(),
+        keys: 0,
+    };
     let pattern = Pattern {
         len: 0,
         rest: false,

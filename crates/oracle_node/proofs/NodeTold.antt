@@ -1,24 +1,22 @@
 -- What the exported functions tell, from what judging the node answered.
 -- Assumes nothing.
-use Rattle.std.specs.Prelude.{Result, Ok, Err}
+use Rattle.std.specs.Prelude.{Result, Ok, Err, ℕ}
+use Rattle.format.specs.Limits as L
+use Rattle.format.specs.declared.Refusal.{Refusal}
 use mathlib.Core.Path.{◌≡◌, refl, sym, ap, ◌∙◌}
-use mathlib.Core.Bool.{Bool, true, false, cond, ◌&&◌}
 use mathlib.Core.List.{List, [], ◌∷◌}
 use Prim.Native.Nat.{ℕ, ◌+◌, ◌≤◌, ◌<◌}
 use native.Mathlib.Omega.{arith}
 use borrow.Author.Tests.{lt-ltb, le-ltb, le-leb, lt-leb}
-use lib.Dec.{ltb, leb}
 use lib.ListN.{length, take}
 use Rattle.format.specs.declared.Transition.{Transition}
 use Rattle.format.specs.Bytes.{le}
-use Rattle.format.specs.Node.{Judgement, sound, unsound, node_at, transition_at, find_input, Search}
+use Rattle.format.specs.Node.{sound, unsound, node_at, transition_at, find_input}
 use Rattle.format.specs.Packed.{BuilderNode, Packing, written, refused, packing}
 use Rattle.node.specs.declared.Node.{Node}
 use Rattle.node.specs.declared.Unsound.{Unsound}
-use Rattle.node.specs.Read.{transitions_in, meaning, judged_is, search_is, Readable, Judges}
+use Rattle.node.specs.Read.{transitions_in, meaning, search_is, Judges}
 use Rattle.node.specs.ReadLaws.{length_node_transitions}
-use Rattle.node_compile.specs.declared.Compiled.{Compiled}
-use Rattle.node_compile.specs.declared.Compiled.TheVariants.{Len, Refused}
 use Rattle.node_compile.specs.Compile.{answer_as, buffer_after, Compiles}
 use Rattle.oracle_node.proofs.NodeFront.{front_short}
 use Rattle.oracle_node.specs.NodeTells.{unpacked, flag_as, front, transition_numbers, place_number, packing_number, packing_buffer, PackingTold, NodeTold, TransitionTold, found_as}
@@ -43,8 +41,8 @@ buffer_is : (p : Packing) (out : List ℕ) → buffer_after p out ≡ packing_bu
 buffer_is (written bs) out = refl
 buffer_is (refused k) out = refl
 
-module _ {b : BuilderNode} {first : ℕ} {out₀ out : List ℕ} {r : Compiled} (compiles : Compiles b first out₀ out r) where
-  pub packed_told : (n : ℕ) → r ≡ Len n → PackingTold (packing first b (length out₀)) out₀ out n
+module _ {b : BuilderNode} {first : ℕ} {out₀ out : List ℕ} {r : Result ℕ Refusal} (compiles : Compiles b first out₀ out r) where
+  pub packed_told : (n : ℕ) → r ≡ Ok n → PackingTold (packing first b (length out₀)) out₀ out n
   packed_told n e = record {
     answer = len (packing first b (length out₀)) compiles.answer;
     buffer = compiles.buffer ∙ buffer_is (packing first b (length out₀)) out₀;
@@ -54,13 +52,13 @@ module _ {b : BuilderNode} {first : ℕ} {out₀ out : List ℕ} {r : Compiled} 
       len (written bs) is = cc
       len (refused k) is = absurd (let z : ◌≡◌ {A = ℕ} 0 1 = cc in omega arith)
 
-  pub refused_told : (k : ℕ) → r ≡ Refused k → PackingTold (packing first b (length out₀)) out₀ out (4294967296 + k)
+  pub refused_told : (k : Refusal) → r ≡ Err k → PackingTold (packing first b (length out₀)) out₀ out (4294967296 + L.number k)
   refused_told k e = record {
     answer = number (packing first b (length out₀)) compiles.answer;
     buffer = compiles.buffer ∙ buffer_is (packing first b (length out₀)) out₀;
   }
     where
-      number : (p : Packing) → r ≡ answer_as p → 4294967296 + k ≡ packing_number p
+      number : (p : Packing) → r ≡ answer_as p → 4294967296 + L.number k ≡ packing_number p
       number (written bs) is = absurd (let z : ◌≡◌ {A = ℕ} 0 1 = cc in omega arith)
       number (refused j) is = let same : k ≡ j = cc in rw same
 

@@ -9,6 +9,7 @@
 -- Assumes nothing.
 use Rattle.std.specs.Prelude.{◌≡◌, Bool, cond, not, ◌&&◌, List, [], ◌∷◌, ◌++◌, ℕ, ◌+◌, ltb, leb, eqb, length, take, drop}
 use Rattle.format.specs.declared.Transition.{Transition}
+use Rattle.format.specs.Limits.{number}
 use Rattle.format.specs.Bytes.{le}
 use Rattle.format.specs.Node.{Node, Judgement, sound, unsound, Search, find_input, transition_at}
 use Rattle.format.specs.Packed.{Packing, written, refused}
@@ -30,7 +31,7 @@ is_set n = not (eqb n 0)
 
 abbrev pub packing_number : Packing → ℕ
 packing_number (written bs) = length bs
-packing_number (refused k) = 4294967296 + k
+packing_number (refused k) = 4294967296 + number k
 
 -- the bytes at the buffer's front; a refusal leaves it as it was
 abbrev pub packing_buffer : Packing → List ℕ → List ℕ

@@ -11,8 +11,6 @@ ghost use Rattle.format.specs.Packed.{packing};
 ghost use Rattle.node_compile.specs.Compile.{builder_with};
 ghost use Rattle.oracle_node.specs.NodeTells.{unpacked, flag_as, is_set, PackingTold, front, NodeTold, TransitionTold, found_as};
 
-use node_compile::Compiled;
-
 // ---- stored numbers (src/bytes.rs)
 
 // How many bytes the packer gives n.
@@ -24,6 +22,7 @@ pub extern "C" fn oracle_pack_size(n: u64) -> u8
 }
 
 // The number of the first nbytes bytes of slice, or 0 where they are more than 8 or more than it has.
+#[tactic(auto, unfolding(crate::specs::NodeTells::unpacked))]
 #[unsafe(no_mangle)]
 pub extern "C" fn oracle_unpack_uint(slice: &[u8], nbytes: usize) -> u64
     ensures { result ≡ unpacked slice.now nbytes }
@@ -91,41 +90,20 @@ pub extern "C" fn oracle_compile(
         first,
         out,
     ) {
-        Compiled::Len(n) => n as u64,
-        Compiled::Refused(k) => 4_294_967_296 + (k as u64),
+        Ok(n) => n as u64,
+        Err(k) => 4_294_967_296 + u64::from(u8::from(k)),
     }
 }
 
-// 1 for true, 0 for false.
-fn flag(b: bool) -> u64
-    ensures { result ≡ flag_as b }
+// Puts the numbers at the front of out where it has room for them.
+#[tactic(auto, unfolding(crate::specs::NodeTells::front))]
+fn put(out: &mut [u64], numbers: &[u64])
+    ensures { out.new ≡ front numbers.now out.old }
 {
-    if b { 1 } else { 0 }
-}
-
-// Puts four numbers at the front of out where it has room for them.
-fn put_four(out: &mut [u64], a: u64, b: u64, c: u64, d: u64)
-    ensures { out.new ≡ front (a ∷ (b ∷ (c ∷ (d ∷ [])))) out.old }
-{
-    if out.len() < 4 {
-        return;
+    let n = numbers.len();
+    if n <= out.len() {
+        out[..n].copy_from_slice(numbers);
     }
-    out[0] = a;
-    out[1] = b;
-    out[2] = c;
-    out[3] = d;
-}
-
-// Puts three numbers at the front of out where it has room for them.
-fn put_three(out: &mut [u64], a: u64, b: u64, c: u64)
-    ensures { out.new ≡ front (a ∷ (b ∷ (c ∷ []))) out.old }
-{
-    if out.len() < 3 {
-        return;
-    }
-    out[0] = a;
-    out[1] = b;
-    out[2] = c;
 }
 
 // 1 for a sound node, with F, final (0 or 1), final output and the number of transitions at the front of out where it
@@ -144,13 +122,10 @@ pub extern "C" fn oracle_node(
     let Ok(n) = node::node_at(file, version, root, addr) else {
         return 0;
     };
-    let is_final = flag(n.is_final);
-    put_four(
+    let is_final = u64::from(n.is_final);
+    put(
         out,
-        n.first as u64,
-        is_final,
-        n.final_output,
-        n.ntrans as u64,
+        &[n.first as u64, is_final, n.final_output, n.ntrans as u64],
     );
     1
 }
@@ -179,7 +154,7 @@ pub extern "C" fn oracle_transition(
         return 0;
     }
     let t = node::transition(file, n, i);
-    put_three(out, t.inp as u64, t.out, t.addr as u64);
+    put(out, &[t.inp as u64, t.out, t.addr as u64]);
     1
 }
 

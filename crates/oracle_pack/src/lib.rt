@@ -9,23 +9,16 @@ ghost use Rattle.pack_blank.specs.PackBlank.{tables_test};
 ghost use Rattle.pack_cells.specs.Pairs.{pairs_is};
 ghost use Rattle.oracle_pack.specs.PackTells.{number_as, PackTold};
 
-use pack_blank::Packed;
+use format::Refusal;
 use pack_cell::Cell;
 
-// The limit as the packing takes it.
-fn wide(limit: u32) -> usize
-    ensures { result ≡ limit }
-{
-    limit as usize
-}
-
 // The answer as a number.
-fn number(answer: Packed) -> u64
+fn number(answer: Result<usize, Refusal>) -> u64
     ensures { result ≡ number_as answer }
 {
     match answer {
-        Packed::Len(n) => n as u64,
-        Packed::Refused(why) => 4_294_967_296 + (why as u64),
+        Ok(n) => n as u64,
+        Err(why) => 4_294_967_296 + u64::from(u8::from(why)),
     }
 }
 
@@ -45,5 +38,5 @@ pub extern "C" fn oracle_pack(
         (length cells.old) (length output.old))
         output.new (pairs_is cells.new) inputs.new leasts.new targets.new result }
 {
-    number(pack::pack_within(wide(limit), list, output, cells, inputs, leasts, targets))
+    number(pack::pack_within(limit as usize, list, output, cells, inputs, leasts, targets))
 }

@@ -1,6 +1,9 @@
 -- What the exported functions tell, from what a start and a next by pattern answered.
 -- Assumes nothing.
 use mathlib.Core.Path.{◌≡◌, refl, sym, ap, ◌∙◌, subst}
+use Rattle.std.specs.Prelude.{Ok, Err}
+use Rattle.format.specs.declared.Refusal.{Refusal}
+use Rattle.format.specs.Limits.{number}
 use mathlib.Core.List.{List}
 use Prim.Native.Nat.{ℕ}
 use native.Mathlib.Omega.{arith}
@@ -8,7 +11,6 @@ use Rattle.reading.specs.Reading as R
 use Rattle.stream_start.specs.declared.Bound.{Bound}
 use Rattle.stream_start.specs.declared.Reading.{Reading}
 use Rattle.stream_start.specs.declared.Started.{Started}
-use Rattle.stream_start.specs.declared.Begins.TheVariants.{Began, Refused as NotStarted}
 use Rattle.stream_start.specs.Views.{bound_is, view_is, started_is, began_is}
 use Rattle.stream_step.specs.declared.Step.{Step}
 use Rattle.stream_step.specs.Stepped.{Stepped}
@@ -40,12 +42,12 @@ start_by_lem f p lo hi {k} {l} n m a b w =
     w.answer ∙ ap (λ (x : Bound). start_by f p (bound_is x lo) (bound_is l hi)) a ∙ ap (λ (x : Bound). start_by f p (bound_is (kind_is n) lo) (bound_is x hi)) b
 
 module _ {w : R.Started} (s : Started) (e : started_is s ≡ w) where
-  pub start_by_refused : (n : ℕ) (h : Held) → s.answer ≡ NotStarted n → StartByTold w h h n
+  pub start_by_refused : (n : Refusal) (h : Held) → s.answer ≡ Err n → StartByTold w h h (number n)
   start_by_refused n h is =
       let q : w ≡ R.Started.refused n = sym e ∙ ap (λ b. began_is b s.reading) is in
       rw q (record { answer = refl; reading = λ v no. absurd (let z : ◌≡◌ {A = ℕ} 0 1 = cc in omega arith); kept = λ m same. refl })
 
-  pub start_by_told : (h₀ h : Held) → s.answer ≡ Began → h ≡ held_as s.reading → StartByTold w h₀ h 0
+  pub start_by_told : (h₀ h : Held) → s.answer ≡ Ok tt → h ≡ held_as s.reading → StartByTold w h₀ h 0
   start_by_told h₀ h is put =
       let q : w ≡ R.started (view_is s.reading) = sym e ∙ ap (λ b. began_is b s.reading) is in
       rw q

@@ -5,6 +5,8 @@
 --     NextByTold w h k₀ k v₀ v r     what is told of the answer w to a call of next
 -- Assumes nothing.
 use Rattle.std.specs.Prelude.{◌≡◌, List, ℕ}
+use Rattle.format.specs.declared.Refusal.{Refusal}
+use Rattle.format.specs.Limits.{number}
 use Rattle.reading.specs.Reading as R
 use Rattle.reading.specs.Reading.{View, written}
 use Rattle.stream_start.specs.Views.{view_is}
@@ -15,12 +17,12 @@ use Rattle.oracle_stream.specs.StreamTells.{next_number, value_in}
 
 abbrev pub start_by_number : R.Started → ℕ
 start_by_number (R.started v) = 0
-start_by_number (R.Started.refused n) = n
+start_by_number (R.Started.refused n) = number n
 
 pub record StartByTold (w : R.Started) (h₀ h : Held) (r : ℕ) : Type 0 where
   pub answer : r ≡ start_by_number w
   pub reading : (v : View) → w ≡ R.started v → view_is (held_is h) ≡ v
-  pub kept : (n : ℕ) → w ≡ R.Started.refused n → h ≡ h₀
+  pub kept : (n : Refusal) → w ≡ R.Started.refused n → h ≡ h₀
 
 -- ---- next: a key's length, 1000 for the end, or 2000 and the refusal; and a key's value
 

@@ -18,7 +18,6 @@ use oracle_stream::told;
 use patterned::Patterned;
 use patterned_held::Pattern;
 use stream_arrays::{kind_of, put, reading_of};
-use stream_start::Begins;
 
 // 0 where a start gives a reading, which stands in the arrays then; else the refusal, the arrays as they were.
 #[unsafe(no_mangle)]
@@ -52,8 +51,8 @@ pub extern "C" fn oracle_start_by(
     let started = patterned::start(file, positions, any, lower_bound, lower, upper_bound, upper);
     let answer = started.answer;
     match answer {
-        Begins::Refused(why) => why as u64,
-        Begins::Began => {
+        Err(why) => u64::from(u8::from(why)),
+        Ok(()) => {
             let patterned = started.patterned;
             let reading = patterned.reading;
             put(reading, head, bound, addrs, inps, trans, outs);

@@ -1,35 +1,27 @@
 -- What is told of a range: one law for each way that it stops.
 -- Assumes nothing.
-use mathlib.Core.Path.{◌≡◌, refl, sym, ap, subst, ◌∙◌}
+use mathlib.Core.Path.{◌≡◌, refl, ap, subst, ◌∙◌}
 use mathlib.Core.List.{List, [], ◌∷◌}
-use Prim.Native.Nat.{ℕ, ◌+◌}
+use Prim.Native.Nat.{ℕ}
 use Rattle.paging.specs.Paging as P
 use Rattle.paging.specs.Paging.{Page, ended, more}
 use Rattle.stream_start.specs.declared.Bound.{Bound}
 use Rattle.stream_start.specs.Views.{bound_is}
-use Rattle.range_fill.specs.declared.Stop.{Stop}
-use Rattle.range_fill.specs.declared.Stop.TheVariants.{End, More, Refused}
 use Rattle.range_fill.specs.declared.Ranged.{Ranged}
 use Rattle.range_fill.specs.RangedRows.{stop_as, RangedBy}
 use Rattle.stream_arrays.specs.Arrays.{kind_is}
-use Rattle.oracle_range.specs.RangeTold.{stop_number, RangeTold}
+use Rattle.oracle_range.specs.RangeTold.{stop_told, stop_number, RangeTold}
 
--- the number for a stop of the code
-abbrev stop_of : Stop → ℕ
-stop_of End = 1000
-stop_of More = 1001
-stop_of (Refused n) = 2000 + n
-
-stop_as_lem : (w : P.Stop) → stop_of (stop_as w) ≡ stop_number w
+stop_as_lem : (w : P.Stop) → stop_told (stop_as w) ≡ stop_number w
 stop_as_lem ended = refl
 stop_as_lem more = refl
 stop_as_lem (P.Stop.refused n) = refl
 
-pub range_told : {w : Page} {rows₀ rows values₀ values : List ℕ} {r : Ranged} → RangedBy w rows₀ rows values₀ values r → (s : Stop) → r.stop ≡ s
-    → (count : List ℕ) → count ≡ r.count ∷ [] → RangeTold w rows₀ rows values₀ values count (stop_of s)
-range_told {w} {r = r} h s e count is =
+pub range_told : {w : Page} {rows₀ rows values₀ values : List ℕ} {r : Ranged} → RangedBy w rows₀ rows values₀ values r → (count : List ℕ) → count ≡ r.count ∷ []
+    → (n : ℕ) → n ≡ stop_told r.stop → RangeTold w rows₀ rows values₀ values count n
+range_told {w} {r = r} h count is n told =
     record {
-      answer = ap stop_of (sym e ∙ h.stop) ∙ stop_as_lem w.stop;
+      answer = told ∙ ap stop_told h.stop ∙ stop_as_lem w.stop;
       count_is = is ∙ ap (λ (n : ℕ). n ∷ []) h.count;
       rows_are = h.rows_are;
       values_are = h.values_are;

@@ -3,14 +3,26 @@
 // as its pointer.
 #![tactic(auto)]
 
-ghost use Rattle.std.specs.Prelude.{length};
+ghost use Rattle.std.specs.Prelude.{◌≡◌, length};
 ghost use Rattle.paging.specs.Paging as P;
 ghost use Rattle.stream_start.specs.Views.{bound_is};
 ghost use Rattle.stream_arrays.specs.Arrays.{kind_is};
-ghost use Rattle.oracle_range.specs.RangeTold.{RangeTold};
+ghost use Rattle.oracle_range.specs.RangeTold.{stop_told, RangeTold};
 
+use format::Refusal;
 use range_fill::Stop;
 use stream_arrays::kind_of;
+
+// Why a range stopped, as a number.
+fn stop_number(stop: Result<Stop, Refusal>) -> u64
+    ensures { result ≡ stop_told stop }
+{
+    match stop {
+        Ok(Stop::End) => 1000,
+        Ok(Stop::More) => 1001,
+        Err(why) => 2000 + u64::from(u8::from(why)),
+    }
+}
 
 // 1000 where the range ended, 1001 where more may come, or 2000 plus the refusal; count has the number of rows that were written.
 #[unsafe(no_mangle)]
@@ -44,10 +56,5 @@ pub extern "C" fn oracle_range(
         values,
     );
     *count = [ranged.count as u64];
-    let stop = ranged.stop;
-    match stop {
-        Stop::End => 1000,
-        Stop::More => 1001,
-        Stop::Refused(why) => 2000 + (why as u64),
-    }
+    stop_number(ranged.stop)
 }

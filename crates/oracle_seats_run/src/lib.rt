@@ -15,37 +15,42 @@
 // bytes.
 #![tactic(auto)]
 
-use seats::{Change, Seated, Served};
+use seats::{Seated, Served};
 use seats_turn::{LAST_SEAT, Seat, Seats};
+use stream::Plain;
 use stream_arrays::kind_of;
-use stream_start::Begins;
 
 // The bytes of a row, room for the longest key.
 const ROW: usize = 255;
 
-// What an event answers, and the seats after it.
+// What an event answers but for the total, and the seats after it.
 #[derive(Clone, Copy)]
 struct Ran {
-    told: [u64; 4],
+    told: [u64; 3],
     seats: Seats,
 }
 
-// The total of a seat's reading, 0 for a number that no seat has.
-fn total_of(seats: Seats, number: usize) -> u64 {
+// The total of the reading that a seat has or had last, 0 for a number that no seat has.
+fn total_of(readings: &[Plain; 8], number: usize) -> u64 {
     if LAST_SEAT < number {
         return 0;
     }
-    let held = seats.seats[number];
-    let plain = held.reading;
-    let reading = plain.reading;
-    reading.total
+    readings[number].reading.total
+}
+
+// The readings that the seats have, or had last: a made state may take a reading away and give it back.
+fn keep(readings: &mut [Plain; 8], seats: Seats) {
+    for i in 0..8 {
+        if let Some(plain) = seats.seats[i].reading {
+            readings[i] = plain;
+        }
+    }
 }
 
 // An answer about a seat.
 fn told(code: u64, number: usize, value: u64, seats: Seats) -> Ran {
-    let total = total_of(seats, number);
     Ran {
-        told: [code, number as u64, value, total],
+        told: [code, number as u64, value],
         seats,
     }
 }
@@ -55,8 +60,8 @@ fn changed(seated: Seated, number: usize) -> Ran {
     let seats = seated.seats;
     let answer = seated.answer;
     match answer {
-        Change::Done => told(1002, number, 0, seats),
-        Change::Refused(why) => told(2000 + (why as u64), number, 0, seats),
+        Ok(()) => told(1002, number, 0, seats),
+        Err(why) => told(2000 + u64::from(u8::from(why)), number, 0, seats),
     }
 }
 
@@ -87,8 +92,8 @@ fn seat_started(file: &[u8], table: &[u64], bounds: &[u8], event: [u64; 8], seat
     );
     let answer = started.answer;
     match answer {
-        Begins::Refused(why) => told(3000 + (why as u64), number, 0, seats),
-        Begins::Began => changed(seats::seat(seats, number, started.plain), number),
+        Err(why) => told(3000 + u64::from(u8::from(why)), number, 0, seats),
+        Ok(()) => changed(seats::seat(seats, number, started.plain), number),
     }
 }
 
@@ -98,10 +103,10 @@ fn dispatched(file: &[u8], seats: Seats, key: &mut [u8]) -> Ran {
     let after = dispatch.seats;
     let served = dispatch.served;
     match served {
-        Served::Key(number, n, value) => told(n as u64, number as usize, value, after),
-        Served::End(number) => told(1000, number as usize, 0, after),
-        Served::Nobody => told(1001, 0, 0, after),
-        Served::Refused(why) => told(2000 + (why as u64), 0, 0, after),
+        Ok(Served::Key(number, n, value)) => told(n as u64, number as usize, value, after),
+        Ok(Served::End(number)) => told(1000, number as usize, 0, after),
+        Ok(Served::Nobody) => told(1001, 0, 0, after),
+        Err(why) => told(2000 + u64::from(u8::from(why)), 0, 0, after),
     }
 }
 
@@ -113,25 +118,23 @@ fn dispatched_in(file: &[u8], less: usize, seats: Seats, key: &mut [u8]) -> Ran 
     dispatched(file, seats, &mut key[less..])
 }
 
-// A made state of one seat.
-fn flagged(event: [u64; 8], seats: Seats) -> Ran {
+// A made state of one seat: taken, it has the reading that it had last.
+fn flagged(event: [u64; 8], seats: Seats, readings: &[Plain; 8]) -> Ran {
     let number = event[1] as usize;
     if LAST_SEAT < number {
         return told(4000, number, 0, seats);
     }
-    let held = seats.seats[number];
-    let reading = held.reading;
+    let last = readings[number];
     let made = Seat {
-        taken: event[3] != 0,
+        reading: (event[3] != 0).then_some(last),
         waiting: event[4] != 0,
-        reading,
     };
     let after = seats_turn::put_seat(seats, seats.last, number, made);
     told(1002, number, 0, after)
 }
 
 // An event that reads no file.
-fn small_event(event: [u64; 8], seats: Seats) -> Ran {
+fn small_event(event: [u64; 8], seats: Seats, readings: &[Plain; 8]) -> Ran {
     let number = event[1] as usize;
     if event[0] == 1 {
         return changed(seats::raise(seats, number), number);
@@ -145,7 +148,7 @@ fn small_event(event: [u64; 8], seats: Seats) -> Ran {
         return told(1002, number, 0, made);
     }
     if event[0] == 4 {
-        return flagged(event, seats);
+        return flagged(event, seats, readings);
     }
     told(4000, number, 0, seats)
 }
@@ -157,6 +160,7 @@ fn event_with(
     bounds: &[u8],
     event: [u64; 8],
     seats: Seats,
+    readings: &[Plain; 8],
     key: &mut [u8],
 ) -> Ran {
     if event[0] == 0 {
@@ -165,7 +169,7 @@ fn event_with(
     if event[0] == 2 {
         return dispatched_in(file, event[1] as usize, seats, key);
     }
-    small_event(event, seats)
+    small_event(event, seats, readings)
 }
 
 // One event.
@@ -177,12 +181,13 @@ fn event_of(
     bounds: &[u8],
     event: [u64; 8],
     seats: Seats,
+    readings: &[Plain; 8],
     key: &mut [u8],
 ) -> Ran {
     if event[2] == 0 {
-        return event_with(file, table, bounds, event, seats, key);
+        return event_with(file, table, bounds, event, seats, readings, key);
     }
-    event_with(other, other_table, bounds, event, seats, key)
+    event_with(other, other_table, bounds, event, seats, readings, key)
 }
 
 // Runs the events one after the other from no readings, as far as there is room for answers and rows; how many were run.
@@ -198,6 +203,10 @@ pub fn run_events(
 ) -> u64 {
     let count = events.len().min(answers.len()).min(rows.len() / ROW);
     let mut seats = seats::new();
+    let mut readings = [Plain {
+        reading: stream_start::no_reading(),
+        keys: 0,
+    }; 8];
     // by index: the events, the answers and the rows zipped are no chain that the borrow checker covers
     for i in 0..count {
         let at = i * ROW;
@@ -210,11 +219,13 @@ pub fn run_events(
             bounds,
             events[i],
             seats,
+            &readings,
             row,
         );
-        let answer = ran.told;
-        answers[i] = answer;
         seats = ran.seats;
+        keep(&mut readings, seats);
+        let [code, number, value] = ran.told;
+        answers[i] = [code, number, value, total_of(&readings, number as usize)];
     }
     count as u64
 }

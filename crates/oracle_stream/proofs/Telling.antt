@@ -1,6 +1,9 @@
 -- What the exported functions tell, from what start and next answered.
 -- Assumes nothing.
 use mathlib.Core.Path.{◌≡◌, refl, sym, ap, ◌∙◌, subst}
+use Rattle.std.specs.Prelude.{Ok, Err, Some, None, Result, Option}
+use Rattle.format.specs.Limits.{number}
+use Rattle.format.specs.declared.Refusal.{Refusal}
 use mathlib.Core.Bool.{true, false}
 use mathlib.Core.List.{List, [], ◌∷◌}
 use Prim.Native.Nat.{ℕ, suc, ◌+◌, ◌-◌, ◌≤◌, ◌<◌}
@@ -11,9 +14,6 @@ use Rattle.reading.specs.Reading.{View, key, end, written}
 use Rattle.plain.specs.Plain as P
 use Rattle.stream_start.specs.declared.Bound.{Bound}
 use Rattle.stream_start.specs.declared.Started.{Started}
-use Rattle.stream_start.specs.declared.Begins.TheVariants.{Began, Refused as NotStarted}
-use Rattle.stream_step.specs.declared.Answer.{Answer}
-use Rattle.stream_step.specs.declared.Answer.TheVariants.{Key, End, Refused}
 use Rattle.stream_step.specs.declared.Step.{Step}
 use Rattle.stream.specs.declared.Started.{Started as Begun}
 use Rattle.stream.specs.declared.Step.{Step as PlainStep}
@@ -34,12 +34,12 @@ pub bare_bounds : {w : R.Started} (f lo hi : List ℕ) {k l : Bound} (n m : ℕ)
 bare_bounds f lo hi n m a b e = bounds_of (λ x y. R.start f x y) lo hi n m a b e
 
 module _ {w : P.Begun} (s : Begun) (e : begun_is s ≡ w) where
-  pub start_refused : (m : ℕ) (h : Held) (n : List ℕ) → s.answer ≡ NotStarted m → StartTold w h n h n m
+  pub start_refused : (m : Refusal) (h : Held) (n : List ℕ) → s.answer ≡ Err m → StartTold w h n h n (number m)
   start_refused m h n is =
       let q : w ≡ P.Begun.refused m = sym e ∙ ap (λ b. Plains.began_is b s.plain) is in
       rw q (record { answer = refl; reading = λ p no. absurd (let z : ◌≡◌ {A = ℕ} 0 1 = cc in omega arith); kept = λ i same. (refl, refl) })
 
-  pub start_told : (h₀ : Held) (n₀ : List ℕ) (h : Held) (n : List ℕ) → s.answer ≡ Began → PlainPut s.plain h n → StartTold w h₀ n₀ h n 0
+  pub start_told : (h₀ : Held) (n₀ : List ℕ) (h : Held) (n : List ℕ) → s.answer ≡ Ok tt → PlainPut s.plain h n → StartTold w h₀ n₀ h n 0
   start_told h₀ n₀ h n is put =
       let q : w ≡ P.begun (plain_is s.plain) = sym e ∙ ap (λ b. Plains.began_is b s.plain) is in
       rw q
@@ -62,13 +62,13 @@ next_told {w} {k₀} {k} {v₀} {v} {s} st h n put r told =
     }
 
 -- the number and the value of an answer that is known
-pub key_told : (a : Answer) (n x : ℕ) (v₀ v : List ℕ) → a ≡ Key n x → v ≡ x ∷ [] → Told a v₀ v n
+pub key_told : (a : Result (Option (ℕ × ℕ)) Refusal) (n x : ℕ) (v₀ v : List ℕ) → a ≡ Ok (Some (n, x)) → v ≡ x ∷ [] → Told a v₀ v n
 key_told a n x v₀ v is put = rw is (record { number = refl; value = put })
 
-pub end_told : (a : Answer) (v : List ℕ) → a ≡ End → Told a v v 1000
+pub end_told : (a : Result (Option (ℕ × ℕ)) Refusal) (v : List ℕ) → a ≡ Ok None → Told a v v 1000
 end_told a v is = rw is (record { number = refl; value = refl })
 
-pub refused_told : (a : Answer) (n : ℕ) (v : List ℕ) → a ≡ Refused n → Told a v v (2000 + n)
+pub refused_told : (a : Result (Option (ℕ × ℕ)) Refusal) (n : Refusal) (v : List ℕ) → a ≡ Err n → Told a v v (2000 + number n)
 refused_told a n v is = rw is (record { number = refl; value = refl })
 
 -- ---- calls one after the other
@@ -90,7 +90,7 @@ off_written end k e = refl
 off_written (R.Answer.refused n) k e = refl
 
 -- what a call gave: its answer x, the reading v' after it, and the buffer
-pub record Called {S : Type 0} (c : Calls S) (v : S) (k₀ k : List ℕ) (x : Answer) (v' : S) : Type 0 where
+pub record Called {S : Type 0} (c : Calls S) (v : S) (k₀ k : List ℕ) (x : Result (Option (ℕ × ℕ)) Refusal) (v' : S) : Type 0 where
   pub answer : x ≡ answer_as (c.answer v (length k₀))
   pub reading : v' ≡ c.after v (length k₀)
   pub buffer : k ≡ written (c.answer v (length k₀)) k₀
@@ -103,7 +103,7 @@ pub plain_called : (f : List ℕ) (p : P.Plain) {k₀ k : List ℕ} {t : PlainSt
     → Called (plain_calls f) p k₀ k t.answer (plain_is t.plain)
 plain_called f p st = record { answer = st.gave.answer; reading = st.gave.plain; buffer = st.buffer }
 
-module _ {S : Type 0} (c : Calls S) (v : S) {k₀ k : List ℕ} {x : Answer} {v' : S} (st : Called c v k₀ k x v') where
+module _ {S : Type 0} (c : Calls S) (v : S) {k₀ k : List ℕ} {x : Result (Option (ℕ × ℕ)) Refusal} {v' : S} (st : Called c v k₀ k x v') where
   -- a call that hands out a key, with m calls left after it
   keys_on : (m : ℕ) → key_test x ≡ true → keys_by c (suc m) v k₀ ≡ suc (keys_by c m v' k)
   unfolding keys_by
@@ -150,12 +150,12 @@ module _ {S : Type 0} (c : Calls S) (m : ℕ) {v₀ : S} {k₀ : List ℕ} (v : 
   buffer_left : buffer_by c m v₀ k₀ ≡ buffer_by c (suc (m - (n + 1))) v k
   buffer_left = r.buffer ∙ ap (λ x. buffer_by c x v k) (left_is m n h)
 
-  pub reached_next : {k' : List ℕ} {x : Answer} {v' : S} → Called c v k k' x v' → key_test x ≡ true → Reached c m v₀ k₀ v' k' (n + 1)
+  pub reached_next : {k' : List ℕ} {x : Result (Option (ℕ × ℕ)) Refusal} {v' : S} → Called c v k k' x v' → key_test x ≡ true → Reached c m v₀ k₀ v' k' (n + 1)
   reached_next st e =
       let q = keys_left ∙ ap (λ y. n + y) (keys_on c v st (m - (n + 1)) e) in
       record { at_most = omega (arith, h); keys = omega (arith, q); buffer = buffer_left ∙ buffer_on c v st (m - (n + 1)) e }
 
-  pub reached_stop : {k' : List ℕ} {x : Answer} {v' : S} → Called c v k k' x v' → key_test x ≡ false → RunTold c m v₀ k₀ k' n
+  pub reached_stop : {k' : List ℕ} {x : Result (Option (ℕ × ℕ)) Refusal} {v' : S} → Called c v k k' x v' → key_test x ≡ false → RunTold c m v₀ k₀ k' n
   reached_stop st e =
       let q = keys_left ∙ ap (λ y. n + y) (keys_off c v st (m - (n + 1)) e) in
       record { answer = omega (arith, q); buffer = sym (buffer_left ∙ buffer_off c v st (m - (n + 1)) e) }
@@ -169,12 +169,12 @@ reached_end c m {v₀} {k₀} v {k} n h r =
     record { answer = omega (arith, h, q, r.at_most); buffer = sym (r.buffer ∙ ap (λ x. buffer_by c x v k) none) }
 
 module _ (m : ℕ) (f : List ℕ) {w : R.Started} (s : Started) (e : started_is s ≡ w) where
-  pub bare_refused : (n : ℕ) (k : List ℕ) → s.answer ≡ NotStarted n → BareKeysTold m f w k k 0
+  pub bare_refused : (n : Refusal) (k : List ℕ) → s.answer ≡ Err n → BareKeysTold m f w k k 0
   bare_refused n k is =
       let q : w ≡ R.Started.refused n = sym e ∙ ap (λ b. began_is b s.reading) is in
       rw q (record { reading = λ v no. absurd (let z : ◌≡◌ {A = ℕ} 0 1 = cc in omega arith); refused = λ i same. (refl, refl) })
 
-  pub bare_told : (k₀ k : List ℕ) (r : ℕ) → s.answer ≡ Began → KeysTold m f (view_is s.reading) k₀ k r → BareKeysTold m f w k₀ k r
+  pub bare_told : (k₀ k : List ℕ) (r : ℕ) → s.answer ≡ Ok tt → KeysTold m f (view_is s.reading) k₀ k r → BareKeysTold m f w k₀ k r
   bare_told k₀ k r is told =
       let q : w ≡ R.started (view_is s.reading) = sym e ∙ ap (λ b. began_is b s.reading) is in
       rw q
@@ -184,12 +184,12 @@ module _ (m : ℕ) (f : List ℕ) {w : R.Started} (s : Started) (e : started_is 
       })
 
 module _ (m : ℕ) (f : List ℕ) {w : P.Begun} (s : Begun) (e : begun_is s ≡ w) where
-  pub keys_refused : (n : ℕ) (k : List ℕ) → s.answer ≡ NotStarted n → StartKeysTold m f w k k 0
+  pub keys_refused : (n : Refusal) (k : List ℕ) → s.answer ≡ Err n → StartKeysTold m f w k k 0
   keys_refused n k is =
       let q : w ≡ P.Begun.refused n = sym e ∙ ap (λ b. Plains.began_is b s.plain) is in
       rw q (record { reading = λ p no. absurd (let z : ◌≡◌ {A = ℕ} 0 1 = cc in omega arith); refused = λ i same. (refl, refl) })
 
-  pub keys_told : (k₀ k : List ℕ) (r : ℕ) → s.answer ≡ Began → PlainKeysTold m f (plain_is s.plain) k₀ k r → StartKeysTold m f w k₀ k r
+  pub keys_told : (k₀ k : List ℕ) (r : ℕ) → s.answer ≡ Ok tt → PlainKeysTold m f (plain_is s.plain) k₀ k r → StartKeysTold m f w k₀ k r
   keys_told k₀ k r is told =
       let q : w ≡ P.begun (plain_is s.plain) = sym e ∙ ap (λ b. Plains.began_is b s.plain) is in
       rw q

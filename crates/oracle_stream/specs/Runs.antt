@@ -9,17 +9,16 @@
 --     KeysTold, PlainKeysTold       what is told of these, from a reading
 --     BareKeysTold, StartKeysTold   and from a start
 -- Assumes nothing.
-use Rattle.std.specs.Prelude.{◌≡◌, Bool, true, false, List, ℕ, zero, suc, length}
+use Rattle.std.specs.Prelude.{◌≡◌, Bool, true, false, List, ℕ, zero, suc, length, Ok, Err, Some, None, Result, Option}
+use Rattle.format.specs.declared.Refusal.{Refusal}
 use Rattle.reading.specs.Reading as R
 use Rattle.reading.specs.Reading.{View, key, end, written}
 use Rattle.plain.specs.Plain as P
-use Rattle.stream_step.specs.declared.Answer.{Answer}
-use Rattle.stream_step.specs.declared.Answer.TheVariants.{Key, End, Refused}
 
-abbrev pub key_test : Answer → Bool
-key_test (Key n x) = true
-key_test End = false
-key_test (Refused n) = false
+abbrev pub key_test : Result (Option (ℕ × ℕ)) Refusal → Bool
+key_test (Ok (Some (n, x))) = true
+key_test (Ok None) = false
+key_test (Err n) = false
 
 abbrev pub on_key : {A : Type 0} → R.Answer → A → A → A
 on_key (key k x) go stop = go
@@ -56,7 +55,7 @@ KeysTold m s v k₀ k r = RunTold (bare_calls s) m v k₀ k r
 
 pub record BareKeysTold (m : ℕ) (s : List ℕ) (w : R.Started) (k₀ k : List ℕ) (r : ℕ) : Type 0 where
   pub reading : (v : View) → w ≡ R.started v → KeysTold m s v k₀ k r
-  pub refused : (n : ℕ) → w ≡ R.Started.refused n → (r ≡ 0) × (k ≡ k₀)
+  pub refused : (n : Refusal) → w ≡ R.Started.refused n → (r ≡ 0) × (k ≡ k₀)
 
 -- ---- plain readings
 
@@ -68,4 +67,4 @@ PlainKeysTold m s p k₀ k r = RunTold (plain_calls s) m p k₀ k r
 
 pub record StartKeysTold (m : ℕ) (s : List ℕ) (w : P.Begun) (k₀ k : List ℕ) (r : ℕ) : Type 0 where
   pub reading : (p : P.Plain) → w ≡ P.begun p → PlainKeysTold m s p k₀ k r
-  pub refused : (n : ℕ) → w ≡ P.Begun.refused n → (r ≡ 0) × (k ≡ k₀)
+  pub refused : (n : Refusal) → w ≡ P.Begun.refused n → (r ≡ 0) × (k ≡ k₀)

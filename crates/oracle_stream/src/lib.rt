@@ -12,10 +12,10 @@ ghost use Rattle.stream_arrays.specs.Arrays.{kind_is, held, held_plain};
 ghost use Rattle.oracle_stream.specs.StreamTells.{StartTold, Told, NextTold};
 ghost use Rattle.oracle_stream.specs.Runs.{key_test, KeysTold, PlainKeysTold, StartKeysTold, BareKeysTold};
 
+use format::Refusal;
 use stream::Plain;
 use stream_arrays::{kind_of, put_plain, reading_of};
-use stream_start::{Begins, Reading};
-use stream_step::Answer;
+use stream_start::Reading;
 
 // ---- start
 
@@ -48,8 +48,8 @@ pub fn oracle_start(
     let started = stream::start(file, lower_bound, lower, upper_bound, upper, counts);
     let answer = started.answer;
     match answer {
-        Begins::Refused(why) => why as u64,
-        Begins::Began => {
+        Err(why) => u64::from(u8::from(why)),
+        Ok(()) => {
             let plain = started.plain;
             put_plain(plain, head, bound, addrs, inps, trans, outs, keys);
             0
@@ -60,16 +60,16 @@ pub fn oracle_start(
 // ---- next
 
 // An answer as a number: a key's length, 1000 for the end, or 2000 plus the refusal. A key's value is written.
-pub fn told(answer: Answer, value: &mut [u64; 1]) -> u64
+pub fn told(answer: Result<Option<(usize, u64)>, Refusal>, value: &mut [u64; 1]) -> u64
     ensures { Told answer value.old value.new result }
 {
     match answer {
-        Answer::Key(n, v) => {
+        Ok(Some((n, v))) => {
             *value = [v];
             n as u64
         }
-        Answer::End => 1000,
-        Answer::Refused(why) => 2000 + (why as u64),
+        Ok(None) => 1000,
+        Err(why) => 2000 + (u64::from(u8::from(why))),
     }
 }
 
@@ -116,10 +116,10 @@ pub fn oracle_next(
 
 // ---- a range in one call, so that it is timed without the arrays
 
-fn is_key(answer: Answer) -> bool
+fn is_key(answer: Result<Option<(usize, u64)>, Refusal>) -> bool
     ensures { result ≡ key_test answer }
 {
-    matches!(answer, Answer::Key(..))
+    matches!(answer, Ok(Some((..))))
 }
 
 // How many calls hand out a key, from this reading on, up to the first that does not and at most so many.
@@ -160,8 +160,8 @@ pub fn oracle_keys(
     let started = stream::start(file, lower_bound, lower, upper_bound, upper, counts);
     let answer = started.answer;
     match answer {
-        Begins::Refused(_) => 0,
-        Begins::Began => {
+        Err(_) => 0,
+        Ok(()) => {
             let plain = started.plain;
             keys_from(file, plain, most, key)
         }
@@ -204,8 +204,8 @@ pub fn oracle_bare_keys(
     let started = stream_start::start(file, lower_bound, lower, upper_bound, upper);
     let answer = started.answer;
     match answer {
-        Begins::Refused(_) => 0,
-        Begins::Began => {
+        Err(_) => 0,
+        Ok(()) => {
             let reading = started.reading;
             bare_keys_from(file, reading, most, key)
         }

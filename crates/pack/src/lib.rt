@@ -8,12 +8,10 @@ ghost use Rattle.pack_blank.specs.PackBlank.{tables_test};
 ghost use Rattle.pack_cells.specs.Pairs.{pairs_is};
 ghost use Rattle.pack.specs.PackList.{PacksBy};
 
-use format::MAX_LEN;
-use pack_blank::Packed;
+use format::{MAX_LEN, Refusal};
 use pack_cell::{Cell, empty_cells};
 use pack_cells::{empty_after, run};
-use pack_end::{finish, is_refused};
-use pack_zero::{zero_bytes, zero_places, zero_words};
+use pack_end::finish;
 
 // Packs the list, where the file may have up to limit bytes.
 pub fn pack_within(
@@ -24,20 +22,20 @@ pub fn pack_within(
     inputs: &mut [u8],
     leasts: &mut [u64],
     targets: &mut [usize],
-) -> Packed
+) -> Result<usize, Refusal>
     ensures { PacksBy
         (pack_answer limit list.now (tables_test (length inputs.old) (length leasts.old) (length targets.old))
         (length cells.old) (length output.old))
         output.new (pairs_is cells.new) inputs.new leasts.new targets.new result }
 {
-    zero_bytes(output);
+    output.fill(0);
     empty_cells(cells);
-    let turn = run(list, output, cells, inputs, leasts, targets);
-    let answer = finish(limit, list, output, turn);
-    zero_bytes(inputs);
-    zero_words(leasts);
-    zero_places(targets);
-    empty_after(cells, is_refused(answer));
+    let root = run(list, output, cells, inputs, leasts, targets);
+    let answer = finish(limit, list, output, root);
+    inputs.fill(0);
+    leasts.fill(0);
+    targets.fill(0);
+    empty_after(cells, answer.is_err());
     answer
 }
 
@@ -49,7 +47,7 @@ pub fn pack(
     inputs: &mut [u8],
     leasts: &mut [u64],
     targets: &mut [usize],
-) -> Packed
+) -> Result<usize, Refusal>
     ensures { PacksBy
         (pack_answer max_len list.now (tables_test (length inputs.old) (length leasts.old) (length targets.old))
         (length cells.old) (length output.old))

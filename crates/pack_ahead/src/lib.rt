@@ -18,6 +18,8 @@ pub struct Way {
     pub keys: usize,
 }
 
+// No plainer without n, here and below: it is the count that the list begins with, and no length of a slice.
+
 // The depth at which key i leaves the open nodes, the deepest of which is at depth k; 0 after the last key.
 fn leaves_at(list: &[u8], n: usize, i: usize, led: &[u8; 256], k: usize) -> usize
     requires { IsList list.now × (n ≡ count_in list.now) × (k < 256) }

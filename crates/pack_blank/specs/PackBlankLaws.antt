@@ -2,7 +2,7 @@
 --     answer_refused           a refusal
 --     full_answer, short_answer, over_answer, done_answer      the answers after the run
 -- Assumes nothing.
-use Rattle.std.specs.Prelude.{◌≡◌, Option, None, Bool, true, false, ◌&&◌, leb, drop}
+use Rattle.std.specs.Prelude.{◌≡◌, Option, None, Bool, true, false, ◌&&◌, leb, drop, Ok, Err, Result, ℕ}
 use Rattle.std.proofs.Math.Path.{refl, ap, ap₂}
 use Rattle.std.proofs.Common.{sym, ◌∙◌, arith, take_at}
 use mathlib.Core.List.{List, [], ◌∷◌, ◌++◌, append_assoc}
@@ -11,6 +11,7 @@ use borrow.Author.Tests.{le-leb, leb-true}
 use Rattle.std.proofs.Math.ListN.{length, replicate, length-append}
 use Rattle.std.proofs.lemmas.List.{length-replicate}
 use Rattle.std.proofs.Math.Seq.{drop-append-add}
+use Rattle.format.specs.declared.Refusal.{Refusal}
 use Rattle.buffers.specs.Put.{put}
 use Rattle.buffers.specs.PutLaws.{put_zero}
 use Rattle.buffers.specs.DecideLaws.{true_of}
@@ -27,14 +28,12 @@ use Rattle.pack_intern.specs.Interning.{nodes_in, cells_is}
 use Rattle.pack_intern.specs.InterningLaws.{nodes_length, laid_is}
 use Rattle.pack_intern.specs.declared.Placed.{Placed}
 use Rattle.pack_run.specs.Running.{Blank, RunAt, Runs}
-use Rattle.pack_blank.specs.declared.Packed.{Packed}
-use Rattle.pack_blank.specs.declared.Packed.TheVariants.{Len, Refused}
 use Rattle.pack_blank.specs.PackBlank.{answer_as, trailed, Answers}
 
-pub refused_not : {k n : ℕ} → ¬ (◌≡◌ {A = Packed} (Refused k) (Len n))
+pub refused_not : {k : Refusal} {n : ℕ} → ¬ (◌≡◌ {A = Result ℕ Refusal} (Err k) (Ok n))
 refused_not e = let z : ◌≡◌ {A = ℕ} 0 1 = cc in omega arith
 
-pub answer_refused : {A : Answer} {k : ℕ} → A ≡ refused k → (out : List ℕ) (cells : List (List ℕ)) → Answers A out cells (Refused k)
+pub answer_refused : {A : Answer} {k : Refusal} → A ≡ refused k → (out : List ℕ) (cells : List (List ℕ)) → Answers A out cells (Err k)
 answer_refused e out cells = record { answer = sym (ap answer_as e); output = λ n q. absurd (refused_not q); cells_left = λ n q. absurd (refused_not q) }
 
 -- ---- zeros and empty cells
@@ -122,10 +121,10 @@ module _ (limit : ℕ) (s : List ℕ) (tables : Bool) (n room : ℕ) (ok : IsLis
   size : length file ≡ 32 + length R.build.nodes
   size = length_file (length (pairs_of s)) R
 
-  pub small_answer : room < 32 → (out : List ℕ) (cells : List (List ℕ)) → Answers A out cells (Refused SPACE)
+  pub small_answer : room < 32 → (out : List ℕ) (cells : List (List ℕ)) → Answers A out cells (Err SPACE)
   small_answer h out cells = answer_refused (answer_room limit s tables n room ok fit two (omega (arith, size))) out cells
 
-  pub full_answer : {out : List ℕ} {cells : List (List ℕ)} {r : Option Placed} → Runs R out cells r → r ≡ None → length out ≡ room → Answers A out cells (Refused SPACE)
+  pub full_answer : {out : List ℕ} {cells : List (List ℕ)} {r : Option Placed} → Runs R out cells r → r ≡ None → length out ≡ room → Answers A out cells (Err SPACE)
   full_answer {out} {cells} w e len = answer_refused (answer_room limit s tables n room ok fit two (omega (arith, size, w.full e))) out cells
 
   module _ {out : List ℕ} {cells : List (List ℕ)} {a next : ℕ} (w : RunAt R out cells a next) (len : length out ≡ room) where
@@ -135,10 +134,10 @@ module _ (limit : ℕ) (s : List ℕ) (tables : Bool) (n room : ℕ) (ok : IsLis
     file_length : length file ≡ next + 16
     file_length = omega (arith, size, ap length nodes_are, nodes_length w.laid)
 
-    pub short_answer : room - next < 16 → Answers A out cells (Refused SPACE)
+    pub short_answer : room - next < 16 → Answers A out cells (Err SPACE)
     short_answer h = answer_refused (answer_room limit s tables n room ok fit two (omega (arith, file_length, w.laid.high))) out cells
 
-    pub over_answer : ¬ (room - next < 16) → limit < next + 16 → Answers A out cells (Refused LARGE)
+    pub over_answer : ¬ (room - next < 16) → limit < next + 16 → Answers A out cells (Err LARGE)
     over_answer h over = answer_refused (answer_over limit s tables n room ok fit two (omega (arith, file_length, w.laid.high)) (omega (arith, file_length))) out cells
 
     answer_is_lem : ¬ (room - next < 16) → ¬ (limit < next + 16) → A ≡ written file (pack_cells (pairs_of s) n)
@@ -153,11 +152,11 @@ module _ (limit : ℕ) (s : List ℕ) (tables : Bool) (n room : ℕ) (ok : IsLis
         )
 
     pub done_answer : ¬ (room - next < 16) → ¬ (limit < next + 16) → (count : ℕ) → count ≡ count_in s → (out' : List ℕ) → out' ≡ trailed out count a next → length out' ≡ room
-        → Answers A out' cells (Len (next + 16))
+        → Answers A out' cells (Ok (next + 16))
     done_answer h g count c_is out' is len' =
         let e = answer_is_lem h g in
         record {
-          answer = sym (ap answer_as e ∙ ap Len file_length);
+          answer = sym (ap answer_as e ∙ ap Ok file_length);
           output = λ k q. file_out ∙ ap (λ (x : Answer). output_after x (length out')) (sym e);
           cells_left = λ k q. sym (ap (λ (x : Interned). x.build.cells) w.is) ∙ ap (λ (x : Answer). cells_after x (length cells)) (sym e);
         }

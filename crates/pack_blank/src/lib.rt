@@ -6,15 +6,6 @@ ghost use Rattle.pack_blank.specs.PackBlank.{tables_test, trailed};
 
 use le_bytes::pack_uint_in;
 
-// What packing answers.
-#[derive(Clone, Copy)]
-pub enum Packed {
-    // the length of the file, which stands at the output's front
-    Len(usize),
-    // LIST, SPACE or LARGE: the output is zeros and every cell empty
-    Refused(u8),
-}
-
 // The entries of each working table: 256 for each of 256 depths.
 pub const TABLE: usize = 65536;
 

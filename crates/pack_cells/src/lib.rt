@@ -7,10 +7,12 @@ ghost use Rattle.pack_cell.specs.Cells.{empty};
 ghost use Rattle.pack_step.specs.Standing.{Ended};
 ghost use Rattle.pack_cells.specs.Pairs.{pairs_is};
 
+use format::Refusal;
 use pack_cell::{Cell, empty_cells, put_row};
-use pack_step::{Turn, first_of, going, row_of, second_of, turn_of};
+use pack_intern::Placed;
+use pack_step::Turn;
 
-// Places every node, or refuses, in an output of zeros with empty cells.
+// Places every node, and answers where the root is, or refuses, in an output of zeros with empty cells.
 pub fn run(
     list: &[u8],
     output: &mut [u8],
@@ -18,7 +20,7 @@ pub fn run(
     inputs: &mut [u8],
     leasts: &mut [u64],
     targets: &mut [usize],
-) -> Turn
+) -> Result<Placed, Refusal>
     requires { (output.old ≡ replicate (length output.old) 0) × (cells.old ≡ replicate (length cells.old) empty) }
     ensures { Ended list.now (tables_test (length inputs.old) (length leasts.old) (length targets.old))
         (length cells.old) (length output.old) output.new (pairs_is cells.new) result }
@@ -38,16 +40,20 @@ pub fn run(
         &mut led,
         &mut finals,
         &mut values,
-    );
-    while going(turn) {
-        let i = row_of(turn);
+    )?;
+    loop {
+        let due = match turn {
+            Turn::Next(due) => due,
+            Turn::Done(root) => return Ok(root),
+        };
+        let i = due.row;
         let done = pack_step::step(
             list,
             cells.len(),
             output,
             cells[i],
             cells[i + 1],
-            turn,
+            due,
             inputs,
             leasts,
             targets,
@@ -56,10 +62,9 @@ pub fn run(
             &mut finals,
             &mut values,
         );
-        put_row(cells, i, first_of(done), second_of(done));
-        turn = turn_of(done);
+        put_row(cells, i, done.one, done.two);
+        turn = done.turn?;
     }
-    turn
 }
 
 // Every cell empty after a refusal.

@@ -53,6 +53,7 @@ pub fn final_out(is_final: bool, value: u64, base: u64) -> u64
 // ---- one node
 
 // Interns the record of the first n entries of row d, with its outputs counted from base.
+// No plainer by slices: the definitions name a row of the three tables by d and n.
 pub fn finish_row(
     output: &mut [u8],
     cells: &mut [[u64; 2]],

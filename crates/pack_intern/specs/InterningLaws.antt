@@ -4,7 +4,7 @@
 --     cell_at_lem              a lent cell
 --     found_nothing, found_first, found_second, written, no_room    what each way of the code leaves
 -- Assumes nothing.
-use Rattle.std.specs.Prelude.{◌≡◌, Option, None, Some, Bool, true, false, cond, ◌&&◌, not, eqb, leb, get_or, take, drop, set, replicate}
+use Rattle.std.specs.Prelude.{◌≡◌, Option, None, Some, Bool, true, false, cond, ◌&&◌, not, eqb, leb, get_or, take, drop, set, replicate, Ok, Err, Result, ℕ}
 use Rattle.std.proofs.Math.Path.{refl, ap, ap₂, subst}
 use Rattle.std.proofs.Common.{sym, ◌∙◌, eq-eqb, leb-true, leb-false, length-drop, take-append-drop, drop_of_length-le, length-take-le, take_all, take_at, drop_at, take-add}
 use Rattle.std.proofs.Math.Logic.{inl, inr}
@@ -13,10 +13,9 @@ use Prim.Native.Nat.{ℕ, zero, suc, ◌+◌, ◌-◌, ◌*◌, ◌/◌, ◌%◌
 use native.Mathlib.Omega.{arith}
 use Rattle.std.proofs.Math.ListN.{length, length-append}
 use Rattle.std.proofs.lemmas.List.{length-replicate}
+use Rattle.format.specs.declared.Refusal.{Refusal}
 use Rattle.format.specs.Limits.{SPACE}
 use Rattle.format.specs.Packed.{BuilderNode, TargetOk, packed, packs_to_nothing, written, refused}
-use Rattle.node_compile.specs.declared.Compiled.{Compiled}
-use Rattle.node_compile.specs.declared.Compiled.TheVariants.{Len, Refused}
 use Rattle.node_compile.specs.Compile.{answer_as, buffer_after}
 use Rattle.node_compile.specs.Parts.{Fitted}
 use Rattle.packing.specs.Registry.{hash_of, Cell, Build, cell_at, row_of, matches, Interned, row_set, write_node, promote, intern}
@@ -288,11 +287,11 @@ module _ (out : List ℕ) (first : ℕ) (cells : List (List ℕ)) (ready : Ready
   bytes_at = ap (λ (n : ℕ). packed n b) (sym (length_nodes ready.laid))
 
   -- it wrote len bytes
-  pub fitted_len : (part : List ℕ) (r : Compiled) (len : ℕ) → Fitted (packed first b) part₀ part r → r ≡ Len len
+  pub fitted_len : (part : List ℕ) (r : Result ℕ Refusal) (len : ℕ) → Fitted (packed first b) part₀ part r → r ≡ Ok len
       → (length bytes ≤ z) × (len ≡ length bytes) × (part ≡ bytes ++ drop (length bytes) (drop first out))
   fitted_len part r len f e = go (leb (length (packed first b)) (length part₀)) refl (sym e ∙ f.answer) f.buffer
     where
-      go : (t : Bool) → leb (length (packed first b)) (length part₀) ≡ t → Len len ≡ answer_as (cond t (written (packed first b)) (refused SPACE))
+      go : (t : Bool) → leb (length (packed first b)) (length part₀) ≡ t → Ok len ≡ answer_as (cond t (written (packed first b)) (refused SPACE))
           → part ≡ buffer_after (cond t (written (packed first b)) (refused SPACE)) part₀
           → (length bytes ≤ z) × (len ≡ length bytes) × (part ≡ bytes ++ drop (length bytes) (drop first out))
       go true fits is buf =
@@ -304,15 +303,15 @@ module _ (out : List ℕ) (first : ℕ) (cells : List (List ℕ)) (ready : Ready
           )
       go false fits is buf = absurd (let w : ◌≡◌ {A = ℕ} 0 1 = cc in omega arith)
 
-  fitted_not : (part : List ℕ) (r : Compiled) (k : ℕ) → Fitted (packed first b) part₀ part r → r ≡ Refused k → (z < length bytes) × (part ≡ part₀)
+  fitted_not : (part : List ℕ) (r : Result ℕ Refusal) (k : Refusal) → Fitted (packed first b) part₀ part r → r ≡ Err k → (z < length bytes) × (part ≡ part₀)
   fitted_not part r k f e = go (leb (length (packed first b)) (length part₀)) refl (sym e ∙ f.answer) f.buffer
     where
-      go : (t : Bool) → leb (length (packed first b)) (length part₀) ≡ t → Refused k ≡ answer_as (cond t (written (packed first b)) (refused SPACE))
+      go : (t : Bool) → leb (length (packed first b)) (length part₀) ≡ t → Err k ≡ answer_as (cond t (written (packed first b)) (refused SPACE))
           → part ≡ buffer_after (cond t (written (packed first b)) (refused SPACE)) part₀ → (z < length bytes) × (part ≡ part₀)
       go true fits is buf = absurd (let w : ◌≡◌ {A = ℕ} 0 1 = cc in omega arith)
       go false fits is buf = (omega (arith, leb-false (length (packed first b)) (length part₀) fits, part_length, ap length bytes_at), buf)
 
-  pub wrote : (i hash : ℕ) → Writable out first cells i hash b → (part : List ℕ) (r : Compiled) (len : ℕ) → Fitted (packed first b) part₀ part r → r ≡ Len len
+  pub wrote : (i hash : ℕ) → Writable out first cells i hash b → (part : List ℕ) (r : Result ℕ Refusal) (len : ℕ) → Fitted (packed first b) part₀ part r → r ≡ Ok len
       → (cells' : List (List ℕ)) → length cells' ≡ length cells → cells_is cells' ≡ row_set (cells_is cells) i (cell_with (first + len - 1) hash) (cell_of (get_or cells i []))
       → InternIs (write_of B b) first (out_after part) cells' (Some (placed (first + len - 1) (first + len)))
   wrote i hash w part r len f e cells' long stored =
@@ -322,7 +321,7 @@ module _ (out : List ℕ) (first : ℕ) (cells : List (List ℕ)) (ready : Ready
       answered (subst (λ (l : List ℕ). AtIs R first l cells' (first + len - 1) (first + len)) (sym (out_after_lem part))
       (subst (λ (n : ℕ). AtIs R first (grown_out part) cells' (first + n - 1) (first + n)) (sym p.1) at))
 
-  pub has_no_room : (part : List ℕ) (r : Compiled) (k : ℕ) → Fitted (packed first b) part₀ part r → r ≡ Refused k → InternIs (write_of B b) first (out_after part) cells None
+  pub has_no_room : (part : List ℕ) (r : Result ℕ Refusal) (k : Refusal) → Fitted (packed first b) part₀ part r → r ≡ Err k → InternIs (write_of B b) first (out_after part) cells None
   has_no_room part r k f e =
       let p = fitted_not part r k f e in
       let same : out_after part ≡ out =

@@ -8,7 +8,6 @@ ghost use Rattle.node_compile.specs.Parts.{RecordFits};
 ghost use Rattle.packing.specs.Registry.{row_set, intern};
 ghost use Rattle.pack_intern.specs.Interning.{cell_of, cells_is, build_is, Ready, Writable, write_of, InternIs};
 
-use node_compile::Compiled;
 use registry::Choice;
 
 // Where a record is. There is none where it would have to be written, and the output has no room.
@@ -67,14 +66,14 @@ fn write_node(
         &mut output[first..],
     );
     match done {
-        Compiled::Len(len) => {
+        Ok(len) => {
             let next = first + len;
             let old = cells[i];
             let addr = next - 1;
             put_row(cells, i, [addr as u64, own_hash], old);
             Some(Placed { addr, next })
         }
-        Compiled::Refused(_) => None,
+        Err(_) => None,
     }
 }
 

@@ -55,7 +55,7 @@ pub fn begin_at(list: &[u8], i: usize) -> usize
     end_at(list, i - 1)
 }
 
-// The value of key i.
+// The value of key i. No plainer without n: it is the count that the list begins with, and no length of a slice.
 pub fn value_at(list: &[u8], n: usize, i: usize) -> u64
     requires { (n ≡ count_in list.now) × (8 + 4 * n + 8 * i + 8 ≤ length list.now) }
     ensures { result ≡ value_at list.now i }
@@ -72,6 +72,7 @@ fn comes_before(a: &[u8], b: &[u8]) -> bool
 }
 
 // Whether no end is less than the one before, no key is too long, and the last end, 0 with no keys, is the total.
+// No plainer without n, here and below: it is the count that the list begins with, and no length of a slice.
 fn ends_ok(list: &[u8], n: usize, total: usize) -> bool
     requires { (n < 4294967296) × (8 + 12 * n ≤ length list.now) }
     ensures { Decides result (EndsOk list.now n total) }

@@ -3,7 +3,7 @@
 --     NodeAt               a node is to be finished, and its row is known
 --     NodeAsked, NodeSteps what finishing it asks of some table of cells, and leaves of every table
 -- Assumes nothing.
-use Rattle.std.specs.Prelude.{◌≡◌, true, false, ◌⊎◌, List, ℕ, ◌+◌, ◌*◌, ◌/◌, ◌%◌, ◌≤◌, ◌<◌, length}
+use Rattle.std.specs.Prelude.{◌≡◌, Some, None, ◌⊎◌, List, ℕ, ◌+◌, ◌*◌, ◌/◌, ◌%◌, ◌≤◌, ◌<◌, length}
 use Rattle.packing.specs.Lists.{IsList, count_in, pairs_of}
 use Rattle.packing.specs.Registry.{hash_of}
 use Rattle.packing.specs.Packing.{pack_nodes}
@@ -13,6 +13,7 @@ use Rattle.pack_row.specs.Row.{put_pair, TakenFrom}
 use Rattle.pack_turn.specs.RowClosing.{pair_of}
 use Rattle.pack_ahead.specs.declared.Way.{Way}
 use Rattle.pack_ahead.specs.Ahead.{Underway, way_left, row_next}
+use Rattle.pack_node.specs.declared.Due.{Due}
 use Rattle.pack_node.specs.declared.NodeStep.{NodeStep}
 
 abbrev pub hash_next : Tables → ℕ → ℕ
@@ -38,9 +39,9 @@ pub record NodeAsked (s : List ℕ) (cells : ℕ) (out : List ℕ) (one two : Ce
 
 -- in every table that has them there
 pub record NodeSteps (s : List ℕ) (cells : ℕ) (out : List ℕ) (one two : Cell) (T : Tables) (next : ℕ) (w : Way) (out' : List ℕ) (T' : Tables) (r : NodeStep) : Type 0 where
-  pub at : r.done ≡ true → (table : List (List ℕ)) (row : ℕ) → NodeAt s cells out table T next w row → TakenFrom table row (pair_of one two)
-      → NodeAt s cells out' (put_pair table row (pair_of r.one r.two)) T' r.next r.way r.row
+  pub at : (n : Due) → r.due ≡ Some n → (table : List (List ℕ)) (row : ℕ) → NodeAt s cells out table T next w row → TakenFrom table row (pair_of one two)
+      → NodeAt s cells out' (put_pair table row (pair_of r.one r.two)) T' n.next n.way n.row
   -- the nodes have no room
-  pub full : r.done ≡ false → (table : List (List ℕ)) (row : ℕ) → NodeAt s cells out table T next w row → TakenFrom table row (pair_of one two)
+  pub full : r.due ≡ None → (table : List (List ℕ)) (row : ℕ) → NodeAt s cells out table T next w row → TakenFrom table row (pair_of one two)
       → length out' < 16 + length (pack_nodes (pairs_of s) cells).build.nodes
-  pub less : r.done ≡ true → way_left s r.way < way_left s w
+  pub less : (n : Due) → r.due ≡ Some n → way_left s n.way < way_left s w

@@ -4,7 +4,7 @@
 --     node_asked, node_full, node_started, node_next, node_at      what the code asks and leaves
 --     steps_full, steps_done   what it answers
 -- Assumes nothing.
-use Rattle.std.specs.Prelude.{◌≡◌, None, Some, Bool, true, false, List, [], ℕ, ◌+◌, ◌*◌, ◌/◌, ◌%◌, ◌≤◌, ◌<◌, length, get_or, set}
+use Rattle.std.specs.Prelude.{◌≡◌, Option, None, Some, Bool, List, [], ℕ, ◌+◌, ◌*◌, ◌/◌, ◌%◌, ◌≤◌, ◌<◌, length, get_or, set}
 use Rattle.std.proofs.Common.{sym, ap, ◌∙◌, subst, ⊎_elim, arith, length-set}
 use Rattle.std.proofs.Math.Path.{ap₂}
 use Rattle.format.specs.Packed.{BuilderNode}
@@ -24,6 +24,7 @@ use Rattle.pack_turn.specs.RowClosingLaws.{node_step}
 use Rattle.pack_ahead.specs.declared.Way.{Way}
 use Rattle.pack_ahead.specs.Ahead.{way_with, Underway, way_left, Started, GoesAhead, row_next, RowAsked}
 use Rattle.pack_ahead.specs.AheadLaws.{underway_close, underway_full, row_asked, record_next}
+use Rattle.pack_node.specs.declared.Due.{Due}
 use Rattle.pack_node.specs.declared.NodeStep.{NodeStep}
 use Rattle.pack_node.specs.NodeSteps.{hash_next, NodeAt, NodeSteps}
 
@@ -98,17 +99,24 @@ module _ {s : List ℕ} {cells : ℕ} {out : List ℕ} {table : List (List ℕ)}
 
 -- ---- what the code answers
 
-false_true : ¬ (false ≡ true)
-false_true e = let z : ◌≡◌ {A = ℕ} 0 1 = cc in omega arith
+none_some : {n : Due} → ¬ (◌≡◌ {A = Option Due} None (Some n))
+none_some e = let z : ◌≡◌ {A = ℕ} 0 1 = cc in omega arith
+
+some_same : {n m : Due} → ◌≡◌ {A = Option Due} (Some n) (Some m) → n ≡ m
+some_same e = cc
 
 module _ {s : List ℕ} {cells : ℕ} {out : List ℕ} {one two : Cell} {T : Tables} {next : ℕ} {w : Way} {out' : List ℕ} {T' : Tables} {r : NodeStep} where
-  pub steps_full : r.done ≡ false
+  pub steps_full : r.due ≡ None
       → ((table : List (List ℕ)) (row : ℕ) → NodeAt s cells out table T next w row → TakenFrom table row (pair_of one two) → length out' < 16 + length (pack_nodes (pairs_of s) cells).build.nodes)
       → NodeSteps s cells out one two T next w out' T' r
-  steps_full e f = record { at = λ d. absurd (false_true (sym e ∙ d)); full = λ d. f; less = λ d. absurd (false_true (sym e ∙ d)) }
+  steps_full e f = record { at = λ n d. absurd (none_some (sym e ∙ d)); full = λ d. f; less = λ n d. absurd (none_some (sym e ∙ d)) }
 
-  pub steps_done : r.done ≡ true
+  pub steps_done : (n : Due) → r.due ≡ Some n
       → ((table : List (List ℕ)) (row : ℕ) → NodeAt s cells out table T next w row → TakenFrom table row (pair_of one two)
-      → NodeAt s cells out' (put_pair table row (pair_of r.one r.two)) T' r.next r.way r.row)
-      → way_left s r.way < way_left s w → NodeSteps s cells out one two T next w out' T' r
-  steps_done e f l = record { at = λ d. f; full = λ d. absurd (false_true (sym d ∙ e)); less = λ d. l }
+      → NodeAt s cells out' (put_pair table row (pair_of r.one r.two)) T' n.next n.way n.row)
+      → way_left s n.way < way_left s w → NodeSteps s cells out one two T next w out' T' r
+  steps_done n e f l = record {
+    at = λ m d table row at taken. subst (λ (k : Due). NodeAt s cells out' (put_pair table row (pair_of r.one r.two)) T' k.next k.way k.row) (some_same (sym e ∙ d)) (f table row at taken);
+    full = λ d. absurd (none_some (sym d ∙ e));
+    less = λ m d. subst (λ (k : Due). way_left s k.way < way_left s w) (some_same (sym e ∙ d)) l;
+  }

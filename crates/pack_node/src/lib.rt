@@ -7,17 +7,22 @@ ghost use Rattle.pack_node.specs.NodeSteps.{NodeAsked, NodeSteps};
 use pack_ahead::Way;
 use pack_cell::Cell;
 
-// What finishing a node, and opening keys, leaves.
+// A node to be finished: the deepest of the open nodes.
 #[derive(Clone, Copy)]
-pub struct NodeStep {
-    // whether the output had room
-    pub done: bool,
+pub struct Due {
     // the place past the nodes
     pub next: usize,
     // the open nodes
     pub way: Way,
-    // the first cell of the row of the node to be finished next
+    // the first cell of its row
     pub row: usize,
+}
+
+// What finishing a node, and opening keys, leaves.
+#[derive(Clone, Copy)]
+pub struct NodeStep {
+    // the node to be finished next, where the output had room
+    pub due: Option<Due>,
     // the row afterwards
     pub one: Cell,
     pub two: Cell,
@@ -52,16 +57,11 @@ pub fn node_in_row(
     let done = pack_turn::close_in_row(
         output, one, two, first, e, inputs, leasts, targets, counts, led, finals, values,
     );
-    let c = done.one;
-    let f = done.two;
     let Some(next) = done.next else {
         return NodeStep {
-            done: false,
-            next: first,
-            way,
-            row: 0,
-            one: c,
-            two: f,
+            due: None,
+            one: done.one,
+            two: done.two,
         };
     };
     let n = pack_list::key_count(list);
@@ -74,11 +74,8 @@ pub fn node_in_row(
     let d = on.depth;
     let row = pack_ahead::row_next(cells, d, inputs, leasts, targets, counts, finals, values);
     NodeStep {
-        done: true,
-        next,
-        way: on,
-        row,
-        one: c,
-        two: f,
+        due: Some(Due { next, way: on, row }),
+        one: done.one,
+        two: done.two,
     }
 }

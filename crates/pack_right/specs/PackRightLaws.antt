@@ -2,8 +2,9 @@
 --     PackedList s n file      the file of the list s with n cells
 --     pack_promise             where `pack` answers a length, its output begins with such a file
 -- Assumes nothing.
-use Rattle.std.specs.Prelude.{◌≡◌, refl, Bool, true, false, cond, ◌&&◌, List, ◌++◌, ℕ, ◌-◌, ◌≤◌, ◌<◌, leb, length, get_or, replicate}
+use Rattle.std.specs.Prelude.{◌≡◌, refl, Bool, true, false, cond, ◌&&◌, List, ◌++◌, ℕ, ◌-◌, ◌≤◌, ◌<◌, leb, length, get_or, replicate, Ok, Err, Result}
 use Rattle.std.proofs.Common.{sym, ap, ◌∙◌, subst, arith, leb-true}
+use Rattle.format.specs.declared.Refusal.{Refusal}
 use Rattle.format.specs.Limits.{max_len, LARGE, SPACE, LIST}
 use Rattle.format.specs.Admitted.{Admitted}
 use Rattle.packing.specs.Lists.{IsList, list_test, pairs_of}
@@ -15,8 +16,6 @@ use Rattle.packing.proofs.PackLaws.{pack_admitted, pack_right, pack_kept}
 use Rattle.pack_intern.specs.Interning.{cells_is}
 use Rattle.pack_blank.specs.PackBlank.{answer_as}
 use Rattle.pack.specs.PackList.{PacksBy}
-use Rattle.pack_blank.specs.declared.Packed.{Packed}
-use Rattle.pack_blank.specs.declared.Packed.TheVariants.{Len, Refused}
 
 pub record PackedList (s : List ℕ) (n : ℕ) (out : List ℕ) (cells : List (List ℕ)) : Type 0 where
   pub list : IsList s
@@ -28,7 +27,7 @@ pub record PackedList (s : List ℕ) (n : ℕ) (out : List ℕ) (cells : List (L
   pub kept : KeptSeen (pack_keeps (pairs_of s) n) (pack_cells (pairs_of s) n) admitted.nodes
 
 pub pack_promise : (s : List ℕ) → ((i : ℕ) → get_or s i 0 < 256) → (tables : Bool) (n room : ℕ) (out : List ℕ) (cells : List (List ℕ)) (inputs leasts targets : List ℕ) (len : ℕ)
-    → PacksBy (pack_answer max_len s tables n room) out cells inputs leasts targets (Len len) → PackedList s n out cells
+    → PacksBy (pack_answer max_len s tables n room) out cells inputs leasts targets (Ok len) → PackedList s n out cells
 unfolding pack_answer
 pack_promise s bytes tables n room out cells inputs leasts targets len w =
     go (list_test s) refl tables (leb 2 n) refl (leb (length file) room) (leb (length file) max_len) refl w
@@ -36,11 +35,11 @@ pack_promise s bytes tables n room out cells inputs leasts targets len w =
     file : List ℕ
     file = pack_file (pairs_of s) n
 
-    never : {A : Type 0} {k : ℕ} → ◌≡◌ {A = Packed} (Len len) (Refused k) → A
+    never : {A : Type 0} {k : Refusal} → ◌≡◌ {A = Result ℕ Refusal} (Ok len) (Err k) → A
     never e = absurd (let z : ◌≡◌ {A = ℕ} 0 1 = cc in omega arith)
 
     go : (a : Bool) → list_test s ≡ a → (b t : Bool) → leb 2 n ≡ t → (r c : Bool) → leb (length file) max_len ≡ c
-        → PacksBy (cond a (cond (b && (t && r)) (cond c (written file (pack_cells (pairs_of s) n)) (refused LARGE)) (refused SPACE)) (refused LIST)) out cells inputs leasts targets (Len len)
+        → PacksBy (cond a (cond (b && (t && r)) (cond c (written file (pack_cells (pairs_of s) n)) (refused LARGE)) (refused SPACE)) (refused LIST)) out cells inputs leasts targets (Ok len)
         → PackedList s n out cells
     go true a true true t true true c p =
         let ok = (decides_list s).yes a in

@@ -7,7 +7,7 @@ ghost use Rattle.packing.specs.Registry.{hash_of};
 ghost use Rattle.pack_finish.specs.FinishRow.{EachAtLeast, row_node};
 ghost use Rattle.pack_row.specs.Row.{RowGiven};
 
-// Writes the numbers less base to the front of outs.
+// Writes the numbers less base to the front of outs. No plainer by std: a copy would have to be gone through a second time.
 fn less_into(outs: &mut [u64; 256], numbers: &[u64], base: u64)
     requires { (length numbers.now ≤ 256) × EachAtLeast base numbers.now × (length outs.old ≡ 256) }
     ensures { (take (length numbers.now) outs.new ≡ map (λ (m : ℕ). m - base) numbers.now)
@@ -19,6 +19,7 @@ fn less_into(outs: &mut [u64; 256], numbers: &[u64], base: u64)
 }
 
 // The first cell of the row of the node that the first n entries of row d make, with its outputs counted from base.
+// No plainer by slices: the definitions name a row of the three tables by d and n.
 pub fn row_at(
     cells: usize,
     d: usize,

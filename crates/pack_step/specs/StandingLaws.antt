@@ -1,14 +1,14 @@
 -- Laws of packing that stops at each finished node.
 --     judged_list, -tables, -cells, -room, -sound      what is judged before the run
---     stands_refused, stands_going     where packing stands
+--     stands_refused, stands_next, stands_done     where packing stands
 --     begin_refused, begin_started, begin_asked, begin_stands      the start
---     steps_ended, steps_going         a step brings the end nearer
---     node_of_turn, node_asked_of, steps_node, after_full, after_done      a node that is not the root
---     root_in_pair, root_stands, root_full             the root
+--     node_of_turn, node_asked_of, steps_node      a node that is not the root
+--     root_in_pair, steps_placed, steps_full     the root
 -- Assumes nothing.
-use Rattle.std.specs.Prelude.{◌≡◌, Option, None, Some, refl, Bool, true, false, List, [], ◌∷◌, ℕ, ◌+◌, ◌*◌, ◌/◌, ◌%◌, ◌≤◌, ◌<◌, length, get_or, replicate}
+use Rattle.std.specs.Prelude.{◌≡◌, ⊤, Option, None, Some, Ok, Err, Result, refl, Bool, true, false, List, [], ◌∷◌, ℕ, ◌+◌, ◌*◌, ◌/◌, ◌%◌, ◌≤◌, ◌<◌, length, get_or, replicate}
 use Rattle.std.proofs.Common.{sym, ap, ◌∙◌, subst, ⊎_elim, arith}
 use Rattle.std.proofs.lemmas.List.{length-replicate}
+use Rattle.format.specs.declared.Refusal.{Refusal}
 use Rattle.format.specs.Packed.{BuilderNode}
 use Rattle.format.specs.Limits.{LIST, SPACE}
 use Rattle.packing.specs.Lists.{IsList, count_in, pairs_of}
@@ -24,9 +24,10 @@ use Rattle.pack_cell.specs.declared.Cell.{Cell}
 use Rattle.pack_row.specs.Row.{put_pair, TakenFrom}
 use Rattle.pack_row.specs.RowLaws.{row_ready, row_interned}
 use Rattle.pack_turn.specs.RowClosing.{pair_of}
-use Rattle.pack_run.specs.Running.{Blank, Runs}
+use Rattle.pack_run.specs.Running.{Blank, RunAt, Runs}
 use Rattle.pack_blank.specs.PackBlank.{tables_test}
 use Rattle.pack_blank.specs.PackBlankLaws.{sizes, zeros_again, blank_of}
+use Rattle.pack_node.specs.declared.Due.{Due}
 use Rattle.pack_node.specs.declared.NodeStep.{NodeStep}
 use Rattle.pack_node.specs.NodeSteps.{NodeAt, NodeAsked, NodeSteps}
 use Rattle.pack_node.specs.NodeStepsLaws.{row_of_record, put_length}
@@ -34,55 +35,93 @@ use Rattle.pack_ahead.specs.declared.Way.{Way}
 use Rattle.pack_ahead.specs.Ahead.{way_with, Underway, way_left, Started, GoesAhead, row_next, RowAsked}
 use Rattle.pack_ahead.specs.AheadLaws.{underway_none, root_asked, root_done, row_asked}
 use Rattle.pack_step.specs.declared.Turn.{Turn}
+use Rattle.pack_step.specs.declared.Turn.TheVariants.{Next, Done}
 use Rattle.pack_step.specs.declared.Stepped.{Stepped}
-use Rattle.pack_step.specs.Standing.{Sound, Judged, Going, Standing, turn_left, StepAsked, Steps, TurnAfter}
+use Rattle.pack_step.specs.Standing.{Sound, Judged, Going, Ended, ended_as, Standing, turn_left, StepAsked, RootAsked, Steps, turn_after, TurnAfter}
 
-false_true : ¬ (false ≡ true)
-false_true e = let z : ◌≡◌ {A = ℕ} 0 1 = cc in omega arith
+-- ---- a result is one thing
+
+err_ok : {A : Type 0} {why : Refusal} {a : A} → ¬ (◌≡◌ {A = Result A Refusal} (Err why) (Ok a))
+err_ok e = let z : ◌≡◌ {A = ℕ} 0 1 = cc in omega arith
+
+next_done : {n : Due} {p : Placed} → ¬ (◌≡◌ {A = Result Turn Refusal} (Ok (Next n)) (Ok (Done p)))
+next_done e = let z : ◌≡◌ {A = ℕ} 0 1 = cc in omega arith
+
+err_same : {A : Type 0} {k m : Refusal} → ◌≡◌ {A = Result A Refusal} (Err k) (Err m) → k ≡ m
+err_same e = cc
+
+next_same : {n m : Due} → ◌≡◌ {A = Result Turn Refusal} (Ok (Next n)) (Ok (Next m)) → n ≡ m
+next_same e = cc
+
+done_same : {p q : Placed} → ◌≡◌ {A = Result Turn Refusal} (Ok (Done p)) (Ok (Done q)) → p ≡ q
+done_same e = cc
+
+placed_same : {p q : Placed} → ◌≡◌ {A = Result Placed Refusal} (Ok p) (Ok q) → p ≡ q
+placed_same e = cc
 
 -- ---- before the run
 
 module _ (s : List ℕ) (tables : Bool) (cells room : ℕ) where
-  refused_first : (why : ℕ) → ¬ (why ≡ 0) → ((limit : ℕ) → pack_answer limit s tables cells room ≡ refused why) → Judged s tables cells room why
-  refused_first why ne f = record { sound = λ z. absurd (ne z); refuses = λ z. f }
+  refused_first : {why : Refusal} → ((limit : ℕ) → pack_answer limit s tables cells room ≡ refused why) → Judged s tables cells room (Err why)
+  refused_first f = record { sound = λ z. absurd (err_ok z); refuses = λ k z limit. f limit ∙ ap refused (err_same z) }
 
-  pub judged_list : ¬ IsList s → Judged s tables cells room LIST
-  judged_list no_list = refused_first LIST (λ z. omega arith) (λ limit. answer_list limit s tables cells room no_list)
+  pub judged_list : ¬ IsList s → Judged s tables cells room (Err LIST)
+  judged_list no_list = refused_first (λ limit. answer_list limit s tables cells room no_list)
 
-  pub judged_tables : IsList s → tables ≡ false → Judged s tables cells room SPACE
-  judged_tables ok e = refused_first SPACE (λ z. omega arith) (λ limit. answer_tables limit s tables cells room ok e)
+  pub judged_tables : IsList s → tables ≡ false → Judged s tables cells room (Err SPACE)
+  judged_tables ok e = refused_first (λ limit. answer_tables limit s tables cells room ok e)
 
-  pub judged_cells : IsList s → tables ≡ true → cells < 2 → Judged s tables cells room SPACE
-  judged_cells ok e few = refused_first SPACE (λ z. omega arith) (λ limit. answer_cells limit s tables cells room ok e few)
+  pub judged_cells : IsList s → tables ≡ true → cells < 2 → Judged s tables cells room (Err SPACE)
+  judged_cells ok e few = refused_first (λ limit. answer_cells limit s tables cells room ok e few)
 
   -- the output has no room for the nodes with the ends
   pub no_room : Sound s tables cells → room < 32 + length (pack_nodes (pairs_of s) cells).build.nodes → (limit : ℕ) → pack_answer limit s tables cells room ≡ refused SPACE
   no_room ok short limit =
       answer_room limit s tables cells room ok.list ok.fit ok.two (omega (arith, short, length_file (length (pairs_of s)) (pack_nodes (pairs_of s) cells)))
 
-  pub judged_room : IsList s → tables ≡ true → 2 ≤ cells → room < 32 → Judged s tables cells room SPACE
-  judged_room ok e two short = refused_first SPACE (λ z. omega arith) (no_room (record { list = ok; fit = e; two = two }) (omega arith))
+  pub judged_room : IsList s → tables ≡ true → 2 ≤ cells → room < 32 → Judged s tables cells room (Err SPACE)
+  judged_room ok e two short = refused_first (no_room (record { list = ok; fit = e; two = two }) (omega arith))
 
-  pub judged_sound : IsList s → tables ≡ true → 2 ≤ cells → 32 ≤ room → Judged s tables cells room 0
-  judged_sound ok e two long = record { sound = λ z. (record { list = ok; fit = e; two = two }, long); refuses = λ z. absurd (z refl) }
+  pub judged_sound : IsList s → tables ≡ true → 2 ≤ cells → 32 ≤ room → Judged s tables cells room (Ok tt)
+  judged_sound ok e two long = record { sound = λ z. (record { list = ok; fit = e; two = two }, long); refuses = λ k z. absurd (err_ok (sym z)) }
 
   -- ---- where packing stands
 
-  module _ {out : List ℕ} {table : List (List ℕ)} {T : Tables} (t : Turn) (long : length out ≡ room) (count : length table ≡ cells) where
-    pub stands_refused : t.going ≡ false → t.placed ≡ false → ((limit : ℕ) → pack_answer limit s tables cells room ≡ refused t.why) → Standing s tables cells room out table T t
-    stands_refused e p f = record {
-      long = long;
-      count = count;
-      on = λ z. absurd (false_true (sym e ∙ z));
-      ended = λ z. record { done = λ q. absurd (false_true (sym p ∙ q)); refuses = λ q. f };
+  module _ {out : List ℕ} {table : List (List ℕ)} where
+    ended_refused : {why : Refusal} → ((limit : ℕ) → pack_answer limit s tables cells room ≡ refused why) → Ended s tables cells room out table (Err why)
+    ended_refused f = record { done = λ p z. absurd (err_ok z); refuses = λ k z limit. f limit ∙ ap refused (err_same z) }
+
+    ended_done : (p : Placed) → Sound s tables cells × RunAt (pack_nodes (pairs_of s) cells) out table p.addr p.next → Ended s tables cells room out table (Ok p)
+    ended_done p w = record {
+      done = λ q z. subst (λ (k : Placed). Sound s tables cells × RunAt (pack_nodes (pairs_of s) cells) out table k.addr k.next) (placed_same z) w;
+      refuses = λ k z. absurd (err_ok (sym z));
     }
 
-    pub stands_going : t.going ≡ true → Going s tables cells out table T t → Standing s tables cells room out table T t
-    stands_going e g = record { long = long; count = count; on = λ z. g; ended = λ z. absurd (false_true (sym z ∙ e)) }
+    module _ {T : Tables} (long : length out ≡ room) (count : length table ≡ cells) where
+      pub stands_refused : {why : Refusal} → ((limit : ℕ) → pack_answer limit s tables cells room ≡ refused why) → Standing s tables cells room out table T (Err why)
+      stands_refused {why} f = record { long = long; count = count; on = λ n z. absurd (err_ok z); ended = go }
+        where
+          go : (r : Result Placed Refusal) → Err why ≡ ended_as r → Ended s tables cells room out table r
+          go (Ok p) z = absurd (err_ok z)
+          go (Err k) z = ended_refused (λ limit. f limit ∙ ap refused (err_same z))
 
-  pub begin_refused : {T : Tables} (t : Turn) → t.going ≡ false → t.placed ≡ false → ((limit : ℕ) → pack_answer limit s tables cells room ≡ refused t.why)
-      → (out : List ℕ) (table : List (List ℕ)) → out ≡ replicate room 0 → table ≡ replicate cells (1 ∷ 0 ∷ []) → Standing s tables cells room out table T t
-  begin_refused t e p f out table o_is t_is = stands_refused t (ap length o_is ∙ length-replicate room 0) (ap length t_is ∙ length-replicate cells (1 ∷ 0 ∷ [])) e p f
+      pub stands_next : (n : Due) → Going s tables cells out table T n → Standing s tables cells room out table T (Ok (Next n))
+      stands_next n g = record { long = long; count = count; on = λ m z. subst (Going s tables cells out table T) (next_same z) g; ended = go }
+        where
+          go : (r : Result Placed Refusal) → Ok (Next n) ≡ ended_as r → Ended s tables cells room out table r
+          go (Ok p) z = absurd (next_done z)
+          go (Err k) z = absurd (err_ok (sym z))
+
+      pub stands_done : (p : Placed) → Sound s tables cells × RunAt (pack_nodes (pairs_of s) cells) out table p.addr p.next → Standing s tables cells room out table T (Ok (Done p))
+      stands_done p w = record { long = long; count = count; on = λ m z. absurd (next_done (sym z)); ended = go }
+        where
+          go : (r : Result Placed Refusal) → Ok (Done p) ≡ ended_as r → Ended s tables cells room out table r
+          go (Ok q) z = ended_done q (subst (λ (k : Placed). Sound s tables cells × RunAt (pack_nodes (pairs_of s) cells) out table k.addr k.next) (done_same z) w)
+          go (Err k) z = absurd (err_ok (sym z))
+
+  pub begin_refused : {T : Tables} {r : Result ⊤ Refusal} {why : Refusal} → Judged s tables cells room r → r ≡ Err why
+      → (out : List ℕ) (table : List (List ℕ)) → out ≡ replicate room 0 → table ≡ replicate cells (1 ∷ 0 ∷ []) → Standing s tables cells room out table T (Err why)
+  begin_refused {why = why} j e out table o_is t_is = stands_refused (ap length o_is ∙ length-replicate room 0) (ap length t_is ∙ length-replicate cells (1 ∷ 0 ∷ [])) (j.refuses why e)
 
 -- ---- the start
 
@@ -120,46 +159,31 @@ module _ (s : List ℕ) (cells room : ℕ) (inputs leasts targets counts led : L
     pub begin_asked : RowAsked cells w.depth inputs leasts targets counts'
     begin_asked = row_asked (after (replicate room 0) (replicate cells (1 ∷ 0 ∷ [])) refl refl) sound.two
 
-    pub begin_stands : (t : Turn) → t.going ≡ true → t.next ≡ 16 → t.way ≡ w
-        → (t.row ≡ 2 * (hash_of (row_next inputs leasts targets counts' finals' values' w.depth) % (cells / 2))) × (t.row + 1 < cells)
+    pub begin_stands : {row : ℕ} → (row ≡ 2 * (hash_of (row_next inputs leasts targets counts' finals' values' w.depth) % (cells / 2))) × (row + 1 < cells)
         → (out : List ℕ) (table : List (List ℕ)) → out ≡ replicate room 0 → table ≡ replicate cells (1 ∷ 0 ∷ [])
-        → Standing s (tables_test (length inputs) (length leasts) (length targets)) cells room out table (tables_with inputs leasts targets counts' led' finals' values') t
-    begin_stands t g n_is w_is row out table o_is t_is =
-        stands_going s (tables_test (length inputs) (length leasts) (length targets)) cells room t (ap length o_is ∙ length-replicate room 0) (ap length t_is ∙ length-replicate cells (1 ∷ 0 ∷ [])) g
+        → Standing s (tables_test (length inputs) (length leasts) (length targets)) cells room out table (tables_with inputs leasts targets counts' led' finals' values')
+        (Ok (Next (record { next = 16; way = w; row = row })))
+    begin_stands row out table o_is t_is =
+        stands_next s (tables_test (length inputs) (length leasts) (length targets)) cells room (ap length o_is ∙ length-replicate room 0) (ap length t_is ∙ length-replicate cells (1 ∷ 0 ∷ [])) _
         (record {
           sound = sound;
-          underway = rw (n_is, w_is) (after out table o_is t_is);
-          node = rw w_is go.stops;
-          row = rw w_is row.0;
+          underway = after out table o_is t_is;
+          node = go.stops;
+          row = row.0;
           within = row.1;
         })
 
 -- ---- a step
 
-ended_less : (s : List ℕ) (t q : Turn) → t.going ≡ true → q.going ≡ false → turn_left s q < turn_left s t
-ended_less s t q g h = rw (g, h) (omega arith)
+module _ {s : List ℕ} {cells : ℕ} {out : List ℕ} {one two : Cell} {T : Tables} {n : Due} {tables : Bool} {table : List (List ℕ)}
+    (st : Standing s tables cells (length out) out table T (Ok (Next n))) (taken : TakenFrom table n.row (pair_of one two)) where
+  G : Going s tables cells out table T n
+  G = st.on n refl
 
-going_less : (s : List ℕ) (t q : Turn) → t.going ≡ true → q.going ≡ true → way_left s q.way < way_left s t.way → turn_left s q < turn_left s t
-going_less s t q g h l = rw (g, h) (omega arith)
-
-module _ {s : List ℕ} {cells : ℕ} {out : List ℕ} {one two : Cell} {T : Tables} {t : Turn} {out' : List ℕ} {T' : Tables} {r : Stepped}
-    (stands : (tables : Bool) (table : List (List ℕ)) → Standing s tables cells (length out) out table T t → t.going ≡ true → TakenFrom table t.row (pair_of one two)
-    → Standing s tables cells (length out) out' (put_pair table t.row (pair_of r.one r.two)) T' r.turn) where
-  pub steps_ended : r.turn.going ≡ false → Steps s cells out one two T t out' T' r
-  steps_ended h = record { stands = stands; less = λ g. ended_less s t r.turn g h }
-
-  pub steps_going : r.turn.going ≡ true → way_left s r.turn.way < way_left s t.way → Steps s cells out one two T t out' T' r
-  steps_going h l = record { stands = stands; less = λ g. going_less s t r.turn g h l }
-
-module _ {s : List ℕ} {cells : ℕ} {out : List ℕ} {one two : Cell} {T : Tables} {t : Turn} {tables : Bool} {table : List (List ℕ)}
-    (st : Standing s tables cells (length out) out table T t) (going : t.going ≡ true) (taken : TakenFrom table t.row (pair_of one two)) where
-  G : Going s tables cells out table T t
-  G = st.on going
-
-  u : Underway s cells out table T t.next t.way
+  u : Underway s cells out table T n.next n.way
   u = G.underway
 
-  pub node_of_turn : NodeAt s cells out table T t.next t.way t.row
+  pub node_of_turn : NodeAt s cells out table T n.next n.way n.row
   node_of_turn = record {
     list = G.sound.list;
     two = G.sound.two;
@@ -172,19 +196,19 @@ module _ {s : List ℕ} {cells : ℕ} {out : List ℕ} {one two : Cell} {T : Tab
 
   -- ---- the root
 
-  module _ (top : t.way.depth ≡ 0) where
-    none_left : count_in s ≤ t.way.keys
+  module _ (top : n.way.depth ≡ 0) where
+    none_left : count_in s ≤ n.way.keys
     none_left = ⊎_elim (λ l. absurd (omega arith)) (λ l. l) G.node
 
     abbrev node : BuilderNode
     node = row_node (get_or T.finals 0 false) (get_or T.values 0 0) T.inputs T.leasts T.targets 0 (count_at T 0) 0
 
-    F : Finishable out t.next table (get_or T.finals 0 false) (get_or T.values 0 0) T.inputs T.leasts T.targets 0 (count_at T 0) 0
+    F : Finishable out n.next table (get_or T.finals 0 false) (get_or T.values 0 0) T.inputs T.leasts T.targets 0 (count_at T 0) 0
     F = root_asked u G.sound.list G.sound.two top none_left
 
-    pub root_in_pair : Finishable out t.next (pair_of one two) (get_or T.finals 0 false) (get_or T.values 0 0) T.inputs T.leasts T.targets 0 (count_at T 0) 0
+    pub root_in_pair : Finishable out n.next (pair_of one two) (get_or T.finals 0 false) (get_or T.values 0 0) T.inputs T.leasts T.targets 0 (count_at T 0) 0
     root_in_pair = record {
-      ready = row_ready out t.next table t.row (pair_of one two) F.ready taken;
+      ready = row_ready out n.next table n.row (pair_of one two) F.ready taken;
       fits = F.fits;
       low = F.low;
       few = F.few;
@@ -195,82 +219,72 @@ module _ {s : List ℕ} {cells : ℕ} {out : List ℕ} {one two : Cell} {T : Tab
       value_high = F.value_high;
     }
 
-    root_row : t.row ≡ row_of (cells_is table) node
+    root_row : n.row ≡ row_of (cells_is table) node
     root_row = row_of_record node_of_turn node (ap (row_next T.inputs T.leasts T.targets T.counts T.finals T.values) top)
 
-    module _ {out' : List ℕ} {c d : Cell} {p : Option Placed} (w : InternIs (intern (build_is out t.next (pair_of one two)) node) t.next out' (pair_of c d) p) (same : length out' ≡ length out) where
-      runs : Runs (pack_nodes (pairs_of s) cells) out' (put_pair table t.row (pair_of c d)) p
-      runs = root_done u G.sound.list G.sound.two top none_left (row_interned out t.next table t.row (pair_of one two) F.ready taken node root_row w refl)
+    module _ {out' : List ℕ} {c d : Cell} {p : Option Placed} (w : InternIs (intern (build_is out n.next (pair_of one two)) node) n.next out' (pair_of c d) p) (same : length out' ≡ length out) where
+      runs : Runs (pack_nodes (pairs_of s) cells) out' (put_pair table n.row (pair_of c d)) p
+      runs = root_done u G.sound.list G.sound.two top none_left (row_interned out n.next table n.row (pair_of one two) F.ready taken node root_row w refl)
 
-      pub root_stands : {T' : Tables} (q : Turn) (at : Placed) → p ≡ Some at → q.going ≡ false → q.placed ≡ true → q.root ≡ at.addr → q.next ≡ at.next
-          → Standing s tables cells (length out) out' (put_pair table t.row (pair_of c d)) T' q
-      root_stands q at p_is g y a_is n_is = record {
-        long = same;
-        count = put_length table t.row (pair_of c d) ∙ st.count;
-        on = λ z. absurd (false_true (sym g ∙ z));
-        ended = λ z. record { done = λ k. (G.sound, rw (a_is, n_is) (runs.at at p_is)); refuses = λ k. absurd (false_true (sym k ∙ y)) };
-      }
+      root_count : length (put_pair table n.row (pair_of c d)) ≡ cells
+      root_count = put_length table n.row (pair_of c d) ∙ st.count
 
-      pub root_full : {T' : Tables} (q : Turn) → p ≡ None → q.going ≡ false → q.placed ≡ false → q.why ≡ SPACE
-          → Standing s tables cells (length out) out' (put_pair table t.row (pair_of c d)) T' q
-      root_full q f g y k =
-          stands_refused s tables cells (length out) q same (put_length table t.row (pair_of c d) ∙ st.count) g y
-          (λ limit. no_room s tables cells (length out) G.sound (omega (arith, runs.full f, same)) limit ∙ ap refused (sym k))
+      pub root_stands : {T' : Tables} (at : Placed) → p ≡ Some at → Standing s tables cells (length out) out' (put_pair table n.row (pair_of c d)) T' (Ok (Done at))
+      root_stands at p_is = stands_done s tables cells (length out) same root_count at (G.sound, runs.at at p_is)
+
+      pub root_full : {T' : Tables} → p ≡ None → Standing s tables cells (length out) out' (put_pair table n.row (pair_of c d)) T' (Err SPACE)
+      root_full f = stands_refused s tables cells (length out) same root_count (no_room s tables cells (length out) G.sound (omega (arith, runs.full f, same)))
+
+module _ {s out : List ℕ} {one two : Cell} {T : Tables} {n : Due} (a : RootAsked s out one two T n) {out' : List ℕ} {T' : Tables} {c d : Cell} {p : Option Placed}
+    (w : InternIs (intern (build_is out n.next (pair_of one two)) (row_node (get_or T.finals 0 false) (get_or T.values 0 0) T.inputs T.leasts T.targets 0 (count_at T 0) 0)) n.next out' (pair_of c d) p)
+    (same : length out' ≡ length out) where
+  pub steps_placed : (cells : ℕ) (at : Placed) → p ≡ Some at → Steps s cells out one two T n out' T' (record { turn = Ok (Done at); one = c; two = d })
+  steps_placed cells at e = record { stands = λ tables table st taken. root_stands st taken a.top w same at e; less = omega arith }
+
+  pub steps_full : (cells : ℕ) → p ≡ None → Steps s cells out one two T n out' T' (record { turn = Err SPACE; one = c; two = d })
+  steps_full cells e = record { stands = λ tables table st taken. root_full st taken a.top w same e; less = omega arith }
 
 -- ---- a node that is not the root
 
-pub node_asked_of : {s : List ℕ} {cells : ℕ} {out : List ℕ} {one two : Cell} {T : Tables} {t : Turn} → StepAsked s cells out one two T t → 0 < t.way.depth
-    → NodeAsked s cells out one two T t.next t.way
-node_asked_of {t = t} a l = record { table = a.table; row = t.row; at = node_of_turn a.standing a.going a.taken; taken = a.taken; low = l }
+pub node_asked_of : {s : List ℕ} {cells : ℕ} {out : List ℕ} {one two : Cell} {T : Tables} {n : Due} → StepAsked s cells out one two T n → 0 < n.way.depth
+    → NodeAsked s cells out one two T n.next n.way
+node_asked_of {n = n} a l = record { table = a.table; row = n.row; at = node_of_turn a.standing a.taken; taken = a.taken; low = l }
 
-module _ {s : List ℕ} {cells : ℕ} {out : List ℕ} {one two : Cell} {T : Tables} {t : Turn} {out' : List ℕ} {T' : Tables} {n : NodeStep} {r : Stepped}
-    (w : NodeSteps s cells out one two T t.next t.way out' T' n) (a : TurnAfter n r) (same : length out' ≡ length out) where
-  full_stands : n.done ≡ false → (tables : Bool) (table : List (List ℕ)) → Standing s tables cells (length out) out table T t → t.going ≡ true → TakenFrom table t.row (pair_of one two)
-      → Standing s tables cells (length out) out' (put_pair table t.row (pair_of r.one r.two)) T' r.turn
-  full_stands d tables table st going taken =
-      let short = w.full d table t.row (node_of_turn st going taken) taken in
-      stands_refused s tables cells (length out) r.turn same (put_length table t.row (pair_of r.one r.two) ∙ st.count) (a.full d).0 (a.full d).1
-      (λ limit. no_room s tables cells (length out) (st.on going).sound (omega (arith, short, same)) limit ∙ ap refused (sym (a.full d).2))
+module _ {s : List ℕ} {cells : ℕ} {out : List ℕ} {one two : Cell} {T : Tables} {n : Due} {out' : List ℕ} {T' : Tables} {m : NodeStep}
+    (w : NodeSteps s cells out one two T n.next n.way out' T' m) (same : length out' ≡ length out) where
+  module _ (tables : Bool) (table : List (List ℕ)) (st : Standing s tables cells (length out) out table T (Ok (Next n))) (taken : TakenFrom table n.row (pair_of one two)) where
+    g : Going s tables cells out table T n
+    g = st.on n refl
 
-  done_stands : n.done ≡ true → (tables : Bool) (table : List (List ℕ)) → Standing s tables cells (length out) out table T t → t.going ≡ true → TakenFrom table t.row (pair_of one two)
-      → Standing s tables cells (length out) out' (put_pair table t.row (pair_of r.one r.two)) T' r.turn
-  done_stands d tables table st going taken =
-      let A = w.at d table t.row (node_of_turn st going taken) taken in
-      stands_going s tables cells (length out) r.turn same (put_length table t.row (pair_of r.one r.two) ∙ st.count) (a.going d)
-      (record {
-        sound = (st.on going).sound;
-        underway = rw (a.one_is, a.two_is, a.next_is d, a.way_is d) A.underway;
-        node = rw (a.way_is d) A.node;
-        row = rw (a.row_is d, a.way_is d) A.row_is;
-        within = rw (a.row_is d) A.within;
-      })
+    count' : length (put_pair table n.row (pair_of m.one m.two)) ≡ cells
+    count' = put_length table n.row (pair_of m.one m.two) ∙ st.count
 
-  pub steps_node : Steps s cells out one two T t out' T' r
-  steps_node = go n.done refl
-    where
-      go : (b : Bool) → n.done ≡ b → Steps s cells out one two T t out' T' r
-      go false d = steps_ended (full_stands d) (a.full d).0
-      go true d = steps_going (done_stands d) (a.going d) (rw (a.way_is d) (w.less d))
+    full_stands : m.due ≡ None → Standing s tables cells (length out) out' (put_pair table n.row (pair_of m.one m.two)) T' (Err SPACE)
+    full_stands d =
+        let short = w.full d table n.row (node_of_turn st taken) taken in
+        stands_refused s tables cells (length out) same count' (no_room s tables cells (length out) g.sound (omega (arith, short, same)))
 
-pub after_full : {n : NodeStep} {r : Stepped} → n.done ≡ false → r.one ≡ n.one → r.two ≡ n.two → (r.turn.going ≡ false) × (r.turn.placed ≡ false) × (r.turn.why ≡ SPACE) → TurnAfter n r
-after_full e p q f = record {
-  one_is = p;
-  two_is = q;
-  full = λ d. f;
-  going = λ d. absurd (false_true (sym e ∙ d));
-  next_is = λ d. absurd (false_true (sym e ∙ d));
-  way_is = λ d. absurd (false_true (sym e ∙ d));
-  row_is = λ d. absurd (false_true (sym e ∙ d));
-}
+    next_stands : (k : Due) → m.due ≡ Some k → Standing s tables cells (length out) out' (put_pair table n.row (pair_of m.one m.two)) T' (Ok (Next k))
+    next_stands k d =
+        let A = w.at k d table n.row (node_of_turn st taken) taken in
+        stands_next s tables cells (length out) same count' k
+        (record {
+          sound = g.sound;
+          underway = A.underway;
+          node = A.node;
+          row = A.row_is;
+          within = A.within;
+        })
 
-pub after_done : {n : NodeStep} {r : Stepped} → n.done ≡ true → r.one ≡ n.one → r.two ≡ n.two → r.turn.going ≡ true → r.turn.next ≡ n.next → r.turn.way ≡ n.way → r.turn.row ≡ n.row
-    → TurnAfter n r
-after_done e p q g n_is w_is r_is = record {
-  one_is = p;
-  two_is = q;
-  full = λ d. absurd (false_true (sym d ∙ e));
-  going = λ d. g;
-  next_is = λ d. n_is;
-  way_is = λ d. w_is;
-  row_is = λ d. r_is;
-}
+  steps_after : {r : Stepped} → r.one ≡ m.one → r.two ≡ m.two → (d : Option Due) → m.due ≡ d → r.turn ≡ turn_after d → Steps s cells out one two T n out' T' r
+  steps_after p q (Some k) d e = record {
+    stands = λ tables table st taken. rw (p, q, e) (next_stands tables table st taken k d);
+    less = let l = w.less k d in rw e (omega arith);
+  }
+  steps_after p q None d e = record {
+    stands = λ tables table st taken. rw (p, q, e) (full_stands tables table st taken d);
+    less = rw e (omega arith);
+  }
+
+  pub steps_node : {r : Stepped} → TurnAfter m r → Steps s cells out one two T n out' T' r
+  steps_node a = steps_after a.one_is a.two_is m.due refl a.turn_is

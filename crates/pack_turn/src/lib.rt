@@ -78,6 +78,7 @@ pub struct RowPlaced {
 }
 
 // Finishes the root, whose n transitions stand in row 0, in the row of these two cells.
+// No plainer by slices: the definitions name a row of the three tables by its number and n.
 pub fn root_in_row(
     output: &mut [u8],
     one: Cell,

@@ -11,6 +11,7 @@ use mathlib.Core.List.{List}
 use borrow.Author.Tests.{leb-true, le-leb, lt-leb}
 use Rattle.std.proofs.Math.Dec.{leb}
 use Rattle.std.proofs.Math.ListN.{length}
+use Rattle.format.specs.declared.Refusal.{Refusal}
 use Rattle.buffers.specs.DecideLaws.{true_of, false_of}
 use Rattle.format.specs.Limits.{LARGE, SPACE, LIST}
 use Rattle.packing.specs.Lists.{IsList, list_test, pairs_of}
@@ -31,7 +32,7 @@ module _ (limit : ℕ) (s : List ℕ) (tables : Bool) (n room : ℕ) where
   abbrev file₀ : List ℕ
   file₀ = pack_file (pairs_of s) n
 
-  refused_not : {k : ℕ} {file : List ℕ} {cells : List Cell} → ◌≡◌ {A = Answer} (refused k) (written file cells) → ⊥
+  refused_not : {k : Refusal} {file : List ℕ} {cells : List Cell} → ◌≡◌ {A = Answer} (refused k) (written file cells) → ⊥
   refused_not e = let z : ◌≡◌ {A = ℕ} 0 1 = cc in omega arith
 
   pub answer_written_means : (file : List ℕ) (cells : List Cell) → pack_answer limit s tables n room ≡ written file cells → Written limit s tables n room file cells

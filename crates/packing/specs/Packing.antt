@@ -13,6 +13,7 @@
 -- Assumes nothing.
 use Rattle.std.specs.Prelude.{◌≡◌, Bool, true, false, cond, ◌&&◌, List, [], ◌∷◌, ◌++◌, map, ℕ, zero, suc, ◌+◌, ◌-◌, min, leb, eqb, length, replicate}
 use Rattle.std.proofs.Math.Option.{Option, none, some}
+use Rattle.format.specs.declared.Refusal.{Refusal}
 use Rattle.format.specs.Limits.{LARGE, SPACE, LIST}
 use Rattle.format.specs.Bytes.{bytes_of}
 use Rattle.format.specs.Packed.{BuilderNode}
@@ -163,7 +164,7 @@ pack_cells ps n = (pack_nodes ps n).build.cells
 pub data Answer : Type 0 where
   -- the file, and the cells as the run left them
   written : List ℕ → List Cell → Answer
-  refused : ℕ → Answer
+  refused : Refusal → Answer
 
 -- with room for so many bytes and n cells; tables says whether every working table has its size
 abbrev pub placed : ℕ → Bool → ℕ → ℕ → List ℕ → List Cell → Answer

@@ -7,6 +7,7 @@
 use Rattle.std.specs.Prelude.{◌≡◌, refl, List, [], ◌∷◌, ◌++◌, map, ℕ, zero, suc, ◌+◌, ◌-◌, ◌*◌, ◌≤◌, ◌<◌, length, drop, set}
 use Rattle.std.proofs.Common.{sym, ap, ap₂, ◌∙◌, append_assoc, append-nil, add-zero, add-one, arith, length-append, drop-cons}
 use Rattle.std.proofs.lemmas.List.{length-map, set_at}
+use Rattle.format.specs.declared.Refusal.{Refusal}
 use Rattle.buffers.specs.Put.{put}
 use Rattle.format.specs.Limits.{max_path}
 use Rattle.reading.specs.Reading.{View, Answer, key, end, next}
@@ -29,7 +30,7 @@ module _ (s : List ℕ) (r : View) (n : ℕ) where
   pub fold_end : (next s r max_path).answer ≡ end → fold s r (suc n) ≡ page [] ended
   fold_end is = fold_by_lem s r n ∙ ap (λ (a : Answer). answered a (fold s (next s r max_path).reading n)) is
 
-  pub fold_refused : (c : ℕ) → (next s r max_path).answer ≡ Answer.refused c → fold s r (suc n) ≡ refused_page c
+  pub fold_refused : (c : Refusal) → (next s r max_path).answer ≡ Answer.refused c → fold s r (suc n) ≡ refused_page c
   fold_refused c is = fold_by_lem s r n ∙ ap (λ (a : Answer). answered a (fold s (next s r max_path).reading n)) is
 
 -- ---- a loop of calls
@@ -67,7 +68,7 @@ module _ {w : Page} {es : List Entry} {n : ℕ} {s : List ℕ} {r : View} (h : F
       let at : n ≡ suc (n - 1) = omega arith in
       stops ended (ap (fold s r) at ∙ fold_end s r (n - 1) is)
 
-  pub folded_refused : 0 < n → (c : ℕ) → (next s r max_path).answer ≡ Answer.refused c → w ≡ page es (Stop.refused c)
+  pub folded_refused : 0 < n → (c : Refusal) → (next s r max_path).answer ≡ Answer.refused c → w ≡ page es (Stop.refused c)
   folded_refused some c is =
       let at : n ≡ suc (n - 1) = omega arith in
       stops (Stop.refused c) (ap (fold s r) at ∙ fold_refused s r (n - 1) c is)

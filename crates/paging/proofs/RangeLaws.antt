@@ -7,6 +7,7 @@
 -- Assumes nothing.
 use Rattle.std.specs.Prelude.{◌≡◌, refl, Bool, true, false, cond, ◌&&◌, ◌⊎◌, ℕ, zero, suc, ◌+◌, ◌*◌, ◌≤◌, ◌<◌, leb, length, take, drop}
 use Rattle.std.proofs.Common.{sym, ◌∙◌, ap, subst, ⊎_elim, inl, inr, le_refl, arith, take-append-drop, length-take-le, take_all}
+use Rattle.format.specs.declared.Refusal.{Refusal}
 use mathlib.Core.List.Memᴰ
 use mathlib.Core.List.{List, [], ◌∷◌, ◌++◌, map, Memᴰ}
 use Prim.{tt}
@@ -148,7 +149,7 @@ module _ {s : List ℕ} (A : Admitted s) (lo hi : Bound) (most a b : ℕ) where
           front : (e : Entry) → Memᴰ e p.entries → Memᴰ e (take most W.entries)
           front e on = subst (Memᴰ e) f.entries on
 
-          no_refusal : {why : Stop} → p.stop ≡ why → ((n : ℕ) → ¬ (why ≡ Stop.refused n)) → (n : ℕ) → ¬ (p.stop ≡ Stop.refused n)
+          no_refusal : {why : Stop} → p.stop ≡ why → ((n : Refusal) → ¬ (why ≡ Stop.refused n)) → (n : Refusal) → ¬ (p.stop ≡ Stop.refused n)
           no_refusal is not_it n e = not_it n (sym is ∙ e)
 
           held_front : (e : Entry) → Memᴰ e p.entries → Held (fst_of s A.meta) e.key e.value × Between lo hi e.key

@@ -8,6 +8,7 @@
 -- `more` says that the fold stopped since `most` keys were handed out, and nothing of the key after them: that one may be there or not, and may be refused.
 -- Assumes nothing.
 use Rattle.std.specs.Prelude.{Bool, cond, ◌&&◌, List, [], ◌∷◌, ◌++◌, map, ℕ, zero, suc, ◌+◌, ◌*◌, leb, length, drop}
+use Rattle.format.specs.declared.Refusal.{Refusal}
 use Rattle.buffers.specs.Put.{put}
 use Rattle.format.specs.Limits.{max_path, SPACE, BOUND}
 use Rattle.format.specs.Opening.{opening}
@@ -15,11 +16,11 @@ use Rattle.format.specs.Strings.{Bound}
 use Rattle.reading.specs.Reading.{View, on_opened, bounds_test, Started, started, start, Answer, key, end, next}
 use Rattle.reading.specs.Demand.{Entry, entry}
 
--- next answered "end"; `most` keys were handed out; or the number of a refusal
+-- next answered "end"; `most` keys were handed out; or a refusal
 pub data Stop : Type 0 where
   ended : Stop
   more : Stop
-  refused : ℕ → Stop
+  refused : Refusal → Stop
 
 pub record Page : Type 0 where
   pub entries : List Entry
@@ -28,7 +29,7 @@ pub record Page : Type 0 where
 abbrev pub page : List Entry → Stop → Page
 page es why = record { entries = es; stop = why }
 
-abbrev pub refused_page : ℕ → Page
+abbrev pub refused_page : Refusal → Page
 refused_page n = page [] (Stop.refused n)
 
 -- what an answer of next makes of the page of the calls after it: a refusal stands beside the keys before it

@@ -5,6 +5,7 @@
 --     PagesExact A lo hi calls      what page after page hands out
 -- Assumes nothing.
 use Rattle.std.specs.Prelude.{◌≡◌, ℕ, zero, suc, ◌*◌, ◌≤◌, ◌<◌, length}
+use Rattle.format.specs.declared.Refusal.{Refusal}
 use mathlib.Core.List.{List, [], ◌∷◌, ◌++◌, map, Memᴰ}
 use Rattle.format.specs.Paths.{fst_of, Held}
 use Rattle.format.specs.Admitted.{Admitted}
@@ -21,7 +22,7 @@ pub record RangeExact {s : List ℕ} (A : Admitted s) (lo hi : Bound) (most : �
       → Memᴰ (entry k v) p.entries
   -- up to `most`
   pub at_most : length p.entries ≤ most
-  pub not_refused : (n : ℕ) → ¬ (p.stop ≡ Stop.refused n)
+  pub not_refused : (n : Refusal) → ¬ (p.stop ≡ Stop.refused n)
   -- "ended" exactly where fewer were left than asked for, and then none is left
   pub ended_fewer : p.stop ≡ ended → length p.entries < most
   pub fewer_ended : length p.entries < most → p.stop ≡ ended

@@ -12,7 +12,7 @@ use Prim.Native.Nat.{ℕ, zero, suc, ◌+◌, ◌-◌, ◌<◌}
 use Rattle.std.proofs.Math.Dec.{ltb}
 use Rattle.std.proofs.Math.ListN.{length}
 use borrow.Author.Tests.{lt-ltb, le-ltb, ltb-true}
-use Rattle.format.specs.Limits.{max_path, max_sum, NODE, SUM, SPACE, STATE}
+use Rattle.format.specs.Limits.{max_path, max_sum, NODE, SUM, SPACE, STATE, PATTERN}
 use Rattle.format.specs.Node.{Node, Judgement, sound, unsound}
 use Rattle.format.specs.Opening.{Opening, opened, opening}
 use Rattle.format.specs.Opening as Opening
@@ -149,7 +149,7 @@ plain_is_any_rest s r space = by (opening s)
         → on_opened o
         (λ m.
         cond (state_test r (length s))
-        (cond true (cond (leb max_path space) (pending_by (fst_of s m) any_rest r r.empty) (refuse r SPACE)) (refuse r 12))
+        (cond true (cond (leb max_path space) (pending_by (fst_of s m) any_rest r r.empty) (refuse r SPACE)) (refuse r PATTERN))
         (refuse r STATE))
         (λ n. refuse r n)
         ≡ on_opened o

@@ -7,6 +7,7 @@ use Prim.{tt}
 use Rattle.std.specs.Prelude.{◌≡◌, refl, true, false, ◌⊎◌, ℕ, suc, ◌+◌, ◌<◌, ◌≤◌, length}
 use Rattle.std.proofs.Common.{sym, ◌∙◌, ap, ⊎_elim, inl, inr, add-zero, arith}
 use Rattle.std.proofs.Math.Option.{Option, none, some}
+use Rattle.format.specs.declared.Refusal.{Refusal}
 use mathlib.Core.List.{List, [], ◌∷◌, ◌++◌, map, append-nil, Memᴰ}
 use borrow.Author.Tests.{le-leb, lt-leb}
 use Rattle.format.specs.Limits.{max_path, BOUND, PATTERN}
@@ -226,10 +227,10 @@ module _ {s : List ℕ} (A : Admitted s) (lo hi : Bound) (short : length (bound_
   key_not_end : {k : List ℕ} {v : ℕ} → ¬ (◌≡◌ {A = Answer} (key k v) end)
   key_not_end e = let z : ◌≡◌ {A = ℕ} 0 1 = cc in omega arith
 
-  key_not_refused : {k : List ℕ} {v n : ℕ} → ¬ (◌≡◌ {A = Answer} (key k v) (Answer.refused n))
+  key_not_refused : {k : List ℕ} {v : ℕ} {n : Refusal} → ¬ (◌≡◌ {A = Answer} (key k v) (Answer.refused n))
   key_not_refused e = let z : ◌≡◌ {A = ℕ} 0 1 = cc in omega arith
 
-  end_not_refused : {n : ℕ} → ¬ (◌≡◌ {A = Answer} end (Answer.refused n))
+  end_not_refused : {n : Refusal} → ¬ (◌≡◌ {A = Answer} end (Answer.refused n))
   end_not_refused e = let z : ◌≡◌ {A = ℕ} 0 1 = cc in omega arith
 
   abbrev CalledAt : List Entry → ℕ → Step → Type 0
@@ -247,7 +248,7 @@ module _ {s : List ℕ} (A : Admitted s) (lo hi : Bound) (short : length (bound_
       absurd (before_irrefl e.key (rising_last handed e (entry e.key e.value) (stands_rising (handed ++ (e ∷ [])) on) before))
   none_left_end handed ends o (ended is q) none_left = is
 
-  not_refused : (handed : List Entry) (ends : ℕ) (o : Step) → CalledAt handed ends o → (n : ℕ) → ¬ (o.answer ≡ Answer.refused n)
+  not_refused : (handed : List Entry) (ends : ℕ) (o : Step) → CalledAt handed ends o → (n : Refusal) → ¬ (o.answer ≡ Answer.refused n)
   not_refused handed ends o (hands e z is q) n r = key_not_refused (sym is ∙ r)
   not_refused handed ends o (ended is q) n r = end_not_refused (sym is ∙ r)
 

@@ -11,6 +11,7 @@ use Rattle.std.proofs.Math.Bool.{false}
 use Rattle.std.proofs.Math.Option.{Option, none, some}
 use borrow.Author.Tests.{le-leb, lt-leb, eq-eqb, ne_eqb}
 use Rattle.std.proofs.Math.Dec.{eqb}
+use Rattle.format.specs.declared.Refusal.{Refusal}
 use Rattle.format.specs.Limits.{max_path, max_levels, SPACE, STATE}
 use Rattle.format.specs.Opening.{Meta, Opening, opened, opening}
 use Rattle.format.specs.Opening as Opening
@@ -52,7 +53,7 @@ module _ (s : List ℕ) (m : Meta) (opens : opening s ≡ opened m) (hi : Bound)
 
   -- opening's refusal, or STATE
   pub by_other : (levels : List Level) (e : Option ℕ) (n : ℕ) (other : List ℕ) → ¬ (length other ≡ length s) → (space : ℕ)
-      → (c : ℕ) × (next_by other p (view levels e n) space ≡ refuse (view levels e n) c)
+      → (c : Refusal) × (next_by other p (view levels e n) space ≡ refuse (view levels e n) c)
   unfolding next_by
   by_other levels e n other ne space = by (opening other) refl
     where
@@ -67,7 +68,7 @@ module _ (s : List ℕ) (m : Meta) (opens : opening s ≡ opened m) (hi : Bound)
       state_wrong : state_test (view levels e n) (length other) ≡ false
       state_wrong = rw a (both (leb (length levels) max_levels) (leb bl max_path))
 
-      by : (o : Opening) → opening other ≡ o → (c : ℕ) × (next_by other p (view levels e n) space ≡ refuse (view levels e n) c)
+      by : (o : Opening) → opening other ≡ o → (c : Refusal) × (next_by other p (view levels e n) space ≡ refuse (view levels e n) c)
       by (opened m') q = (STATE, rw (q, state_wrong))
       by (Opening.refused c) q = (c, rw q)
 

@@ -7,6 +7,7 @@ use Prim.{tt}
 use Rattle.std.specs.Prelude.{◌≡◌, refl, Bool, true, false, cond, ◌⊎◌, List, [], ◌∷◌, ◌++◌, map, ℕ, suc, ◌+◌, ◌<◌, ◌≤◌, length, replicate}
 use Rattle.std.proofs.Common.{sym, ◌∙◌, ap, subst, ⊎_elim, inl, inr, append_assoc, append-nil, arith, length-append}
 use Rattle.std.proofs.Math.Option.{Option, none, some}
+use Rattle.format.specs.declared.Refusal.{Refusal}
 use Rattle.format.specs.Limits.{max_path, SPACE}
 use Rattle.format.specs.Opening.{Meta, opened, opening}
 use Rattle.format.specs.Paths.{fst_of}
@@ -173,7 +174,7 @@ module _ (s : List ℕ) (m : Meta) (opens : opening s ≡ opened m) (hi : Bound)
 
   -- a refused call changes nothing
   pub view_refused : (levels : List Level) (e : Option ℕ) (n : ℕ) → Sane (fst_of s m) levels → (c : Call s) → ¬ Allowed c
-      → (k : ℕ) × (call_by p (view levels e n) c ≡ refuse (view levels e n) k)
+      → (k : Refusal) × (call_by p (view levels e n) c ≡ refuse (view levels e n) k)
   view_refused levels e n sane c not_allowed =
       ⊎_elim
       (λ (same : c.file ≡ s).
@@ -187,7 +188,7 @@ module _ (s : List ℕ) (m : Meta) (opens : opening s ≡ opened m) (hi : Bound)
       (λ ne. by_other s m opens hi bl short p few levels e n c.file ne c.space)
       c.which
 
-  pub progress_refused : (c : Call s) → ¬ Allowed c → (handed : List Entry) (ends : ℕ) (r : View) → Progress handed ends r → (k : ℕ) × (call_by p r c ≡ refuse r k)
+  pub progress_refused : (c : Call s) → ¬ Allowed c → (handed : List Entry) (ends : ℕ) (r : View) → Progress handed ends r → (k : Refusal) × (call_by p r c ≡ refuse r k)
   progress_refused c out handed ends r (fresh levels v sane w is) = view_refused levels (some v) 0 sane c out
   progress_refused c out handed ends r (going pre taken levels hpre unshut sane w under last) = view_refused levels none (length taken) sane c out
   progress_refused c out handed ends r (finished pre n hpre unshut under) = view_refused [] none (length W) tt c out
@@ -224,7 +225,7 @@ module _ (s : List ℕ) (m : Meta) (opens : opening s ≡ opened m) (hi : Bound)
         progress = rw (append-nil handed, e) q;
       }
 
-  ran_refused : (handed : List Entry) (ends : ℕ) (r : View) (c : Call s) (cs : List (Call s)) (k : ℕ) → call_by p r c ≡ refuse r k → Ran handed ends r cs → Ran handed ends r (c ∷ cs)
+  ran_refused : (handed : List Entry) (ends : ℕ) (r : View) (c : Call s) (cs : List (Call s)) (k : Refusal) → call_by p r c ≡ refuse r k → Ran handed ends r cs → Ran handed ends r (c ∷ cs)
   ran_refused handed ends r c cs k is w =
       record {
         new = w.new;

@@ -10,6 +10,7 @@
 -- Assumes nothing.
 use Rattle.std.specs.Prelude.{◌≡◌, ◌⊎◌, Bool, true, false, cond, ◌&&◌, List, [], ◌∷◌, ℕ, zero, suc, ◌+◌, ◌≤◌, ◌<◌, ltb, leb, eqb, length, get_or}
 use Rattle.std.proofs.Math.Option.{Option, none, some}
+use Rattle.format.specs.declared.Refusal.{Refusal}
 use Rattle.format.specs.Limits.{max_path, max_sum, NODE, DEEP, SUM, SPACE, STATE, PATTERN}
 use Rattle.format.specs.Node.{Node}
 use Rattle.format.specs.Opening.{Meta, opening}
@@ -61,7 +62,7 @@ fits_test (p ∷ ps) r (b ∷ s) = at_test p b && fits_test ps r s
 pub data WentBy : Type 0 where
   found : List Level → ℕ → ℕ → WentBy
   ended : ℕ → WentBy
-  halted : ℕ → WentBy
+  halted : Refusal → WentBy
 
 -- one turn, again being the walk that goes on: NODE for the level, also where it is used up or can fit no more; such a level is popped;
 -- from any other one transition is followed: DEEP, SUM for the running sum, NODE for the target, the upper bound, and, where the target is

@@ -11,6 +11,7 @@
 --     the per-call limit is for plain readings only                   no `limit`
 -- Assumes nothing.
 use Rattle.std.specs.Prelude.{◌≡◌, ℕ, ◌+◌, ◌≤◌, ◌<◌, length, replicate}
+use Rattle.format.specs.declared.Refusal.{Refusal}
 use mathlib.Core.List.{List, [], ◌∷◌, ◌++◌, map, Memᴰ}
 use Rattle.format.specs.Paths.{Fst, fst_of, Held}
 use Rattle.format.specs.Admitted.{Admitted}
@@ -76,8 +77,8 @@ pub record DemandBy {s : List ℕ} (A : Admitted s) (p : Pattern) (lo hi : Bound
       × (NoneLeftBy (fst_of s A.meta) p lo hi (handed_in (answers_by p reading cs₁)) → (call_by p (reading_after_by p reading cs₁) c).answer ≡ end)
   -- a call is refused exactly when it is handed a short buffer or a file of another length, and then it changes nothing
   pub refused_exactly : (cs₁ cs₂ : List (Call s)) (c : Call s) → cs ≡ cs₁ ++ (c ∷ cs₂)
-      → (Allowed c → (n : ℕ) → ¬ ((call_by p (reading_after_by p reading cs₁) c).answer ≡ Answer.refused n))
-      × (¬ Allowed c → (n : ℕ) × (call_by p (reading_after_by p reading cs₁) c ≡ refuse (reading_after_by p reading cs₁) n))
+      → (Allowed c → (n : Refusal) → ¬ ((call_by p (reading_after_by p reading cs₁) c).answer ≡ Answer.refused n))
+      × (¬ Allowed c → (n : Refusal) × (call_by p (reading_after_by p reading cs₁) c ≡ refuse (reading_after_by p reading cs₁) n))
   -- the total after the list
   pub total_ended : ¬ EmptyExcluded (fst_of s A.meta) lo hi → 0 < ends
       → (n e : ℕ) × NumberOf (Followed (fst_of s A.meta) p lo hi) n × ExtraBy (fst_of s A.meta) p lo hi e

@@ -3,6 +3,7 @@
 --     refused_by, started_by                  the contract where a start is refused, and where it is that of a start without pattern
 -- Assumes nothing.
 use mathlib.Core.Path.{◌≡◌, refl, sym, ◌∙◌, ap}
+use Rattle.format.specs.declared.Refusal.{Refusal}
 use mathlib.Core.Bool.{Bool, cond}
 use mathlib.Core.List.{List}
 use Prim.Native.Nat.{ℕ, ◌<◌, ◌≤◌}
@@ -25,7 +26,7 @@ use Rattle.patterned.specs.declared.PatternedStart.{PatternedStart}
 use Rattle.patterned.specs.Patterns.{no_patterned, StartedBy}
 
 module _ (s : List ℕ) (p : P.Pattern) (lo hi : Bound) where
-  start_shut : (n : ℕ) → opening s ≡ O.refused n → start_by s p lo hi ≡ R.Started.refused n
+  start_shut : (n : Refusal) → opening s ≡ O.refused n → start_by s p lo hi ≡ R.Started.refused n
   unfolding start_by
   start_shut n e = rw e
 
@@ -33,7 +34,7 @@ module _ (s : List ℕ) (p : P.Pattern) (lo hi : Bound) where
   unfolding start_by
   start_many m e h = rw (e, lt-leb (length p.positions) max_path h)
 
-  plain_shut : (n : ℕ) → opening s ≡ O.refused n → start s lo hi ≡ R.Started.refused n
+  plain_shut : (n : Refusal) → opening s ≡ O.refused n → start s lo hi ≡ R.Started.refused n
   unfolding start
   plain_shut n e = rw e
 
@@ -50,14 +51,14 @@ module _ (s : List ℕ) (p : P.Pattern) (lo hi : Bound) where
 
 -- ---- the contract
 
-not_started : {n : ℕ} {v : R.View} → ¬ (◌≡◌ {A = R.Started} (R.Started.refused n) (R.started v))
+not_started : {n : Refusal} {v : R.View} → ¬ (◌≡◌ {A = R.Started} (R.Started.refused n) (R.started v))
 not_started e = let z : ◌≡◌ {A = ℕ} 0 1 = cc in omega arith
 
-refused_by : (w : R.Started) (p : P.Pattern) (n : ℕ) → w ≡ R.Started.refused n → (r : PatternedStart) → r ≡ no_patterned n → StartedBy w p r
+refused_by : (w : R.Started) (p : P.Pattern) (n : Refusal) → w ≡ R.Started.refused n → (r : PatternedStart) → r ≡ no_patterned n → StartedBy w p r
 refused_by w p n e r q = rw q (record { answer = sym e; pattern = λ v is. absurd (not_started (sym e ∙ is)) })
 
 module _ (s xs : List ℕ) (rest : Bool) (lo hi : Bound) where
-  pub refused_open : (n : ℕ) → opening s ≡ O.refused n → (r : PatternedStart) → r ≡ no_patterned n
+  pub refused_open : (n : Refusal) → opening s ≡ O.refused n → (r : PatternedStart) → r ≡ no_patterned n
       → StartedBy (start_by s (given_is xs rest) lo hi) (given_is xs rest) r
   refused_open n e r q = refused_by (start_by s (given_is xs rest) lo hi) (given_is xs rest) n (start_shut s (given_is xs rest) lo hi n e) r q
 

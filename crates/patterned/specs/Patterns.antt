@@ -3,11 +3,11 @@
 --     StartedBy w p r                 the answer of a start whose definition answers w; a reading that it gives holds the pattern p
 --     SteppedBy w q buf₀ buf r        the answer, the reading and the buffer of a call whose definition answers w; the pattern is the one given
 -- Assumes nothing.
-use Rattle.std.specs.Prelude.{◌≡◌, false, List, ℕ, replicate}
+use Rattle.std.specs.Prelude.{◌≡◌, false, List, ℕ, replicate, Err}
+use Rattle.format.specs.declared.Refusal.{Refusal}
 use Rattle.format.specs.Limits.{max_path}
 use Rattle.reading.specs.Reading as R
 use Rattle.reading.specs.Reading.{written}
-use Rattle.stream_start.specs.declared.Begins.TheVariants.{Refused}
 use Rattle.stream_start.specs.Views.{view_is, began_is, no_reading}
 use Rattle.stream_step.specs.Stepped.{answer_as}
 use Rattle.pattern.specs.Pattern as P
@@ -16,9 +16,9 @@ use Rattle.patterned_held.specs.HeldPatterns.{held_is}
 use Rattle.patterned.specs.declared.PatternedStart.{PatternedStart}
 use Rattle.patterned.specs.declared.PatternedStep.{PatternedStep}
 
-abbrev pub no_patterned : ℕ → PatternedStart
+abbrev pub no_patterned : Refusal → PatternedStart
 no_patterned why = record {
-  answer = Refused why;
+  answer = Err why;
   patterned = record { reading = no_reading; pattern = record { len = 0; rest = false; positions = replicate max_path 0 } };
 }
 

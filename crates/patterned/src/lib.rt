@@ -10,12 +10,10 @@ ghost use Rattle.pattern.specs.Pattern.{start_by, next_by};
 ghost use Rattle.patterned_held.specs.HeldPatterns.{held_is, given_is};
 ghost use Rattle.patterned.specs.Patterns.{no_patterned, StartedBy, SteppedBy};
 
-use format::{MAX_KEY, PATTERN};
-use fst::Opened;
+use format::{MAX_KEY, Refusal};
 use patterned_held::{Pattern, hold};
 use patterned_step::step;
-use stream_start::{Begins, Bound, Reading};
-use stream_step::Answer;
+use stream_start::{Bound, Reading};
 
 // A reading by pattern, passed by value. Its own type, so that a request for a plain reading cannot be handed one.
 #[derive(Clone, Copy)]
@@ -28,21 +26,21 @@ pub struct Patterned {
 // reading.
 #[derive(Clone, Copy)]
 pub struct PatternedStart {
-    pub answer: Begins,
+    pub answer: Result<(), Refusal>,
     pub patterned: Patterned,
 }
 
 // What a call of next gives back.
 #[derive(Clone, Copy)]
 pub struct PatternedStep {
-    pub answer: Answer,
+    pub answer: Result<Option<(usize, u64)>, Refusal>,
     pub patterned: Patterned,
 }
 
 // ---- start
 
 // A start that is refused, with a reading that has no levels and a pattern that has no position.
-fn refused(why: u8) -> PatternedStart
+fn refused(why: Refusal) -> PatternedStart
     ensures { result ≡ no_patterned why }
 {
     let none = stream_start::refused(why);
@@ -66,8 +64,8 @@ fn refuse_many(file: &[u8], positions: &[u16], rest: bool) -> PatternedStart
 {
     let opened = fst::open(file);
     match opened {
-        Opened::Refused(why) => refused(why),
-        Opened::Meta(_) => refused(PATTERN),
+        Err(why) => refused(why),
+        Ok(_) => refused(Refusal::Pattern),
     }
 }
 

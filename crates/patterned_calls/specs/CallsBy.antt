@@ -7,7 +7,7 @@
 --     AsDefinedBy                  the start is not refused; answers and last reading are the definition's, of which demand 3 by pattern holds
 -- Assumes nothing.
 use Prim.{Unit}
-use Rattle.std.specs.Prelude.{◌≡◌, ◌⊎◌, List, [], ◌∷◌, map, ℕ, length}
+use Rattle.std.specs.Prelude.{◌≡◌, ◌⊎◌, List, [], ◌∷◌, map, ℕ, length, Ok}
 use Rattle.format.specs.Admitted.{Admitted}
 use Rattle.format.specs.Strings as S
 use Rattle.reading.specs.Reading as R
@@ -15,7 +15,6 @@ use Rattle.reading.specs.Demand.{Call}
 use Rattle.pattern.specs.Pattern as P
 use Rattle.pattern.specs.Pattern.{next_by}
 use Rattle.pattern.specs.PatternDemand.{DemandBy, reading_after_by, answers_by}
-use Rattle.stream_start.specs.declared.Begins.TheVariants.{Began}
 use Rattle.stream_start.specs.Views.{view_is}
 use Rattle.stream_calls.specs.Calls.{in_hand}
 use Rattle.patterned.specs.declared.Patterned.{Patterned}
@@ -65,7 +64,7 @@ calls_by_is r (c ∷ cs) w = call_by_is c w.0 ∷ calls_by_is c.step.patterned c
 -- b is what the code's start gave, cs its calls
 pub record AsDefinedBy {s : List ℕ} (A : Admitted s) (p : P.Pattern) (lo hi : S.Bound) (b : PatternedStart) (cs : List CodeCallBy)
     (made : MadeBy s b.patterned cs) : Type 0 where
-  pub began : b.answer ≡ Began
+  pub began : b.answer ≡ Ok tt
   pub demand : DemandBy A p lo hi (calls_by_is b.patterned cs made)
   pub first_reading : view_is b.patterned.reading ≡ demand.reading
   pub same_answers : code_answers_by cs ≡ answers_by p demand.reading (calls_by_is b.patterned cs made)

@@ -4,8 +4,9 @@
 --     answers_by_are, reading_by_is      of a list of calls
 --     code_as_defined_by                 with the start, which is not refused: the definition's answers, and its last reading
 -- Assumes nothing.
-use Rattle.std.specs.Prelude.{◌≡◌, refl, List, [], ◌∷◌, ℕ, ◌≤◌, length}
+use Rattle.std.specs.Prelude.{◌≡◌, refl, List, [], ◌∷◌, ℕ, ◌≤◌, length, Ok, Err, Result, ⊤}
 use Rattle.std.proofs.Common.{sym, ◌∙◌, ap, ap₂, arith}
+use Rattle.format.specs.declared.Refusal.{Refusal}
 use Rattle.format.specs.Limits.{max_path}
 use Rattle.format.specs.Admitted.{Admitted}
 use Rattle.format.specs.Strings as S
@@ -15,8 +16,6 @@ use Rattle.pattern.specs.Pattern as P
 use Rattle.pattern.specs.Pattern.{start_by, next_by}
 use Rattle.pattern.specs.PatternDemand.{DemandBy, call_by, reading_after_by, answers_by}
 use Rattle.pattern.proofs.DemandByLaws.{demand_3_by}
-use Rattle.stream_start.specs.declared.Begins.{Begins}
-use Rattle.stream_start.specs.declared.Begins.TheVariants.{Began, Refused}
 use Rattle.stream_start.specs.declared.Reading.{Reading}
 use Rattle.stream_start.specs.Views.{view_is, began_is}
 use Rattle.stream_calls.specs.Calls.{in_hand}
@@ -59,15 +58,15 @@ reading_by_is s r (c ∷ cs) w =
 
 -- ---- the start
 
-began_is_lem : (a : Begins) (r : Reading) (v : View) → began_is a r ≡ R.started v → (a ≡ Began) × (view_is r ≡ v)
-began_is_lem Began r v e = (refl, cc)
-began_is_lem (Refused n) r v e = absurd (let z : ◌≡◌ {A = ℕ} 0 1 = cc in omega arith)
+began_is_lem : (a : Result ⊤ Refusal) (r : Reading) (v : View) → began_is a r ≡ R.started v → (a ≡ (Ok tt)) × (view_is r ≡ v)
+began_is_lem (Ok tt) r v e = (refl, cc)
+began_is_lem (Err n) r v e = absurd (let z : ◌≡◌ {A = ℕ} 0 1 = cc in omega arith)
 
 module _ {s : List ℕ} (A : Admitted s) (p : P.Pattern) (few : length p.positions ≤ max_path) (lo hi : S.Bound) (short_lo : length (bound_bytes lo) ≤ max_path) (short_hi : length (bound_bytes hi) ≤ max_path) (b : PatternedStart) (first : StartedBy (start_by s p lo hi) p b) (cs : List CodeCallBy) (made : MadeBy s b.patterned cs) where
   D : DemandBy A p lo hi (calls_by_is b.patterned cs made)
   D = demand_3_by A lo hi short_lo short_hi p few (calls_by_is b.patterned cs made)
 
-  start_is : (b.answer ≡ Began) × (view_is b.patterned.reading ≡ D.reading)
+  start_is : (b.answer ≡ (Ok tt)) × (view_is b.patterned.reading ≡ D.reading)
   start_is = began_is_lem b.answer b.patterned.reading D.reading (first.answer ∙ D.starts)
 
   pattern_is_lem : held_is b.patterned.pattern ≡ p

@@ -3,7 +3,8 @@
 --     follows_sum, follows_bad            the running sum does not fit; the target is not sound
 --     follows_to                          the target's level is written
 -- Assumes nothing.
-use mathlib.Core.Path.{◌≡◌, refl, sym, ◌∙◌, ap}
+use mathlib.Core.Path.{◌≡◌, ◌∙◌}
+use Rattle.std.specs.Prelude.{Ok, Err}
 use mathlib.Core.Bool.{true}
 use mathlib.Core.List.{List, ◌∷◌}
 use Prim.Native.Nat.{ℕ, ◌+◌, ◌<◌, ◌≤◌}
@@ -23,7 +24,6 @@ use Rattle.stream_pop.specs.Pops.{Ready}
 use Rattle.stream_pop.specs.ReadyLaws.{ready_length, ready_place, ready_target}
 use Rattle.pattern.specs.Pattern.{Pattern, start_test}
 use Rattle.pattern.proofs.TurnLaws.{live_test, turn_sum, turn_target}
-use Rattle.patterned_descend.specs.declared.Followed.TheVariants.{To, Halted}
 use Rattle.patterned_descend.specs.Descents.{Pushed, Follows}
 
 pub live_by : (p : Pattern) (m : F.Node) (l : Level) (s : List Level) → l.trans < length m.transitions
@@ -71,7 +71,7 @@ module _ {s : List ℕ} {v root k : ℕ} {xs is ps os : List ℕ} {m : Node} (w 
       out_is : get_or os k 0 + out ≡ l.out + (next_trans l (meaning s m)).out
       out_is = rw (eo, ei)
 
-      pub follows_sum : max_sum < get_or os k 0 + out → Follows s v root k l (meaning s m) below xs is ps os (Halted SUM)
+      pub follows_sum : max_sum < get_or os k 0 + out → Follows s v root k l (meaning s m) below xs is ps os (Err SUM)
       follows_sum h = record {
         to = λ n e. absurd (let z : ◌≡◌ {A = ℕ} 0 1 = cc in omega arith);
         stops = λ why e p hi t fits.
@@ -87,7 +87,7 @@ module _ {s : List ℕ} {v root k : ℕ} {xs is ps os : List ℕ} {m : Node} (w 
         target_is : a ≡ (next_trans l (meaning s m)).addr
         target_is = rw (ea, ei)
 
-        pub follows_bad : node_in f a ≡ unsound → Follows s v root k l (meaning s m) below xs is ps os (Halted NODE)
+        pub follows_bad : node_in f a ≡ unsound → Follows s v root k l (meaning s m) below xs is ps os (Err NODE)
         follows_bad e = record {
           to = λ n e. absurd (let z : ◌≡◌ {A = ℕ} 0 1 = cc in omega arith);
           stops = λ why er p hi t fits.
@@ -139,7 +139,7 @@ module _ {s : List ℕ} {v root k : ℕ} {xs is ps os : List ℕ} {m : Node} (w 
                 readable = readable;
               }
 
-          pub follows_to : Follows s v root k l (meaning s m) below xs⁺ is⁺ ps⁺ os⁺ (To n)
+          pub follows_to : Follows s v root k l (meaning s m) below xs⁺ is⁺ ps⁺ os⁺ (Ok n)
           follows_to = record {
             to = λ n' e. let q : n ≡ n' = cc in rw (← q) pushed;
             stops = λ why e. absurd (let z : ◌≡◌ {A = ℕ} 0 1 = cc in omega arith);

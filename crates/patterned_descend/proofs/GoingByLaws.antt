@@ -4,22 +4,21 @@
 --     going-..                        the contract at each way out, and the next turn
 -- Assumes nothing.
 use mathlib.Core.Path.{◌≡◌, refl, sym, ◌∙◌, ap, subst}
+use Rattle.std.specs.Prelude.{Ok, Err, Result}
+use Rattle.format.specs.declared.Refusal.{Refusal}
 use mathlib.Core.Bool.{Bool, true, false, cond, ◌&&◌}
 use mathlib.Core.List.{List, [], ◌∷◌, ◌++◌}
 use Prim.Native.Nat.{ℕ, suc, ◌+◌, ◌-◌, ◌<◌, ◌≤◌}
 use native.Mathlib.Omega.{arith}
-use native.Mathlib.Numerals.{add-one}
 use borrow.Author.Tests.{le-leb, lt-leb, leb-true, leb-false, ltb-true}
 use lib.Dec.{ltb, leb}
 use lib.ListN.{length, get_or, take, drop, length-drop}
 use lib.Seq.{length-take-le}
 use Rattle.format.specs.Limits.{max_sum, DEEP, SUM}
-use Rattle.format.specs.Node as F
-use Rattle.format.specs.Node.{sound}
-use Rattle.format.specs.Paths.{Fst, fst_with, node_in}
+use Rattle.format.specs.Paths.{Fst, fst_with}
 use Rattle.format.specs.Strings.{Bound}
 use Rattle.node.specs.declared.Node.{Node}
-use Rattle.node.specs.Read.{meaning, Readable, transitions_in}
+use Rattle.node.specs.Read.{meaning}
 use Rattle.node.specs.ReadLaws.{length_node_transitions}
 use Rattle.reading.specs.Reading.{Level, passes_test, key_of, path_of, counted, next_trans, child, stepped}
 use Rattle.reading.specs.Visits.{left}
@@ -29,23 +28,21 @@ use Rattle.stream_start.specs.Views.{Arrays, level_at, stack_is}
 use Rattle.stream_start.specs.StackLaws.{stack_length, stack_more, key_stack}
 use Rattle.stream_pop.specs.Pops.{Ready}
 use Rattle.stream_pop.specs.ReadyLaws.{ready_length}
-use Rattle.pattern.specs.Pattern.{Pattern, start_test, fits_test, WentBy, found, ended, halted, walk_by}
+use Rattle.pattern.specs.Pattern.{Pattern, start_test, fits_test, ended, halted, walk_by}
 use Rattle.pattern.specs.FitCount.{fit_count, place_test, goes_on, key_fits}
 use Rattle.pattern.proofs.CountLaws.{fits_by_count, tells_count, tells_last, count_on}
 use Rattle.pattern.proofs.TurnLaws.{live_test, turn_popped, turn_deep, turn_past, turn_on, turn_key, turn_final}
-use Rattle.patterned_descend.specs.declared.Followed.{Followed}
-use Rattle.patterned_descend.specs.declared.Followed.TheVariants as Follow
 use Rattle.patterned_descend.specs.declared.Down.{Down}
-use Rattle.patterned_descend.specs.declared.Down.TheVariants.{Found, Passed, Halted, Stuck}
-use Rattle.patterned_descend.specs.Descents.{Pushed, Follows, down_seen, down_at, DescendsBy, found_at}
+use Rattle.patterned_descend.specs.declared.Down.TheVariants.{Found, Passed, Stuck}
+use Rattle.patterned_descend.specs.Descents.{Pushed, Follows, DescendsBy, found_at}
 use Rattle.patterned_descend.proofs.FollowLaws.{live_by, room_of}
 
 -- ---- a key with its final output
 
-pub found_by : (k sum end t : ℕ) → sum + end ≤ max_sum → Found k (sum + end) t ≡ found_at k sum end t
+pub found_by : (k sum end t : ℕ) → sum + end ≤ max_sum → Ok (Found k (sum + end) t) ≡ found_at k sum end t
 found_by k sum end t h = rw (le-leb (sum + end) max_sum h)
 
-pub found_past : (k sum end t : ℕ) → max_sum < sum + end → Halted SUM ≡ found_at k sum end t
+pub found_past : (k sum end t : ℕ) → max_sum < sum + end → Err SUM ≡ found_at k sum end t
 found_past k sum end t h = rw (lt-leb (sum + end) max_sum h)
 
 -- ---- the loop
@@ -95,8 +92,8 @@ module _ {s : List ℕ} {v root : ℕ} {p : Pattern} {hi : Bound} {levels : List
   alive = live_by p (meaning s m) l below (ready_length g.ready) fits_key
 
   -- a refusal
-  stops : {xs' is' ps' os' : List ℕ} (why : ℕ) → Arrays xs' is' ps' os' → walk_by f p hi (l ∷ below) t ≡ halted why
-      → DescendsBy f p hi levels total xs' is' ps' os' (Halted why)
+  stops : {xs' is' ps' os' : List ℕ} (why : Refusal) → Arrays xs' is' ps' os' → walk_by f p hi (l ∷ below) t ≡ halted why
+      → DescendsBy f p hi levels total xs' is' ps' os' (Err why)
   stops why w e = record {
     low = omega arith;
     arrays = w;
@@ -105,11 +102,11 @@ module _ {s : List ℕ} {v root : ℕ} {p : Pattern} {hi : Bound} {levels : List
     fits = λ j u q. absurd (let z : ◌≡◌ {A = ℕ} 0 1 = cc in omega arith);
   }
 
-  pub going_deep : 255 ≤ k → DescendsBy f p hi levels total xs is ps os (Halted DEEP)
+  pub going_deep : 255 ≤ k → DescendsBy f p hi levels total xs is ps os (Err DEEP)
   going_deep h = stops DEEP g.arrays (turn_deep f p hi t l below (meaning s m) g.ready.node alive (rw (stack_length k xs is ps os) h))
 
-  pub going_halted : {xs' is' ps' os' : List ℕ} {r : Followed} → Follows s v root k l (meaning s m) below xs' is' ps' os' r → (why : ℕ) → r ≡ Follow.Halted why
-      → DescendsBy f p hi levels total xs' is' ps' os' (Halted why)
+  pub going_halted : {xs' is' ps' os' : List ℕ} {r : Result Node Refusal} → Follows s v root k l (meaning s m) below xs' is' ps' os' r → (why : Refusal) → r ≡ Err why
+      → DescendsBy f p hi levels total xs' is' ps' os' (Err why)
   going_halted w why e = stops why w.kept (w.stops why e p hi t fits_key)
 
   -- ---- a transition is followed
@@ -149,7 +146,7 @@ module _ {s : List ℕ} {v root : ℕ} {p : Pattern} {hi : Bound} {levels : List
     follow_less = left_follow f l (meaning s m) below room g.ready.node (ready_length g.ready)
 
     module _ {u : ℕ} (eu : u ≡ counted t) where
-      pub going_passed : passes_test hi (take (k + 1) (drop 1 is⁺)) ≡ true → DescendsBy f p hi levels total xs⁺ is⁺ ps⁺ os⁺ (Passed u)
+      pub going_passed : passes_test hi (take (k + 1) (drop 1 is⁺)) ≡ true → DescendsBy f p hi levels total xs⁺ is⁺ ps⁺ os⁺ (Ok (Passed u))
       going_passed e = record {
         low = omega arith;
         arrays = w.arrays;
@@ -192,14 +189,14 @@ module _ {s : List ℕ} {v root : ℕ} {p : Pattern} {hi : Bound} {levels : List
             is_key : (n.is_final && fits_test p.positions p.rest (key_of to)) ≡ true
             is_key = rw fits⁺ final
 
-            pub going_key : (r : Down) → r ≡ found_at (k + 1) (get_or os⁺ (k + 1) 0) n.final_output u → DescendsBy f p hi levels total xs⁺ is⁺ ps⁺ os⁺ r
+            pub going_key : (r : Result Down Refusal) → r ≡ found_at (k + 1) (get_or os⁺ (k + 1) 0) n.final_output u → DescendsBy f p hi levels total xs⁺ is⁺ ps⁺ os⁺ r
             going_key r er = by (leb (get_or os⁺ (k + 1) 0 + n.final_output) max_sum) refl er
               where
                 value_is : get_or os⁺ (k + 1) 0 + n.final_output ≡ value
                 value_is = ap (λ (x : ℕ). x + n.final_output) sum_is
 
                 by : (b : Bool) → leb (get_or os⁺ (k + 1) 0 + n.final_output) max_sum ≡ b
-                    → r ≡ cond b (Found (k + 1) (get_or os⁺ (k + 1) 0 + n.final_output) u) (Halted SUM) → DescendsBy f p hi levels total xs⁺ is⁺ ps⁺ os⁺ r
+                    → r ≡ cond b (Ok (Found (k + 1) (get_or os⁺ (k + 1) 0 + n.final_output) u)) (Err SUM) → DescendsBy f p hi levels total xs⁺ is⁺ ps⁺ os⁺ r
                 by true eb q =
                     let h : value ≤ max_sum = rw value_is at (leb-true (get_or os⁺ (k + 1) 0 + n.final_output) max_sum eb) in
                     let turned = turn_key f p hi t l below (meaning s m) g.ready.node alive room w.light (meaning s n) w.node within is_key h in
@@ -227,7 +224,7 @@ module _ {s : List ℕ} {v root : ℕ} {p : Pattern} {hi : Bound} {levels : List
                 let b : key_of (level_at k xs⁺ is⁺ ps⁺ os⁺ ∷ stack_is k xs⁺ is⁺ ps⁺ os⁺) ≡ key_of (stepped l ∷ below) = ap key_of (sym (stack_more k xs⁺ is⁺ ps⁺ os⁺) ∙ w.under) in
                 rw j (sym a ∙ b ∙ key_is_lem)
 
-            pub going_stuck : (ltb 0 n.ntrans && goes_on fit len p.rest (k + 1)) ≡ false → DescendsBy f p hi levels total xs⁺ is⁺ ps⁺ os⁺ (Stuck (k + 1) u)
+            pub going_stuck : (ltb 0 n.ntrans && goes_on fit len p.rest (k + 1)) ≡ false → DescendsBy f p hi levels total xs⁺ is⁺ ps⁺ os⁺ (Ok (Stuck (k + 1) u))
             going_stuck dead = record {
               low = omega arith;
               arrays = w.arrays;

@@ -11,27 +11,19 @@ ghost use Rattle.pattern.specs.Pattern.{start_test};
 ghost use Rattle.patterned_fit.specs.Positions.{positions_is, pattern_is};
 ghost use Rattle.patterned_descend.specs.Descents.{Follows, found_at, DescendsBy};
 
-use format::{DEEP, LEVELS, MAX_KEY, NODE, SUM};
+use format::{LEVELS, MAX_KEY, Refusal};
 use node::Node;
 use patterned_fit::{fit_after, is_key, live};
 use stream_bounds::exceeded;
 use stream_descend::counted;
 use stream_start::Bound;
 
-// What following one transition gives: the target's node, whose level is written, or the number of a refusal.
-#[derive(Clone, Copy)]
-enum Followed {
-    To(Node),
-    Halted(u8),
-}
-
 // What a descent finds: the place of the level where a key ends, the key's value and the total; the total where the upper bound is
-// passed; the number of a refusal; or how many levels are left below a level that cannot go on, with the total.
+// passed; or how many levels are left below a level that cannot go on, with the total.
 #[derive(Clone, Copy)]
 pub enum Down {
     Found(usize, u64, u64),
     Passed(u64),
-    Halted(u8),
     Stuck(usize, u64),
 }
 
@@ -46,7 +38,7 @@ fn follow(
     inps: &mut [u8; LEVELS],
     trans: &mut [u16; LEVELS],
     outs: &mut [u64; LEVELS],
-) -> Followed
+) -> Result<Node, Refusal>
     requires arrays { Arrays addrs.old inps.old trans.old outs.old × (k < max_path)
         × (root < 4294967296) }
     requires ready { Ready file.now version root (get_or addrs.old k 0) (get_or trans.old k 0) node }
@@ -60,11 +52,11 @@ fn follow(
     let i = usize::from(trans[k]);
     let out = node::output(file, node, i);
     let Some(sum) = outs[k].checked_add(out) else {
-        return Followed::Halted(SUM);
+        return Err(Refusal::Sum);
     };
     let target = node::transition_addr(file, node, i);
     let Ok(n) = node::node_at(file, version, root, target) else {
-        return Followed::Halted(NODE);
+        return Err(Refusal::Node);
     };
     let inp = node::input(file, node, i);
     trans[k] = (i + 1) as u16;
@@ -73,17 +65,17 @@ fn follow(
     inps[top] = inp;
     trans[top] = 0;
     outs[top] = sum;
-    Followed::To(n)
+    Ok(n)
 }
 
 // The key that ends at level k, unless its value passes 2^64 - 1.
-fn found(k: usize, sum: u64, end: u64, total: u64) -> Down
+fn found(k: usize, sum: u64, end: u64, total: u64) -> Result<Down, Refusal>
     ensures { result ≡ found_at k sum end total }
 {
     let Some(value) = sum.checked_add(end) else {
-        return Down::Halted(SUM);
+        return Err(Refusal::Sum);
     };
-    Down::Found(k, value, total)
+    Ok(Down::Found(k, value, total))
 }
 
 // From the level at top, which can go on and whose node is judged, down by each level's next transition: to a key that fits, or to a level
@@ -105,7 +97,7 @@ pub fn descend_by(
     positions: &[u16; MAX_KEY],
     len: usize,
     rest: bool,
-) -> Down
+) -> Result<Down, Refusal>
     requires arrays { Arrays addrs.old inps.old trans.old outs.old
         × (length bound.now ≡ max_path) × (bound_len ≤ max_path)
         × (length positions.now ≡ max_path) × (len ≤ max_path) }
@@ -125,26 +117,21 @@ pub fn descend_by(
     let mut t = total;
     // a reading has at most 256 levels
     for k in top..MAX_KEY {
-        let followed = follow(file, version, root, k, m, addrs, inps, trans, outs);
-        match followed {
-            Followed::Halted(why) => return Down::Halted(why),
-            Followed::To(n) => {
-                let next = k + 1;
-                let b = inps[next];
-                let fit = fit_after(positions, len, k, b);
-                t = counted(t);
-                if exceeded(inps, next, bound, bound_len, kind) {
-                    return Down::Passed(t);
-                }
-                if is_key(n.is_final, next, fit, len, rest) {
-                    return found(next, outs[next], n.final_output, t);
-                }
-                if !live(0, n.ntrans, next, fit, len, rest) {
-                    return Down::Stuck(next, t);
-                }
-                m = n;
-            }
+        let n = follow(file, version, root, k, m, addrs, inps, trans, outs)?;
+        let next = k + 1;
+        let b = inps[next];
+        let fit = fit_after(positions, len, k, b);
+        t = counted(t);
+        if exceeded(inps, next, bound, bound_len, kind) {
+            return Ok(Down::Passed(t));
         }
+        if is_key(n.is_final, next, fit, len, rest) {
+            return found(next, outs[next], n.final_output, t);
+        }
+        if !live(0, n.ntrans, next, fit, len, rest) {
+            return Ok(Down::Stuck(next, t));
+        }
+        m = n;
     }
-    Down::Halted(DEEP)
+    Err(Refusal::Deep)
 }

@@ -1,11 +1,15 @@
 -- The cases of a step by pattern, each by what leads to it: the answer, the reading and the buffer.
 --     filled q ..         the reading q with other arrays
+--     walks_is            what a walk ensures of its answer, of what that answer is
 --     after-..            what the walk leads to
 --     inputs-..           the key, out of the inputs after the first
 --     pending-..          the pending empty key
 --     fits-..             whether the empty key fits
 -- Assumes nothing.
 use mathlib.Core.Path.{◌≡◌, refl, ◌∙◌, ap}
+use mathlib.Core.Path.{subst}
+use Rattle.std.specs.Prelude.{Result, Ok, Some}
+use Rattle.format.specs.declared.Refusal.{Refusal}
 use mathlib.Core.Bool.{Bool, true, false}
 use mathlib.Core.Option.{some}
 use mathlib.Core.List.{List, [], ◌∷◌, ◌++◌}
@@ -18,13 +22,14 @@ use Rattle.reading.specs.Reading.{Level, passes_test, moved}
 use Rattle.stream_start.specs.declared.Reading.{Reading}
 use Rattle.stream_start.specs.Views.{level_at, stack_is, view_is}
 use Rattle.stream_start.specs.StackLaws.{stack_more, key_stack}
-use Rattle.stream_step.specs.declared.Answer.TheVariants.{Key}
 use Rattle.stream_step.specs.declared.Step.{Step}
 use Rattle.stream_step.specs.Stepped.{Stepped}
 use Rattle.stream_step.specs.Steps.{placed_at, ended_at}
 use Rattle.pattern.specs.Pattern as P
 use Rattle.pattern.specs.Pattern.{fits_test, WentBy, found, ended, halted, after_walk, pending_by}
 use Rattle.patterned_fit.specs.Positions.{positions_is}
+use Rattle.patterned_walk.specs.declared.Walked.{Walked}
+use Rattle.patterned_walk.specs.Walks.{WalksBy}
 use Rattle.patterned_pending.specs.PendingWalks.{walk_of}
 
 -- ---- the reading after a call
@@ -49,13 +54,16 @@ filled_view r q k t e xs is ps os = ap (λ (x : Reading). view_is (filled x xs i
 
 -- ---- the walk
 
+pub walks_is : {want : WentBy} {xs is ps os : List ℕ} {r r' : Result Walked Refusal} → WalksBy want xs is ps os r → r ≡ r' → WalksBy want xs is ps os r'
+walks_is {want} {xs} {is} {ps} {os} h e = subst (λ (x : Result Walked Refusal). WalksBy want xs is ps os x) e h
+
 module _ (r : Reading) (w : WentBy) where
   pub after_ended : (buf : List ℕ) (t : ℕ) → w ≡ ended t → (x : Step) → Stepped (ended_at (view_is r) t) buf buf x → Stepped (after_walk (view_is r) w) buf buf x
   after_ended buf t e x h = rw e h
 
   pub after_found : (k v t : ℕ) (xs is ps os buf₀ buf : List ℕ) → w ≡ found (level_at k xs is ps os ∷ stack_is k xs is ps os) v t → k + 1 ≤ length is
       → buf ≡ take k (drop 1 is) ++ drop k buf₀ → (q : Reading) → q ≡ placed_at r (k + 1) t
-      → Stepped (after_walk (view_is r) w) buf₀ buf (record { answer = Key k v; reading = filled q xs is ps os })
+      → Stepped (after_walk (view_is r) w) buf₀ buf (record { answer = Ok (Some (k, v)); reading = filled q xs is ps os })
   after_found k v t xs is ps os buf₀ buf e low copy q placed =
       let key = key_stack k xs is ps os low in
       let len : length (take k (drop 1 is)) ≡ k = length-take-le k (drop 1 is) (simp length-drop (omega arith)) in
@@ -79,7 +87,7 @@ module _ (f : Fst) (p : P.Pattern) (r : Reading) (v : ℕ) where
 
   module _ (e : passes_test (view_is r).bound [] ≡ false) where
     pub pending_key : (buf : List ℕ) → fits_test p.positions p.rest [] ≡ true → (q : Reading) → q ≡ placed_at r r.levels r.total
-        → Stepped (pending_by f p (view_is r) (some v)) buf buf (record { answer = Key 0 v; reading = q })
+        → Stepped (pending_by f p (view_is r) (some v)) buf buf (record { answer = Ok (Some (0, v)); reading = q })
     pending_key buf t q is = rw (e, t) (record { answer = refl; reading = ap view_is is; buffer = refl })
 
     pub pending_walk : (buf₀ buf : List ℕ) → fits_test p.positions p.rest [] ≡ false → (x : Step) → Stepped (walk_of f p (view_is r)) buf₀ buf x

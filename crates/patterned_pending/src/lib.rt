@@ -15,7 +15,7 @@ use patterned_held::Pattern;
 use patterned_walk::{Walked, walk_by};
 use stream_bounds::exceeded;
 use stream_start::Reading;
-use stream_step::{Answer, Step, ended, placed};
+use stream_step::{Step, ended, placed};
 
 // The walk, where no empty key is pending or it is dropped. The arrays are copies, so that a refusal gives the reading back as it was.
 pub fn walk(
@@ -55,12 +55,12 @@ pub fn walk(
         pattern.len,
         pattern.rest,
     ) {
-        Walked::Halted(why) => Step {
-            answer: Answer::Refused(why),
+        Err(why) => Step {
+            answer: Err(why),
             reading,
         },
-        Walked::Ended(total) => ended(reading, total),
-        Walked::Found(k, value, total) => {
+        Ok(Walked::Ended(total)) => ended(reading, total),
+        Ok(Walked::Found(k, value, total)) => {
             key[..k].copy_from_slice(&inps[1..k + 1]);
             let after = Reading {
                 len: reading.len,
@@ -76,7 +76,7 @@ pub fn walk(
                 outs,
             };
             Step {
-                answer: Answer::Key(k, value),
+                answer: Ok(Some((k, value))),
                 reading: after,
             }
         }
@@ -108,7 +108,7 @@ pub fn pending(
     let fits = pattern.len == 0;
     if fits {
         return Step {
-            answer: Answer::Key(0, value),
+            answer: Ok(Some((0, value))),
             reading: placed(reading, reading.levels, reading.total),
         };
     }

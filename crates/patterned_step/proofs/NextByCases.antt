@@ -1,6 +1,8 @@
 -- The cases of a call of next by pattern before the walk: the refusals, and the walk itself.
 -- Assumes nothing.
 use mathlib.Core.Path.{◌≡◌, refl, sym, ◌∙◌, ap}
+use Rattle.std.specs.Prelude.{Err}
+use Rattle.format.specs.declared.Refusal.{Refusal}
 use mathlib.Core.Bool.{Bool, true, false, ◌&&◌}
 use mathlib.Core.Option.{Option}
 use mathlib.Core.List.{List}
@@ -18,7 +20,6 @@ use Rattle.stream_start.specs.declared.Reading.{Reading}
 use Rattle.stream_start.specs.Views.{view_is, empty_is}
 use Rattle.stream_start.specs.StackLaws.{stack_length}
 use Rattle.stream_bounds.specs.State.{state_right}
-use Rattle.stream_step.specs.declared.Answer.TheVariants.{Refused}
 use Rattle.stream_step.specs.declared.Step.{Step}
 use Rattle.stream_step.specs.Stepped.{Stepped}
 use Rattle.pattern.specs.Pattern as P
@@ -39,28 +40,28 @@ state_is_lem : (r : Reading) (len : ℕ) → state_right r.levels r.bound_len r.
 state_is_lem r len = rw (stack_length r.levels r.addrs r.inps r.trans r.outs)
 
 module _ (s : List ℕ) (p : P.Pattern) (r : Reading) (buf₀ : List ℕ) where
-  refused_by : (n : ℕ) → next_by s p (view_is r) (length buf₀) ≡ refuse (view_is r) n
-      → Stepped (next_by s p (view_is r) (length buf₀)) buf₀ buf₀ (record { answer = Refused n; reading = r })
+  refused_by : (n : Refusal) → next_by s p (view_is r) (length buf₀) ≡ refuse (view_is r) n
+      → Stepped (next_by s p (view_is r) (length buf₀)) buf₀ buf₀ (record { answer = Err n; reading = r })
   refused_by n e = rw e (record { answer = refl; reading = refl; buffer = refl })
 
-  pub next_refused : (n : ℕ) → opening s ≡ Opening.refused n
-      → Stepped (next_by s p (view_is r) (length buf₀)) buf₀ buf₀ (record { answer = Refused n; reading = r })
+  pub next_refused : (n : Refusal) → opening s ≡ Opening.refused n
+      → Stepped (next_by s p (view_is r) (length buf₀)) buf₀ buf₀ (record { answer = Err n; reading = r })
   unfolding next_by
   next_refused n e = refused_by n (rw e)
 
   module _ (m : Meta) (opens : opening s ≡ opened m) where
     pub next_state : state_right r.levels r.bound_len r.len (length s) ≡ false
-        → Stepped (next_by s p (view_is r) (length buf₀)) buf₀ buf₀ (record { answer = Refused STATE; reading = r })
+        → Stepped (next_by s p (view_is r) (length buf₀)) buf₀ buf₀ (record { answer = Err STATE; reading = r })
     unfolding next_by
     next_state h = let t = sym (state_is_lem r (length s)) ∙ h in refused_by STATE (rw (opens, t))
 
     module _ (h : state_right r.levels r.bound_len r.len (length s) ≡ true) where
-      pub next_pattern : 255 < length p.positions → Stepped (next_by s p (view_is r) (length buf₀)) buf₀ buf₀ (record { answer = Refused PATTERN; reading = r })
+      pub next_pattern : 255 < length p.positions → Stepped (next_by s p (view_is r) (length buf₀)) buf₀ buf₀ (record { answer = Err PATTERN; reading = r })
       unfolding next_by
       next_pattern g = let t = sym (state_is_lem r (length s)) ∙ h in refused_by PATTERN (rw (opens, t, lt-leb (length p.positions) 255 g))
 
       module _ (few : length p.positions ≤ 255) where
-        pub next_space : length buf₀ < 255 → Stepped (next_by s p (view_is r) (length buf₀)) buf₀ buf₀ (record { answer = Refused SPACE; reading = r })
+        pub next_space : length buf₀ < 255 → Stepped (next_by s p (view_is r) (length buf₀)) buf₀ buf₀ (record { answer = Err SPACE; reading = r })
         unfolding next_by
         next_space g =
             let t = sym (state_is_lem r (length s)) ∙ h in

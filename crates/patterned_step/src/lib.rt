@@ -7,13 +7,12 @@ ghost use Rattle.stream_step.specs.Stepped.{Stepped};
 ghost use Rattle.pattern.specs.Pattern.{next_by};
 ghost use Rattle.patterned_held.specs.HeldPatterns.{held_is};
 
-use format::{MAX_KEY, PATTERN, SPACE, STATE};
-use fst::Opened;
+use format::{MAX_KEY, Refusal};
 use patterned_held::Pattern;
 use patterned_pending::{pending, walk};
 use stream_bounds::state_right;
 use stream_start::Reading;
-use stream_step::{Answer, Step};
+use stream_step::Step;
 
 // A call of next on a reading and a pattern.
 pub fn step(file: &[u8], reading: Reading, pattern: Pattern, key: &mut [u8]) -> Step
@@ -22,27 +21,27 @@ pub fn step(file: &[u8], reading: Reading, pattern: Pattern, key: &mut [u8]) -> 
 {
     let opened = fst::open(file);
     match opened {
-        Opened::Refused(why) => Step {
-            answer: Answer::Refused(why),
+        Err(why) => Step {
+            answer: Err(why),
             reading,
         },
-        Opened::Meta(m) => {
+        Ok(m) => {
             if state_right(reading.levels, reading.bound_len, reading.len, file.len()) {} else {
                 return Step {
-                    answer: Answer::Refused(STATE),
+                    answer: Err(Refusal::State),
                     reading,
                 };
             }
             let too_many = MAX_KEY < pattern.len;
             if too_many {
                 return Step {
-                    answer: Answer::Refused(PATTERN),
+                    answer: Err(Refusal::Pattern),
                     reading,
                 };
             }
             if key.len() < MAX_KEY {
                 return Step {
-                    answer: Answer::Refused(SPACE),
+                    answer: Err(Refusal::Space),
                     reading,
                 };
             }

@@ -5,27 +5,26 @@
 -- Assumes nothing.
 use mathlib.Core.Path.{◌≡◌, refl, sym, ◌∙◌, ap, subst}
 use mathlib.Core.Bool.{Bool, true, false, ◌&&◌}
-use mathlib.Core.List.{List, [], ◌∷◌}
-use Prim.Native.Nat.{ℕ, ◌+◌, ◌-◌, ◌<◌, ◌≤◌}
+use mathlib.Core.List.{List, ◌∷◌}
+use Prim.Native.Nat.{ℕ, ◌-◌, ◌<◌, ◌≤◌}
 use native.Mathlib.Omega.{arith}
 use borrow.Author.Tests.{ltb-true}
 use lib.Dec.{ltb}
 use lib.ListN.{length, get_or, take, drop, length-drop}
 use lib.Seq.{length-take-le, take-take}
-use Rattle.format.specs.Limits.{NODE}
 use Rattle.format.specs.Node.{sound, unsound}
 use Rattle.format.specs.Paths.{Fst, fst_with, node_in}
 use Rattle.format.specs.Strings.{Bound}
 use Rattle.node.specs.declared.Node.{Node}
 use Rattle.node.specs.Read.{meaning, Readable}
 use Rattle.node.specs.ReadLaws.{length_node_transitions}
-use Rattle.reading.specs.Reading.{Level, key_of}
+use Rattle.reading.specs.Reading.{Level}
 use Rattle.reading.specs.Visits.{left}
 use Rattle.reading.proofs.LeftLaws.{left_pop}
 use Rattle.stream_start.specs.Views.{level_at, stack_is}
 use Rattle.stream_start.specs.StackLaws.{stack_none, stack_suc, key_stack}
 use Rattle.stream_pop.specs.declared.Popped.TheVariants.{At, Empty, Bad}
-use Rattle.pattern.specs.Pattern.{Pattern, start_test, ended, halted, walk_by}
+use Rattle.pattern.specs.Pattern.{Pattern, start_test, walk_by}
 use Rattle.pattern.specs.FitCount.{goes_on}
 use Rattle.pattern.proofs.TurnLaws.{live_test, turn_end, turn_bad, turn_popped}
 use Rattle.patterned_walk.specs.Walks.{Told, PopsBy}

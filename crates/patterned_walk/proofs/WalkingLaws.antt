@@ -3,11 +3,13 @@
 --     walking-..              the contract at each way out, and the next turn
 -- Assumes nothing.
 use mathlib.Core.Path.{◌≡◌, refl, sym, ◌∙◌, ap}
-use mathlib.Core.Bool.{Bool, true, false}
-use mathlib.Core.List.{List, [], ◌∷◌}
-use Prim.Native.Nat.{ℕ, ◌+◌, ◌-◌, ◌<◌, ◌≤◌}
+use Rattle.std.specs.Prelude.{Ok, Err, Result}
+use Rattle.format.specs.declared.Refusal.{Refusal}
+use mathlib.Core.Bool.{Bool, true}
+use mathlib.Core.List.{List, ◌∷◌}
+use Prim.Native.Nat.{ℕ, ◌-◌, ◌<◌, ◌≤◌}
 use native.Mathlib.Omega.{arith}
-use lib.ListN.{length, get_or, take, drop, length-drop}
+use lib.ListN.{length, take, drop, length-drop}
 use lib.Seq.{length-take-le}
 use Rattle.format.specs.Limits.{NODE}
 use Rattle.format.specs.Paths.{Fst, fst_with}
@@ -19,14 +21,13 @@ use Rattle.stream_start.specs.Views.{Arrays, level_at, stack_is}
 use Rattle.stream_start.specs.StackLaws.{stack_none}
 use Rattle.stream_pop.specs.declared.Popped.{Popped}
 use Rattle.stream_pop.specs.declared.Popped.TheVariants.{At, Empty, Bad}
-use Rattle.pattern.specs.Pattern.{Pattern, start_test, WentBy, ended, halted, walk_by}
-use Rattle.pattern.specs.FitCount.{fit_count, goes_on, Tells}
+use Rattle.pattern.specs.Pattern.{Pattern, start_test, WentBy, walk_by}
+use Rattle.pattern.specs.FitCount.{fit_count, Tells}
 use Rattle.pattern.proofs.CountLaws.{tells_count, tells_all}
 use Rattle.pattern.proofs.TurnLaws.{turn_end}
 use Rattle.patterned_descend.specs.declared.Down.{Down}
-use Rattle.patterned_descend.specs.declared.Down.TheVariants as Down
 use Rattle.patterned_descend.specs.Descents.{down_seen, down_at, DescendsBy}
-use Rattle.patterned_walk.specs.declared.Walked.TheVariants.{Found, Ended, Halted}
+use Rattle.patterned_walk.specs.declared.Walked.TheVariants.{Found, Ended}
 use Rattle.patterned_walk.specs.Walks.{Told, pop_seen, PopsBy, WalksBy}
 use Rattle.patterned_walk.proofs.PopByLaws.{told_key}
 
@@ -51,7 +52,7 @@ module _ {s : List ℕ} {v root : ℕ} {p : Pattern} {hi : Bound} {want : WentBy
   f = fst_with s v root
 
   -- no level is left
-  pub walking_end : n ≤ 0 → WalksBy want xs is ps os (Ended t)
+  pub walking_end : n ≤ 0 → WalksBy want xs is ps os (Ok (Ended t))
   walking_end h = record {
     low = omega arith;
     inps_len = w.arrays.inps_len;
@@ -71,10 +72,10 @@ module _ {s : List ℕ} {v root : ℕ} {p : Pattern} {hi : Bound} {want : WentBy
     pops_is : (r' : Popped) → r ≡ r' → pop_seen f p hi t xs is ps os r' ≡ want
     pops_is r' e = ap (pop_seen f p hi t xs is ps os) (sym e) ∙ pops.seen is os p told hi t ∙ w.same
 
-    pub walking_empty : r ≡ Empty → WalksBy want xs is ps os (Ended t)
+    pub walking_empty : r ≡ Empty → WalksBy want xs is ps os (Ok (Ended t))
     walking_empty e = record { low = omega arith; inps_len = w.arrays.inps_len; seen = pops_is Empty e }
 
-    pub walking_bad : r ≡ Bad → WalksBy want xs is ps os (Halted NODE)
+    pub walking_bad : r ≡ Bad → WalksBy want xs is ps os (Err NODE)
     walking_bad e = record { low = omega arith; inps_len = w.arrays.inps_len; seen = pops_is Bad e }
 
     module _ (k : ℕ) (m : Node) (e : r ≡ At k m) where
@@ -86,20 +87,20 @@ module _ {s : List ℕ} {v root : ℕ} {p : Pattern} {hi : Bound} {want : WentBy
 
       -- ---- the descent
 
-      module _ {xs' is' ps' os' : List ℕ} {d : Down} (down : DescendsBy f p hi (level_at k xs is ps os ∷ stack_is k xs is ps os) t xs' is' ps' os' d) where
-        down_is : (d' : Down) → d ≡ d' → down_seen f p hi xs' is' ps' os' d' ≡ want
+      module _ {xs' is' ps' os' : List ℕ} {d : Result Down Refusal} (down : DescendsBy f p hi (level_at k xs is ps os ∷ stack_is k xs is ps os) t xs' is' ps' os' d) where
+        down_is : (d' : Result Down Refusal) → d ≡ d' → down_seen f p hi xs' is' ps' os' d' ≡ want
         down_is d' q = ap (down_seen f p hi xs' is' ps' os') (sym q) ∙ down.seen ∙ pops_is (At k m) e
 
-        pub walking_found : (j x u : ℕ) → d ≡ Down.Found j x u → WalksBy want xs' is' ps' os' (Found j x u)
-        walking_found j x u q = record { low = rw (ap down_at q) at down.low; inps_len = down.arrays.inps_len; seen = down_is (Down.Found j x u) q }
+        pub walking_found : (j x u : ℕ) → d ≡ Ok (Down.Found j x u) → WalksBy want xs' is' ps' os' (Ok (Found j x u))
+        walking_found j x u q = record { low = rw (ap down_at q) at down.low; inps_len = down.arrays.inps_len; seen = down_is (Ok (Down.Found j x u)) q }
 
-        pub walking_passed : (u : ℕ) → d ≡ Down.Passed u → WalksBy want xs' is' ps' os' (Ended u)
-        walking_passed u q = record { low = omega arith; inps_len = down.arrays.inps_len; seen = down_is (Down.Passed u) q }
+        pub walking_passed : (u : ℕ) → d ≡ Ok (Down.Passed u) → WalksBy want xs' is' ps' os' (Ok (Ended u))
+        walking_passed u q = record { low = omega arith; inps_len = down.arrays.inps_len; seen = down_is (Ok (Down.Passed u)) q }
 
-        pub walking_halted : (why : ℕ) → d ≡ Down.Halted why → WalksBy want xs' is' ps' os' (Halted why)
-        walking_halted why q = record { low = omega arith; inps_len = down.arrays.inps_len; seen = down_is (Down.Halted why) q }
+        pub walking_halted : (why : Refusal) → d ≡ Err why → WalksBy want xs' is' ps' os' (Err why)
+        walking_halted why q = record { low = omega arith; inps_len = down.arrays.inps_len; seen = down_is (Err why) q }
 
-        module _ (j u : ℕ) (q : d ≡ Down.Stuck j u) where
+        module _ (j u : ℕ) (q : d ≡ Ok (Down.Stuck j u)) where
           low : j < 256
           low = rw (ap down_at q) at down.low
 
@@ -110,7 +111,7 @@ module _ {s : List ℕ} {v root : ℕ} {p : Pattern} {hi : Bound} {want : WentBy
             tells =
                 let len = length-take-le (j - 1) (drop 1 is') (simp length-drop (omega (arith, down.arrays.inps_len, low))) in
                 tells_all p (take (j - 1) (drop 1 is')) (down.fits j u q) j (omega (arith, len));
-            same = down_is (Down.Stuck j u) q;
+            same = down_is (Ok (Down.Stuck j u)) q;
           }
 
           pub walking_less : left f (stack_is j xs' is' ps' os') < left f (stack_is n xs is ps os)

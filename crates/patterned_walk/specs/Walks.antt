@@ -3,7 +3,8 @@
 --     PopsBy                what the pops answer: the walk from the level that they find is the walk from all levels
 --     walked_seen, WalksBy   what the walk answered, read against the four arrays; its contract
 -- Assumes nothing.
-use Rattle.std.specs.Prelude.{◌≡◌, Bool, true, List, ◌∷◌, ℕ, ◌-◌, ◌≤◌, ◌<◌, length, get_or, take, drop}
+use Rattle.std.specs.Prelude.{◌≡◌, Bool, true, List, ◌∷◌, ℕ, ◌-◌, ◌≤◌, ◌<◌, length, get_or, take, drop, Ok, Err, Result}
+use Rattle.format.specs.declared.Refusal.{Refusal}
 use Rattle.format.specs.Limits.{max_levels, NODE}
 use Rattle.format.specs.Paths.{Fst, fst_with}
 use Rattle.format.specs.Strings as S
@@ -16,7 +17,7 @@ use Rattle.stream_pop.specs.Pops.{Ready}
 use Rattle.pattern.specs.Pattern.{Pattern, WentBy, found, ended, halted, walk_by}
 use Rattle.pattern.specs.FitCount.{goes_on, Tells}
 use Rattle.patterned_walk.specs.declared.Walked.{Walked}
-use Rattle.patterned_walk.specs.declared.Walked.TheVariants.{Found, Ended, Halted}
+use Rattle.patterned_walk.specs.declared.Walked.TheVariants.{Found, Ended}
 
 -- ---- the pops
 
@@ -44,17 +45,17 @@ pub record PopsBy (s : List ℕ) (v root n : ℕ) (rest : Bool) (xs ps : List �
 
 -- ---- the walk
 
-abbrev pub walked_seen : List ℕ → List ℕ → List ℕ → List ℕ → Walked → WentBy
-walked_seen xs is ps os (Found k v t) = found (level_at k xs is ps os ∷ stack_is k xs is ps os) v t
-walked_seen xs is ps os (Ended t) = ended t
-walked_seen xs is ps os (Halted n) = halted n
+abbrev pub walked_seen : List ℕ → List ℕ → List ℕ → List ℕ → Result Walked Refusal → WentBy
+walked_seen xs is ps os (Ok (Found k v t)) = found (level_at k xs is ps os ∷ stack_is k xs is ps os) v t
+walked_seen xs is ps os (Ok (Ended t)) = ended t
+walked_seen xs is ps os (Err n) = halted n
 
-abbrev pub walked_at : Walked → ℕ
-walked_at (Found k v t) = k
-walked_at (Ended t) = 0
-walked_at (Halted n) = 0
+abbrev pub walked_at : Result Walked Refusal → ℕ
+walked_at (Ok (Found k v t)) = k
+walked_at (Ok (Ended t)) = 0
+walked_at (Err n) = 0
 
-pub record WalksBy (want : WentBy) (xs is ps os : List ℕ) (r : Walked) : Type 0 where
+pub record WalksBy (want : WentBy) (xs is ps os : List ℕ) (r : Result Walked Refusal) : Type 0 where
   pub low : walked_at r < max_levels
   pub inps_len : length is ≡ max_levels
   pub seen : walked_seen xs is ps os r ≡ want

@@ -10,20 +10,18 @@ ghost use Rattle.pattern.specs.Pattern.{walk_by};
 ghost use Rattle.patterned_fit.specs.Positions.{pattern_is};
 ghost use Rattle.patterned_walk.specs.Walks.{PopsBy, WalksBy};
 
-use format::{LEVELS, MAX_KEY, NODE};
+use format::{LEVELS, MAX_KEY, Refusal};
 use node::Node;
 use patterned_descend::{Down, descend_by};
 use patterned_fit::{fit_of, live};
 use stream_pop::Popped;
 use stream_start::Bound;
 
-// What the walk finds: the place of the level where a key ends, the key's value and the total; the total at the end; or the number of a
-// refusal.
+// What the walk finds: the place of the level where a key ends, the key's value and the total; the total at the end.
 #[derive(Clone, Copy)]
 pub enum Walked {
     Found(usize, u64, u64),
     Ended(u64),
-    Halted(u8),
 }
 
 // The highest of the first levels that can go on: it has a transition left, and its bytes fit the pattern's start. Each level that is
@@ -72,7 +70,7 @@ pub fn walk_by(
     positions: &[u16; MAX_KEY],
     len: usize,
     rest: bool,
-) -> Walked
+) -> Result<Walked, Refusal>
     requires arrays { Arrays addrs.old inps.old trans.old outs.old
         × (length bound.now ≡ max_path) × (bound_len ≤ max_path)
         × (length positions.now ≡ max_path) × (len ≤ max_path) }
@@ -92,25 +90,22 @@ pub fn walk_by(
         let popped = pop_by(file, version, root, addrs, trans, n, fit, len, rest);
         match popped {
             Popped::Empty => {
-                return Walked::Ended(t);
+                return Ok(Walked::Ended(t));
             }
             Popped::Bad => {
-                return Walked::Halted(NODE);
+                return Err(Refusal::Node);
             }
             Popped::At(top, m) => {
                 let down = descend_by(
                     file, version, root, top, m, t, addrs, inps, trans, outs, bound, bound_len,
                     kind, positions, len, rest,
-                );
+                )?;
                 match down {
                     Down::Found(k, value, total) => {
-                        return Walked::Found(k, value, total);
+                        return Ok(Walked::Found(k, value, total));
                     }
                     Down::Passed(total) => {
-                        return Walked::Ended(total);
-                    }
-                    Down::Halted(why) => {
-                        return Walked::Halted(why);
+                        return Ok(Walked::Ended(total));
                     }
                     // the bytes of the levels that are left fit the pattern's start
                     Down::Stuck(k, total) => {
@@ -122,5 +117,5 @@ pub fn walk_by(
             }
         }
     }
-    Walked::Ended(t)
+    Ok(Walked::Ended(t))
 }

@@ -10,6 +10,7 @@ use Rattle.std.specs.Prelude.{◌≡◌, refl, Bool, true, false, cond, List, �
 use Rattle.std.proofs.Common.{sym, ap, ◌∙◌, subst, arith, ne_eqb}
 use mathlib.Core.List.Memᴰ
 use Rattle.std.proofs.lemmas.List.{length-map}
+use Rattle.format.specs.declared.Refusal.{Refusal}
 use Rattle.format.specs.Limits.{max_path, BOUND, SPACE}
 use Rattle.format.specs.Opening.{Opening, opened, opening}
 use Rattle.format.specs.Opening as Opening
@@ -34,13 +35,13 @@ use Rattle.plain.specs.PlainRun.{RunsPlain, run_end, run_key, WholePlain}
 
 -- ---- one call
 
-refused_not_key : {n : ℕ} {k : List ℕ} {v : ℕ} → ¬ (◌≡◌ {A = Answer} (Answer.refused n) (key k v))
+refused_not_key : {n : Refusal} {k : List ℕ} {v : ℕ} → ¬ (◌≡◌ {A = Answer} (Answer.refused n) (key k v))
 refused_not_key e = let z : ◌≡◌ {A = ℕ} 0 1 = cc in omega arith
 
 end_not_key : {k : List ℕ} {v : ℕ} → ¬ (◌≡◌ {A = Answer} end (key k v))
 end_not_key e = let z : ◌≡◌ {A = ℕ} 0 1 = cc in omega arith
 
-refused_not_end : {n : ℕ} → ¬ (◌≡◌ {A = Answer} (Answer.refused n) end)
+refused_not_end : {n : Refusal} → ¬ (◌≡◌ {A = Answer} (Answer.refused n) end)
 refused_not_end e = let z : ◌≡◌ {A = ℕ} 0 1 = cc in omega arith
 
 pub plain_key : (p : Plain) (r : View) (a : Answer) (k : List ℕ) (v : ℕ) → (counting p r a).answer ≡ key k v → (a ≡ key k v) × ((counting p r a).reading.view ≡ r)
@@ -68,7 +69,7 @@ pub plain_started : (s : List ℕ) (lo hi : Bound) (c : List ℕ) (p : Plain) �
 unfolding start_plain
 plain_started s lo hi c p e = opens (opening s) refl e
   where
-    refused_not_begun : {n : ℕ} {q : Plain} → ¬ (Begun.refused n ≡ begun q)
+    refused_not_begun : {n : Refusal} {q : Plain} → ¬ (Begun.refused n ≡ begun q)
     refused_not_begun e = let z : ◌≡◌ {A = ℕ} 0 1 = cc in omega arith
 
     numbered : (w : Started) (t : Tally) → then_number w t ≡ begun p → w ≡ started p.view
@@ -140,8 +141,8 @@ module _ (s : List ℕ) (p : Plain) (space : ℕ) (ends : (next_plain s p space)
       subst (λ (q : Plain). next_plain s q space' ≡ record { answer = end; reading = q }) (sym at_end.1)
       (ap (counted_step (plain_with (next s p.view space).reading p.keys)) (end_stays s p.view space at_end.0 space' room))
 
-  pub end_refuses_plain : (c : Call s) → ¬ Allowed c → (n : ℕ) × (call_plain after c ≡ record { answer = Answer.refused n; reading = after })
+  pub end_refuses_plain : (c : Call s) → ¬ Allowed c → (n : Refusal) × (call_plain after c ≡ record { answer = Answer.refused n; reading = after })
   end_refuses_plain c out =
       let w = end_refuses s p.view space at_end.0 c out in
-      subst (λ (q : Plain). (n : ℕ) × (call_plain q c ≡ record { answer = Answer.refused n; reading = q })) (sym at_end.1)
+      subst (λ (q : Plain). (n : Refusal) × (call_plain q c ≡ record { answer = Answer.refused n; reading = q })) (sym at_end.1)
       (w.0, ap (counted_step (plain_with (next s p.view space).reading p.keys)) w.1)

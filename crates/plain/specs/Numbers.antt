@@ -12,6 +12,7 @@
 -- Assumes nothing.
 use Prim.{Unit}
 use Rattle.std.specs.Prelude.{◌≡◌, Bool, true, false, cond, not, ◌&&◌, ◌||◌, ◌⊎◌, List, [], ◌∷◌, ◌++◌, ℕ, ◌+◌, ◌-◌, ltb, leb, eqb, length}
+use Rattle.format.specs.declared.Refusal.{Refusal}
 use Rattle.format.specs.declared.Transition.{Transition}
 use Rattle.format.specs.Limits.{max_sum, NODE, COUNT}
 use Rattle.format.specs.Node.{find_input, transition_at}
@@ -22,7 +23,7 @@ use Rattle.reading.specs.Reading.{bound_bytes, on_node, on_search}
 
 pub data Tally : Type 0 where
   comes_to : ℕ → Tally
-  refused : ℕ → Tally
+  refused : Refusal → Tally
 
 -- so many more
 abbrev pub plus : ℕ → Tally → Tally

@@ -6,6 +6,7 @@
 --     call_plain, plain_after, answers_plain      a call, the reading after a list of calls, and their answers
 -- Assumes nothing.
 use Rattle.std.specs.Prelude.{cond, List, [], ◌∷◌, ℕ, ◌-◌, leb, eqb, length}
+use Rattle.format.specs.declared.Refusal.{Refusal}
 use Rattle.format.specs.Limits.{SPACE, BOUND, STATE}
 use Rattle.format.specs.Opening.{opening}
 use Rattle.format.specs.Paths.{fst_of}
@@ -27,7 +28,7 @@ plain_with r n = record { view = r; keys = n }
 
 pub data Begun : Type 0 where
   begun : Plain → Begun
-  refused : ℕ → Begun
+  refused : Refusal → Begun
 
 abbrev pub with_number : View → Tally → Begun
 with_number r (comes_to n) = begun (plain_with r n)

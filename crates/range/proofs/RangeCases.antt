@@ -4,6 +4,7 @@
 --     start_ready              where it began, the levels can be gone on from
 -- Assumes nothing.
 use mathlib.Core.Path.{◌≡◌, refl, sym, ap, ap₂, subst, ◌∙◌}
+use Rattle.format.specs.declared.Refusal.{Refusal}
 use mathlib.Core.Bool.{true, false}
 use mathlib.Core.Option.{Option}
 use mathlib.Core.List.{List}
@@ -30,7 +31,7 @@ use Rattle.range_turn.specs.StartStateLaws.{start_state, start_sound, stack_soun
 use Rattle.range_fill.specs.RangedRows.{OpensAs, Ready, view_from}
 
 module _ (s : List ℕ) (lo hi : Bound) (most a b : ℕ) where
-  pub range_unopened : (n : ℕ) → opening s ≡ O.Opening.refused n → range s lo hi most a b ≡ refused_page n
+  pub range_unopened : (n : Refusal) → opening s ≡ O.Opening.refused n → range s lo hi most a b ≡ refused_page n
   unfolding range
   range_unopened n e = rw e
 
@@ -72,7 +73,7 @@ module _ {s : List ℕ} {version root : ℕ} (o : OpensAs s version root) where
         ∙ ap₂ (λ (v r : ℕ). start_from (fst_with s v r) lo hi) o.version_is o.root_is
         ∙ sym (from_reading f lo hi short b n empty (walk_from f lo) b_is n_is empty_is refl)
 
-    pub start_halted : (k : ℕ) → R.Sought.halted k ≡ walk_from f lo → R.start s lo hi ≡ R.Started.refused k
+    pub start_halted : (k : Refusal) → R.Sought.halted k ≡ walk_from f lo → R.start s lo hi ≡ R.Started.refused k
     start_halted k e = start_is ∙ sym (reading_halted (length s) b n empty k e)
 
     pub start_began : (levels : List Level) → got levels ≡ walk_from f lo → R.start s lo hi ≡ started (view_from (length s) b n empty levels)

@@ -6,25 +6,13 @@ ghost use Rattle.std.specs.Prelude.{◌≡◌, true, ◌*◌, ◌≤◌, length}
 ghost use Rattle.reading.specs.Reading as R;
 ghost use Rattle.paging.specs.Paging as P;
 ghost use Rattle.stream_start.specs.Views.{bound_is};
-ghost use Rattle.range_fill.specs.RangedRows.{OpensAs, RangedBy, refused_range};
+ghost use Rattle.range_fill.specs.RangedRows.{OpensAs, RangedBy};
 
-use format::{BOUND, LEVELS, MAX_KEY, SPACE};
-use fst::Opened;
+use format::{LEVELS, MAX_KEY, Refusal};
 use range_all::fill_all;
-use range_fill::{Ranged, Stop};
+use range_fill::{Ranged, refused};
 use range_rows::{bounds_right, has_room};
-use stream_seek::Sought;
 use stream_start::{Bound, len_of, pending_at, start_levels};
-
-// A range that is refused before any key.
-fn refused(why: u8) -> Ranged
-    ensures { result ≡ refused_range why }
-{
-    Ranged {
-        count: 0,
-        stop: Stop::Refused(why),
-    }
-}
 
 // The walk, where the file opens, the bounds are short and the buffers have room. The start's levels are written to arrays of its own and read on there.
 fn range_from(
@@ -57,8 +45,8 @@ fn range_from(
     match start_levels(
         file, version, root, lower_kind, lower, &mut addrs, &mut inps, &mut trans, &mut outs,
     ) {
-        Sought::Halted(why) => refused(why),
-        Sought::Levels(levels) => fill_all(
+        Err(why) => refused(why),
+        Ok(levels) => fill_all(
             file, version, root, levels, &mut addrs, &mut inps, &mut trans, &mut outs, &bound,
             bound_len, upper_kind, empty, most, rows, values,
         ),
@@ -85,13 +73,13 @@ pub fn range(
 {
     let opened = fst::open(file);
     match opened {
-        Opened::Refused(why) => refused(why),
-        Opened::Meta(m) => {
-            if bounds_right(lower_kind, lower, upper_kind, upper) {} else {
-                return refused(BOUND);
+        Err(why) => refused(why),
+        Ok(m) => {
+            if !bounds_right(lower_kind, lower, upper_kind, upper) {
+                return refused(Refusal::Bound);
             }
-            if has_room(most, rows.len(), values.len()) {} else {
-                return refused(SPACE);
+            if !has_room(most, rows.len(), values.len()) {
+                return refused(Refusal::Space);
             }
             range_from(
                 file, m.version, m.root, lower_kind, lower, upper_kind, upper, most, rows, values,

@@ -42,7 +42,7 @@ pub fn fill_all(
     if most == 0 {
         return Ranged {
             count: 0,
-            stop: Stop::More,
+            stop: Ok(Stop::More),
         };
     }
     match empty {
@@ -54,7 +54,7 @@ pub fn fill_all(
             if exceeded(inps, 0, bound, bound_len, kind) {
                 return Ranged {
                     count: 0,
-                    stop: Stop::End,
+                    stop: Ok(Stop::End),
                 };
             }
             put_row(inps, 0, 0, rows);

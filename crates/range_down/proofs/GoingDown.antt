@@ -24,13 +24,12 @@ use Rattle.reading.specs.Reading as R
 use Rattle.reading.specs.Reading.{Level, passes_test, key_of, counted, next_trans, child, stepped, descend, on_node}
 use Rattle.stream_start.specs.Views.{Arrays, level_at, stack_is}
 use Rattle.stream_start.specs.StackLaws.{key_stack, pushed_top, pushed_below}
-use Rattle.std.specs.Prelude.{Option}
+use Rattle.std.specs.Prelude.{Option, Ok, Err, Some, None, Result, ℕ}
+use Rattle.format.specs.declared.Refusal.{Refusal}
 use Rattle.range_bound.specs.Besides.{Beside, Followed}
 use Rattle.range_bound.specs.BesideLaws.{beside_within}
 use Rattle.range_node.specs.Entries.{Leads, SoundTo}
 use Rattle.range_node.specs.EntriesLaws.{sound_less, sound_set}
-use Rattle.range_down.specs.declared.Went.{Went}
-use Rattle.range_down.specs.declared.Went.TheVariants.{Found, Passed, Halted}
 use Rattle.range_down.specs.Downs.{down_from, went_seen, went_at, found_at, DescendsOn}
 use Rattle.range_down.proofs.RangeDescent.{down_deep, down_sum, down_bad, down_passed, down_final, down_on}
 
@@ -66,7 +65,7 @@ going_none f hi b xs is ps os k same over l w sounds leads beside = record {
 found_low : (k sum end s n : ℕ) → k < n → went_at (found_at k sum end s) < n
 found_low k sum end s n h = go (leb (sum + end) max_sum)
   where
-    go : (b : Bool) → went_at (cond b (Found k (sum + end) s) (Halted SUM)) < n
+    go : (b : Bool) → went_at (cond {A = Result (Option (ℕ × ℕ × ℕ)) Refusal} b (Ok (Some (k, sum + end, s))) (Err SUM)) < n
     go true = h
     go false = omega arith
 
@@ -75,16 +74,18 @@ found_seen : (xs is ps os : List ℕ) (k sum end s t : ℕ)
     ≡ cond (leb (sum + end) max_sum) (R.found (level_at k xs is ps os ∷ stack_is k xs is ps os) (sum + end) t) (R.Went.halted SUM)
 found_seen xs is ps os k sum end s t = go (leb (sum + end) max_sum)
   where
-    go : (b : Bool) → went_seen xs is ps os t (cond b (Found k (sum + end) s) (Halted SUM))
+    go : (b : Bool) → went_seen xs is ps os t (cond b (Ok (Some (k, sum + end, s))) (Err SUM))
         ≡ cond b (R.found (level_at k xs is ps os ∷ stack_is k xs is ps os) (sum + end) t) (R.Went.halted SUM)
     go true = refl
     go false = refl
 
-found_is : (k sum end s k' v' s' : ℕ) → found_at k sum end s ≡ Found k' v' s' → (k ≡ k') × (s ≡ s')
+found_is : (k sum end s k' v' s' : ℕ) → found_at k sum end s ≡ Ok (Some (k', v', s')) → (k ≡ k') × (s ≡ s')
 found_is k sum end s k' v' s' = go (leb (sum + end) max_sum)
   where
-    go : (b : Bool) → cond b (Found k (sum + end) s) (Halted SUM) ≡ Found k' v' s' → (k ≡ k') × (s ≡ s')
-    go true e = (cc, cc)
+    go : (b : Bool) → cond {A = Result (Option (ℕ × ℕ × ℕ)) Refusal} b (Ok (Some (k, sum + end, s))) (Err SUM) ≡ Ok (Some (k', v', s')) → (k ≡ k') × (s ≡ s')
+    go true e =
+        let q : ◌≡◌ {A = ℕ × ℕ × ℕ} (k, sum + end, s) (k', v', s') = cc in
+        (ap (λ (p : ℕ × ℕ × ℕ). p.0) q, ap (λ (p : ℕ × ℕ × ℕ). p.2) q)
     go false e = absurd (let z : ◌≡◌ {A = ℕ} 0 1 = cc in omega arith)
 
 module _ {f : Fst} {hi : Bound} {b : List ℕ} {want : ℕ → R.Went} {xs is ps os : List ℕ} {k same : ℕ} {over : Bool} (g : Going f hi b want xs is ps os k same over) where
@@ -100,7 +101,7 @@ module _ {f : Fst} {hi : Bound} {b : List ℕ} {want : ℕ → R.Went} {xs is ps
   first_sound : SoundTo f xs 1
   first_sound = sound_less f xs 1 (k + 1) g.sounds (omega arith)
 
-  pub going_deep : 255 ≤ k → DescendsOn f hi b want xs is ps os (Halted DEEP)
+  pub going_deep : 255 ≤ k → DescendsOn f hi b want xs is ps os (Err DEEP)
   going_deep h = record {
     low = omega arith;
     arrays = g.arrays;
@@ -136,7 +137,7 @@ module _ {f : Fst} {hi : Bound} {b : List ℕ} {want : ℕ → R.Went} {xs is ps
         out_is : get_or os k 0 + e.out ≡ l.out + (next_trans l m).out
         out_is = ap (λ (x : Transition). get_or os k 0 + x.out) edge_is
 
-        pub going_sum : max_sum < get_or os k 0 + e.out → DescendsOn f hi b want xs is ps os (Halted SUM)
+        pub going_sum : max_sum < get_or os k 0 + e.out → DescendsOn f hi b want xs is ps os (Err SUM)
         going_sum h = record {
           low = omega arith;
           arrays = g.arrays;
@@ -152,7 +153,7 @@ module _ {f : Fst} {hi : Bound} {b : List ℕ} {want : ℕ → R.Went} {xs is ps
           target_is : e.addr ≡ (next_trans l m).addr
           target_is = ap (λ (x : Transition). x.addr) edge_is
 
-          pub going_bad : node_in f e.addr ≡ unsound → DescendsOn f hi b want xs is ps os (Halted NODE)
+          pub going_bad : node_in f e.addr ≡ unsound → DescendsOn f hi b want xs is ps os (Err NODE)
           going_bad bad = record {
             low = omega arith;
             arrays = g.arrays;
@@ -223,7 +224,7 @@ module _ {f : Fst} {hi : Bound} {b : List ℕ} {want : ℕ → R.Went} {xs is ps
                 → Followed hi b (drop 1 is⁺) (k + 1) over r
             further follows = follows is (omega (arith, g.arrays.inps_len)) g.beside
 
-            pub going_passed : passes_test hi (take (k + 1) (drop 1 is⁺)) ≡ true → DescendsOn f hi b want xs is ps os Passed
+            pub going_passed : passes_test hi (take (k + 1) (drop 1 is⁺)) ≡ true → DescendsOn f hi b want xs is ps os (Ok None)
             going_passed p = record {
               low = omega arith;
               arrays = g.arrays;
@@ -241,7 +242,7 @@ module _ {f : Fst} {hi : Bound} {b : List ℕ} {want : ℕ → R.Went} {xs is ps
               p : passes_test hi (take (k + 1) (drop 1 is⁺)) ≡ false
               p = within.0
 
-              pub going_final : (end : ℕ) → (n.final ≡ true) × (end ≡ n.final_output) → (r : Went) → r ≡ found_at (k + 1) sum end s⁺
+              pub going_final : (end : ℕ) → (n.final ≡ true) × (end ≡ n.final_output) → (r : Result (Option (ℕ × ℕ × ℕ)) Refusal) → r ≡ found_at (k + 1) sum end s⁺
                   → DescendsOn f hi b want xs⁺ is⁺ ps⁺ os⁺ r
               going_final end ended r er = record {
                 low = rw er (found_low (k + 1) sum end s⁺ 256 (omega arith));

@@ -5,7 +5,8 @@
 --     found_at ..            a key's value with the final output, or SUM
 --     DescendsOn ..         the contract: for every total; the arrays hold the levels of judged nodes after it too
 -- Assumes nothing.
-use Rattle.std.specs.Prelude.{◌≡◌, false, cond, List, ◌∷◌, ℕ, ◌+◌, ◌-◌, ◌<◌, leb, get_or, drop}
+use Rattle.std.specs.Prelude.{◌≡◌, false, cond, List, ◌∷◌, ℕ, ◌+◌, ◌-◌, ◌<◌, leb, get_or, drop, Ok, Err, Some, None, Result, Option}
+use Rattle.format.specs.declared.Refusal.{Refusal}
 use Rattle.format.specs.Limits.{max_path, max_levels, max_sum, NODE, SUM}
 use Rattle.format.specs.Paths.{Fst, node_in}
 use Rattle.format.specs.Strings as S
@@ -14,36 +15,34 @@ use Rattle.reading.specs.Reading.{on_node, found, passed, descend}
 use Rattle.stream_start.specs.Views.{Arrays, level_at, stack_is}
 use Rattle.range_bound.specs.Besides.{Beside}
 use Rattle.range_node.specs.Entries.{SoundTo}
-use Rattle.range_down.specs.declared.Went.{Went}
-use Rattle.range_down.specs.declared.Went.TheVariants.{Found, Passed, Halted}
 
-abbrev pub went_seen : List ℕ → List ℕ → List ℕ → List ℕ → ℕ → Went → R.Went
-went_seen xs is ps os t (Found k v s) = found (level_at k xs is ps os ∷ stack_is k xs is ps os) v t
-went_seen xs is ps os t Passed = passed t
-went_seen xs is ps os t (Halted n) = R.Went.halted n
+abbrev pub went_seen : List ℕ → List ℕ → List ℕ → List ℕ → ℕ → Result (Option (ℕ × ℕ × ℕ)) Refusal → R.Went
+went_seen xs is ps os t (Ok (Some (k, v, s))) = found (level_at k xs is ps os ∷ stack_is k xs is ps os) v t
+went_seen xs is ps os t (Ok None) = passed t
+went_seen xs is ps os t (Err n) = R.Went.halted n
 
-abbrev pub went_at : Went → ℕ
-went_at (Found k v s) = k
-went_at Passed = 0
-went_at (Halted n) = 0
+abbrev pub went_at : Result (Option (ℕ × ℕ × ℕ)) Refusal → ℕ
+went_at (Ok (Some (k, v, s))) = k
+went_at (Ok None) = 0
+went_at (Err n) = 0
 
 -- from level k down, as its node is judged
 abbrev pub down_from : Fst → S.Bound → List ℕ → List ℕ → List ℕ → List ℕ → ℕ → ℕ → R.Went
 down_from f hi xs is ps os k t =
     on_node (node_in f (get_or xs k 0)) (λ m. descend (max_path - k) f hi (level_at k xs is ps os) m (stack_is k xs is ps os) t) (R.Went.halted NODE)
 
-abbrev pub found_at : ℕ → ℕ → ℕ → ℕ → Went
-found_at k sum end s = cond (leb (sum + end) max_sum) (Found k (sum + end) s) (Halted SUM)
+abbrev pub found_at : ℕ → ℕ → ℕ → ℕ → Result (Option (ℕ × ℕ × ℕ)) Refusal
+found_at k sum end s = cond (leb (sum + end) max_sum) (Ok (Some (k, sum + end, s))) (Err SUM)
 
 -- a total after the descent, for each before it
-pub record SeenFrom (want : ℕ → R.Went) (xs is ps os : List ℕ) (r : Went) (t : ℕ) : Type 0 where
+pub record SeenFrom (want : ℕ → R.Went) (xs is ps os : List ℕ) (r : Result (Option (ℕ × ℕ × ℕ)) Refusal) (t : ℕ) : Type 0 where
   pub total : ℕ
   pub seen : went_seen xs is ps os total r ≡ want t
 
-pub record DescendsOn (f : Fst) (hi : S.Bound) (b : List ℕ) (want : ℕ → R.Went) (xs is ps os : List ℕ) (r : Went) : Type 0 where
+pub record DescendsOn (f : Fst) (hi : S.Bound) (b : List ℕ) (want : ℕ → R.Went) (xs is ps os : List ℕ) (r : Result (Option (ℕ × ℕ × ℕ)) Refusal) : Type 0 where
   pub low : went_at r < max_levels
   pub arrays : Arrays xs is ps os
   pub sound : SoundTo f xs (went_at r + 1)
   -- how a key that was found stands to the upper bound
-  pub beside : (k v s : ℕ) → r ≡ Found k v s → Beside hi b (drop 1 is) k s false
+  pub beside : (k v s : ℕ) → r ≡ Ok (Some (k, v, s)) → Beside hi b (drop 1 is) k s false
   pub from : (t : ℕ) → SeenFrom want xs is ps os r t

@@ -10,28 +10,19 @@ ghost use Rattle.range_bound.specs.Besides.{Beside};
 ghost use Rattle.range_node.specs.Entries.{Leads, SoundTo};
 ghost use Rattle.range_down.specs.Downs.{down_from, found_at, DescendsOn};
 
-use format::{DEEP, LEVELS, MAX_KEY, NODE, SUM};
+use format::{LEVELS, MAX_KEY, Refusal};
 use range_bound::follow;
 use range_node::{meet, take};
 use stream_start::Bound;
 
-// What the descent finds: the place of the level where a key ends, the key's value, and how many of its leading bytes agree with the upper bound; that
-// this bound is passed; or the number of a refusal.
-#[derive(Clone, Copy)]
-pub enum Went {
-    Found(usize, u64, usize),
-    Passed,
-    Halted(u8),
-}
-
-// The key that ends at level k, unless its value passes 2^64 - 1.
-fn found(k: usize, sum: u64, end: u64, same: usize) -> Went
+// The key that ends at level k, unless its value passes 2^64 - 1. No plainer as one with the descents of a reading: what they find is an enum of three.
+fn found(k: usize, sum: u64, end: u64, same: usize) -> Result<Option<(usize, u64, usize)>, Refusal>
     ensures { result ≡ found_at k sum end same }
 {
     let Some(value) = sum.checked_add(end) else {
-        return Went::Halted(SUM);
+        return Err(Refusal::Sum);
     };
-    Went::Found(k, value, same)
+    Ok(Some((k, value, same)))
 }
 
 // From the level at top down to the next key by each level's next transition. Every level up to top is that of a judged node, and so is every level
@@ -50,7 +41,7 @@ pub fn descend(
     kind: Bound,
     agreed: usize,
     over: bool,
-) -> Went
+) -> Result<Option<(usize, u64, usize)>, Refusal>
     requires arrays { Arrays addrs.old inps.old trans.old outs.old
         × (length bound.now ≡ max_path) × (bound_len ≤ max_path) }
     requires top_lt_max_levels { (top < max_levels) × (root < 4294967296)
@@ -72,15 +63,15 @@ pub fn descend(
         let i = trans[k] as usize;
         let edge = take(file, version, root, addr, i);
         let Some(sum) = outs[k].checked_add(edge.out) else {
-            return Went::Halted(SUM);
+            return Err(Refusal::Sum);
         };
         let target = edge.addr;
         let Ok(ending) = meet(file, version, root, target) else {
-            return Went::Halted(NODE);
+            return Err(Refusal::Node);
         };
         let inp = edge.inp;
         let Some(agree) = follow(same, over, inp, k, bound, bound_len, kind) else {
-            return Went::Passed;
+            return Ok(None);
         };
         same = agree;
         trans[k] = (i + 1) as u16;
@@ -93,5 +84,5 @@ pub fn descend(
             return found(next, sum, end, same);
         }
     }
-    Went::Halted(DEEP)
+    Err(Refusal::Deep)
 }

@@ -5,6 +5,8 @@
 --     going_end, going_refused, going_more    the ways out
 -- Assumes nothing.
 use mathlib.Core.Path.{◌≡◌, refl, ap, ap₂, subst, ◌∙◌}
+use Rattle.std.specs.Prelude.{Ok, Err, Some, None, Result, Option, ℕ}
+use Rattle.format.specs.declared.Refusal.{Refusal}
 use mathlib.Core.Bool.{Bool, false}
 use mathlib.Core.List.{List, ◌∷◌}
 use Prim.Native.Nat.{ℕ, ◌+◌, ◌-◌, ◌*◌, ◌≤◌, ◌<◌}
@@ -22,8 +24,6 @@ use Rattle.stream_start.specs.Views.{Arrays, stack_is}
 use Rattle.stream_start.specs.StackLaws.{stack_length}
 use Rattle.range_bound.specs.Besides.{Beside}
 use Rattle.range_node.specs.Entries.{SoundTo}
-use Rattle.range_turn.specs.declared.Turn.{Turn}
-use Rattle.range_turn.specs.declared.Turn.TheVariants.{Key, End, Refused}
 use Rattle.range_turn.specs.Turns.{view_at, step_of, Turned, goes_on, ends, stops}
 use Rattle.range_turn.specs.StartStateLaws.{next_walk}
 use Rattle.range_fill.specs.declared.Stop.TheVariants as Why
@@ -49,13 +49,13 @@ record KeyTurn (f : Fst) (len : ℕ) (hi : S.Bound) (b : List ℕ) (n t : ℕ) (
   reading : (step_of f len hi n t levels).reading ≡ view_at len hi n after (stack_is (k + 1) xs is ps os)
 
 module _ {f : Fst} {len : ℕ} {hi : S.Bound} {b : List ℕ} {n t : ℕ} {levels : List Level} {xs is ps os : List ℕ} where
-  key_turn : {k v s : ℕ} → Turned f len hi b n t levels xs is ps os (Key k v s) → KeyTurn f len hi b n t levels xs is ps os k v s
+  key_turn : {k v s : ℕ} → Turned f len hi b n t levels xs is ps os (Ok (Some (k, v, s))) → KeyTurn f len hi b n t levels xs is ps os k v s
   key_turn (goes_on k v s t' low arrays sounds beside a r) = record { low = low; arrays = arrays; sounds = sounds; beside = beside; after = t'; answer = a; reading = r }
 
-  end_turn : Turned f len hi b n t levels xs is ps os End → (step_of f len hi n t levels).answer ≡ end
+  end_turn : Turned f len hi b n t levels xs is ps os (Ok None) → (step_of f len hi n t levels).answer ≡ end
   end_turn (ends e) = e
 
-  refused_turn : {c : ℕ} → Turned f len hi b n t levels xs is ps os (Refused c) → (step_of f len hi n t levels).answer ≡ Answer.refused c
+  refused_turn : {c : Refusal} → Turned f len hi b n t levels xs is ps os (Err c) → (step_of f len hi n t levels).answer ≡ Answer.refused c
   refused_turn (stops c e) = e
 
 -- ---- the loop
@@ -96,30 +96,30 @@ module _ {s : List ℕ} {version root : ℕ} (o : OpensAs s version root) {hi : 
       ≡ step_of (fst_with s version root) (length s) hi n t (stack_is levels xs is ps os)
   called t = next_turn o hi n t (stack_is levels xs is ps os) short (rw (stack_length levels xs is ps os) g.few)
 
-  pub going_more : most ≤ count → (t : ℕ) → FilledFrom s (r₀ t) first most rows₀ rows values₀ values (record { count = most; stop = Why.More })
+  pub going_more : most ≤ count → (t : ℕ) → FilledFrom s (r₀ t) first most rows₀ rows values₀ values (record { count = most; stop = Ok Why.More })
   going_more full t w rs vs f =
       let q = (g.from t).goes w rs vs f in
       let e : count ≡ most = omega (arith, q.within) in
-      subst (λ (j : ℕ). RangedBy w rs rows vs values (record { count = j; stop = Why.More })) e (filled_more q full)
+      subst (λ (j : ℕ). RangedBy w rs rows vs values (record { count = j; stop = Ok Why.More })) e (filled_more q full)
 
-  module _ (left : count < most) {xs' is' ps' os' : List ℕ} {r : Turn}
+  module _ (left : count < most) {xs' is' ps' os' : List ℕ} {r : Result (Option (ℕ × ℕ × ℕ)) Refusal}
       (turned : (t : ℕ) → Turned (fst_with s version root) (length s) hi b n t (stack_is levels xs is ps os) xs' is' ps' os' r) where
-    pub going_end : r ≡ End → (t : ℕ) → FilledFrom s (r₀ t) first most rows₀ rows values₀ values (record { count = count; stop = Why.End })
+    pub going_end : r ≡ Ok None → (t : ℕ) → FilledFrom s (r₀ t) first most rows₀ rows values₀ values (record { count = count; stop = Ok Why.End })
     going_end e t w rs vs f =
         let u = (g.from t).total in
         filled_end ((g.from t).goes w rs vs f) left
         (ap (λ (q : Step). q.answer) (called u)
         ∙ end_turn (subst (Turned (fst_with s version root) (length s) hi b n u (stack_is levels xs is ps os) xs' is' ps' os') e (turned u)))
 
-    pub going_refused : (c : ℕ) → r ≡ Refused c → (t : ℕ)
-        → FilledFrom s (r₀ t) first most rows₀ rows values₀ values (record { count = count; stop = Why.Refused c })
+    pub going_refused : (c : Refusal) → r ≡ Err c → (t : ℕ)
+        → FilledFrom s (r₀ t) first most rows₀ rows values₀ values (record { count = count; stop = Err c })
     going_refused c e t w rs vs f =
         let u = (g.from t).total in
         filled_refused ((g.from t).goes w rs vs f) left c
         (ap (λ (q : Step). q.answer) (called u)
         ∙ refused_turn (subst (Turned (fst_with s version root) (length s) hi b n u (stack_is levels xs is ps os) xs' is' ps' os') e (turned u)))
 
-    module _ (k v agreed : ℕ) (e : r ≡ Key k v agreed) where
+    module _ (k v agreed : ℕ) (e : r ≡ Ok (Some (k, v, agreed))) where
       found : (t : ℕ) → KeyTurn (fst_with s version root) (length s) hi b n t (stack_is levels xs is ps os) xs' is' ps' os' k v agreed
       found t = key_turn (subst (Turned (fst_with s version root) (length s) hi b n t (stack_is levels xs is ps os) xs' is' ps' os') e (turned t))
 

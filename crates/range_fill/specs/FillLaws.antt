@@ -5,8 +5,9 @@
 --     FilledFrom s r count most ..                           the rest of a page, from row `count` on
 --     ranged_as, refused_by                                  by an equation between pages; a refusal before any key
 -- Assumes nothing.
-use Rattle.std.specs.Prelude.{◌≡◌, refl, List, [], ◌∷◌, ◌++◌, ℕ, ◌+◌, ◌-◌, ◌*◌, ◌≤◌, ◌<◌, length, set}
+use Rattle.std.specs.Prelude.{◌≡◌, refl, List, [], ◌∷◌, ◌++◌, ℕ, ◌+◌, ◌-◌, ◌*◌, ◌≤◌, ◌<◌, length, set, Ok, Err}
 use Rattle.std.proofs.Common.{sym, ap, ap₂, subst, ◌∙◌, arith, length-append, length-set}
+use Rattle.format.specs.declared.Refusal.{Refusal}
 use Rattle.buffers.specs.Put.{put}
 use Rattle.buffers.specs.PutLaws.{length_put}
 use Rattle.format.specs.Limits.{max_path}
@@ -15,7 +16,7 @@ use Rattle.reading.specs.Demand.{Entry, entry}
 use Rattle.paging.specs.Paging as P
 use Rattle.paging.specs.Paging.{Page, page, refused_page, ended, more, fold, row_len, row_of, rows_after, values_after}
 use Rattle.paging.proofs.FoldLaws.{Folded, folded_none, folded_key, folded_more, folded_end, folded_refused, rows_none, rows_snoc, values_none, values_snoc}
-use Rattle.range_fill.specs.declared.Stop.TheVariants.{End, More, Refused}
+use Rattle.range_fill.specs.declared.Stop.TheVariants.{End, More}
 use Rattle.range_fill.specs.declared.Ranged.{Ranged}
 use Rattle.range_fill.specs.RangedRows.{stop_as, refused_range, RangedBy}
 
@@ -79,14 +80,14 @@ module _ {w : Page} {s : List ℕ} {r : View} {most : ℕ} {rows₀ values₀ ro
       subst (λ (q : Page). RangedBy q rows₀ rows values₀ values (record { count = count; stop = stop_as why })) (sym is)
       (record { count = f.count_is; stop = refl; rows_are = f.rows_are; values_are = f.values_are })
 
-  pub filled_more : most ≤ count → RangedBy w rows₀ rows values₀ values (record { count = count; stop = More })
+  pub filled_more : most ≤ count → RangedBy w rows₀ rows values₀ values (record { count = count; stop = Ok More })
   filled_more full = stops more (folded_more f.folded (omega arith))
 
-  pub filled_end : count < most → (next s r max_path).answer ≡ end → RangedBy w rows₀ rows values₀ values (record { count = count; stop = End })
+  pub filled_end : count < most → (next s r max_path).answer ≡ end → RangedBy w rows₀ rows values₀ values (record { count = count; stop = Ok End })
   filled_end left is = stops ended (folded_end f.folded (omega arith) is)
 
-  pub filled_refused : count < most → (n : ℕ) → (next s r max_path).answer ≡ Answer.refused n
-      → RangedBy w rows₀ rows values₀ values (record { count = count; stop = Refused n })
+  pub filled_refused : count < most → (n : Refusal) → (next s r max_path).answer ≡ Answer.refused n
+      → RangedBy w rows₀ rows values₀ values (record { count = count; stop = Err n })
   filled_refused left n is = stops (P.Stop.refused n) (folded_refused f.folded (omega arith) n is)
 
 -- whatever page the rows before `count` were part of
@@ -104,7 +105,7 @@ filled_as {s} {q} {r} {count} {most} {rows₀} {rows} {values₀} {values} {out}
 pub ranged_as : {v w : Page} {rows₀ rows values₀ values : List ℕ} {r : Ranged} → v ≡ w → RangedBy v rows₀ rows values₀ values r → RangedBy w rows₀ rows values₀ values r
 ranged_as {v} {w} {rows₀} {rows} {values₀} {values} {r} e h = subst (λ (q : Page). RangedBy q rows₀ rows values₀ values r) e h
 
-pub refused_by : {w : Page} (n : ℕ) (rows values : List ℕ) → w ≡ refused_page n → {r : Ranged} → r ≡ refused_range n → RangedBy w rows rows values values r
+pub refused_by : {w : Page} (n : Refusal) (rows values : List ℕ) → w ≡ refused_page n → {r : Ranged} → r ≡ refused_range n → RangedBy w rows rows values values r
 refused_by n rows values is {r} e =
     ranged_as (sym is)
     (subst (RangedBy (refused_page n) rows rows values values) (sym e)

@@ -6,8 +6,9 @@
 --     view_from len hi n empty levels     the reading that a start gave
 --     RangedBy w rows₀ rows values₀ values r     the answer and the two buffers of a call whose definition answers w
 -- Assumes nothing.
-use Rattle.std.specs.Prelude.{◌≡◌, List, ℕ, ◌≤◌, length}
+use Rattle.std.specs.Prelude.{◌≡◌, List, ℕ, ◌≤◌, length, Ok, Err, Result}
 use Rattle.std.proofs.Math.Option.{Option}
+use Rattle.format.specs.declared.Refusal.{Refusal}
 use Rattle.format.specs.Limits.{max_path, max_levels}
 use Rattle.format.specs.Opening.{Meta, opened, opening}
 use Rattle.format.specs.Paths.{fst_with}
@@ -18,16 +19,16 @@ use Rattle.paging.specs.Paging.{Page, ended, more, rows_after, values_after}
 use Rattle.stream_start.specs.Views.{Arrays}
 use Rattle.range_node.specs.Entries.{SoundTo}
 use Rattle.range_fill.specs.declared.Stop.{Stop}
-use Rattle.range_fill.specs.declared.Stop.TheVariants.{End, More, Refused}
+use Rattle.range_fill.specs.declared.Stop.TheVariants.{End, More}
 use Rattle.range_fill.specs.declared.Ranged.{Ranged}
 
-abbrev pub stop_as : P.Stop → Stop
-stop_as ended = End
-stop_as more = More
-stop_as (P.Stop.refused n) = Refused n
+abbrev pub stop_as : P.Stop → Result Stop Refusal
+stop_as ended = Ok End
+stop_as more = Ok More
+stop_as (P.Stop.refused n) = Err n
 
-abbrev pub refused_range : ℕ → Ranged
-refused_range why = record { count = 0; stop = Refused why }
+abbrev pub refused_range : Refusal → Ranged
+refused_range why = record { count = 0; stop = Err why }
 
 pub record OpensAs (s : List ℕ) (version root : ℕ) : Type 0 where
   pub meta : Meta

@@ -5,28 +5,38 @@ ghost use Rattle.std.specs.Prelude.{◌≡◌, ◌-◌, ◌*◌, ◌≤◌, leng
 ghost use Rattle.std.proofs.Math.Option.{none};
 ghost use Rattle.paging.specs.Paging as P;
 ghost use Rattle.stream_start.specs.Views.{bound_is, stack_is};
-ghost use Rattle.range_fill.specs.RangedRows.{Ready, view_from};
+ghost use Rattle.range_fill.specs.RangedRows.{Ready, view_from, refused_range};
 ghost use Rattle.range_fill.specs.FillLaws.{FilledFrom};
 
-use format::{LEVELS, MAX_KEY};
+use format::{LEVELS, MAX_KEY, Refusal};
 use range_bound::stand;
 use range_rows::{ROW, put_row};
-use range_turn::{Turn, step_on};
+use range_turn::step_on;
 use stream_start::Bound;
 
-// Why a range stopped: no key is left; as many were handed out as asked for; or the number of a refusal.
+// How a range that is not refused stopped: no key is left; or as many were handed out as asked for.
 #[derive(Clone, Copy)]
 pub enum Stop {
     End,
     More,
-    Refused(u8),
 }
 
-// What a range gives back: how many rows and values were written, and why it stopped.
+// What a range gives back: how many rows and values were written, and how it stopped or why it refuses. A refusal of next stands beside the rows before
+// it, so the two are no Result.
 #[derive(Clone, Copy)]
 pub struct Ranged {
     pub count: usize,
-    pub stop: Stop,
+    pub stop: Result<Stop, Refusal>,
+}
+
+// A range that is refused before any key.
+pub fn refused(why: Refusal) -> Ranged
+    ensures { result ≡ refused_range why }
+{
+    Ranged {
+        count: 0,
+        stop: Err(why),
+    }
 }
 
 // The keys after the levels in the arrays, from row `first` on up to `most`, with nothing pending. The arrays are lent on to each step, so a key costs no copy
@@ -66,19 +76,19 @@ pub fn fill(
             file, version, root, height, addrs, inps, trans, outs, bound, bound_len, kind, same,
             over,
         ) {
-            Turn::End => {
+            Ok(None) => {
                 return Ranged {
                     count,
-                    stop: Stop::End,
+                    stop: Ok(Stop::End),
                 };
             }
-            Turn::Refused(why) => {
+            Err(why) => {
                 return Ranged {
                     count,
-                    stop: Stop::Refused(why),
+                    stop: Err(why),
                 };
             }
-            Turn::Key(k, value, agreed) => {
+            Ok(Some((k, value, agreed))) => {
                 // a key that is handed out does not pass the bound
                 same = agreed;
                 over = false;
@@ -90,6 +100,6 @@ pub fn fill(
     }
     Ranged {
         count: most,
-        stop: Stop::More, // as many as asked for
+        stop: Ok(Stop::More), // as many as asked for
     }
 }

@@ -1,6 +1,8 @@
 -- A turn by what the pops and the descent find, each with the answer of next.
 -- Assumes nothing.
-use mathlib.Core.Path.{◌≡◌, sym, ap, ◌∙◌}
+use mathlib.Core.Path.{◌≡◌, refl, sym, ap, ◌∙◌}
+use Rattle.std.specs.Prelude.{Ok, Err, Some, None, Result, Option}
+use Rattle.format.specs.declared.Refusal.{Refusal}
 use mathlib.Core.Bool.{false}
 use mathlib.Core.List.{List, ◌∷◌}
 use Prim.Native.Nat.{ℕ, ◌+◌, ◌-◌, ◌<◌}
@@ -16,8 +18,7 @@ use Rattle.stream_start.specs.Views.{Arrays, level_at, stack_is}
 use Rattle.stream_start.specs.StackLaws.{stack_more, stack_length, key_stack}
 use Rattle.range_bound.specs.Besides.{Beside}
 use Rattle.range_node.specs.Entries.{SoundTo}
-use Rattle.range_down.specs.Downs.{down_from}
-use Rattle.range_turn.specs.declared.Turn.TheVariants.{Key, End, Refused}
+use Rattle.range_down.specs.Downs.{down_from, went_seen, DescendsOn}
 use Rattle.range_turn.specs.Turns.{view_at, step_of, TopAt, Turned, goes_on, ends, stops}
 
 module _ (f : Fst) (len : ℕ) (hi : S.Bound) (b : List ℕ) (n t levels : ℕ) (ys js qs us xs is ps os : List ℕ) where
@@ -30,7 +31,7 @@ module _ (f : Fst) (len : ℕ) (hi : S.Bound) (b : List ℕ) (n t levels : ℕ) 
   step_by : (p : Popped) → pop f stack ≡ p → step_of f len hi n t stack ≡ after_pop f view p
   step_by p e = ap (after_pop f view) e
 
-  pub turn_empty : pop f stack ≡ used_up → Turned f len hi b n t stack xs is ps os End
+  pub turn_empty : pop f stack ≡ used_up → Turned f len hi b n t stack xs is ps os (Ok None)
   turn_empty e = ends (ap (λ (o : Step). o.answer) (step_by used_up e))
 
   module _ {k₀ : ℕ} (at : TopAt f ys qs levels k₀) (w : R.Went) (went : w ≡ down_from f hi ys js qs us k₀ t) where
@@ -45,16 +46,25 @@ module _ (f : Fst) (len : ℕ) (hi : S.Bound) (b : List ℕ) (n t levels : ℕ) 
         (stack_length k₀ ys js qs us)
         ∙ ap (after_descend view) (sym (went ∙ down_is))
 
-    pub turn_halted : (c : ℕ) → w ≡ R.Went.halted c → Turned f len hi b n t stack xs is ps os (Refused c)
+    pub turn_halted : (c : Refusal) → w ≡ R.Went.halted c → Turned f len hi b n t stack xs is ps os (Err c)
     turn_halted c e = stops c (ap (λ (o : Step). o.answer) (step_down ∙ ap (after_descend view) e))
 
-    pub turn_passed : (t' : ℕ) → w ≡ passed t' → Turned f len hi b n t stack xs is ps os End
+    pub turn_passed : (t' : ℕ) → w ≡ passed t' → Turned f len hi b n t stack xs is ps os (Ok None)
     turn_passed t' e = ends (ap (λ (o : Step). o.answer) (step_down ∙ ap (after_descend view) e))
 
     pub turn_found : (k v s t' : ℕ) → k < max_levels → Arrays xs is ps os → SoundTo f xs (k + 1) → Beside hi b (drop 1 is) k s false
-        → w ≡ found (level_at k xs is ps os ∷ stack_is k xs is ps os) v t' → Turned f len hi b n t stack xs is ps os (Key k v s)
+        → w ≡ found (level_at k xs is ps os ∷ stack_is k xs is ps os) v t' → Turned f len hi b n t stack xs is ps os (Ok (Some (k, v, s)))
     turn_found k v s t' low arrays sounds beside e =
         let o = step_down ∙ ap (after_descend view) e in
         goes_on k v s t' low arrays sounds beside
         (ap (λ (q : Step). q.answer) o ∙ ap (λ (x : List ℕ). key x v) (key_stack k xs is ps os (omega (arith, arrays.inps_len))))
         (ap (λ (q : Step). q.reading) o ∙ ap (λ (z : List Level). view_at len hi n t' z) (sym (stack_more k xs is ps os)))
+
+  -- what the descent answers is the turn
+  pub turn_went : {k₀ : ℕ} → TopAt f ys qs levels k₀ → (r : Result (Option (ℕ × ℕ × ℕ)) Refusal) → DescendsOn f hi b (down_from f hi ys js qs us k₀) xs is ps os r
+      → Turned f len hi b n t stack xs is ps os r
+  turn_went at (Err c) d = let seen = d.from t in turn_halted at (went_seen xs is ps os seen.total (Err c)) seen.seen c refl
+  turn_went at (Ok None) d = let seen = d.from t in turn_passed at (went_seen xs is ps os seen.total (Ok None)) seen.seen seen.total refl
+  turn_went at (Ok (Some (k, v, s))) d =
+      let seen = d.from t in
+      turn_found at (went_seen xs is ps os seen.total (Ok (Some (k, v, s)))) seen.seen k v s seen.total d.low d.arrays d.sound (d.beside k v s refl) refl

@@ -9,6 +9,7 @@ use Rattle.std.specs.Prelude.{◌≡◌, refl, Bool, true, false, cond, ◌⊎�
 use Rattle.std.proofs.Common.{sym, ap, subst, ⊎_elim, inl, inr, arith, le-leb, eq-eqb}
 use Rattle.std.proofs.Math.Option.{Option}
 use Rattle.std.proofs.Math.Decide.{ℕ_discrete}
+use Rattle.format.specs.declared.Refusal.{Refusal}
 use Rattle.buffers.specs.DecideLaws.{decides_and, decides_le}
 use Rattle.format.specs.Limits.{max_path, max_levels, max_sum, BOUND, NODE, SUM}
 use Rattle.format.specs.Node.{Node, Judgement, sound, unsound, Search, find_input, transition_at}
@@ -36,7 +37,7 @@ on_search_lem : {A : Type 0} (s : Search) (go miss : ℕ → A) (x : A) → on_s
 on_search_lem (Search.at i) go miss x e = inl (i, e)
 on_search_lem (Search.absent p) go miss x e = inr (p, e)
 
-on_opened_lem : {A : Type 0} (o : Opening) (go : Meta → A) (stop : ℕ → A) (x : A) → on_opened o go stop ≡ x → ((m : Meta) × (go m ≡ x)) ⊎ ((n : ℕ) × (stop n ≡ x))
+on_opened_lem : {A : Type 0} (o : Opening) (go : Meta → A) (stop : Refusal → A) (x : A) → on_opened o go stop ≡ x → ((m : Meta) × (go m ≡ x)) ⊎ ((n : Refusal) × (stop n ≡ x))
 on_opened_lem (opened m) go stop x e = inl (m, e)
 on_opened_lem (O.Opening.refused n) go stop x e = inr (n, e)
 
@@ -46,7 +47,7 @@ on_test false then other x e = inr e
 
 -- ---- the levels that the walk along a bound writes
 
-not_got : {ls : List Level} {n : ℕ} → halted n ≡ got ls → ⊥
+not_got : {ls : List Level} {n : Refusal} → halted n ≡ got ls → ⊥
 not_got e = let z : ◌≡◌ {A = ℕ} 0 1 = cc in omega arith
 
 got_same : {ls ks : List Level} → got ls ≡ got ks → ls ≡ ks
@@ -175,7 +176,7 @@ pub record StateRight (s : List ℕ) (r : View) : Type 0 where
 started_same : {r q : View} → started r ≡ started q → r ≡ q
 started_same e = cc
 
-not_started : {r : View} {n : ℕ} → Started.refused n ≡ started r → ⊥
+not_started : {r : View} {n : Refusal} → Started.refused n ≡ started r → ⊥
 not_started e = let z : ◌≡◌ {A = ℕ} 0 1 = cc in omega arith
 
 state_at : (s : List ℕ) (hi : Bound) (empty : Option ℕ) (w : Sought) (r : View) → started_at s hi empty w ≡ started r → length (bound_bytes hi) ≤ max_path

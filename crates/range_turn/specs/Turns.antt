@@ -4,8 +4,9 @@
 --     TopAt f .. k, Tops f .. r       level k is the highest that has a transition left; what the pops answer
 --     Turned f .. r                   the turn r and the arrays after it, for every total
 -- Assumes nothing.
-use Rattle.std.specs.Prelude.{◌≡◌, false, Option, Some, None, List, ℕ, ◌+◌, ◌<◌, length, get_or, take, drop}
+use Rattle.std.specs.Prelude.{◌≡◌, false, Option, Some, None, List, ℕ, ◌+◌, ◌<◌, length, get_or, take, drop, Ok, Err, Result}
 use Rattle.std.proofs.Math.Option.{none}
+use Rattle.format.specs.declared.Refusal.{Refusal}
 use Rattle.format.specs.Limits.{max_levels}
 use Rattle.format.specs.Node.{Node, sound}
 use Rattle.format.specs.Paths.{Fst, node_in}
@@ -15,8 +16,6 @@ use Rattle.reading.specs.Reading.{View, Level, key, end, after_pop, top, used_up
 use Rattle.stream_start.specs.Views.{Arrays, level_at, stack_is}
 use Rattle.range_bound.specs.Besides.{Beside}
 use Rattle.range_node.specs.Entries.{SoundTo}
-use Rattle.range_turn.specs.declared.Turn.{Turn}
-use Rattle.range_turn.specs.declared.Turn.TheVariants.{Key, End, Refused}
 
 abbrev pub view_at : ℕ → S.Bound → ℕ → ℕ → List Level → View
 view_at len hi n t levels = record { len = len; bound = hi; bound_len = n; empty = none; total = t; levels = levels }
@@ -37,8 +36,8 @@ pub record Tops (f : Fst) (xs ps : List ℕ) (levels : ℕ) (r : Option ℕ) : T
   pub none_left : r ≡ None → (is os : List ℕ) → pop f (stack_is levels xs is ps os) ≡ used_up
 
 -- a key ends at level k, its bytes are the inputs after the first, and s of them agree with the upper bound, whose bytes are b
-pub data Turned (f : Fst) (len : ℕ) (hi : S.Bound) (b : List ℕ) (n t : ℕ) (levels : List Level) (xs is ps os : List ℕ) : Turn → Type 0 where
+pub data Turned (f : Fst) (len : ℕ) (hi : S.Bound) (b : List ℕ) (n t : ℕ) (levels : List Level) (xs is ps os : List ℕ) : Result (Option (ℕ × ℕ × ℕ)) Refusal → Type 0 where
   goes_on : (k v s t' : ℕ) → k < max_levels → Arrays xs is ps os → SoundTo f xs (k + 1) → Beside hi b (drop 1 is) k s false → (step_of f len hi n t levels).answer ≡ key (take k (drop 1 is)) v
-      → (step_of f len hi n t levels).reading ≡ view_at len hi n t' (stack_is (k + 1) xs is ps os) → Turned f len hi b n t levels xs is ps os (Key k v s)
-  ends : (step_of f len hi n t levels).answer ≡ end → Turned f len hi b n t levels xs is ps os End
-  stops : (c : ℕ) → (step_of f len hi n t levels).answer ≡ R.Answer.refused c → Turned f len hi b n t levels xs is ps os (Refused c)
+      → (step_of f len hi n t levels).reading ≡ view_at len hi n t' (stack_is (k + 1) xs is ps os) → Turned f len hi b n t levels xs is ps os (Ok (Some (k, v, s)))
+  ends : (step_of f len hi n t levels).answer ≡ end → Turned f len hi b n t levels xs is ps os (Ok None)
+  stops : (c : Refusal) → (step_of f len hi n t levels).answer ≡ R.Answer.refused c → Turned f len hi b n t levels xs is ps os (Err c)

@@ -10,20 +10,11 @@ ghost use Rattle.range_bound.specs.Besides.{Beside};
 ghost use Rattle.range_node.specs.Entries.{SoundTo};
 ghost use Rattle.range_turn.specs.Turns.{Tops, Turned};
 
-use format::{LEVELS, MAX_KEY};
+use format::{LEVELS, MAX_KEY, Refusal};
 use range_bound::cut;
-use range_down::{Went, descend};
+use range_down::descend;
 use range_node::count_of;
 use stream_start::Bound;
-
-// What a turn finds: the place of the level where the next key ends, the key's value, and how many of its leading bytes agree with the upper bound; that
-// no key is left; or the number of a refusal.
-#[derive(Clone, Copy)]
-pub enum Turn {
-    Key(usize, u64, usize),
-    End,
-    Refused(u8),
-}
 
 // The place of the highest of the first levels that has a transition left, if one has.
 fn highest(
@@ -63,7 +54,7 @@ pub fn step_on(
     kind: Bound,
     same: usize,
     over: bool,
-) -> Turn
+) -> Result<Option<(usize, u64, usize)>, Refusal>
     requires arrays { Arrays addrs.old inps.old trans.old outs.old
         × (length bound.now ≡ max_path) × (bound_len ≤ max_path) }
     requires levels_le_max_levels { (levels ≤ max_levels) × (root < 4294967296)
@@ -78,16 +69,12 @@ pub fn step_on(
         outs.new result }
 {
     let Some(top) = highest(file, version, root, addrs, trans, levels) else {
-        return Turn::End;
+        return Ok(None);
     };
     let standing = cut(same, over, top);
     let agreed = standing.same;
     let past = standing.over;
-    match descend(
+    descend(
         file, version, root, top, addrs, inps, trans, outs, bound, bound_len, kind, agreed, past,
-    ) {
-        Went::Halted(why) => Turn::Refused(why),
-        Went::Passed => Turn::End,
-        Went::Found(k, value, agree) => Turn::Key(k, value, agree),
-    }
+    )
 }

@@ -8,6 +8,7 @@ use Rattle.std.proofs.Common.{◌∙◌, ap, ⊎_elim, add-zero}
 use Rattle.std.proofs.Math.Option.{Option, none, some}
 use mathlib.Core.List.{List, [], ◌∷◌, ◌++◌, append-nil, Memᴰ}
 use Rattle.std.proofs.Math.Decide.{ℕ_discrete}
+use Rattle.format.specs.declared.Refusal.{Refusal}
 use native.Mathlib.Omega.{arith}
 use borrow.Author.Tests.{le-leb, eq-eqb, ne_eqb}
 use Rattle.format.specs.Limits.{max_path, max_sum}
@@ -351,10 +352,10 @@ module _ {s : List ℕ} (A : Admitted s) (lo hi : Bound) (short : length (bound_
   key_not_end : {k : List ℕ} {v : ℕ} → ¬ (◌≡◌ {A = Answer} (key k v) end)
   key_not_end e = let z : ◌≡◌ {A = ℕ} 0 1 = cc in omega arith
 
-  key_not_refused : {k : List ℕ} {v n : ℕ} → ¬ (◌≡◌ {A = Answer} (key k v) (Answer.refused n))
+  key_not_refused : {k : List ℕ} {v : ℕ} {n : Refusal} → ¬ (◌≡◌ {A = Answer} (key k v) (Answer.refused n))
   key_not_refused e = let z : ◌≡◌ {A = ℕ} 0 1 = cc in omega arith
 
-  end_not_refused : {n : ℕ} → ¬ (◌≡◌ {A = Answer} end (Answer.refused n))
+  end_not_refused : {n : Refusal} → ¬ (◌≡◌ {A = Answer} end (Answer.refused n))
   end_not_refused e = let z : ◌≡◌ {A = ℕ} 0 1 = cc in omega arith
 
   abbrev CalledAt : List Entry → ℕ → View → Step → Type 0
@@ -371,7 +372,7 @@ module _ {s : List ℕ} (A : Admitted s) (lo hi : Bound) (short : length (bound_
       absurd (before_irrefl e.key (rising_last handed e (entry e.key e.value) (comes_rising (handed ++ (e ∷ [])) 0 o.reading p) on))
   none_left_end handed ends r o (ended is p) none_left = is
 
-  not_refused : (handed : List Entry) (ends : ℕ) (r : View) (o : Step) → CalledAt handed ends r o → (n : ℕ) → ¬ (o.answer ≡ Answer.refused n)
+  not_refused : (handed : List Entry) (ends : ℕ) (r : View) (o : Step) → CalledAt handed ends r o → (n : Refusal) → ¬ (o.answer ≡ Answer.refused n)
   not_refused handed ends r o (hands e z is p less) n q = key_not_refused (sym is ∙ q)
   not_refused handed ends r o (ended is p) n q = end_not_refused (sym is ∙ q)
 

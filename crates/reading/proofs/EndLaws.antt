@@ -10,6 +10,7 @@ use Rattle.std.proofs.lemmas.Bool.{false≢true}
 use Rattle.std.proofs.Math.Option.{Option, none, some}
 use borrow.Author.Tests.{le-leb, lt-leb, ne_eqb, eqb-true}
 use Rattle.std.proofs.Math.ListN.{length}
+use Rattle.format.specs.declared.Refusal.{Refusal}
 use Rattle.format.specs.Limits.{max_path, max_levels, SPACE, STATE}
 use Rattle.format.specs.Opening.{Meta, Opening, opened, opening}
 use Rattle.format.specs.Opening as Opening
@@ -21,7 +22,7 @@ use Rattle.reading.specs.Demand.{Call, Allowed, call, reading_after}
 key_not_end : {k : List ℕ} {v : ℕ} → ¬ (◌≡◌ {A = Answer} (key k v) end)
 key_not_end e = let z : ◌≡◌ {A = ℕ} 0 1 = cc in omega arith
 
-refused_not_end : {n : ℕ} → ¬ (◌≡◌ {A = Answer} (Answer.refused n) end)
+refused_not_end : {n : Refusal} → ¬ (◌≡◌ {A = Answer} (Answer.refused n) end)
 refused_not_end e = let z : ◌≡◌ {A = ℕ} 0 1 = cc in omega arith
 
 -- ---- what a call that answers "end" leaves
@@ -106,7 +107,7 @@ module _ (s : List ℕ) (r : View) (m : Meta) (opens : opening s ≡ opened m) (
   unfolding next
   end_short space short = rw (opens, state_end, lt-leb max_path space short)
 
-  end_other : (other : List ℕ) → ¬ (length other ≡ length s) → (space : ℕ) → (n : ℕ) × (next other (moved r [] t) space ≡ refuse (moved r [] t) n)
+  end_other : (other : List ℕ) → ¬ (length other ≡ length s) → (space : ℕ) → (n : Refusal) × (next other (moved r [] t) space ≡ refuse (moved r [] t) n)
   unfolding next
   end_other other ne space = by (opening other) refl
     where
@@ -116,7 +117,7 @@ module _ (s : List ℕ) (r : View) (m : Meta) (opens : opening s ≡ opened m) (
       wrong : state_test (moved r [] t) (length other) ≡ false
       wrong = rw (ne_eqb r.len (length other) (λ q. ne (sym q ∙ len_is))) (both_false true (leb r.bound_len max_path))
 
-      by : (o : Opening) → opening other ≡ o → (n : ℕ) × (next other (moved r [] t) space ≡ refuse (moved r [] t) n)
+      by : (o : Opening) → opening other ≡ o → (n : Refusal) × (next other (moved r [] t) space ≡ refuse (moved r [] t) n)
       by (opened m') q = (STATE, rw (q, wrong))
       by (Opening.refused n) q = (n, rw q)
 
@@ -131,9 +132,9 @@ module _ (s : List ℕ) (r : View) (space : ℕ) (ends : (next s r space).answer
       let w = end_leaves s r space ends in
       subst (λ (v : View). next s v space' ≡ record { answer = end; reading = v }) (sym w.reading_is) (end_again s r w.meta w.opens w.state w.total space' room)
 
-  pub end_refuses : (c : Call s) → ¬ Allowed c → (n : ℕ) × (call after c ≡ refuse after n)
+  pub end_refuses : (c : Call s) → ¬ Allowed c → (n : Refusal) × (call after c ≡ refuse after n)
   end_refuses c out =
-      subst (λ (v : View). (n : ℕ) × (call v c ≡ refuse v n)) (sym w.reading_is)
+      subst (λ (v : View). (n : Refusal) × (call v c ≡ refuse v n)) (sym w.reading_is)
       (⊎_elim
       (λ (same : c.file ≡ s).
       ⊎_elim

@@ -7,6 +7,7 @@ use Rattle.std.specs.Prelude.{◌≡◌, Bool, true, false, List, [], ◌∷◌,
 use Rattle.std.proofs.Common.{sym, ◌∙◌, ap, ⊎_elim, arith, lt-ltb, le-ltb}
 use Rattle.std.proofs.Math.Bool.{cond}
 use Rattle.std.proofs.Math.Option.{Option, none, some}
+use Rattle.format.specs.declared.Refusal.{Refusal}
 use Prim.Native.Nat.{ℕ, zero, suc, ◌+◌, ◌-◌, ◌<◌, ◌≤◌}
 use Rattle.format.specs.Limits.{max_path, max_sum, SPACE, STATE}
 use Rattle.format.specs.Node.{Node, Judgement, sound, unsound}
@@ -24,7 +25,7 @@ module _ (R : ℕ → ℕ → Type 0) (more : (t u : ℕ) → R t u → R (count
   data Both : Went → Went → Type 0 where
     both_found : {s : List Level} {v t u : ℕ} → R t u → Both (found s v t) (found s v u)
     both_passed : {t u : ℕ} → R t u → Both (passed t) (passed u)
-    both_halted : {n : ℕ} → Both (Went.halted n) (Went.halted n)
+    both_halted : {n : Refusal} → Both (Went.halted n) (Went.halted n)
 
   cond_both : (b : Bool) (w w' x x' : Went) → Both w w' → Both x x' → Both (cond b w x) (cond b w' x')
   cond_both true w w' x x' h g = h

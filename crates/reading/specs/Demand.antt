@@ -27,6 +27,7 @@
 --     the upper excludes it, none is followed and the total stays 0.        `none_followed`, `total_excluded`
 -- Assumes nothing.
 use Rattle.std.specs.Prelude.{◌≡◌, cond, ◌⊎◌, ℕ, ◌+◌, ◌≤◌, ◌<◌, leb, length, replicate}
+use Rattle.format.specs.declared.Refusal.{Refusal}
 use mathlib.Core.List.{List, [], ◌∷◌, ◌++◌, map, Memᴰ}
 use Rattle.format.specs.Limits.{max_path, max_sum}
 use Rattle.format.specs.Paths.{Fst, fst_of, Held}
@@ -159,8 +160,8 @@ pub record Demand3 {s : List ℕ} (A : Admitted s) (lo hi : Bound) (cs : List (C
       × (NoneLeft (fst_of s A.meta) lo hi (handed_in (answers reading cs₁)) → (call (reading_after reading cs₁) c).answer ≡ end)
   -- a call is refused exactly when it is handed a short buffer or a file of another length, and then it changes nothing
   pub refused_exactly : (cs₁ cs₂ : List (Call s)) (c : Call s) → cs ≡ cs₁ ++ (c ∷ cs₂)
-      → (Allowed c → (n : ℕ) → ¬ ((call (reading_after reading cs₁) c).answer ≡ Answer.refused n))
-      × (¬ Allowed c → (n : ℕ) × (call (reading_after reading cs₁) c ≡ refuse (reading_after reading cs₁) n))
+      → (Allowed c → (n : Refusal) → ¬ ((call (reading_after reading cs₁) c).answer ≡ Answer.refused n))
+      × (¬ Allowed c → (n : Refusal) × (call (reading_after reading cs₁) c ≡ refuse (reading_after reading cs₁) n))
   -- the total after the list
   pub total_ended : ¬ EmptyExcluded (fst_of s A.meta) lo hi → 0 < ends
       → (n e : ℕ) × NumberOf (Within (fst_of s A.meta) lo hi) n × Extra (fst_of s A.meta) lo hi e × ((reading_after reading cs).total ≡ capped (n + e))

@@ -10,6 +10,7 @@
 -- Assumes nothing.
 use Rattle.std.specs.Prelude.{Bool, true, false, cond, not, ◌&&◌, List, [], ◌∷◌, ◌++◌, ℕ, zero, suc, ◌+◌, ◌-◌, ltb, leb, eqb, length, drop}
 use Rattle.std.proofs.Math.Option.{Option, none, some}
+use Rattle.format.specs.declared.Refusal.{Refusal}
 use Rattle.format.specs.declared.Transition.{Transition}
 use Rattle.format.specs.Limits.{max_path, max_levels, max_sum, NODE, DEEP, SUM, SPACE, BOUND, STATE}
 use Rattle.format.specs.Node.{Node, Judgement, sound, unsound, Search, find_input, transition_at}
@@ -83,7 +84,7 @@ abbrev pub on_search : {A : Type 0} → Search → (ℕ → A) → (ℕ → A) �
 on_search (Search.at i) go miss = go i
 on_search (Search.absent p) go miss = miss p
 
-abbrev pub on_opened : {A : Type 0} → Opening → (Meta → A) → (ℕ → A) → A
+abbrev pub on_opened : {A : Type 0} → Opening → (Meta → A) → (Refusal → A) → A
 on_opened (opened m) go stop = go m
 on_opened (Opening.refused n) go stop = stop n
 
@@ -91,7 +92,7 @@ on_opened (Opening.refused n) go stop = stop n
 
 pub data Sought : Type 0 where
   got : List Level → Sought
-  halted : ℕ → Sought
+  halted : Refusal → Sought
 
 -- where the bound ends: below its node, or at the transition that led there, so that the bound's own key comes next; an empty bound
 -- ends at the root
@@ -122,7 +123,7 @@ pending_at lo j = cond (meets_test lo []) (on_node j (λ m. cond m.final (some m
 
 pub data Started : Type 0 where
   started : View → Started
-  refused : ℕ → Started
+  refused : Refusal → Started
 
 abbrev pub started_at : List ℕ → Bound → Option ℕ → Sought → Started
 started_at s hi empty (got levels) =
@@ -149,13 +150,13 @@ start s lo hi =
 pub data Answer : Type 0 where
   key : List ℕ → ℕ → Answer
   end : Answer
-  refused : ℕ → Answer
+  refused : Refusal → Answer
 
 pub record Step : Type 0 where
   pub answer : Answer
   pub reading : View
 
-abbrev pub refuse : View → ℕ → Step
+abbrev pub refuse : View → Refusal → Step
 refuse r n = record { answer = Answer.refused n; reading = r }
 
 -- the reading with other levels and another total, and nothing pending
@@ -190,7 +191,7 @@ stepped l = level_with l.addr l.inp (l.trans + 1) l.out
 pub data Went : Type 0 where
   found : List Level → ℕ → ℕ → Went
   passed : ℕ → Went
-  halted : ℕ → Went
+  halted : Refusal → Went
 
 -- down from the level l, whose node m is judged, with room for so many levels more: 6, 7 for the running sum, 5 for the target, the upper
 -- bound, 7 with the final output. A target that is not final has a transition, since no target is the root

@@ -2,14 +2,13 @@
 // Ports `Registry::hash` of src/raw/registry.rs and the comparison of `RegistryCache::entry`, which here reads the node back.
 #![tactic(auto)]
 
-ghost use Rattle.std.specs.Prelude.{◌≡◌, ◌-◌, ◌≤◌, ◌&&◌, length, ◌==◌};
+ghost use Rattle.std.specs.Prelude.{◌≡◌, ◌-◌, ◌≤◌, length};
 ghost use Rattle.format.specs.Node.{transitions_of, node_at};
 ghost use Rattle.node.specs.Read.{transitions_in, Readable};
 ghost use Rattle.node_compile.specs.Compile.{builder_with};
 ghost use Rattle.packing.specs.Registry.{fnv_step, hash_of, same_transitions, same_node};
 ghost use Rattle.registry.specs.Matching.{cell_with, matches_in, chosen};
 
-use format::Transition;
 use node::Node;
 
 // ---- the hash
@@ -52,14 +51,7 @@ pub fn hash(
 
 // ---- the comparison
 
-// Whether a transition is the one of these parts.
-fn same_transition(t: Transition, inp: u8, out: u64, addr: usize) -> bool
-    ensures { result ≡ (t.inp == inp && (t.out == out && t.addr == addr)) }
-{
-    t.inp == inp && (t.out == out && t.addr == addr)
-}
-
-// Whether the transitions of a judged node are those of the record.
+// Whether the transitions of a judged node are those of the record. No derived equality, here and below: one side lies in the file, the other in three slices.
 fn same_transitions(
     file: &[u8],
     node: Node,
@@ -78,7 +70,7 @@ fn same_transitions(
     }
     for (i, inp) in inputs.iter().enumerate() {
         let t = node::transition(file, node, i);
-        if !same_transition(t, *inp, outputs[i], targets[i]) {
+        if (t.inp, t.out, t.addr) != (*inp, outputs[i], targets[i]) {
             return false;
         }
     }

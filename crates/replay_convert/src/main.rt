@@ -7,9 +7,8 @@ ghost use Rattle.std.specs.Prelude.{◌+◌, ◌*◌, ◌≤◌, length, IfSome}
 ghost use Rattle.format.specs.Limits.{max_len};
 ghost use Rattle.replay_list.specs.Records.{Within};
 
-use convert::Converted;
-use format::MAX_LEN;
-use replay_list::{Entry, FILE, KEPT, Place, at_most, number};
+use format::{MAX_LEN, Refusal};
+use replay_list::{Entry, FILE, KEPT, at_most, number};
 use std::io;
 use std::io::Read;
 
@@ -35,10 +34,10 @@ const NEW_ADDRESSES: u64 = 3;
 const WORK_TABLES: u64 = 4;
 
 // An answer as it is recorded: the new file's length, or a refusal.
-fn answer_number(answer: Converted) -> u64 {
+fn answer_number(answer: Result<usize, Refusal>) -> u64 {
     match answer {
-        Converted::Len(n) => n as u64,
-        Converted::Refused(why) => REFUSED + (why as u64),
+        Ok(n) => n as u64,
+        Err(why) => REFUSED + u64::from(u8::from(why)),
     }
 }
 
@@ -165,7 +164,7 @@ fn restores_alike(file: &[u8], limit: u64, space: u64, entry: Entry) -> bool {
     );
     let mut depths_want = [KEPT16; CELLS];
     let mut sums_want = [KEPT64; CELLS];
-    admission::admit(file, &mut depths_want[..work], &mut sums_want[..work]);
+    let _ = admission::admit(file, &mut depths_want[..work], &mut sums_want[..work]);
     if answer_number(answer) != entry.a {
         return false;
     }
@@ -195,30 +194,20 @@ fn alike(list: &[u8], file: &[u8], entry: Entry) -> bool
     entry.kind == FILE
 }
 
-// Every record of the list, which ends with the last of them.
-fn replay(list: &[u8], counts: &mut [u64; 16]) {
-    let mut place = Place { from: 0, to: 0 };
-    let mut at = 0;
-    // by place: each record says where the next begins
-    while at < list.len() {
-        let Some(entry) = replay_list::parse(list, at) else {
-            replay_list::tally(counts, 0, false);
-            return;
-        };
-        place = replay_list::place_of(list, entry, place);
-        let from = place.from;
-        let to = place.to;
-        let same = alike(list, &list[from..to], entry);
-        replay_list::tally(counts, entry.kind, same);
-        at = replay_list::end_of(list, entry);
-    }
+// Every record of the list.
+fn replay(list: &[u8], counts: &mut [u64; 16]) -> io::Result<()> {
+    replay_list::replay(list, counts, |whole, entry, file, tallies| {
+        let same = alike(whole, file, entry);
+        replay_list::tally(tallies, entry.kind, same);
+        Ok(())
+    })
 }
 
 fn main(rt: HostRuntime) -> io::Result<()> {
     let mut list = Vec::new(rt.alloc());
     rt.stdin().take(LIST).read_to_end(&mut list)?;
     let mut counts = [0u64; 16];
-    replay(&list, &mut counts);
+    replay(&list, &mut counts)?;
     replay_list::line(&rt, &counts, 1, b"files")?;
     replay_list::line(&rt, &counts, 2, b"new files")?;
     replay_list::line(&rt, &counts, 3, b"tables of new addresses")?;

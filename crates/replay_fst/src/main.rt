@@ -7,11 +7,9 @@
 ghost use Rattle.std.specs.Prelude.{◌≡◌, ◌+◌, ◌*◌, ◌≤◌, ◌<◌, length, IfSome};
 ghost use Rattle.replay_list.specs.Records.{Within};
 
-use admission::Admission;
-use fst::{Meta, Opened};
-use lookup::Answer;
-use lookup_search::KeyAnswer;
-use replay_list::{Entry, FILE, KEPT, Place, at_most, number};
+use format::Refusal;
+use fst::Meta;
+use replay_list::{Entry, FILE, KEPT, at_most, begins_number, number};
 use std::io;
 use std::io::Read;
 
@@ -64,8 +62,8 @@ fn opens_alike(list: &[u8], file: &[u8], entry: Entry) -> bool
     requires { Within list.now entry }
 {
     match fst::open(file) {
-        Opened::Refused(why) => why as u64 == entry.a,
-        Opened::Meta(meta) => {
+        Err(why) => u64::from(u8::from(why)) == entry.a,
+        Ok(meta) => {
             if entry.len != 40 {
                 return false;
             }
@@ -75,13 +73,6 @@ fn opens_alike(list: &[u8], file: &[u8], entry: Entry) -> bool
 }
 
 // ---- admission
-
-fn admission_number(answer: Admission) -> u64 {
-    match answer {
-        Admission::Admitted => 0,
-        Admission::Refused(why) => why as u64,
-    }
-}
 
 // Whether the entries of the nodes are those of n rows from place at of the list: address 2, depth
 // 2, sum 8.
@@ -146,7 +137,7 @@ fn admits_alike(list: &[u8], file: &[u8], entry: Entry) -> bool
     let mut depths = [KEPT16; CELLS];
     let mut sums = [KEPT64; CELLS];
     let answer = admission::admit(file, &mut depths[..lent], &mut sums[..lent]);
-    if admission_number(answer) != entry.a {
+    if begins_number(answer) != entry.a {
         return false;
     }
     tables_alike(list, entry, &depths, &sums)
@@ -156,17 +147,17 @@ fn admits_alike(list: &[u8], file: &[u8], entry: Entry) -> bool
 
 fn gets_alike(file: &[u8], key: &[u8], entry: Entry) -> bool {
     match lookup::get(file, key) {
-        Answer::Value(v) => entry.a == 0 && v == entry.b,
-        Answer::None => entry.a == 100,
-        Answer::Refused(why) => why as u64 == entry.a,
+        Ok(Some(v)) => entry.a == 0 && v == entry.b,
+        Ok(None) => entry.a == 100,
+        Err(why) => u64::from(u8::from(why)) == entry.a,
     }
 }
 
-fn key_number(answer: KeyAnswer) -> u64 {
+fn key_number(answer: Result<Option<usize>, Refusal>) -> u64 {
     match answer {
-        KeyAnswer::Key(n) => n as u64,
-        KeyAnswer::None => 1000,
-        KeyAnswer::Refused(why) => 2000 + (why as u64),
+        Ok(Some(n)) => n as u64,
+        Ok(None) => 1000,
+        Err(why) => 2000 + u64::from(u8::from(why)),
     }
 }
 
@@ -205,30 +196,20 @@ fn alike(list: &[u8], file: &[u8], entry: Entry) -> bool
     entry.kind == FILE
 }
 
-// Every record of the list, which ends with the last of them.
-fn replay(list: &[u8], counts: &mut [u64; 16]) {
-    let mut place = Place { from: 0, to: 0 };
-    let mut at = 0;
-    // by place: each record says where the next begins
-    while at < list.len() {
-        let Some(entry) = replay_list::parse(list, at) else {
-            replay_list::tally(counts, 0, false);
-            return;
-        };
-        place = replay_list::place_of(list, entry, place);
-        let from = place.from;
-        let to = place.to;
-        let same = alike(list, &list[from..to], entry);
-        replay_list::tally(counts, entry.kind, same);
-        at = replay_list::end_of(list, entry);
-    }
+// Every record of the list.
+fn replay(list: &[u8], counts: &mut [u64; 16]) -> io::Result<()> {
+    replay_list::replay(list, counts, |whole, entry, file, tallies| {
+        let same = alike(whole, file, entry);
+        replay_list::tally(tallies, entry.kind, same);
+        Ok(())
+    })
 }
 
 fn main(rt: HostRuntime) -> io::Result<()> {
     let mut list = Vec::new(rt.alloc());
     rt.stdin().take(LIST).read_to_end(&mut list)?;
     let mut counts = [0u64; 16];
-    replay(&list, &mut counts);
+    replay(&list, &mut counts)?;
     replay_list::line(&rt, &counts, 1, b"files")?;
     replay_list::line(&rt, &counts, 2, b"opened")?;
     replay_list::line(&rt, &counts, 3, b"admitted or refused")?;

@@ -1,18 +1,16 @@
--- How the lists of answers record what a start and a next answer (crates/replay_stream/README.md, crates/replay_pattern/README.md).
---     start_number a       0 where a start gives a reading, else its refusal
+-- How the lists of answers record what a start, an admission and a next answer (the README.md of each program that replays).
+--     start_number a       0 where a start or an admission is not refused, else the refusal
 --     answer_test a n v    whether an answer has the number n and the value v: a key's length and value, 1000 at the end, 2000 and the refusal
 -- Assumes nothing.
-use Rattle.std.specs.Prelude.{Bool, ◌&&◌, ℕ, ◌+◌, eqb}
-use Rattle.stream_start.specs.declared.Begins.{Begins}
-use Rattle.stream_start.specs.declared.Begins.TheVariants.{Began, Refused as NotBegun}
-use Rattle.stream_step.specs.declared.Answer.{Answer}
-use Rattle.stream_step.specs.declared.Answer.TheVariants.{Key, End, Refused}
+use Rattle.std.specs.Prelude.{Bool, ◌&&◌, ℕ, ◌+◌, eqb, Ok, Err, Some, None, Result, Option, ⊤}
+use Rattle.format.specs.Limits.{number}
+use Rattle.format.specs.declared.Refusal.{Refusal}
 
-abbrev pub start_number : Begins → ℕ
-start_number Began = 0
-start_number (NotBegun n) = n
+abbrev pub start_number : Result ⊤ Refusal → ℕ
+start_number (Ok tt) = 0
+start_number (Err n) = number n
 
-abbrev pub answer_test : Answer → ℕ → ℕ → Bool
-answer_test (Key k w) n v = eqb k n && eqb w v
-answer_test End n v = eqb n 1000
-answer_test (Refused k) n v = eqb (2000 + k) n
+abbrev pub answer_test : Result (Option (ℕ × ℕ)) Refusal → ℕ → ℕ → Bool
+answer_test (Ok (Some (k, w))) n v = eqb k n && eqb w v
+answer_test (Ok None) n v = eqb n 1000
+answer_test (Err k) n v = eqb (2000 + number k) n

@@ -10,9 +10,8 @@ ghost use Rattle.replay_list.specs.Records.{Within, parsed_at, asked_place};
 ghost use Rattle.replay_list.specs.Recorded.{start_number, answer_test};
 ghost use Rattle.replay_list.specs.Tallies.{wanted_at, Holds, smaller, more_at, tallied};
 
+use format::Refusal;
 use std::io;
-use stream_start::Begins;
-use stream_step::Answer;
 
 // The kind of a record that those after it are about, as a file: its part is what they ask of.
 pub const FILE: u64 = 1;
@@ -102,24 +101,24 @@ pub fn place_of(list: &[u8], entry: Entry, place: Place) -> Place
 
 // ---- readings
 
-// How a start is recorded: 0 where it gives a reading, else the refusal.
-pub fn begins_number(answer: Begins) -> u64
+// How a start or an admission is recorded: 0 where it is not refused, else the refusal.
+pub fn begins_number(answer: Result<(), Refusal>) -> u64
     ensures { result ≡ start_number answer }
 {
     match answer {
-        Begins::Began => 0,
-        Begins::Refused(why) => why as u64,
+        Ok(()) => 0,
+        Err(why) => u64::from(u8::from(why)),
     }
 }
 
 // Whether an answer of next has the recorded number and value: a key's length and value, 1000 at the end, or 2000 plus the refusal.
-pub fn answer_alike(answer: Answer, number: u64, value: u64) -> bool
+pub fn answer_alike(answer: Result<Option<(usize, u64)>, Refusal>, number: u64, value: u64) -> bool
     ensures { result ≡ answer_test answer number value }
 {
     match answer {
-        Answer::Key(n, v) => n as u64 == number && v == value,
-        Answer::End => number == 1000,
-        Answer::Refused(why) => 2000 + (why as u64) == number,
+        Ok(Some((n, v))) => n as u64 == number && v == value,
+        Ok(None) => number == 1000,
+        Err(why) => 2000 + u64::from(u8::from(why)) == number,
     }
 }
 
@@ -195,4 +194,33 @@ pub fn line(rt: &impl Print, counts: &[u64; 16], kind: usize, name: &[u8]) -> io
 {
     rt.write_all(name)?;
     println!(rt; ": {}, alike {}", counts[2 * kind], counts[2 * kind + 1])
+}
+
+// ---- the list
+
+// Goes through the records of a list, which ends with the last of them: hands the list, each record, and the file that it is about, to `one`,
+// which counts it.
+pub fn replay<F: FnMut(&[u8], Entry, &[u8], &mut [u64; 16]) -> io::Result<()>>(
+    list: &[u8],
+    counts: &mut [u64; 16],
+    mut one: F,
+) -> io::Result<()>
+    requires { (f : F) (whole : _) (entry : _) (file : _) (tallies : _) → Within whole.now entry
+        → F.pre f whole entry file tallies }
+{
+    let mut place = Place { from: 0, to: 0 };
+    let mut at = 0;
+    // by place: each record says where the next begins
+    while at < list.len() {
+        let Some(entry) = parse(list, at) else {
+            tally(counts, 0, false);
+            return Ok(());
+        };
+        place = place_of(list, entry, place);
+        let from = place.from;
+        let to = place.to;
+        one(list, entry, &list[from..to], counts)?;
+        at = end_of(list, entry);
+    }
+    Ok(())
 }

@@ -8,9 +8,9 @@ ghost use Rattle.std.specs.Prelude.{◌≡◌, ◌+◌, ◌*◌, ◌≤◌, ◌<
 ghost use Rattle.node.specs.Read.{Readable};
 ghost use Rattle.replay_list.specs.Records.{Within};
 
+use format::Refusal;
 use node::Node;
-use node_compile::Compiled;
-use replay_list::{Entry, FILE, KEPT, Place, at_most, number};
+use replay_list::{Entry, FILE, KEPT, at_most, number};
 use std::io;
 use std::io::Read;
 
@@ -63,10 +63,10 @@ fn targets_of(node: &[u8], n: usize) -> [usize; 258]
     targets
 }
 
-fn answer_number(compiled: Compiled) -> u64 {
+fn answer_number(compiled: Result<usize, Refusal>) -> u64 {
     match compiled {
-        Compiled::Len(n) => n as u64,
-        Compiled::Refused(why) => 10_000 + (why as u64),
+        Ok(n) => n as u64,
+        Err(why) => 10_000 + u64::from(u8::from(why)),
     }
 }
 
@@ -285,24 +285,13 @@ fn asked(rt: &impl Print, list: &[u8], node: &[u8], entry: Entry) -> io::Result<
     Ok(false)
 }
 
-// Every record of the list, which ends with the last of them.
+// Every record of the list.
 fn replay(rt: &impl Print, list: &[u8], counts: &mut [u64; 16]) -> io::Result<()> {
-    let mut place = Place { from: 0, to: 0 };
-    let mut at = 0;
-    // by place: each record says where the next begins
-    while at < list.len() {
-        let Some(entry) = replay_list::parse(list, at) else {
-            replay_list::tally(counts, 0, false);
-            return Ok(());
-        };
-        place = replay_list::place_of(list, entry, place);
-        let from = place.from;
-        let to = place.to;
-        let same = asked(rt, list, &list[from..to], entry)?;
-        replay_list::tally(counts, entry.kind, same);
-        at = replay_list::end_of(list, entry);
-    }
-    Ok(())
+    replay_list::replay(list, counts, |whole, entry, node, tallies| {
+        let same = asked(rt, whole, node, entry)?;
+        replay_list::tally(tallies, entry.kind, same);
+        Ok(())
+    })
 }
 
 fn main(rt: HostRuntime) -> io::Result<()> {

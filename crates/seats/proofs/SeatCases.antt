@@ -6,6 +6,10 @@
 --     serve_key, serve_end, serve_refused                    the three answers of the reading served
 -- Assumes nothing.
 use mathlib.Core.Path.{◌≡◌, refl, sym, ap, ◌∙◌, subst}
+use Rattle.std.specs.Prelude as Std
+use Rattle.std.specs.Prelude.{Ok, Err, Some, None}
+use Rattle.std.specs.Option.{is_some}
+use Rattle.format.specs.declared.Refusal.{Refusal}
 use mathlib.Core.Bool.{Bool, true, false}
 use mathlib.Core.Option.{Option, some, none}
 use mathlib.Core.List.{List}
@@ -21,7 +25,6 @@ use Rattle.plain.specs.Plain.{next_plain}
 use Rattle.turns.specs.Turns as T
 use Rattle.turns.specs.Turns.{no_seat, seat_at, right_test, turn, done, by_answer}
 use Rattle.turns.proofs.TurnsLaws.{turn_some, turn_le, turn_held, dispatch_wrong, dispatch_turn}
-use Rattle.stream_step.specs.declared.Answer.TheVariants as A
 use Rattle.stream_step.specs.SteppedLaws.{step_key, step_end, step_refused}
 use Rattle.stream.specs.declared.Plain.{Plain}
 use Rattle.stream.specs.declared.Step.{Step}
@@ -29,9 +32,8 @@ use Rattle.stream.specs.Plains.{plain_is, PlainStepped}
 use Rattle.stream.specs.PlainsLaws.{plain_told}
 use Rattle.seats_turn.specs.declared.Seat.{Seat}
 use Rattle.seats_turn.specs.declared.Seats.{Seats}
-use Rattle.seats_turn.specs.SeatViews.{held_if, seat_is, seats_is, put_seat}
+use Rattle.seats_turn.specs.SeatViews.{held_is, seat_is, seats_is, put_seat}
 use Rattle.seats_turn.specs.SeatViewsLaws.{seat_at_lem}
-use Rattle.seats.specs.declared.Change.TheVariants as C
 use Rattle.seats.specs.declared.Seated.{Seated}
 use Rattle.seats.specs.declared.Served.TheVariants as S
 use Rattle.seats.specs.declared.Dispatched.{Dispatched}
@@ -77,23 +79,19 @@ module _ (s : T.Seats) (i : ℕ) where
 
 -- ---- of the code's seats
 
-taken_is : (b : Bool) (p : Plain) → T.taken (held_if b p) ≡ b
-taken_is true p = refl
-taken_is false p = refl
-
-held_is_lem : (b : Bool) (p : Plain) (q : P.Plain) → held_if b p ≡ some q → held_if b p ≡ some (plain_is p)
-held_is_lem true p q e = refl
-held_is_lem false p q e = absurd (let z : ◌≡◌ {A = ℕ} 0 1 = cc in omega arith)
+taken_is : (o : Std.Option Plain) (b : Bool) → is_some o ≡ b → T.taken (held_is o) ≡ b
+taken_is (Some p) b e = e
+taken_is None b e = e
 
 module _ (s : Seats) (eight : length s.seats ≡ 8) (i : ℕ) (d : Seat) (small : i ≤ 7) where
   seat_is_lem : seat_at (seats_is s) i ≡ seat_is (get_or s.seats i d)
   seat_is_lem = seat_at_lem s.seats i d (omega arith)
 
-  reading_is : (b : Bool) → (get_or s.seats i d).taken ≡ b → (seat_at (seats_is s) i).reading ≡ held_if b (get_or s.seats i d).reading
-  reading_is b e = ap (λ (x : T.Seat). x.reading) seat_is_lem ∙ ap (λ (c : Bool). held_if c (get_or s.seats i d).reading) e
+  reading_is : (o : Std.Option Plain) → (get_or s.seats i d).reading ≡ o → (seat_at (seats_is s) i).reading ≡ held_is o
+  reading_is o e = ap (λ (x : T.Seat). x.reading) seat_is_lem ∙ ap held_is e
 
-  pub seat_told : (p : Plain) (r : Seated) → right_test (seats_is s) ≡ true → r.answer ≡ C.Done
-      → seats_is r.seats ≡ put_seat (seats_is s) s.last i (seat_is (record { taken = true; waiting = (get_or s.seats i d).waiting; reading = p }))
+  pub seat_told : (p : Plain) (r : Seated) → right_test (seats_is s) ≡ true → r.answer ≡ Ok tt
+      → seats_is r.seats ≡ put_seat (seats_is s) s.last i (seat_is (record { reading = Some p; waiting = (get_or s.seats i d).waiting }))
       → SeatChanged (T.seat (seats_is s) i (plain_is p)) (seats_is s) r
   seat_told p r right e is =
       changed_as (seat_done (seats_is s) i (plain_is p) small right)
@@ -102,17 +100,20 @@ module _ (s : Seats) (eight : length s.seats ≡ 8) (i : ℕ) (d : Seat) (small 
         seats = is ∙ ap (λ (x : T.Seat). T.with_seat (seats_is s) i (record { reading = some (plain_is p); waiting = x.waiting })) (sym seat_is_lem);
       })
 
-  pub raise_empty : right_test (seats_is s) ≡ true → (get_or s.seats i d).taken ≡ false → T.raise (seats_is s) i ≡ T.Done.refused SEAT
-  raise_empty right e = raise_none (seats_is s) i small right (ap T.taken (reading_is false e))
+  taken_here : (b : Bool) → is_some (get_or s.seats i d).reading ≡ b → T.taken (seat_at (seats_is s) i).reading ≡ b
+  taken_here b e = ap T.taken (reading_is (get_or s.seats i d).reading refl) ∙ taken_is (get_or s.seats i d).reading b e
 
-  pub raise_told : (r : Seated) → right_test (seats_is s) ≡ true → (get_or s.seats i d).taken ≡ true → r.answer ≡ C.Done
-      → seats_is r.seats ≡ put_seat (seats_is s) s.last i (seat_is (record { taken = true; waiting = true; reading = (get_or s.seats i d).reading }))
+  pub raise_empty : right_test (seats_is s) ≡ true → is_some (get_or s.seats i d).reading ≡ false → T.raise (seats_is s) i ≡ T.Done.refused SEAT
+  raise_empty right e = raise_none (seats_is s) i small right (taken_here false e)
+
+  pub raise_told : (r : Seated) → right_test (seats_is s) ≡ true → is_some (get_or s.seats i d).reading ≡ true → r.answer ≡ Ok tt
+      → seats_is r.seats ≡ put_seat (seats_is s) s.last i (seat_is (record { reading = (get_or s.seats i d).reading; waiting = true }))
       → SeatChanged (T.raise (seats_is s) i) (seats_is s) r
   raise_told r right t e is =
-      changed_as (raise_done (seats_is s) i small right (ap T.taken (reading_is true t)))
+      changed_as (raise_done (seats_is s) i small right (taken_here true t))
       (record {
         answer = e;
-        seats = is ∙ ap (λ (x : Option P.Plain). T.with_seat (seats_is s) i (record { reading = x; waiting = true })) (sym (reading_is true t));
+        seats = is ∙ ap (λ (x : Option P.Plain). T.with_seat (seats_is s) i (record { reading = x; waiting = true })) (sym (reading_is (get_or s.seats i d).reading refl));
       })
 
 -- ---- dispatch
@@ -125,33 +126,34 @@ unfolding T.dispatch
 nobody_is file s space e t = rw (e, t)
 
 module _ (file : List ℕ) (s : T.Seats) (buf : List ℕ) (r : Dispatched) (same : seats_is r.seats ≡ s) where
-  pub told_wrong : right_test s ≡ false → r.served ≡ S.Refused 20 → DispatchTold (T.dispatch file s (length buf)) s buf buf r
+  pub told_wrong : right_test s ≡ false → r.served ≡ Err SEAT → DispatchTold (T.dispatch file s (length buf)) s buf buf r
   told_wrong e is = told_as (dispatch_wrong file s (length buf) e) (record { served = is; seats = same; buffer = refl })
 
-  pub told_nobody : right_test s ≡ true → turn s ≡ none → r.served ≡ S.Nobody → DispatchTold (T.dispatch file s (length buf)) s buf buf r
+  pub told_nobody : right_test s ≡ true → turn s ≡ none → r.served ≡ Ok S.Nobody → DispatchTold (T.dispatch file s (length buf)) s buf buf r
   told_nobody e t is = told_as (nobody_is file s (length buf) e t) (record { served = is; seats = same; buffer = refl })
 
 -- the number of the seat whose turn it is
 pub turn_number : (s : T.Seats) (i : ℕ) → turn s ≡ some i → i ≤ 7
 turn_number s i t = turn_le (turn_some s i t)
 
-module _ (file : List ℕ) (s : Seats) (eight : length s.seats ≡ 8) (i : ℕ) (d : Seat) (right : right_test (seats_is s) ≡ true) (its : turn (seats_is s) ≡ some i) (buf₀ buf : List ℕ)
-    (o : Step) (h : PlainStepped (next_plain file (plain_is (get_or s.seats i d).reading) (length buf₀)) buf₀ buf o) (r : Dispatched) where
+-- whose turn it is has a reading
+pub turn_empty : (s : Seats) → length s.seats ≡ 8 → (i : ℕ) (d : Seat) → right_test (seats_is s) ≡ true → turn (seats_is s) ≡ some i → ¬ ((get_or s.seats i d).reading ≡ None)
+turn_empty s eight i d right its e =
+    let q = turn_held (seats_is s) i right its in
+    let is = reading_is s eight i d (turn_number (seats_is s) i its) None e in
+    let z : none ≡ some q.0 = sym is ∙ q.1 in
+    let c : ◌≡◌ {A = ℕ} 0 1 = cc in
+    omega arith
+
+module _ (file : List ℕ) (s : Seats) (eight : length s.seats ≡ 8) (i : ℕ) (d : Seat) (right : right_test (seats_is s) ≡ true) (its : turn (seats_is s) ≡ some i) (p : Plain)
+    (held : (get_or s.seats i d).reading ≡ Some p) (buf₀ buf : List ℕ) (o : Step) (h : PlainStepped (next_plain file (plain_is p) (length buf₀)) buf₀ buf o) (r : Dispatched) where
   abbrev given : P.PlainStep
-  given = next_plain file (plain_is (get_or s.seats i d).reading) (length buf₀)
-
-  small : i ≤ 7
-  small = turn_number (seats_is s) i its
-
-  held : (seat_at (seats_is s) i).reading ≡ some (plain_is (get_or s.seats i d).reading)
-  held =
-      let q = turn_held (seats_is s) i right its in
-      let is = reading_is s eight i d small (get_or s.seats i d).taken refl in
-      is ∙ held_is_lem (get_or s.seats i d).taken (get_or s.seats i d).reading q.0 (sym is ∙ q.1)
+  given = next_plain file (plain_is p) (length buf₀)
 
   served_is : (a : R.Answer) → given.answer ≡ a → T.dispatch file (seats_is s) (length buf₀) ≡ by_answer (seats_is s) i given.reading a
   served_is a e =
-      dispatch_turn file (seats_is s) (length buf₀) i (plain_is (get_or s.seats i d).reading) right its held ∙ ap (by_answer (seats_is s) i given.reading) e
+      dispatch_turn file (seats_is s) (length buf₀) i (plain_is p) right its (reading_is s eight i d (turn_number (seats_is s) i its) (Some p) held)
+      ∙ ap (by_answer (seats_is s) i given.reading) e
 
   kept_is : seats_is r.seats ≡ T.kept (seats_is s) i (plain_is o.plain) → seats_is r.seats ≡ T.kept (seats_is s) i given.reading
   kept_is e = e ∙ ap (T.kept (seats_is s) i) h.gave.plain
@@ -159,24 +161,24 @@ module _ (file : List ℕ) (s : Seats) (eight : length s.seats ≡ 8) (i : ℕ) 
   wrote : (a : R.Answer) → given.answer ≡ a → buf ≡ written a buf₀
   wrote a e = h.buffer ∙ ap (λ (x : R.Answer). written x buf₀) e
 
-  pub serve_key : (m u : ℕ) → o.answer ≡ A.Key m u → r.served ≡ S.Key i m u → seats_is r.seats ≡ T.kept (seats_is s) i (plain_is o.plain)
+  pub serve_key : (m u : ℕ) → o.answer ≡ Ok (Some (m, u)) → r.served ≡ Ok (S.Key i m u) → seats_is r.seats ≡ T.kept (seats_is s) i (plain_is o.plain)
       → DispatchTold (T.dispatch file (seats_is s) (length buf₀)) (seats_is s) buf₀ buf r
   serve_key m u e is seats =
       let q = step_key (plain_told h) m u e in
       told_as (served_is (key q.0 u) q.1)
       (record {
-        served = is ∙ ap (λ (l : ℕ). S.Key i l u) (sym q.2);
+        served = is ∙ ap (λ (l : ℕ). Ok (S.Key i l u)) (sym q.2);
         seats = kept_is seats;
         buffer = wrote (key q.0 u) q.1;
       })
 
-  pub serve_end : o.answer ≡ A.End → r.served ≡ S.End i → seats_is r.seats ≡ T.kept (seats_is s) i (plain_is o.plain)
+  pub serve_end : o.answer ≡ Ok None → r.served ≡ Ok (S.End i) → seats_is r.seats ≡ T.kept (seats_is s) i (plain_is o.plain)
       → DispatchTold (T.dispatch file (seats_is s) (length buf₀)) (seats_is s) buf₀ buf r
   serve_end e is seats =
       let q = step_end (plain_told h) e in
       told_as (served_is end q) (record { served = is; seats = kept_is seats; buffer = wrote end q })
 
-  pub serve_refused : (n : ℕ) → o.answer ≡ A.Refused n → r.served ≡ S.Refused n → r.seats ≡ s
+  pub serve_refused : (n : Refusal) → o.answer ≡ Err n → r.served ≡ Err n → r.seats ≡ s
       → DispatchTold (T.dispatch file (seats_is s) (length buf₀)) (seats_is s) buf₀ buf r
   serve_refused n e is same =
       let q = step_refused (plain_told h) n e in

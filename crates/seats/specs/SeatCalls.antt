@@ -2,36 +2,35 @@
 --     change_as, SeatChanged w given r          what seating and raising give back, where the definition answers w
 --     served_as, buffer_after, DispatchTold      what a dispatch gives back, and the buffer before and after
 -- Assumes nothing.
-use Rattle.std.specs.Prelude.{◌≡◌, List, ℕ, length}
+use Rattle.std.specs.Prelude.{◌≡◌, List, ℕ, length, Ok, Err, Result, ⊤}
+use Rattle.format.specs.declared.Refusal.{Refusal}
 use Rattle.reading.specs.Reading as R
 use Rattle.reading.specs.Reading.{written}
 use Rattle.turns.specs.Turns as T
 use Rattle.seats_turn.specs.SeatViews.{seats_is}
-use Rattle.seats.specs.declared.Change.{Change}
-use Rattle.seats.specs.declared.Change.TheVariants.{Done, Refused}
 use Rattle.seats.specs.declared.Seated.{Seated}
 use Rattle.seats.specs.declared.Served.{Served}
 use Rattle.seats.specs.declared.Served.TheVariants.{Key, End, Nobody}
 use Rattle.seats.specs.declared.Dispatched.{Dispatched}
 
-abbrev pub change_as : T.Done → Change
-change_as (T.done t) = Done
-change_as (T.Done.refused n) = Refused n
+abbrev pub change_as : T.Done → Result ⊤ Refusal
+change_as (T.done t) = Ok tt
+change_as (T.Done.refused n) = Err n
 
 pub record SeatChanged (w : T.Done) (given : T.Seats) (r : Seated) : Type 0 where
   pub answer : r.answer ≡ change_as w
   -- those given, after a refusal
   pub seats : seats_is r.seats ≡ T.or_kept given w
 
-abbrev pub served_by : ℕ → R.Answer → Served
-served_by i (R.key k v) = Key i (length k) v
-served_by i R.end = End i
-served_by i (R.Answer.refused n) = Served.Refused n
+abbrev pub served_by : ℕ → R.Answer → Result Served Refusal
+served_by i (R.key k v) = Ok (Key i (length k) v)
+served_by i R.end = Ok (End i)
+served_by i (R.Answer.refused n) = Err n
 
-abbrev pub served_as : T.Dispatch → Served
+abbrev pub served_as : T.Dispatch → Result Served Refusal
 served_as (T.served i a t) = served_by i a
-served_as T.nobody = Nobody
-served_as (T.Dispatch.refused n) = Served.Refused n
+served_as T.nobody = Ok Nobody
+served_as (T.Dispatch.refused n) = Err n
 
 abbrev pub buffer_after : T.Dispatch → List ℕ → List ℕ
 buffer_after (T.served i a t) buf = written a buf

@@ -12,39 +12,30 @@ ghost use Rattle.stream.specs.Plains.{plain_is};
 ghost use Rattle.seats_turn.specs.SeatViews.{seats_is};
 ghost use Rattle.seats.specs.SeatCalls.{SeatChanged, DispatchTold};
 
-use format::SEAT;
+use format::Refusal;
 use seats_turn::{LAST_SEAT, Seats};
 use stream::Plain;
-use stream_step::Answer;
-
-// Whether a seat was changed, or the number of a refusal.
-#[derive(Clone, Copy)]
-pub enum Change {
-    Done,
-    Refused(u8),
-}
 
 // What seating and raising give back. After a refusal the seats are those given.
 #[derive(Clone, Copy)]
 pub struct Seated {
-    pub answer: Change,
+    pub answer: Result<(), Refusal>,
     pub seats: Seats,
 }
 
 // What a dispatch answers: the seat served, with the length of its key in the buffer and its value; the seat served, whose reading is at its end;
-// that nobody waits; or the number of a refusal.
+// or that nobody waits.
 #[derive(Clone, Copy)]
 pub enum Served {
     Key(u8, usize, u64),
     End(u8),
     Nobody,
-    Refused(u8),
 }
 
-// What a dispatch gives back. After a refusal the seats are those given.
+// What a dispatch gives back: its answer, or why it refuses, and the seats, which are those given after a refusal.
 #[derive(Clone, Copy)]
 pub struct Dispatched {
-    pub served: Served,
+    pub served: Result<Served, Refusal>,
     pub seats: Seats,
 }
 
@@ -60,7 +51,7 @@ fn refused(seats: Seats) -> Seated
     ensures { SeatChanged (T.Done.refused L.SEAT) (seats_is seats) result }
 {
     Seated {
-        answer: Change::Refused(SEAT),
+        answer: Err(Refusal::Seat),
         seats,
     }
 }
@@ -79,12 +70,11 @@ pub fn seat(seats: Seats, number: usize, reading: Plain) -> Seated
     }
     let waiting = seats.seats[number].waiting;
     let placed = seats_turn::Seat {
-        taken: true,
+        reading: Some(reading),
         waiting,
-        reading,
     };
     Seated {
-        answer: Change::Done,
+        answer: Ok(()),
         seats: seats_turn::put_seat(seats, seats.last, number, placed),
     }
 }
@@ -99,18 +89,16 @@ pub fn raise(seats: Seats, number: usize) -> Seated
     if !seats_turn::seats_right(seats) {
         return refused(seats);
     }
-    if !seats.seats[number].taken {
+    let reading = seats.seats[number].reading;
+    if reading.is_none() {
         return refused(seats);
     }
-    let held = seats.seats[number];
-    let reading = held.reading;
     let waits = seats_turn::Seat {
-        taken: true,
-        waiting: true,
         reading,
+        waiting: true,
     };
     Seated {
-        answer: Change::Done,
+        answer: Ok(()),
         seats: seats_turn::put_seat(seats, seats.last, number, waits),
     }
 }
@@ -121,9 +109,8 @@ fn kept(seats: Seats, number: usize, reading: Plain) -> Seats
     ensures { seats_is result ≡ T.kept (seats_is seats) number (plain_is reading) }
 {
     let done = seats_turn::Seat {
-        taken: true,
+        reading: Some(reading),
         waiting: false,
-        reading,
     };
     seats_turn::put_seat(seats, number, number, done)
 }
@@ -134,22 +121,26 @@ fn serve(file: &[u8], seats: Seats, number: usize, key: &mut [u8]) -> Dispatched
     ensures { DispatchTold (T.dispatch file.now (seats_is seats)
         (length key.old)) (seats_is seats) key.old key.new result }
 {
-    let held = seats.seats[number];
-    let reading = held.reading;
+    let Some(reading) = seats.seats[number].reading else {
+        return Dispatched {
+            served: Err(Refusal::Seat),
+            seats,
+        };
+    };
     let step = stream::next(file, reading, key);
     let answer = step.answer;
     let after = step.plain;
     match answer {
-        Answer::Key(n, value) => Dispatched {
-            served: Served::Key(number as u8, n, value),
+        Ok(Some((n, value))) => Dispatched {
+            served: Ok(Served::Key(number as u8, n, value)),
             seats: kept(seats, number, after),
         },
-        Answer::End => Dispatched {
-            served: Served::End(number as u8),
+        Ok(None) => Dispatched {
+            served: Ok(Served::End(number as u8)),
             seats: kept(seats, number, after),
         },
-        Answer::Refused(why) => Dispatched {
-            served: Served::Refused(why),
+        Err(why) => Dispatched {
+            served: Err(why),
             seats,
         },
     }
@@ -164,14 +155,14 @@ pub fn dispatch(file: &[u8], seats: Seats, key: &mut [u8]) -> Dispatched
 {
     if !seats_turn::seats_right(seats) {
         return Dispatched {
-            served: Served::Refused(SEAT),
+            served: Err(Refusal::Seat),
             seats,
         };
     }
     let turn = seats_turn::turn_of(seats);
     match turn {
         None => Dispatched {
-            served: Served::Nobody,
+            served: Ok(Served::Nobody),
             seats,
         },
         Some(number) => serve(file, seats, number, key),

@@ -7,8 +7,9 @@
 --     FairCode               a waiting seat is served in time, of what the code answered
 -- Assumes nothing.
 use Prim.{Unit}
-use Rattle.std.specs.Prelude.{◌≡◌, true, ℕ, ◌≤◌, length, take}
+use Rattle.std.specs.Prelude.{◌≡◌, true, ℕ, ◌≤◌, length, take, Ok, Err, Result}
 use Rattle.std.proofs.Math.Option.{Option, none, some}
+use Rattle.format.specs.declared.Refusal.{Refusal}
 use mathlib.Core.List.{List, [], ◌∷◌, map, Memᴰ}
 use Rattle.turns.specs.Turns as T
 use Rattle.turns.specs.Turns.{Event, raises, sits, dispatches}
@@ -55,11 +56,11 @@ event_is (dispatched file before after r) = dispatches file (length before)
 abbrev pub events_is : List CodeEvent → List Event
 events_is es = map event_is es
 
-abbrev pub served_then : Served → List (Option ℕ) → List (Option ℕ)
-served_then (S.Key i n v) more = some i ∷ more
-served_then (S.End i) more = some i ∷ more
-served_then S.Nobody more = none ∷ more
-served_then (S.Refused n) more = more
+abbrev pub served_then : Result Served Refusal → List (Option ℕ) → List (Option ℕ)
+served_then (Ok (S.Key i n v)) more = some i ∷ more
+served_then (Ok (S.End i)) more = some i ∷ more
+served_then (Ok S.Nobody) more = none ∷ more
+served_then (Err n) more = more
 
 abbrev pub code_unrefused : List CodeEvent → List (Option ℕ)
 code_unrefused [] = []

@@ -2,9 +2,10 @@
 -- calls is the definition's list of events.
 --     seats_are, served_are     the seats after a list of calls, and its unrefused dispatches
 -- Assumes nothing.
-use Rattle.std.specs.Prelude.{◌≡◌, refl, true, List, [], ◌∷◌, ℕ, ◌≤◌, length}
+use Rattle.std.specs.Prelude.{◌≡◌, refl, true, List, [], ◌∷◌, ℕ, ◌≤◌, length, Result}
 use Rattle.std.proofs.Common.{sym, ap, ◌∙◌, subst}
 use Rattle.std.proofs.Math.Option.{Option, some}
+use Rattle.format.specs.declared.Refusal.{Refusal}
 use Rattle.reading.specs.Reading as R
 use Rattle.turns.specs.Turns as T
 use Rattle.turns.specs.Turns.{after, after_event}
@@ -39,7 +40,7 @@ served_are s [] m = refl
 served_are s (raised i r ∷ es) m = served_are r.seats es m.1 ∙ ap (λ (t : T.Seats). unrefused_in t (events_is es)) m.0.seats
 served_are s (sat i p r ∷ es) m = served_are r.seats es m.1 ∙ ap (λ (t : T.Seats). unrefused_in t (events_is es)) m.0.seats
 served_are s (dispatched file before after r ∷ es) m =
-    ap (λ (x : Served). served_then x (code_unrefused es)) m.0.served
+    ap (λ (x : Result Served Refusal). served_then x (code_unrefused es)) m.0.served
     ∙ ap (served_then (served_as (T.dispatch file (seats_is s) (length before))))
     (served_are r.seats es m.1 ∙ ap (λ (t : T.Seats). unrefused_in t (events_is es)) m.0.seats)
     ∙ told_then_lem file (seats_is s) (length before) (T.dispatch file (seats_is s) (length before)) (dispatch_ways file (seats_is s) (length before)) _

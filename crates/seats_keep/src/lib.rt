@@ -5,19 +5,15 @@ ghost use Rattle.std.specs.Prelude.{◌≡◌, ◌<◌};
 ghost use Rattle.seats_arrays.specs.SeatArrays.{rows};
 ghost use Rattle.seats_keep.specs.Keeps.{is_refused, KeptIn};
 
+use format::Refusal;
 use seats_arrays::{put_flag, put_plain};
 use stream::Plain;
-use stream_step::Answer;
 
 // Whether a call was refused.
-pub fn is_refused(answer: Answer) -> bool
+pub fn is_refused(answer: Result<Option<(usize, u64)>, Refusal>) -> bool
     ensures { result ≡ is_refused answer }
 {
-    match answer {
-        Answer::Refused(_) => true,
-        Answer::End => false,
-        Answer::Key(_, _) => false,
-    }
+    answer.is_err()
 }
 
 // A seat was served: it holds the reading that its call gave back and waits no more, and the next turn begins after it.

@@ -4,6 +4,8 @@
 -- Assumes nothing.
 use Rattle.std.specs.Prelude.{◌≡◌, refl, true, false, List, [], ◌∷◌, ◌++◌, ℕ, replicate}
 use Rattle.std.proofs.Math.Option.{Option, none, some}
+use Rattle.format.specs.declared.Refusal.{Refusal}
+use Rattle.format.specs.Limits.{SPACE, STATE, SEAT}
 use Rattle.format.specs.Bytes.{le, bytes_of}
 use Rattle.format.specs.CommonInputs.{common_inputs_inv}
 use Rattle.format.specs.Node.{head_len, input_of, ntrans_of, sizes_byte, index_len, size_of, down_from, bytes_down, numbers_down, transitions_of, node_of, sound_test, node_at, find_from, first_above}
@@ -22,7 +24,7 @@ pub data Said : Type 0 where
   keys : ℕ → List ℕ → ℕ → Said
   ends : ℕ → Said
   idle : Said
-  no : ℕ → Said
+  no : Refusal → Said
 
 abbrev pub said_of : Dispatch → List Said → List Said
 said_of (served i (key k v) t) more = keys i k v ∷ more
@@ -96,20 +98,20 @@ pub record SeatsTable : Type 0 where
   -- seats 6 and 1 wait, 6 was served last
   pub around : says (all 6) (raises 6 ∷ raises 1 ∷ go ∷ go ∷ []) ≡ a 1 ∷ a 6 ∷ []
   -- a short buffer leaves the turn where it was
-  pub short_buffer : says (all 7) (raises 2 ∷ raises 5 ∷ dispatches D 254 ∷ go ∷ []) ≡ no 8 ∷ a 2 ∷ []
+  pub short_buffer : says (all 7) (raises 2 ∷ raises 5 ∷ dispatches D 254 ∷ go ∷ []) ≡ no SPACE ∷ a 2 ∷ []
   -- a reading of another file holds the turn, until another is seated there
-  pub blocked : says (all 4) (sits 5 other ∷ raises 5 ∷ raises 6 ∷ go ∷ go ∷ sits 5 r ∷ go ∷ go ∷ []) ≡ no 11 ∷ no 11 ∷ a 5 ∷ a 6 ∷ []
+  pub blocked : says (all 4) (sits 5 other ∷ raises 5 ∷ raises 6 ∷ go ∷ go ∷ sits 5 r ∷ go ∷ go ∷ []) ≡ no STATE ∷ no STATE ∷ a 5 ∷ a 6 ∷ []
   -- to the end, and after it
   pub to_end : says (all 7) (raises 0 ∷ go ∷ raises 0 ∷ go ∷ raises 0 ∷ go ∷ raises 0 ∷ go ∷ raises 0 ∷ go ∷ []) ≡ a 0 ∷ t 0 ∷ e 0 ∷ ends 0 ∷ ends 0 ∷ []
   -- two seats on the same range: each has the keys, "end" and the total of a reading alone
   pub interleaved : says (all 7) interleaving ≡ a 0 ∷ a 1 ∷ t 0 ∷ e 0 ∷ t 1 ∷ e 1 ∷ ends 0 ∷ ends 1 ∷ []
   pub totals : (total_at (after (all 7) interleaving) 0 ≡ 3) × (total_at (after (all 7) interleaving) 1 ≡ 3)
   -- SEAT
-  pub number_over : says (all 7) (raises 8 ∷ sits 8 r ∷ []) ≡ no 20 ∷ no 20 ∷ []
-  pub empty_raised : says new (raises 0 ∷ []) ≡ no 20 ∷ []
-  pub held_last : says (all 8) (go ∷ raises 0 ∷ sits 0 r ∷ []) ≡ no 20 ∷ no 20 ∷ no 20 ∷ []
+  pub number_over : says (all 7) (raises 8 ∷ sits 8 r ∷ []) ≡ no SEAT ∷ no SEAT ∷ []
+  pub empty_raised : says new (raises 0 ∷ []) ≡ no SEAT ∷ []
+  pub held_last : says (all 8) (go ∷ raises 0 ∷ sits 0 r ∷ []) ≡ no SEAT ∷ no SEAT ∷ no SEAT ∷ []
   pub waits_empty : says (record { last = 7; seats = record { reading = some r; waiting = true } ∷ record { reading = none; waiting = true } ∷ replicate 6 no_seat })
-      (go ∷ dispatches [] 0 ∷ []) ≡ no 20 ∷ no 20 ∷ []
+      (go ∷ dispatches [] 0 ∷ []) ≡ no SEAT ∷ no SEAT ∷ []
 
 pub seats_table : SeatsTable
 unfolding bytes_of common_inputs_inv le head_len input_of ntrans_of sizes_byte index_len size_of down_from bytes_down numbers_down transitions_of node_of sound_test node_at find_from first_above meta_of root_test opening before_test sum_of path_of seek start pop descend next up_to within below_lower number start_plain all_seats turn_from turn seat raise dispatch

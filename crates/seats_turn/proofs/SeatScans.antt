@@ -11,30 +11,32 @@ use native.Mathlib.Omega.{arith}
 use borrow.Author.Tests.{le-leb}
 use lib.ListN.{length, get_or}
 use Rattle.std.specs.List.{list_all}
+use Rattle.std.specs.Option.{is_some}
+use Rattle.std.specs.Prelude.{Option, Some, None}
 use Rattle.turns.specs.Turns as T
 use Rattle.turns.specs.Turns.{no_seat, seat_at, seat_test, all_seats, right_test, turn_from, turn, taken}
 use Rattle.stream.specs.declared.Plain.{Plain}
 use Rattle.seats_turn.specs.declared.Seat.{Seat}
 use Rattle.seats_turn.specs.declared.Seats.{Seats}
-use Rattle.seats_turn.specs.SeatViews.{held_if, seat_is, seats_is}
+use Rattle.seats_turn.specs.SeatViews.{held_is, seat_is, seats_is}
 use Rattle.seats_turn.specs.SeatViewsLaws.{seat_at_lem}
 
 -- ---- whether they are right
 
 -- as the code judges a seat
 abbrev pub seat_passes : Seat → Bool
-seat_passes x = x.taken || not x.waiting
+seat_passes x = is_some x.reading || not x.waiting
 
-passes_is : (t w : Bool) (p : Plain) → (t || not w) ≡ cond w (taken (held_if t p)) true
-passes_is true true p = refl
-passes_is true false p = refl
-passes_is false true p = refl
-passes_is false false p = refl
+passes_is : (o : Option Plain) (w : Bool) → (is_some o || not w) ≡ cond w (taken (held_is o)) true
+passes_is (Some p) true = refl
+passes_is (Some p) false = refl
+passes_is None true = refl
+passes_is None false = refl
 
 all_pass : (l : List Seat) → list_all seat_passes l ≡ all_seats (map seat_is l)
 unfolding all_seats
 all_pass [] = refl
-all_pass (x ∷ l) = ap₂ (λ (a b : Bool). a && b) (passes_is x.taken x.waiting x.reading) (all_pass l)
+all_pass (x ∷ l) = ap₂ (λ (a b : Bool). a && b) (passes_is x.reading x.waiting) (all_pass l)
 
 pub right_is : (s : Seats) → s.last ≤ 7 → list_all seat_passes s.seats ≡ right_test (seats_is s)
 right_is s h = rw (le-leb s.last 7 h) (all_pass s.seats)

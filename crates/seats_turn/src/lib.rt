@@ -12,12 +12,11 @@ pub const SEATS: usize = 8;
 // The number of the last of them.
 pub const LAST_SEAT: usize = 7;
 
-// A seat: whether it has a reading, whether it has raised a request, and the reading, which carries no meaning where the seat has none.
+// A seat: its reading, where it has one, and whether it has raised a request.
 #[derive(Clone, Copy)]
 pub struct Seat {
-    pub taken: bool,
+    pub reading: Option<Plain>,
     pub waiting: bool,
-    pub reading: Plain,
 }
 
 // The eight seats, passed by value, and the seat that was served last.
@@ -31,12 +30,9 @@ pub struct Seats {
 pub fn no_seats() -> Seats
     ensures { result ≡ no_seats }
 {
-    let none = stream::refused(0);
-    let reading = none.plain;
     let empty = Seat {
-        taken: false,
+        reading: None,
         waiting: false,
-        reading,
     };
     Seats {
         last: LAST_SEAT,
@@ -48,7 +44,11 @@ pub fn no_seats() -> Seats
 pub fn seats_right(seats: Seats) -> bool
     ensures { result ≡ T.right_test (seats_is seats) }
 {
-    seats.last <= LAST_SEAT && seats.seats.iter().all(|seat| seat.taken || !seat.waiting)
+    seats.last <= LAST_SEAT
+        && seats
+            .seats
+            .iter()
+            .all(|seat| seat.reading.is_some() || !seat.waiting)
 }
 
 // Whose turn it is: the first seat that waits after the one served last, around the eight, or nobody's.

@@ -10,6 +10,7 @@
 use Rattle.std.specs.Prelude.{◌≡◌, refl, ◌⊎◌, ℕ, zero, suc, ◌+◌, ◌<◌, ◌≤◌, length, replicate}
 use Rattle.std.proofs.Common.{sym, ◌∙◌, ap, subst, ⊎_elim, inl, arith}
 use Rattle.std.proofs.Math.Option.{none}
+use Rattle.format.specs.declared.Refusal.{Refusal}
 use mathlib.Core.List.Memᴰ
 use mathlib.Core.List.{List, [], ◌∷◌, ◌++◌, map, Memᴰ}
 use Rattle.format.specs.Limits.{max_path}
@@ -40,7 +41,7 @@ handed_append (Answer.refused n ∷ xs) ys = handed_append xs ys
 end_not_key : {k : List ℕ} {v : ℕ} → ¬ (◌≡◌ {A = Answer} end (key k v))
 end_not_key e = let z : ◌≡◌ {A = ℕ} 0 1 = cc in omega arith
 
-end_not_refused : {n : ℕ} → ¬ (◌≡◌ {A = Answer} end (Answer.refused n))
+end_not_refused : {n : Refusal} → ¬ (◌≡◌ {A = Answer} end (Answer.refused n))
 end_not_refused e = let z : ◌≡◌ {A = ℕ} 0 1 = cc in omega arith
 
 end_unrefused : (xs : List Answer) → Memᴰ end xs → Memᴰ end (unrefused xs)

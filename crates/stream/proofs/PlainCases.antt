@@ -5,6 +5,8 @@
 --     some_left, none_left         a key lowers the number, which is not 0; a call where it is 0
 -- Assumes nothing.
 use mathlib.Core.Path.{◌≡◌, refl, sym, ap, ◌∙◌, subst}
+use Rattle.std.specs.Prelude.{Ok, Err, Some, None}
+use Rattle.format.specs.declared.Refusal.{Refusal}
 use mathlib.Core.Bool.{Bool, true, false, cond}
 use mathlib.Core.Logic.{◌⊎◌, inl, inr}
 use mathlib.Core.List.{List}
@@ -21,11 +23,9 @@ use Rattle.reading.specs.Reading.{View, key, end, written}
 use Rattle.plain.specs.Plain as P
 use Rattle.plain.specs.Plain.{plain_with, counting, counted_step, next_plain}
 use Rattle.stream_start.specs.Views.{view_is}
-use Rattle.stream_step.specs.declared.Answer.TheVariants.{Key, End, Refused}
 use Rattle.stream_step.specs.declared.Step as S
 use Rattle.stream_step.specs.Stepped.{answer_as, Stepped}
 use Rattle.stream_step.specs.SteppedLaws.{told, step_key, step_end, step_refused}
-use Rattle.stream.specs.declared.Plain.{Plain}
 use Rattle.stream.specs.declared.Step.{Step}
 use Rattle.stream.specs.Plains.{plain_is, CallGave, PlainStepped}
 
@@ -36,13 +36,13 @@ module _ {w : R.Step} {buf₀ buf : List ℕ} {o : S.Step} (h : Stepped w buf₀
   counted_as : (a : R.Answer) → w.answer ≡ a → counted_step (plain_with v n) w ≡ counting (plain_with v n) w.reading a
   counted_as a e = ap (counting (plain_with v n) w.reading) e
 
-  pub gave_too_many : (m u : ℕ) → o.answer ≡ Key m u → n ≡ 0 → r.answer ≡ Refused 11 → plain_is r.plain ≡ plain_with v n → CallGave (counted_step (plain_with v n) w) r
+  pub gave_too_many : (m u : ℕ) → o.answer ≡ Ok (Some (m, u)) → n ≡ 0 → r.answer ≡ Err STATE → plain_is r.plain ≡ plain_with v n → CallGave (counted_step (plain_with v n) w) r
   gave_too_many m u e z is same =
       let q = step_key (told h) m u e in
       let none : counting (plain_with v n) w.reading (key q.0 u) ≡ record { answer = R.Answer.refused STATE; reading = plain_with v n } = rw z in
       gave_of (counted_as (key q.0 u) q.1 ∙ none) is same
 
-  pub gave_key : (m u : ℕ) → o.answer ≡ Key m u → ¬ (n ≡ 0) → r.answer ≡ Key m u → plain_is r.plain ≡ plain_with (view_is o.reading) (n - 1)
+  pub gave_key : (m u : ℕ) → o.answer ≡ Ok (Some (m, u)) → ¬ (n ≡ 0) → r.answer ≡ Ok (Some (m, u)) → plain_is r.plain ≡ plain_with (view_is o.reading) (n - 1)
       → PlainStepped (counted_step (plain_with v n) w) buf₀ buf r
   gave_key m u e ne is same =
       let q = step_key (told h) m u e in
@@ -50,11 +50,11 @@ module _ {w : R.Step} {buf₀ buf : List ℕ} {o : S.Step} (h : Stepped w buf₀
       rw (ne_eqb n 0 ne) in
       let c = counted_as (key q.0 u) q.1 ∙ some in
       record {
-        gave = gave_of c (is ∙ ap (λ l. Key l u) (sym q.2)) (same ∙ ap (λ (x : View). plain_with x (n - 1)) h.reading);
+        gave = gave_of c (is ∙ ap (λ l. Ok (Some (l, u))) (sym q.2)) (same ∙ ap (λ (x : View). plain_with x (n - 1)) h.reading);
         buffer = h.buffer ∙ ap (λ a. written a buf₀) q.1 ∙ ap (λ (x : P.PlainStep). written x.answer buf₀) (sym c);
       }
 
-  pub gave_end : o.answer ≡ End → r.answer ≡ End → plain_is r.plain ≡ plain_with (view_is o.reading) n
+  pub gave_end : o.answer ≡ Ok None → r.answer ≡ Ok None → plain_is r.plain ≡ plain_with (view_is o.reading) n
       → PlainStepped (counted_step (plain_with v n) w) buf₀ buf r
   gave_end e is same =
       let q = step_end (told h) e in
@@ -64,7 +64,7 @@ module _ {w : R.Step} {buf₀ buf : List ℕ} {o : S.Step} (h : Stepped w buf₀
         buffer = h.buffer ∙ ap (λ a. written a buf₀) q ∙ ap (λ (x : P.PlainStep). written x.answer buf₀) (sym c);
       }
 
-  pub gave_refused : (m : ℕ) → o.answer ≡ Refused m → r.answer ≡ Refused m → plain_is r.plain ≡ plain_with (view_is o.reading) n
+  pub gave_refused : (m : Refusal) → o.answer ≡ Err m → r.answer ≡ Err m → plain_is r.plain ≡ plain_with (view_is o.reading) n
       → PlainStepped (counted_step (plain_with v n) w) buf₀ buf r
   gave_refused m e is same =
       let q = step_refused (told h) m e in
@@ -76,7 +76,7 @@ module _ {w : R.Step} {buf₀ buf : List ℕ} {o : S.Step} (h : Stepped w buf₀
 
 -- ---- the room
 
-not_key : {n : ℕ} {k : List ℕ} {u : ℕ} → ¬ (R.Answer.refused n ≡ key k u)
+not_key : {n : Refusal} {k : List ℕ} {u : ℕ} → ¬ (R.Answer.refused n ≡ key k u)
 not_key e = let z : ◌≡◌ {A = ℕ} 0 1 = cc in omega arith
 
 pub key_room : (s : List ℕ) (v : View) (space : ℕ) (k : List ℕ) (u : ℕ) → (R.next s v space).answer ≡ key k u → max_path ≤ space
@@ -96,7 +96,7 @@ unfolding R.next
 room_same s v space room = rw (le-leb max_path space room)
 
 -- where a key was handed out, the number was not 0 or the buffer short
-pub some_left : (s : List ℕ) (v : View) (space : ℕ) {buf₀ buf : List ℕ} {o : S.Step} → Stepped (R.next s v space) buf₀ buf o → (m u : ℕ) → o.answer ≡ Key m u → (n : ℕ)
+pub some_left : (s : List ℕ) (v : View) (space : ℕ) {buf₀ buf : List ℕ} {o : S.Step} → Stepped (R.next s v space) buf₀ buf o → (m u : ℕ) → o.answer ≡ Ok (Some (m, u)) → (n : ℕ)
     → ((n ≡ 0) × (space < 255)) ⊎ (¬ (n ≡ 0)) → ¬ (n ≡ 0)
 some_left s v space h m u e n (inl x) z = let q = step_key (told h) m u e in let room = key_room s v space q.0 u q.1 in let short = x.1 in omega arith
 some_left s v space h m u e n (inr ne) z = ne z

@@ -4,7 +4,8 @@
 --     plain_then                                the rest
 -- Assumes nothing.
 use mathlib.Core.Path.{◌≡◌, sym, ap, ◌∙◌}
-use mathlib.Core.Bool.{false}
+use Rattle.std.specs.Prelude.{Ok, Err, Result, ⊤, ℕ}
+use Rattle.format.specs.declared.Refusal.{Refusal}
 use mathlib.Core.List.{List}
 use Prim.Native.Nat.{ℕ, ◌≤◌, ◌<◌}
 use borrow.Author.Tests.{le-leb, lt-leb}
@@ -25,33 +26,29 @@ use Rattle.plain.specs.Plain.{plain_with, begun, start_plain, then_number}
 use Rattle.stream_start.specs.Views as Views
 use Rattle.stream_start.specs.Views.{view_is, started_is}
 use Rattle.stream_start.specs.declared.Started.{Started}
-use Rattle.stream_start.specs.declared.Begins.{Begins}
-use Rattle.stream_start.specs.declared.Begins.TheVariants.{Began, Refused}
-use Rattle.stream_number.specs.declared.Tallied.{Tallied}
-use Rattle.stream_number.specs.declared.Tallied.TheVariants.{Comes, Refused as NoNumber}
 use Rattle.stream_number.specs.Totals.{tally_is}
 
 module _ {w : R.Started} (o : Started) (h : started_is o ≡ w) where
-  pub then_refused : (t : Tally) (n : ℕ) → o.answer ≡ Refused n → P.Begun.refused n ≡ then_number w t
+  pub then_refused : (t : Tally) (n : Refusal) → o.answer ≡ Err n → P.Begun.refused n ≡ then_number w t
   then_refused t n e =
-      let q : R.Started.refused n ≡ w = ap (λ (b : Begins). Views.began_is b o.reading) (sym e) ∙ h in
+      let q : R.Started.refused n ≡ w = ap (λ (b : Result ⊤ Refusal). Views.began_is b o.reading) (sym e) ∙ h in
       ap (λ (x : R.Started). then_number x t) q
 
-  began_is_lem : o.answer ≡ Began → R.started (view_is o.reading) ≡ w
-  began_is_lem e = ap (λ (b : Begins). Views.began_is b o.reading) (sym e) ∙ h
+  began_is_lem : o.answer ≡ Ok tt → R.started (view_is o.reading) ≡ w
+  began_is_lem e = ap (λ (b : Result ⊤ Refusal). Views.began_is b o.reading) (sym e) ∙ h
 
-  pub then_halted : {t : Tally} (r : Tallied) → tally_is r ≡ t → o.answer ≡ Began → (n : ℕ) → r ≡ NoNumber n → P.Begun.refused n ≡ then_number w t
+  pub then_halted : {t : Tally} (r : Result ℕ Refusal) → tally_is r ≡ t → o.answer ≡ Ok tt → (n : Refusal) → r ≡ Err n → P.Begun.refused n ≡ then_number w t
   then_halted {t} r g e n is =
       let q : N.Tally.refused n ≡ t = ap tally_is (sym is) ∙ g in
       ap (then_number (R.started (view_is o.reading))) q ∙ ap (λ (x : R.Started). then_number x t) (began_is_lem e)
 
-  pub then_begun : {t : Tally} (r : Tallied) → tally_is r ≡ t → o.answer ≡ Began → (n : ℕ) → r ≡ Comes n → begun (plain_with (view_is o.reading) n) ≡ then_number w t
+  pub then_begun : {t : Tally} (r : Result ℕ Refusal) → tally_is r ≡ t → o.answer ≡ Ok tt → (n : ℕ) → r ≡ Ok n → begun (plain_with (view_is o.reading) n) ≡ then_number w t
   then_begun {t} r g e n is =
       let q : comes_to n ≡ t = ap tally_is (sym is) ∙ g in
       ap (then_number (R.started (view_is o.reading))) q ∙ ap (λ (x : R.Started). then_number x t) (began_is_lem e)
 
 module _ (s : List ℕ) (lo hi : S.Bound) (c : List ℕ) where
-  pub plain_refused : (n : ℕ) → opening s ≡ O.refused n → start_plain s lo hi c ≡ P.Begun.refused n
+  pub plain_refused : (n : Refusal) → opening s ≡ O.refused n → start_plain s lo hi c ≡ P.Begun.refused n
   unfolding start_plain
   plain_refused n e = rw e
 

@@ -13,11 +13,8 @@ ghost use Rattle.stream_start.specs.Views.{view_is, bound_is};
 ghost use Rattle.stream_number.specs.Totals.{TableLent};
 ghost use Rattle.stream.specs.Plains.{plain_is, begun_is, refused_start, CallGave, PlainStepped};
 
-use format::{BOUND, MAX_KEY, SPACE, STATE};
-use fst::Opened;
-use stream_number::Tallied;
-use stream_start::{Begins, Bound, Reading};
-use stream_step::Answer;
+use format::{MAX_KEY, Refusal};
+use stream_start::{Bound, Reading};
 
 // A plain reading, passed by value.
 #[derive(Clone, Copy)]
@@ -30,26 +27,26 @@ pub struct Plain {
 // What a start gives back, in the form of stream_start::Started. After a refusal the reading carries no meaning.
 #[derive(Clone, Copy)]
 pub struct Started {
-    pub answer: Begins,
+    pub answer: Result<(), Refusal>,
     pub plain: Plain,
 }
 
 // What a call gives back: its answer, and the reading after it.
 #[derive(Clone, Copy)]
 pub struct Step {
-    pub answer: Answer,
+    pub answer: Result<Option<(usize, u64)>, Refusal>,
     pub plain: Plain,
 }
 
 // ---- start
 
 // A refused start, with a reading that has no levels.
-pub fn refused(why: u8) -> Started
+pub fn refused(why: Refusal) -> Started
     ensures { result ≡ refused_start why }
 {
     let reading = stream_start::no_reading();
     Started {
-        answer: Begins::Refused(why),
+        answer: Err(why),
         plain: Plain { reading, keys: 0 },
     }
 }
@@ -75,15 +72,15 @@ fn numbered(
     let answer = started.answer;
     let reading = started.reading;
     match answer {
-        Begins::Refused(why) => refused(why),
-        Begins::Began => {
+        Err(why) => refused(why),
+        Ok(()) => {
             let tallied = stream_number::number(
                 file, version, root, lower_kind, lower, upper_kind, upper, counts,
             );
             match tallied {
-                Tallied::Refused(why) => refused(why),
-                Tallied::Comes(keys) => Started {
-                    answer: Begins::Began,
+                Err(why) => refused(why),
+                Ok(keys) => Started {
+                    answer: Ok(()),
                     plain: Plain { reading, keys },
                 },
             }
@@ -108,17 +105,17 @@ pub fn start(
 {
     let opened = fst::open(file);
     match opened {
-        Opened::Refused(why) => refused(why),
-        Opened::Meta(m) => {
+        Err(why) => refused(why),
+        Ok(m) => {
             if MAX_KEY < stream_start::len_of(lower_kind, lower) {
-                return refused(BOUND);
+                return refused(Refusal::Bound);
             }
             if MAX_KEY < stream_start::len_of(upper_kind, upper) {
-                return refused(BOUND);
+                return refused(Refusal::Bound);
             }
             let short = counts.len() < file.len();
             if short {
-                return refused(SPACE);
+                return refused(Refusal::Space);
             }
             numbered(
                 file, m.version, m.root, lower_kind, lower, upper_kind, upper, counts,
@@ -139,19 +136,19 @@ fn next_of_none(file: &[u8], reading: Reading) -> Step
     let answer = step.answer;
     let after = step.reading;
     match answer {
-        Answer::Key(_, _) => Step {
-            answer: Answer::Refused(STATE),
+        Ok(Some(_)) => Step {
+            answer: Err(Refusal::State),
             plain: Plain { reading, keys: 0 },
         },
-        Answer::End => Step {
-            answer: Answer::End,
+        Ok(None) => Step {
+            answer: Ok(None),
             plain: Plain {
                 reading: after,
                 keys: 0,
             },
         },
-        Answer::Refused(why) => Step {
-            answer: Answer::Refused(why),
+        Err(why) => Step {
+            answer: Err(why),
             plain: Plain {
                 reading: after,
                 keys: 0,
@@ -177,24 +174,24 @@ pub fn next(file: &[u8], plain: Plain, key: &mut [u8]) -> Step
     let answer = step.answer;
     let after = step.reading;
     match answer {
-        Answer::Key(n, value) => {
+        Ok(Some((n, value))) => {
             return Step {
-                answer: Answer::Key(n, value),
+                answer: Ok(Some((n, value))),
                 plain: Plain {
                     reading: after,
                     keys: keys - 1,
                 },
             };
         }
-        Answer::End => Step {
-            answer: Answer::End,
+        Ok(None) => Step {
+            answer: Ok(None),
             plain: Plain {
                 reading: after,
                 keys,
             },
         },
-        Answer::Refused(n) => Step {
-            answer: Answer::Refused(n),
+        Err(n) => Step {
+            answer: Err(n),
             plain: Plain {
                 reading: after,
                 keys,

@@ -10,7 +10,8 @@
 --     DemandCode                demand 3 and the number of keys to come, of what the code handed out
 -- Assumes nothing.
 use Prim.{Unit}
-use Rattle.std.specs.Prelude.{◌≡◌, ◌⊎◌, ℕ, ◌+◌, ◌≤◌, ◌<◌, length, take, replicate}
+use Rattle.std.specs.Prelude.{◌≡◌, ◌⊎◌, ℕ, ◌+◌, ◌≤◌, ◌<◌, length, take, replicate, Ok, Err, Some, None, Result, Option}
+use Rattle.format.specs.declared.Refusal.{Refusal}
 use mathlib.Core.List.{List, [], ◌∷◌, ◌++◌, map, Memᴰ}
 use Rattle.format.specs.Limits.{max_path}
 use Rattle.format.specs.Paths.{fst_of, Held}
@@ -22,9 +23,6 @@ use Rattle.reading.specs.Reading.{key, end}
 use Rattle.reading.specs.Demand.{Within, Extra, EmptyExcluded, Call, unrefused, Entry, entry, hand_out, handed_in, NotAfterLast, NoneLeft, capped}
 use Rattle.plain.specs.Plain.{start_plain, next_plain, plain_after, answers_plain}
 use Rattle.plain.specs.PlainDemand.{keys_out, StillToCome, DemandPlain}
-use Rattle.stream_start.specs.declared.Begins.TheVariants.{Began}
-use Rattle.stream_step.specs.declared.Answer.{Answer}
-use Rattle.stream_step.specs.declared.Answer.TheVariants.{Key, End, Refused}
 use Rattle.stream.specs.declared.Plain.{Plain}
 use Rattle.stream.specs.declared.Started.{Started}
 use Rattle.stream.specs.declared.Step.{Step}
@@ -43,10 +41,10 @@ pub record CallMade (s : List ℕ) (r : Plain) (c : CodeCall) : Type 0 where
   pub which : (c.file ≡ s) ⊎ (¬ (length c.file ≡ length s))
   pub stepped : PlainStepped (next_plain c.file (plain_is r) (length c.before)) c.before c.after c.step
 
-abbrev pub in_hand : Answer → List ℕ → R.Answer
-in_hand (Key n v) buf = key (take n buf) v
-in_hand End buf = end
-in_hand (Refused n) buf = R.Answer.refused n
+abbrev pub in_hand : Result (Option (ℕ × ℕ)) Refusal → List ℕ → R.Answer
+in_hand (Ok (Some (n, v))) buf = key (take n buf) v
+in_hand (Ok None) buf = end
+in_hand (Err n) buf = R.Answer.refused n
 
 abbrev pub answered : CodeCall → R.Answer
 answered c = in_hand c.step.answer c.after
@@ -74,7 +72,7 @@ calls_is r (c ∷ cs) w = call_is c w.0 ∷ calls_is c.step.plain cs w.1
 -- ---- the claim
 
 pub record StartMade (s : List ℕ) (lo hi : S.Bound) (t : List ℕ) (b : Started) : Type 0 where
-  pub began : b.answer ≡ Began
+  pub began : b.answer ≡ Ok tt
   pub starts : begun_is b ≡ start_plain s lo hi t
 
 -- the calls are the definition's calls, and demand 3 holds of those
@@ -100,13 +98,13 @@ pub record DemandCode {s : List ℕ} (A : Admitted s) (lo hi : S.Bound) (b : Sta
   pub none_left_out : (k : List ℕ) (v : ℕ) → Held (fst_of s A.meta) k v → Between lo hi k → (e : Entry) → Memᴰ e handed → ¬ Before e.key k
       → Memᴰ (entry k v) handed
   pub end_exactly : (cs₁ cs₂ : List CodeCall) (c : CodeCall) → cs ≡ cs₁ ++ (c ∷ cs₂) → CodeAllowed s c
-      → (c.step.answer ≡ End → NoneLeft (fst_of s A.meta) lo hi (handed_in (code_answers cs₁)))
-      × (NoneLeft (fst_of s A.meta) lo hi (handed_in (code_answers cs₁)) → c.step.answer ≡ End)
+      → (c.step.answer ≡ Ok None → NoneLeft (fst_of s A.meta) lo hi (handed_in (code_answers cs₁)))
+      × (NoneLeft (fst_of s A.meta) lo hi (handed_in (code_answers cs₁)) → c.step.answer ≡ Ok None)
   -- a call is refused exactly when it is handed a short buffer or a file of another length; then what the reading says and the buffer stay
   pub refused_exactly : (cs₁ cs₂ : List CodeCall) (c : CodeCall) → cs ≡ cs₁ ++ (c ∷ cs₂)
-      → (CodeAllowed s c → (n : ℕ) → ¬ (c.step.answer ≡ Refused n))
+      → (CodeAllowed s c → (n : Refusal) → ¬ (c.step.answer ≡ Err n))
       × (¬ CodeAllowed s c
-      → (n : ℕ) × (c.step.answer ≡ Refused n) × (plain_is c.step.plain ≡ plain_is (last_reading b.plain cs₁)) × (c.after ≡ c.before))
+      → (n : Refusal) × (c.step.answer ≡ Err n) × (plain_is c.step.plain ≡ plain_is (last_reading b.plain cs₁)) × (c.after ≡ c.before))
   -- the total after the list
   pub total_ended : ¬ EmptyExcluded (fst_of s A.meta) lo hi → 0 < ends
       → (n e : ℕ) × NumberOf (Within (fst_of s A.meta) lo hi) n × Extra (fst_of s A.meta) lo hi e × ((last_reading b.plain cs).reading.total ≡ capped (n + e))

@@ -6,9 +6,10 @@
 --     demand_3_code                demand 3 and the number of keys to come, of what the code handed out
 -- Assumes nothing.
 use Prim.{tt}
-use Rattle.std.specs.Prelude.{◌≡◌, refl, Bool, true, false, ◌⊎◌, List, [], ◌∷◌, ◌++◌, ℕ, ◌+◌, ◌<◌, ◌≤◌, eqb, length, drop}
+use Rattle.std.specs.Prelude.{◌≡◌, refl, Bool, true, false, ◌⊎◌, List, [], ◌∷◌, ◌++◌, ℕ, ◌+◌, ◌<◌, ◌≤◌, eqb, length, drop, Ok, Err, None, Result, Option, ⊤}
 use Rattle.std.proofs.Common.{sym, ◌∙◌, ap, ap₂, subst, ⊎_elim, inl, inr, arith}
 use Rattle.std.proofs.Math.Seq.{take-append_seam}
+use Rattle.format.specs.declared.Refusal.{Refusal}
 use Rattle.format.specs.Limits.{max_path}
 use Rattle.format.specs.Paths.{fst_of, Held}
 use Rattle.format.specs.Admitted.{Admitted}
@@ -25,9 +26,6 @@ use Rattle.plain.specs.Plain as P
 use Rattle.plain.specs.Plain.{Begun, begun, start_plain, next_plain, counting, call_plain, plain_after, answers_plain}
 use Rattle.plain.specs.PlainDemand.{keys_out, StillToCome, DemandPlain}
 use Rattle.plain.proofs.PlainLaws.{handed_of, plain_long_bound, plain_short, demand_3_plain}
-use Rattle.stream_start.specs.declared.Begins.{Begins}
-use Rattle.stream_step.specs.declared.Answer.{Answer}
-use Rattle.stream_step.specs.declared.Answer.TheVariants.{End, Refused}
 use Rattle.stream_step.specs.Stepped.{answer_as}
 use Rattle.stream.specs.declared.Plain.{Plain}
 use Rattle.stream.specs.declared.Started.{Started}
@@ -67,22 +65,22 @@ made_apart s r (d ∷ cs) c more w = let q = made_apart s d.step.plain cs c more
 
 -- ---- the cases of an answer
 
-end_of : (a : R.Answer) → answer_as a ≡ End → a ≡ end
+end_of : (a : R.Answer) → answer_as a ≡ Ok None → a ≡ end
 end_of (key k v) e = absurd (let z : ◌≡◌ {A = ℕ} 0 1 = cc in omega arith)
 end_of end e = refl
 end_of (R.Answer.refused n) e = absurd (let z : ◌≡◌ {A = ℕ} 0 1 = cc in omega arith)
 
-refused_of : (a : R.Answer) (n : ℕ) → answer_as a ≡ Refused n → a ≡ R.Answer.refused n
+refused_of : (a : R.Answer) (n : Refusal) → answer_as a ≡ Err n → a ≡ R.Answer.refused n
 refused_of (key k v) n e = absurd (let z : ◌≡◌ {A = ℕ} 0 1 = cc in omega arith)
 refused_of end n e = absurd (let z : ◌≡◌ {A = ℕ} 0 1 = cc in omega arith)
-refused_of (R.Answer.refused m) n e = let q : m ≡ n = cc in ap (λ (x : ℕ). R.Answer.refused x) q
+refused_of (R.Answer.refused m) n e = let q : m ≡ n = cc in ap (λ (x : Refusal). R.Answer.refused x) q
 
 -- ---- the start
 
 begun_same : {p p' : P.Plain} → begun p ≡ begun p' → p ≡ p'
 begun_same e = cc
 
-not_refused : {p : P.Plain} {n : ℕ} → ¬ (begun p ≡ Begun.refused n)
+not_refused : {p : P.Plain} {n : Refusal} → ¬ (begun p ≡ Begun.refused n)
 not_refused e = let z : ◌≡◌ {A = ℕ} 0 1 = cc in omega arith
 
 -- a call does not count what it does not hand out
@@ -97,7 +95,7 @@ counted_total p v (R.Answer.refused m) n h g = h
 
 module _ {s : List ℕ} (A : Admitted s) (lo hi : S.Bound) (t : List ℕ) (fits : TableFits (fst_of s A.meta) lo hi t) (b : Started) (first : StartMade s lo hi t b) where
   gives : begun (plain_is b.plain) ≡ start_plain s lo hi t
-  gives = ap (λ (x : Begins). began_is x b.plain) (sym first.began) ∙ first.starts
+  gives = ap (λ (x : Result ⊤ Refusal). began_is x b.plain) (sym first.began) ∙ first.starts
 
   -- a start that is not refused was given bounds of at most 255 bytes, and a table that is long enough
   bounds_short : ¬ ((max_path < length (bound_bytes lo)) ⊎ (max_path < length (bound_bytes hi)))
@@ -172,23 +170,23 @@ module _ {s : List ℕ} (A : Admitted s) (lo hi : S.Bound) (t : List ℕ) (fits 
     allowed : CodeAllowed s c → Allowed (call_is c at)
     allowed h = record { same = h.same; room = h.room }
 
-    end_none : CodeAllowed s c → c.step.answer ≡ End → NoneLeft (fst_of s A.meta) lo hi (handed_in (code_answers cs))
+    end_none : CodeAllowed s c → c.step.answer ≡ Ok None → NoneLeft (fst_of s A.meta) lo hi (handed_in (code_answers cs))
     end_none h e =
         subst (NoneLeft (fst_of s A.meta) lo hi) (sym handed_before)
         ((D₁.end_exactly earlier [] (call_is c at) refl (allowed h)).0 (sym answer_as_lem ∙ end_of asked.answer (sym at.stepped.gave.answer ∙ e)))
 
-    none_end : CodeAllowed s c → NoneLeft (fst_of s A.meta) lo hi (handed_in (code_answers cs)) → c.step.answer ≡ End
+    none_end : CodeAllowed s c → NoneLeft (fst_of s A.meta) lo hi (handed_in (code_answers cs)) → c.step.answer ≡ Ok None
     none_end h none_left =
         let e = (D₁.end_exactly earlier [] (call_is c at) refl (allowed h)).1 (subst (NoneLeft (fst_of s A.meta) lo hi) handed_before none_left) in
         at.stepped.gave.answer ∙ ap answer_as (answer_as_lem ∙ e)
 
-    taken : CodeAllowed s c → (n : ℕ) → ¬ (c.step.answer ≡ Refused n)
+    taken : CodeAllowed s c → (n : Refusal) → ¬ (c.step.answer ≡ Err n)
     taken h n e =
         (D₁.refused_exactly earlier [] (call_is c at) refl).0 (allowed h) n
         (sym answer_as_lem ∙ refused_of asked.answer n (sym at.stepped.gave.answer ∙ e))
 
     not_taken : ¬ CodeAllowed s c
-        → (n : ℕ) × (c.step.answer ≡ Refused n) × (plain_is c.step.plain ≡ plain_is before) × (c.after ≡ c.before)
+        → (n : Refusal) × (c.step.answer ≡ Err n) × (plain_is c.step.plain ≡ plain_is before) × (c.after ≡ c.before)
     not_taken out =
         let w = (D₁.refused_exactly earlier [] (call_is c at) refl).1 (λ h. out (record { same = h.same; room = h.room })) in
         let n : R.next c.file (plain_is before).view (length c.before) ≡ R.refuse (plain_is before).view w.0 =

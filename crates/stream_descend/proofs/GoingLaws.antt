@@ -4,6 +4,8 @@
 --     going-..                        the contract at each way out, and the next turn
 -- Assumes nothing.
 use mathlib.Core.Path.{◌≡◌, refl, sym, ◌∙◌, ap}
+use Rattle.std.specs.Prelude.{Ok, Err, Result}
+use Rattle.format.specs.declared.Refusal.{Refusal}
 use mathlib.Core.Bool.{Bool, true, false, cond, true≢false}
 use mathlib.Core.Logic.{⊎_elim}
 use mathlib.Core.List.{List, ◌∷◌}
@@ -24,7 +26,7 @@ use Rattle.node.specs.Read.{meaning, Readable, transitions_in}
 use Rattle.node.specs.ReadLaws.{length_node_transitions}
 use Rattle.reading.specs.Reading.{Level, passes_test, key_of, counted, Went, found, next_trans, child, stepped}
 use Rattle.stream_descend.specs.declared.Down.{Down}
-use Rattle.stream_descend.specs.declared.Down.TheVariants.{Found, Passed, Halted}
+use Rattle.stream_descend.specs.declared.Down.TheVariants.{Found, Passed}
 use Rattle.stream_start.specs.Views.{Arrays, level_at, stack_is}
 use Rattle.stream_pop.specs.Pops.{Ready}
 use Rattle.stream_pop.specs.ReadyLaws.{ready_place, ready_target}
@@ -47,7 +49,7 @@ going_none s v root hi xs is ps os k m t l w r = record { low = l; arrays = w; r
 found_low : (k sum end t : ℕ) → k < 256 → down_at (found_at k sum end t) < 256
 found_low k sum end t h = go (leb (sum + end) max_sum)
   where
-    go : (b : Bool) → down_at (cond b (Found k (sum + end) t) (Halted SUM)) < 256
+    go : (b : Bool) → down_at (cond b (Ok (Found k (sum + end) t)) (Err SUM)) < 256
     go true = h
     go false = omega arith
 
@@ -56,7 +58,7 @@ found_seen : (xs is ps os : List ℕ) (k sum end t : ℕ)
     ≡ cond (leb (sum + end) max_sum) (found (level_at k xs is ps os ∷ stack_is k xs is ps os) (sum + end) t) (Went.halted SUM)
 found_seen xs is ps os k sum end t = go (leb (sum + end) max_sum)
   where
-    go : (b : Bool) → down_seen xs is ps os (cond b (Found k (sum + end) t) (Halted SUM))
+    go : (b : Bool) → down_seen xs is ps os (cond b (Ok (Found k (sum + end) t)) (Err SUM))
         ≡ cond b (found (level_at k xs is ps os ∷ stack_is k xs is ps os) (sum + end) t) (Went.halted SUM)
     go true = refl
     go false = refl
@@ -69,7 +71,7 @@ module _ {s : List ℕ} {v root : ℕ} {hi : Bound} {want : Went} {xs is ps os :
   abbrev l : Level
   l = level_at k xs is ps os
 
-  pub going_deep : 255 ≤ k → Descends want xs is ps os (Halted DEEP)
+  pub going_deep : 255 ≤ k → Descends want xs is ps os (Err DEEP)
   going_deep h = record {
     low = omega arith;
     len = g.arrays.inps_len;
@@ -98,7 +100,7 @@ module _ {s : List ℕ} {v root : ℕ} {hi : Bound} {want : Went} {xs is ps os :
       out_is : get_or os k 0 + out ≡ l.out + (next_trans l (meaning s m)).out
       out_is = rw (eo, ei)
 
-      pub going_sum : max_sum < get_or os k 0 + out → Descends want xs is ps os (Halted SUM)
+      pub going_sum : max_sum < get_or os k 0 + out → Descends want xs is ps os (Err SUM)
       going_sum h = record {
         low = omega arith;
         len = g.arrays.inps_len;
@@ -112,7 +114,7 @@ module _ {s : List ℕ} {v root : ℕ} {hi : Bound} {want : Went} {xs is ps os :
         target_is : a ≡ (next_trans l (meaning s m)).addr
         target_is = rw (ea, ei)
 
-        pub going_bad : node_in f a ≡ unsound → Descends want xs is ps os (Halted NODE)
+        pub going_bad : node_in f a ≡ unsound → Descends want xs is ps os (Err NODE)
         going_bad e = record {
           low = omega arith;
           len = g.arrays.inps_len;
@@ -163,7 +165,7 @@ module _ {s : List ℕ} {v root : ℕ} {hi : Bound} {want : Went} {xs is ps os :
               ∙ sym (ap (λ (r : List Level). key_of (level_at (k + 1) xs⁺ is⁺ ps⁺ os⁺ ∷ r)) below⁺)
               ∙ key_stack (k + 1) xs⁺ is⁺ ps⁺ os⁺ (omega (arith, len⁺))
 
-          pub going_passed : passes_test hi (take (k + 1) (drop 1 is⁺)) ≡ true → Descends want xs⁺ is⁺ ps⁺ os⁺ (Passed u)
+          pub going_passed : passes_test hi (take (k + 1) (drop 1 is⁺)) ≡ true → Descends want xs⁺ is⁺ ps⁺ os⁺ (Ok (Passed u))
           going_passed p = record {
             low = omega arith;
             len = len⁺;
@@ -171,7 +173,7 @@ module _ {s : List ℕ} {v root : ℕ} {hi : Bound} {want : Went} {xs is ps os :
           }
 
           module _ (p : passes_test hi (take (k + 1) (drop 1 is⁺)) ≡ false) where
-            pub going_final : n.is_final ≡ true → (r : Down) → r ≡ found_at (k + 1) (sum) n.final_output u → Descends want xs⁺ is⁺ ps⁺ os⁺ r
+            pub going_final : n.is_final ≡ true → (r : Result Down Refusal) → r ≡ found_at (k + 1) (sum) n.final_output u → Descends want xs⁺ is⁺ ps⁺ os⁺ r
             going_final e r er = record {
               low = rw er (found_low (k + 1) (sum) n.final_output u (omega arith));
               len = len⁺;

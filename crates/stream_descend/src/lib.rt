@@ -8,18 +8,17 @@ ghost use Rattle.stream_start.specs.Views.{Arrays, bound_is};
 ghost use Rattle.stream_pop.specs.Pops.{Ready};
 ghost use Rattle.stream_descend.specs.Descent.{Descends, down_from, found_at};
 
-use format::{DEEP, LEVELS, MAX_KEY, NODE, SUM};
+use format::{LEVELS, MAX_KEY, Refusal};
 use node::Node;
 use stream_bounds::exceeded;
 use stream_start::Bound;
 
-// What the descent finds: the place of the level where a key ends, the key's value and the total; the total where the upper bound is
-// passed; or the number of a refusal.
+// What the descent finds: the place of the level where a key ends, the key's value and the total; or the total where the upper bound
+// is passed.
 #[derive(Clone, Copy)]
 pub enum Down {
     Found(usize, u64, u64),
     Passed(u64),
-    Halted(u8),
 }
 
 // The total, with one transition more.
@@ -30,13 +29,13 @@ pub fn counted(total: u64) -> u64
 }
 
 // The key that ends at level k, unless its value passes 2^64 - 1.
-fn found(k: usize, sum: u64, end: u64, total: u64) -> Down
+fn found(k: usize, sum: u64, end: u64, total: u64) -> Result<Down, Refusal>
     ensures { result ≡ found_at k sum end total }
 {
     let Some(value) = sum.checked_add(end) else {
-        return Down::Halted(SUM);
+        return Err(Refusal::Sum);
     };
-    Down::Found(k, value, total)
+    Ok(Down::Found(k, value, total))
 }
 
 // From the level at top, whose node is judged, down to the next key by each level's next transition. A node is judged once: as it is
@@ -55,7 +54,7 @@ pub fn descend(
     bound: &[u8; MAX_KEY],
     bound_len: usize,
     kind: Bound,
-) -> Down
+) -> Result<Down, Refusal>
     requires arrays { Arrays addrs.old inps.old trans.old outs.old
         × (length bound.now ≡ max_path) × (bound_len ≤ max_path) }
     requires top_lt_max_levels { (top < max_levels) × (root < 4294967296) × Ready file.now version root
@@ -72,11 +71,11 @@ pub fn descend(
         let i = usize::from(trans[k]);
         let out = node::output(file, m, i);
         let Some(sum) = outs[k].checked_add(out) else {
-            return Down::Halted(SUM);
+            return Err(Refusal::Sum);
         };
         let target = node::transition_addr(file, m, i);
         let Ok(n) = node::node_at(file, version, root, target) else {
-            return Down::Halted(NODE);
+            return Err(Refusal::Node);
         };
         let inp = node::input(file, m, i);
         trans[k] = (i + 1) as u16;
@@ -87,12 +86,12 @@ pub fn descend(
         outs[next] = sum;
         t = counted(t);
         if exceeded(inps, next, bound, bound_len, kind) {
-            return Down::Passed(t);
+            return Ok(Down::Passed(t));
         }
         if n.is_final {
             return found(next, sum, n.final_output, t);
         }
         m = n;
     }
-    Down::Halted(DEEP)
+    Err(Refusal::Deep)
 }

@@ -6,8 +6,9 @@
 -- Assumes nothing.
 use mathlib.Core.Path.{◌≡◌, refl, sym, ◌∙◌, ap, subst}
 use mathlib.Core.Bool.{Bool, true, false, ◌&&◌}
-use mathlib.Core.Option.{Option, none, some}
-use Rattle.std.specs.Prelude.{None}
+use mathlib.Core.Option.{Option, some}
+use Rattle.std.specs.Prelude.{None, Ok, Err, Some, Result}
+use Rattle.format.specs.declared.Refusal.{Refusal}
 use mathlib.Core.List.{List, []}
 use Prim.Native.Nat.{ℕ, ◌+◌, ◌<◌, ◌≤◌}
 use native.Mathlib.Omega.{arith}
@@ -26,7 +27,6 @@ use Rattle.stream_start.specs.StackLaws.{stack_length}
 use Rattle.stream_bounds.specs.State.{state_right}
 use Rattle.stream_pop.specs.declared.Popped.{Popped}
 use Rattle.stream_pop.specs.Pops.{pop_seen, Pops}
-use Rattle.stream_step.specs.declared.Answer.TheVariants.{Key, Refused}
 use Rattle.stream_step.specs.declared.Step.{Step}
 use Rattle.stream_step.specs.Stepped.{Stepped}
 use Rattle.stream_step.specs.Steps.{placed_at, ended_at}
@@ -42,7 +42,7 @@ module _ (f : Fst) (r : Reading) (v : ℕ) (buf : List ℕ) where
   pending_passed p x h = rw p h
 
   pub pending_key : passes_test (view_is r).bound [] ≡ false → (q : Reading) → q ≡ placed_at r r.levels r.total
-      → Stepped (R.walk f (view_is r) (some v)) buf buf (record { answer = Key 0 v; reading = q })
+      → Stepped (R.walk f (view_is r) (some v)) buf buf (record { answer = Ok (Some (0, v)); reading = q })
   pending_key p q e = rw p (record { answer = refl; reading = ap view_is e; buffer = refl })
 
 -- ---- the pops
@@ -69,20 +69,20 @@ behind r k t xs is ps os = record {
   outs = os;
 }
 
-module _ {w : R.Step} (r : Reading) {buf₀ buf xs is ps os : List ℕ} {g : Gone} (h : GoneBy w (view_is r) buf₀ buf xs is ps os g) where
-  as_gone : {d : Gone} → g ≡ d → GoneBy w (view_is r) buf₀ buf xs is ps os d
+module _ {w : R.Step} (r : Reading) {buf₀ buf xs is ps os : List ℕ} {g : Result Gone Refusal} (h : GoneBy w (view_is r) buf₀ buf xs is ps os g) where
+  as_gone : {d : Result Gone Refusal} → g ≡ d → GoneBy w (view_is r) buf₀ buf xs is ps os d
   as_gone e = subst (GoneBy w (view_is r) buf₀ buf xs is ps os) e h
 
-  pub gone_low : (k v t : ℕ) → g ≡ G.Key k v t → k < 256
+  pub gone_low : (k v t : ℕ) → g ≡ Ok (G.Key k v t) → k < 256
   gone_low k v t e = (as_gone e).low
 
-  pub walk_refused : (n : ℕ) → g ≡ G.Refused n → Stepped w buf₀ buf (record { answer = Refused n; reading = r })
+  pub walk_refused : (n : Refusal) → g ≡ Err n → Stepped w buf₀ buf (record { answer = Err n; reading = r })
   walk_refused n e = let q = as_gone e in record { answer = q.answer; reading = q.reading; buffer = q.buffer }
 
-  pub walk_ended : (t : ℕ) → g ≡ G.End t → {b : List ℕ} (x : Step) → Stepped (ended_at (view_is r) t) b b x → Stepped w buf₀ buf x
+  pub walk_ended : (t : ℕ) → g ≡ Ok (G.End t) → {b : List ℕ} (x : Step) → Stepped (ended_at (view_is r) t) b b x → Stepped w buf₀ buf x
   walk_ended t e x o = let q = as_gone e in record { answer = o.answer ∙ q.answer; reading = o.reading ∙ q.reading; buffer = q.buffer }
 
-  pub walk_key : (k v t : ℕ) → g ≡ G.Key k v t → Stepped w buf₀ buf (record { answer = Key k v; reading = behind r k t xs is ps os })
+  pub walk_key : (k v t : ℕ) → g ≡ Ok (G.Key k v t) → Stepped w buf₀ buf (record { answer = Ok (Some (k, v)); reading = behind r k t xs is ps os })
   walk_key k v t e = let q = as_gone e in record { answer = q.answer; reading = q.reading; buffer = q.buffer }
 
 -- ---- what comes before the walk
@@ -102,22 +102,22 @@ state_is_lem : (r : Reading) (len : ℕ) → state_right r.levels r.bound_len r.
 state_is_lem r len = rw (stack_length r.levels r.addrs r.inps r.trans r.outs)
 
 module _ (s : List ℕ) (r : Reading) (buf₀ : List ℕ) where
-  refused_by : (n : ℕ) → R.next s (view_is r) (length buf₀) ≡ refuse (view_is r) n
-      → Stepped (R.next s (view_is r) (length buf₀)) buf₀ buf₀ (record { answer = Refused n; reading = r })
+  refused_by : (n : Refusal) → R.next s (view_is r) (length buf₀) ≡ refuse (view_is r) n
+      → Stepped (R.next s (view_is r) (length buf₀)) buf₀ buf₀ (record { answer = Err n; reading = r })
   refused_by n e = rw e (record { answer = refl; reading = refl; buffer = refl })
 
-  pub next_refused : (n : ℕ) → opening s ≡ Opening.refused n → Stepped (R.next s (view_is r) (length buf₀)) buf₀ buf₀ (record { answer = Refused n; reading = r })
+  pub next_refused : (n : Refusal) → opening s ≡ Opening.refused n → Stepped (R.next s (view_is r) (length buf₀)) buf₀ buf₀ (record { answer = Err n; reading = r })
   unfolding R.next
   next_refused n e = refused_by n (rw e)
 
   module _ (m : Meta) (opens : opening s ≡ opened m) where
     pub next_state : state_right r.levels r.bound_len r.len (length s) ≡ false
-        → Stepped (R.next s (view_is r) (length buf₀)) buf₀ buf₀ (record { answer = Refused STATE; reading = r })
+        → Stepped (R.next s (view_is r) (length buf₀)) buf₀ buf₀ (record { answer = Err STATE; reading = r })
     unfolding R.next
     next_state h = let t = sym (state_is_lem r (length s)) ∙ h in refused_by STATE (rw (opens, t))
 
     module _ (h : state_right r.levels r.bound_len r.len (length s) ≡ true) where
-      pub next_space : length buf₀ < 255 → Stepped (R.next s (view_is r) (length buf₀)) buf₀ buf₀ (record { answer = Refused SPACE; reading = r })
+      pub next_space : length buf₀ < 255 → Stepped (R.next s (view_is r) (length buf₀)) buf₀ buf₀ (record { answer = Err SPACE; reading = r })
       unfolding R.next
       next_space g = let t = sym (state_is_lem r (length s)) ∙ h in refused_by SPACE (rw (opens, t, lt-leb 255 (length buf₀) g))
 

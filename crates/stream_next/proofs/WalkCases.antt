@@ -4,13 +4,15 @@
 --     inputs_hold, inputs_copied         the key, out of the inputs after the first
 -- Assumes nothing.
 use mathlib.Core.Path.{◌≡◌, refl, sym, ◌∙◌, ap, subst}
+use Rattle.std.specs.Prelude.{Ok, Err, Result}
+use Rattle.format.specs.declared.Refusal.{Refusal}
 use mathlib.Core.Option.{Option, none}
-use mathlib.Core.List.{List, [], ◌∷◌, ◌++◌}
-use Prim.Native.Nat.{ℕ, ◌+◌, ◌-◌, ◌<◌, ◌≤◌}
+use mathlib.Core.List.{List, ◌∷◌, ◌++◌}
+use Prim.Native.Nat.{ℕ, ◌-◌, ◌<◌, ◌≤◌}
 use native.Mathlib.Omega.{arith}
 use lib.ListN.{length, take, drop, length-drop}
 use lib.Seq.{length-take-le, take-take}
-use Rattle.format.specs.Limits.{max_path, max_levels, NODE}
+use Rattle.format.specs.Limits.{max_levels, NODE}
 use Rattle.format.specs.Paths.{Fst, fst_with}
 use Rattle.format.specs.Strings as S
 use Rattle.node.specs.declared.Node.{Node}
@@ -20,18 +22,18 @@ use Rattle.reading.specs.Reading.{View, Level, Went, found, passed, top, used_up
 use Rattle.stream_start.specs.Views.{level_at, stack_is}
 use Rattle.stream_start.specs.StackLaws.{stack_length, stack_more, key_stack}
 use Rattle.stream_descend.specs.declared.Down.{Down}
-use Rattle.stream_descend.specs.declared.Down.TheVariants.{Found, Passed, Halted}
+use Rattle.stream_descend.specs.declared.Down.TheVariants.{Found}
 use Rattle.stream_descend.specs.Descent.{down_seen, down_at, down_from, Descends}
 use Rattle.stream_next.specs.declared.Gone.{Gone}
-use Rattle.stream_next.specs.declared.Gone.TheVariants.{Key, End, Refused}
+use Rattle.stream_next.specs.declared.Gone.TheVariants.{Key, End}
 use Rattle.stream_next.specs.Going.{view_with, GoneBy}
 
 -- ---- the descent
 
-pub descends_is : {want : Went} {xs is ps os : List ℕ} {d d' : Down} → Descends want xs is ps os d → d ≡ d' → want ≡ down_seen xs is ps os d'
+pub descends_is : {want : Went} {xs is ps os : List ℕ} {d d' : Result Down Refusal} → Descends want xs is ps os d → d ≡ d' → want ≡ down_seen xs is ps os d'
 descends_is {want} {xs} {is} {ps} {os} h e = sym h.seen ∙ ap (down_seen xs is ps os) e
 
-pub descends_low : {want : Went} {xs is ps os : List ℕ} {d : Down} {k v t : ℕ} → Descends want xs is ps os d → d ≡ Found k v t → k < max_levels
+pub descends_low : {want : Went} {xs is ps os : List ℕ} {d : Result Down Refusal} {k v t : ℕ} → Descends want xs is ps os d → d ≡ Ok (Found k v t) → k < max_levels
 descends_low h e = rw (ap down_at e) at h.low
 
 -- ---- the answers, from a reading whose levels are in the arrays
@@ -43,13 +45,13 @@ module _ (s : List ℕ) (version root len : ℕ) (hi : S.Bound) (n : ℕ) (e : O
   abbrev v : View
   v = view_with len hi n e t (stack_is levels xs is ps os)
 
-  abbrev GoneAs : List ℕ → List ℕ → List ℕ → List ℕ → List ℕ → List ℕ → Gone → Type 0
+  abbrev GoneAs : List ℕ → List ℕ → List ℕ → List ℕ → List ℕ → List ℕ → Result Gone Refusal → Type 0
   GoneAs buf₀ buf xs' is' ps' os' g = GoneBy (R.walk f v none) v buf₀ buf xs' is' ps' os' g
 
-  pub gone_empty : pop f (stack_is levels xs is ps os) ≡ used_up → (buf xs' is' ps' os' : List ℕ) → GoneAs buf buf xs' is' ps' os' (End t)
+  pub gone_empty : pop f (stack_is levels xs is ps os) ≡ used_up → (buf xs' is' ps' os' : List ℕ) → GoneAs buf buf xs' is' ps' os' (Ok (End t))
   gone_empty p buf xs' is' ps' os' = rw p (record { answer = refl; reading = refl; buffer = refl; low = omega arith })
 
-  pub gone_bad : pop f (stack_is levels xs is ps os) ≡ bad → (buf xs' is' ps' os' : List ℕ) → GoneAs buf buf xs' is' ps' os' (Refused NODE)
+  pub gone_bad : pop f (stack_is levels xs is ps os) ≡ bad → (buf xs' is' ps' os' : List ℕ) → GoneAs buf buf xs' is' ps' os' (Err NODE)
   gone_bad p buf xs' is' ps' os' = rw p (record { answer = refl; reading = refl; buffer = refl; low = omega arith })
 
   module _ (k : ℕ) (m : Node) (p : pop f (stack_is levels xs is ps os) ≡ top (level_at k xs is ps os) (meaning s m) (stack_is k xs is ps os)) where
@@ -57,18 +59,18 @@ module _ (s : List ℕ) (version root len : ℕ) (hi : S.Bound) (n : ℕ) (e : O
     at_walk = rw (p, stack_length k xs is ps os)
 
     module _ {w : Went} (is_w : down_from s version root hi xs is ps os k m t ≡ w) where
-      as_went : {buf₀ buf xs' is' ps' os' : List ℕ} {g : Gone} → GoneBy (after_descend v w) v buf₀ buf xs' is' ps' os' g → GoneAs buf₀ buf xs' is' ps' os' g
+      as_went : {buf₀ buf xs' is' ps' os' : List ℕ} {g : Result Gone Refusal} → GoneBy (after_descend v w) v buf₀ buf xs' is' ps' os' g → GoneAs buf₀ buf xs' is' ps' os' g
       as_went {buf₀} {buf} {xs'} {is'} {ps'} {os'} {g} h =
           subst (λ (q : R.Step). GoneBy q v buf₀ buf xs' is' ps' os' g) (sym (at_walk ∙ ap (after_descend v) is_w)) h
 
-      pub gone_halted : (c : ℕ) → w ≡ Went.halted c → (buf xs' is' ps' os' : List ℕ) → GoneAs buf buf xs' is' ps' os' (Refused c)
+      pub gone_halted : (c : Refusal) → w ≡ Went.halted c → (buf xs' is' ps' os' : List ℕ) → GoneAs buf buf xs' is' ps' os' (Err c)
       gone_halted c q buf xs' is' ps' os' = as_went (rw q (record { answer = refl; reading = refl; buffer = refl; low = omega arith }))
 
-      pub gone_passed : (u : ℕ) → w ≡ passed u → (buf xs' is' ps' os' : List ℕ) → GoneAs buf buf xs' is' ps' os' (End u)
+      pub gone_passed : (u : ℕ) → w ≡ passed u → (buf xs' is' ps' os' : List ℕ) → GoneAs buf buf xs' is' ps' os' (Ok (End u))
       gone_passed u q buf xs' is' ps' os' = as_went (rw q (record { answer = refl; reading = refl; buffer = refl; low = omega arith }))
 
       pub gone_found : (j x u : ℕ) (xs' is' ps' os' buf₀ buf : List ℕ) → w ≡ found (level_at j xs' is' ps' os' ∷ stack_is j xs' is' ps' os') x u → j < max_levels
-          → length is' ≡ max_levels → buf ≡ take j (drop 1 is') ++ drop j buf₀ → GoneAs buf₀ buf xs' is' ps' os' (Key j x u)
+          → length is' ≡ max_levels → buf ≡ take j (drop 1 is') ++ drop j buf₀ → GoneAs buf₀ buf xs' is' ps' os' (Ok (Key j x u))
       gone_found j x u xs' is' ps' os' buf₀ buf q low held copy =
           let key = key_stack j xs' is' ps' os' (omega arith) in
           let size : length (take j (drop 1 is')) ≡ j = length-take-le j (drop 1 is') (simp length-drop (omega arith)) in
@@ -81,7 +83,7 @@ module _ (s : List ℕ) (version root len : ℕ) (hi : S.Bound) (n : ℕ) (e : O
 
 -- ---- the key goes to the buffer, out of the inputs after the first
 
-module _ {want : Went} {xs is ps os : List ℕ} {r : Down} (h : Descends want xs is ps os r) (k : ℕ) (low : k < max_levels) where
+module _ {want : Went} {xs is ps os : List ℕ} {r : Result Down Refusal} (h : Descends want xs is ps os r) (k : ℕ) (low : k < max_levels) where
   pub inputs_hold : k ≤ length (take (length is - 1) (drop 1 is))
   inputs_hold = rw (length-take-le (length is - 1) (drop 1 is) (simp length-drop (omega arith))) (omega (arith, h.len))
 

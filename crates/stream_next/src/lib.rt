@@ -11,13 +11,12 @@ ghost use Rattle.stream_start.specs.Views.{Arrays, bound_is, stack_is, view_is};
 ghost use Rattle.stream_step.specs.Stepped.{Stepped};
 ghost use Rattle.stream_next.specs.Going.{view_with, GoneBy};
 
-use format::{LEVELS, MAX_KEY, NODE, SPACE, STATE};
-use fst::Opened;
+use format::{LEVELS, MAX_KEY, Refusal};
 use stream_bounds::{exceeded, state_right};
 use stream_descend::{Down, descend};
 use stream_pop::{Popped, highest};
 use stream_start::{Bound, Reading};
-use stream_step::{Answer, Step, ended, placed};
+use stream_step::{Step, ended, placed};
 
 // The pending empty key, or the end where that key passes the upper bound.
 fn pending(reading: Reading, value: u64) -> Step
@@ -33,17 +32,16 @@ fn pending(reading: Reading, value: u64) -> Step
         return ended(reading, reading.total);
     }
     Step {
-        answer: Answer::Key(0, value),
+        answer: Ok(Some((0, value))),
         reading: placed(reading, reading.levels, reading.total),
     }
 }
 
-// What the walk comes to: a key's length and value, or the end, each with the number of transitions followed; or the number of a refusal.
+// What the walk comes to: a key's length and value, or the end, each with the number of transitions followed.
 #[derive(Clone, Copy)]
 enum Gone {
     Key(usize, u64, u64),
     End(u64),
-    Refused(u8),
 }
 
 // The walk, where no empty key is pending, over levels in arrays: those after the key where one is found, and else of no meaning.
@@ -61,7 +59,7 @@ fn walk(
     bound_len: usize,
     kind: Bound,
     key: &mut [u8],
-) -> Gone
+) -> Result<Gone, Refusal>
     requires arrays { Arrays addrs.old inps.old trans.old outs.old × (length bound.now ≡ max_path)
         × (bound_len ≤ max_path) }
     requires levels_le_max_levels { (levels ≤ max_levels) × (root < 4294967296) × (max_path ≤ length key.old) }
@@ -76,17 +74,16 @@ fn walk(
 {
     let popped = highest(file, version, root, addrs, trans, levels);
     match popped {
-        Popped::Empty => Gone::End(total),
-        Popped::Bad => Gone::Refused(NODE),
+        Popped::Empty => Ok(Gone::End(total)),
+        Popped::Bad => Err(Refusal::Node),
         Popped::At(top, node) => match descend(
             file, version, root, top, node, total, addrs, inps, trans, outs, bound, bound_len, kind,
-        ) {
-            Down::Halted(why) => Gone::Refused(why),
-            Down::Passed(followed) => Gone::End(followed),
+        )? {
+            Down::Passed(followed) => Ok(Gone::End(followed)),
             Down::Found(k, value, followed) => {
                 let bytes = &inps[..];
                 buffers::copy_front(&bytes[1..], k, key);
-                Gone::Key(k, value, followed)
+                Ok(Gone::Key(k, value, followed))
             }
         },
     }
@@ -102,21 +99,21 @@ pub fn next(file: &[u8], reading: Reading, key: &mut [u8]) -> Step
 {
     let opened = fst::open(file);
     match opened {
-        Opened::Refused(why) => Step {
-            answer: Answer::Refused(why),
+        Err(why) => Step {
+            answer: Err(why),
             reading,
         },
-        Opened::Meta(m) => {
+        Ok(m) => {
             if state_right(reading.levels, reading.bound_len, reading.len, file.len()) {} else {
                 return Step {
-                    answer: Answer::Refused(STATE),
+                    answer: Err(Refusal::State),
                     reading,
                 };
             }
             let short = key.len() < MAX_KEY;
             if short {
                 return Step {
-                    answer: Answer::Refused(SPACE),
+                    answer: Err(Refusal::Space),
                     reading,
                 };
             }
@@ -146,12 +143,12 @@ pub fn next(file: &[u8], reading: Reading, key: &mut [u8]) -> Step
                         kind,
                         key,
                     ) {
-                        Gone::Refused(why) => Step {
-                            answer: Answer::Refused(why),
+                        Err(why) => Step {
+                            answer: Err(why),
                             reading,
                         },
-                        Gone::End(total) => ended(reading, total),
-                        Gone::Key(k, value, total) => {
+                        Ok(Gone::End(total)) => ended(reading, total),
+                        Ok(Gone::Key(k, value, total)) => {
                             let after = Reading {
                                 len: reading.len,
                                 kind,
@@ -167,7 +164,7 @@ pub fn next(file: &[u8], reading: Reading, key: &mut [u8]) -> Step
                             };
                             // by `return`, since the value of a `match` is copied once more
                             return Step {
-                                answer: Answer::Key(k, value),
+                                answer: Ok(Some((k, value))),
                                 reading: after,
                             };
                         }

@@ -3,7 +3,8 @@
 --     within-.., before-..        the keys within the upper bound and before the lower, by the bound's kind
 --     number-..                   no bytes; crossed bounds; any other
 -- Assumes nothing.
-use Rattle.std.specs.Prelude.{Some}
+use Rattle.std.specs.Prelude.{Some, Ok, Result, Option, ℕ}
+use Rattle.format.specs.declared.Refusal.{Refusal}
 use mathlib.Core.Path.{◌≡◌, refl, ap, ◌∙◌}
 use mathlib.Core.Bool.{Bool, true, false, not}
 use mathlib.Core.List.{List}
@@ -22,8 +23,6 @@ use Rattle.plain.specs.Numbers.{Tally, comes_to, up_to, less, crosses, within, b
 use Rattle.stream_start.specs.declared.Bound.{Bound}
 use Rattle.stream_start.specs.declared.Bound.TheVariants.{Included, Excluded, Unbounded}
 use Rattle.stream_start.specs.Views.{bound_is}
-use Rattle.stream_upto.specs.declared.Walked.{Walked}
-use Rattle.stream_upto.specs.declared.Walked.TheVariants.{Came}
 use Rattle.stream_upto.specs.Counts.{total_as, walked_as}
 use Rattle.stream_upto.specs.CountsLaws.{keys_zero, keys_entry}
 
@@ -49,27 +48,27 @@ cross_past Excluded x y e some r is = rw e is
 cross_past Unbounded x y e some r is = absurd (some refl)
 
 module _ (f : Fst) (c : List ℕ) {k : Bound} (x : List ℕ) where
-  pub within_free : k ≡ Unbounded → get_or c f.root 0 ≤ max_sum → (n : ℕ) → n ≡ keys_at c f.root → Came (Some n) ≡ walked_as (within f c (bound_is k x))
+  pub within_free : k ≡ Unbounded → get_or c f.root 0 ≤ max_sum → (n : ℕ) → n ≡ keys_at c f.root → Ok (Some n) ≡ walked_as (within f c (bound_is k x))
   unfolding within
-  within_free e fits n is = rw e (ap Came (ap Some is ∙ total_le (keys_at c f.root) (keys_fit c f.root fits)))
+  within_free e fits n is = rw e (ap Ok (ap Some is ∙ total_le (keys_at c f.root) (keys_fit c f.root fits)))
 
-  pub within_included : k ≡ Included → (r : Walked) → r ≡ walked_as (up_to f c true f.root x) → r ≡ walked_as (within f c (bound_is k x))
+  pub within_included : k ≡ Included → (r : Result (Option ℕ) Refusal) → r ≡ walked_as (up_to f c true f.root x) → r ≡ walked_as (within f c (bound_is k x))
   unfolding within
   within_included e r is = rw e is
 
-  pub within_excluded : k ≡ Excluded → (r : Walked) → r ≡ walked_as (up_to f c false f.root x) → r ≡ walked_as (within f c (bound_is k x))
+  pub within_excluded : k ≡ Excluded → (r : Result (Option ℕ) Refusal) → r ≡ walked_as (up_to f c false f.root x) → r ≡ walked_as (within f c (bound_is k x))
   unfolding within
   within_excluded e r is = rw e is
 
-  pub before_free : k ≡ Unbounded → Came (Some 0) ≡ walked_as (below_lower f c (bound_is k x))
+  pub before_free : k ≡ Unbounded → Ok (Some 0) ≡ walked_as (below_lower f c (bound_is k x))
   unfolding below_lower
   before_free e = rw e
 
-  pub before_included : k ≡ Included → (r : Walked) → r ≡ walked_as (up_to f c false f.root x) → r ≡ walked_as (below_lower f c (bound_is k x))
+  pub before_included : k ≡ Included → (r : Result (Option ℕ) Refusal) → r ≡ walked_as (up_to f c false f.root x) → r ≡ walked_as (below_lower f c (bound_is k x))
   unfolding below_lower
   before_included e r is = rw e is
 
-  pub before_excluded : k ≡ Excluded → (r : Walked) → r ≡ walked_as (up_to f c true f.root x) → r ≡ walked_as (below_lower f c (bound_is k x))
+  pub before_excluded : k ≡ Excluded → (r : Result (Option ℕ) Refusal) → r ≡ walked_as (up_to f c true f.root x) → r ≡ walked_as (below_lower f c (bound_is k x))
   unfolding below_lower
   before_excluded e r is = rw e is
 

@@ -3,19 +3,18 @@
 --     tally_is r            what the number's answer says
 --     difference_is d       the same of a difference of two totals
 -- Assumes nothing.
-use Rattle.std.specs.Prelude.{List, ℕ, ◌≤◌, ◌<◌, length, Option, Some, None}
+use Rattle.std.specs.Prelude.{List, ℕ, ◌≤◌, ◌<◌, length, Option, Some, None, Ok, Err, Result}
+use Rattle.format.specs.declared.Refusal.{Refusal}
 use Rattle.format.specs.Limits.{COUNT}
 use Rattle.plain.specs.Numbers.{Tally, comes_to, refused}
-use Rattle.stream_number.specs.declared.Tallied.{Tallied}
-use Rattle.stream_number.specs.declared.Tallied.TheVariants.{Comes, Refused}
 
 pub record TableLent (s : List ℕ) (root : ℕ) (c : List ℕ) : Type 0 where
   pub long : length s ≤ length c
   pub root_inside : 0 < length s → root < length s
 
-abbrev pub tally_is : Tallied → Tally
-tally_is (Comes n) = comes_to n
-tally_is (Refused n) = refused n
+abbrev pub tally_is : Result ℕ Refusal → Tally
+tally_is (Ok n) = comes_to n
+tally_is (Err n) = refused n
 
 abbrev pub difference_is : Option ℕ → Tally
 difference_is (Some n) = comes_to n

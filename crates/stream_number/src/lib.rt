@@ -11,16 +11,9 @@ ghost use Rattle.stream_start.specs.Views.{bound_is};
 ghost use Rattle.stream_upto.specs.Counts.{total_as, walked_as};
 ghost use Rattle.stream_number.specs.Totals.{TableLent, tally_is, difference_is};
 
-use format::COUNT;
+use format::Refusal;
 use stream_start::Bound;
-use stream_upto::{Walked, keys_at, up_to};
-
-// The number of keys between two bounds, or the number of a refusal.
-#[derive(Clone, Copy)]
-pub enum Tallied {
-    Comes(u64),
-    Refused(u8),
-}
+use stream_upto::{keys_at, up_to};
 
 // ---- totals
 
@@ -33,17 +26,20 @@ fn difference(within: Option<u64>, before: Option<u64>) -> Option<u64>
 }
 
 // The same of two walks: a refusal on the way comes first, and COUNT where there is no difference.
-fn less(within: Walked, before: Walked) -> Tallied
+fn less(
+    within: Result<Option<u64>, Refusal>,
+    before: Result<Option<u64>, Refusal>,
+) -> Result<u64, Refusal>
     ensures { (s t : Tally) → within ≡ walked_as s → before ≡ walked_as t
         → tally_is result ≡ N.less s t }
 {
     match within {
-        Walked::Halted(why) => Tallied::Refused(why),
-        Walked::Came(w) => match before {
-            Walked::Halted(why) => Tallied::Refused(why),
-            Walked::Came(b) => match difference(w, b) {
-                Some(n) => Tallied::Comes(n),
-                None => Tallied::Refused(COUNT),
+        Err(why) => Err(why),
+        Ok(w) => match before {
+            Err(why) => Err(why),
+            Ok(b) => match difference(w, b) {
+                Some(n) => Ok(n),
+                None => Err(Refusal::Count),
             },
         },
     }
@@ -71,13 +67,13 @@ fn within(
     kind: Bound,
     upper: &[u8],
     counts: &[u64],
-) -> Walked
+) -> Result<Option<u64>, Refusal>
     requires { (length file.now ≤ length counts.now) × (root < length counts.now) }
     ensures { result ≡ walked_as (N.within (fst_with file.now version root)
         counts.now (bound_is kind upper.now)) }
 {
     match kind {
-        Bound::Unbounded => Walked::Came(Some(keys_at(counts, root))),
+        Bound::Unbounded => Ok(Some(keys_at(counts, root))),
         Bound::Included => up_to(file, version, root, true, upper, counts),
         Bound::Excluded => up_to(file, version, root, false, upper, counts),
     }
@@ -91,13 +87,13 @@ fn below_lower(
     kind: Bound,
     lower: &[u8],
     counts: &[u64],
-) -> Walked
+) -> Result<Option<u64>, Refusal>
     requires { length file.now ≤ length counts.now }
     ensures { result ≡ walked_as (N.below_lower (fst_with file.now version root)
         counts.now (bound_is kind lower.now)) }
 {
     match kind {
-        Bound::Unbounded => Walked::Came(Some(0)),
+        Bound::Unbounded => Ok(Some(0)),
         Bound::Included => up_to(file, version, root, false, lower, counts),
         Bound::Excluded => up_to(file, version, root, true, lower, counts),
     }
@@ -114,17 +110,17 @@ pub fn number(
     upper_kind: Bound,
     upper: &[u8],
     counts: &[u64],
-) -> Tallied
+) -> Result<u64, Refusal>
     requires { TableLent file.now root counts.now }
     ensures { tally_is result ≡ N.number (fst_with file.now version root)
         counts.now (bound_is lower_kind lower.now)
         (bound_is upper_kind upper.now) }
 {
     if file.is_empty() {
-        return Tallied::Comes(0);
+        return Ok(0);
     }
     if crosses(lower_kind, lower, upper_kind, upper) {
-        return Tallied::Comes(0);
+        return Ok(0);
     }
     let w = within(file, version, root, upper_kind, upper, counts);
     let b = below_lower(file, version, root, lower_kind, lower, counts);

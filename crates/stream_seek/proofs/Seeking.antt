@@ -4,6 +4,7 @@
 --     place_fits, target_fits, gone_fits     the numbers of a level fit its arrays
 -- Assumes nothing.
 use mathlib.Core.Path.{◌≡◌, refl, sym, ◌∙◌, ap}
+use Rattle.format.specs.declared.Refusal.{Refusal}
 use mathlib.Core.Bool.{Bool}
 use mathlib.Core.List.{List, [], ◌∷◌}
 use Prim.Native.Nat.{ℕ, ◌+◌, ◌-◌, ◌<◌, ◌≤◌}
@@ -75,7 +76,7 @@ module _ {f : Fst} {c : Bool} {lo xs is ps os : List ℕ} {k a i sum : ℕ} (h :
     seeking_on p t o e = h.same ∙ bound_on f c a i sum (stack_is k xs is ps os) h.fits lo k more p t o e
 
     -- the sum up to the target does not fit
-    pub seeking_past : (p t o : ℕ) → enter_of f a (get_or lo k 0) ≡ Hit p t o → max_sum < sum + o → (n : ℕ) → n ≡ past_sum (node_in f t)
+    pub seeking_past : (p t o : ℕ) → enter_of f a (get_or lo k 0) ≡ Hit p t o → max_sum < sum + o → (n : Refusal) → n ≡ past_sum (node_in f t)
         → halted n ≡ seek f c f.root 0 0 [] lo
     seeking_past p t o e past n is_lem =
         ap halted is_lem

@@ -9,7 +9,7 @@ ghost use Rattle.reading.specs.Reading as R;
 ghost use Rattle.stream_levels.specs.Stacks.{Arrays};
 ghost use Rattle.stream_seek.specs.Seeks.{enter_of, place_in, SoughtAs};
 
-use format::{LEVELS, NODE};
+use format::{LEVELS, Refusal};
 use stream_levels::{last_levels, put_level};
 
 // A byte looked for at a node: its place, with the target and the output; the place of the first greater input; or the node is not sound.
@@ -18,13 +18,6 @@ enum Entered {
     Hit(u16, u32, u64),
     Miss(u16),
     Unsound,
-}
-
-// What the walk along a lower bound finds: how many levels it wrote, or the number of a refusal.
-#[derive(Clone, Copy)]
-pub enum Sought {
-    Levels(usize),
-    Halted(u8),
 }
 
 // The byte b looked for at the node at addr, which is judged first.
@@ -61,7 +54,7 @@ pub fn seek(
     inps: &mut [u8; LEVELS],
     trans: &mut [u16; LEVELS],
     outs: &mut [u64; LEVELS],
-) -> Sought
+) -> Result<usize, Refusal>
     requires { (root < 4294967296) × (length lower.now ≤ max_path) × Arrays addrs.old
         inps.old trans.old outs.old }
     ensures { SoughtAs (R.seek (fst_with file.now version root) inclusive root 0 0
@@ -75,15 +68,15 @@ pub fn seek(
         let entered = enter(file, version, root, addr as usize, *b);
         match entered {
             Entered::Unsound => {
-                return Sought::Halted(NODE);
+                return Err(Refusal::Node);
             }
             Entered::Miss(p) => {
                 put_level(k, addr, inp, p, sum, addrs, inps, trans, outs);
-                return Sought::Levels(k + 1);
+                return Ok(k + 1);
             }
             Entered::Hit(p, target, out) => {
                 let Some(more) = sum.checked_add(out) else {
-                    return Sought::Halted(fst::past_sum(file, version, root, target as usize));
+                    return Err(fst::past_sum(file, version, root, target as usize));
                 };
                 put_level(k, addr, inp, p + 1, sum, addrs, inps, trans, outs);
                 addr = target;
@@ -94,7 +87,7 @@ pub fn seek(
     }
     let k = lower.len();
     let Ok(_) = node::node_at(file, version, root, addr as usize) else {
-        return Sought::Halted(NODE);
+        return Err(Refusal::Node);
     };
-    Sought::Levels(last_levels(k, inclusive, addr, inp, sum, addrs, inps, trans, outs))
+    Ok(last_levels(k, inclusive, addr, inp, sum, addrs, inps, trans, outs))
 }

@@ -12,6 +12,7 @@ use Rattle.std.proofs.Math.Bool.{true, false, cond}
 use Rattle.std.proofs.Math.Option.{Option, none, some}
 use Rattle.std.proofs.lemmas.Bool.{lt-leb}
 use Rattle.std.proofs.Math.Seq.{take-length, paste-suc}
+use Rattle.format.specs.declared.Refusal.{Refusal}
 use Rattle.format.specs.Limits.{max_path, BOUND}
 use Rattle.format.specs.Node.{Node, Judgement, sound, unsound}
 use Rattle.format.specs.Opening as O
@@ -109,7 +110,7 @@ reading_at_lem s hi empty (R.Sought.halted n) = refl
 
 -- what the walk answered
 module _ (len : ℕ) (b : S.Bound) (n : ℕ) (empty : Option ℕ) {w : R.Sought} where
-  pub reading_halted : (k : ℕ) → R.Sought.halted k ≡ w → R.Started.refused k ≡ reading_at len b n empty w
+  pub reading_halted : (k : Refusal) → R.Sought.halted k ≡ w → R.Started.refused k ≡ reading_at len b n empty w
   reading_halted k e = ap (reading_at len b n empty) e
 
   pub reading_levels : (s : List Level) → got s ≡ w
@@ -165,6 +166,6 @@ module _ (s : List ℕ) (lo hi : S.Bound) where
       go true p w = refl
       go false p w = refl
 
-  pub start_refused : (n : ℕ) → opening s ≡ O.refused n → R.start s lo hi ≡ R.Started.refused n
+  pub start_refused : (n : Refusal) → opening s ≡ O.refused n → R.start s lo hi ≡ R.Started.refused n
   unfolding R.start
   start_refused n e = rw e

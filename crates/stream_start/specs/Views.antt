@@ -8,8 +8,9 @@
 --     refused_start why               a refused start, with that reading beside the refusal
 -- Assumes nothing.
 use Rattle.std.proofs.Math.Option.{Option, none, some}
-use Rattle.std.specs.Prelude.{Option as Maybe, Some, None}
+use Rattle.std.specs.Prelude.{Option as Maybe, Some, None, Ok, Err, Result, ⊤}
 use Rattle.std.specs.Prelude.{List, ℕ, take, replicate}
+use Rattle.format.specs.declared.Refusal.{Refusal}
 use Rattle.format.specs.Limits.{max_path, max_levels}
 use Rattle.format.specs.Strings as S
 use Rattle.format.specs.Strings.{unbounded, included, excluded}
@@ -21,8 +22,6 @@ use Rattle.stream_start.specs.declared.Bound.{Bound}
 use Rattle.stream_start.specs.declared.Bound.TheVariants.{Included, Excluded, Unbounded}
 use Rattle.stream_start.specs.declared.Reading.{Reading}
 use Rattle.stream_start.specs.declared.Started.{Started}
-use Rattle.stream_start.specs.declared.Begins.{Begins}
-use Rattle.stream_start.specs.declared.Begins.TheVariants.{Began, Refused}
 
 abbrev pub bound_is : Bound → List ℕ → S.Bound
 bound_is Included bs = included bs
@@ -43,9 +42,9 @@ view_is r = record {
   levels = stack_is r.levels r.addrs r.inps r.trans r.outs;
 }
 
-abbrev pub began_is : Begins → Reading → R.Started
-began_is Began r = R.started (view_is r)
-began_is (Refused n) r = R.Started.refused n
+abbrev pub began_is : Result ⊤ Refusal → Reading → R.Started
+began_is (Ok tt) r = R.started (view_is r)
+began_is (Err n) r = R.Started.refused n
 
 abbrev pub started_is : Started → R.Started
 started_is s = began_is s.answer s.reading
@@ -65,5 +64,5 @@ no_reading = record {
   outs = replicate max_levels 0;
 }
 
-abbrev pub refused_start : ℕ → Started
-refused_start why = record { answer = Refused why; reading = no_reading }
+abbrev pub refused_start : Refusal → Started
+refused_start why = record { answer = Err why; reading = no_reading }

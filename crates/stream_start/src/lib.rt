@@ -11,9 +11,8 @@ ghost use Rattle.stream_seek.specs.Seeks.{SoughtAs};
 ghost use Rattle.stream_start.specs.Views.{bound_is, empty_is, started_is, no_reading, refused_start};
 ghost use Rattle.stream_start.specs.Starts.{BoundTaken, pending_if, pending_from, walk_from, reading_at, start_from, BlankTold};
 
-use format::{BOUND, LEVELS, MAX_KEY};
-use fst::Opened;
-use stream_seek::{Sought, seek};
+use format::{LEVELS, MAX_KEY, Refusal};
+use stream_seek::seek;
 
 // Which kind a bound is; its bytes stand beside it. The bytes beside an unbounded one carry no meaning.
 #[derive(Clone, Copy)]
@@ -45,18 +44,11 @@ pub struct Reading {
     pub outs: [u64; LEVELS],
 }
 
-// Whether a start gave a reading, or the number of a refusal.
-#[derive(Clone, Copy)]
-pub enum Begins {
-    Began,
-    Refused(u8),
-}
-
-// What a start gives back. The reading stands beside the answer: the borrow checker covers no enum that holds an array. After a refusal
-// it carries no meaning, and the contract of start leaves it free; next answers on it as on any reading.
+// What a start gives back: whether it began, or why it refuses. The reading stands beside the answer: the borrow checker covers no enum
+// that holds an array. After a refusal it carries no meaning, and the contract of start leaves it free; next answers on it as on any reading.
 #[derive(Clone, Copy)]
 pub struct Started {
-    pub answer: Begins,
+    pub answer: Result<(), Refusal>,
     pub reading: Reading,
 }
 
@@ -132,12 +124,12 @@ pub fn no_reading() -> Reading
 }
 
 // A start that is refused, with a reading that has no levels.
-pub fn refused(why: u8) -> Started
+pub fn refused(why: Refusal) -> Started
     ensures { result ≡ refused_start why }
 {
     let reading = no_reading();
     Started {
-        answer: Begins::Refused(why),
+        answer: Err(why),
         reading,
     }
 }
@@ -175,7 +167,7 @@ pub fn start_levels(
     inps: &mut [u8; LEVELS],
     trans: &mut [u16; LEVELS],
     outs: &mut [u64; LEVELS],
-) -> Sought
+) -> Result<usize, Refusal>
     requires { (root < 4294967296) × BlankTold file.now version
         × (length (R.bound_bytes (bound_is lower_kind lower.now)) ≤ max_path) × Arrays addrs.old
         inps.old trans.old outs.old }
@@ -184,7 +176,7 @@ pub fn start_levels(
         trans.new outs.new }
 {
     if version == 0 {
-        return Sought::Levels(0);
+        return Ok(0);
     }
     let n = len_of(lower_kind, lower);
     let inclusive = is_inclusive(lower_kind);
@@ -228,8 +220,8 @@ fn reading_from(
         file, version, root, lower_kind, lower, &mut addrs, &mut inps, &mut trans, &mut outs,
     );
     match sought {
-        Sought::Halted(why) => refused(why),
-        Sought::Levels(levels) => {
+        Err(why) => refused(why),
+        Ok(levels) => {
             let reading = Reading {
                 len: file.len(),
                 kind,
@@ -244,7 +236,7 @@ fn reading_from(
                 outs,
             };
             Started {
-                answer: Begins::Began,
+                answer: Ok(()),
                 reading,
             }
         }
@@ -269,10 +261,10 @@ fn start_from(
     let bound_len = len_of(upper_kind, upper);
     let too_long = MAX_KEY < n;
     if too_long {
-        return refused(BOUND);
+        return refused(Refusal::Bound);
     }
     if MAX_KEY < bound_len {
-        return refused(BOUND);
+        return refused(Refusal::Bound);
     }
     let mut bound = [0u8; MAX_KEY];
     buffers::copy_front(upper, bound_len, &mut bound);
@@ -305,8 +297,8 @@ pub fn start(
 {
     let opened = fst::open(file);
     match opened {
-        Opened::Refused(why) => refused(why),
-        Opened::Meta(m) => start_from(
+        Err(why) => refused(why),
+        Ok(m) => start_from(
             file, m.version, m.root, lower_kind, lower, upper_kind, upper,
         ),
     }

@@ -6,20 +6,13 @@ ghost use Rattle.stream_start.specs.Views.{view_is};
 ghost use Rattle.stream_step.specs.Stepped.{Stepped};
 ghost use Rattle.stream_step.specs.Steps.{placed_at, ended_at};
 
+use format::Refusal;
 use stream_start::Reading;
 
-// What a call of next answers: a key's length and value, that no key is left, or the number of a refusal.
-#[derive(Clone, Copy)]
-pub enum Answer {
-    Key(usize, u64),
-    End,
-    Refused(u8),
-}
-
-// What a call of next gives back.
+// What a call of next gives back: a key's length and value, none where no key is left, or why it refuses; and the reading after it.
 #[derive(Clone, Copy)]
 pub struct Step {
-    pub answer: Answer,
+    pub answer: Result<Option<(usize, u64)>, Refusal>,
     pub reading: Reading,
 }
 
@@ -53,7 +46,7 @@ pub fn ended(reading: Reading, total: u64) -> Step
     ensures { (buf : List ℕ) → Stepped (ended_at (view_is reading) total) buf buf result }
 {
     Step {
-        answer: Answer::End,
+        answer: Ok(None),
         reading: placed(reading, 0, total),
     }
 }

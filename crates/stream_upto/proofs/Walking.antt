@@ -3,7 +3,8 @@
 --     turned-..                    the same read back
 --     Walking f c own x k a t      k bytes of x have led to the node at a, with the total t so far
 -- Assumes nothing.
-use Rattle.std.specs.Prelude.{Option}
+use Rattle.std.specs.Prelude.{Option, Ok, Err, Result, ℕ}
+use Rattle.format.specs.declared.Refusal.{Refusal}
 use mathlib.Core.Path.{◌≡◌, refl, sym, ap, ◌∙◌}
 use mathlib.Core.Bool.{Bool, ◌&&◌}
 use mathlib.Core.List.{List, [], ◌∷◌}
@@ -19,8 +20,6 @@ use Rattle.format.specs.Tables.{one}
 use Rattle.plain.specs.Numbers.{Tally, comes_to, refused, plus, keys_below, up_to}
 use Rattle.plain.proofs.UpToLaws.{up_to_unsound, up_to_end, up_to_absent, up_to_at}
 use Rattle.stream_upto.specs.declared.Turned.TheVariants.{On, Gone, Unsound}
-use Rattle.stream_upto.specs.declared.Walked.{Walked}
-use Rattle.stream_upto.specs.declared.Walked.TheVariants.{Came, Halted}
 use Rattle.stream_upto.specs.Counts.{total_as, added_to, turn_of, walked_as}
 use Rattle.stream_upto.proofs.TotalLaws.{added_total}
 use Rattle.stream_upto.proofs.Summing.{first_keys, below_at, below_absent}
@@ -122,13 +121,13 @@ module _ (f : Fst) (c : List ℕ) (a b n : ℕ) where
 -- ---- where the string ends
 
 module _ (f : Fst) (own : Bool) (a : ℕ) where
-  pub end_unsound : node_in f a ≡ unsound → (c : List ℕ) (n : ℕ) → Halted NODE ≡ walked_as (plus n (up_to f c own a []))
+  pub end_unsound : node_in f a ≡ unsound → (c : List ℕ) (n : ℕ) → Err NODE ≡ walked_as (plus n (up_to f c own a []))
   end_unsound e c n = rw (up_to_unsound f c own a [] e)
 
   pub end_sound : (m : Node) → node_in f a ≡ sound m → (k : ℕ) → k ≡ one (own && m.final) → (t s : Option ℕ) → s ≡ added_to t k
-      → (c : List ℕ) (n : ℕ) → t ≡ total_as n → Came s ≡ walked_as (plus n (up_to f c own a []))
+      → (c : List ℕ) (n : ℕ) → t ≡ total_as n → Ok s ≡ walked_as (plus n (up_to f c own a []))
   end_sound m e k k_is t s s_is c n t_is =
-      rw (up_to_end f c own a m e) (ap Came (s_is ∙ ap (λ u. added_to u k) t_is ∙ added_total n k ∙ ap (λ u. total_as (n + u)) k_is))
+      rw (up_to_end f c own a m e) (ap Ok (s_is ∙ ap (λ u. added_to u k) t_is ∙ added_total n k ∙ ap (λ u. total_as (n + u)) k_is))
 
 -- ---- the loop
 
@@ -141,7 +140,7 @@ pub walking_none : (f : Fst) (c : List ℕ) (own : Bool) (x : List ℕ) → Walk
 walking_none f c own x = record { so_far = 0; total = refl; same = plus_none (up_to f c own f.root x) }
 
 module _ {f : Fst} {c : List ℕ} {own : Bool} {x : List ℕ} {k a : ℕ} {t : Option ℕ} (h : Walking f c own x k a t) where
-  pub walking_end : length x ≤ k → (r : Walked) → r ≡ walked_as (plus h.so_far (up_to f c own a [])) → r ≡ walked_as (up_to f c own f.root x)
+  pub walking_end : length x ≤ k → (r : Result (Option ℕ) Refusal) → r ≡ walked_as (plus h.so_far (up_to f c own a [])) → r ≡ walked_as (up_to f c own f.root x)
   walking_end l r is = is ∙ sym (ap walked_as h.same ∙ rw (drop_of_length-le x {i = k} l))
 
   module _ (l : k < length x) where
@@ -151,13 +150,13 @@ module _ {f : Fst} {c : List ℕ} {own : Bool} {x : List ℕ} {k a : ℕ} {t : O
     here : up_to f c own f.root x ≡ plus h.so_far (up_to f c own a (get_or x k 0 ∷ drop (k + 1) x))
     here = h.same ∙ ap (λ u. plus h.so_far (up_to f c own a u)) cut
 
-    pub walking_bad : turn_of f c a (get_or x k 0) h.so_far ≡ Unsound → Halted NODE ≡ walked_as (up_to f c own f.root x)
+    pub walking_bad : turn_of f c a (get_or x k 0) h.so_far ≡ Unsound → Err NODE ≡ walked_as (up_to f c own f.root x)
     walking_bad e = sym (ap walked_as (here ∙ ap (plus h.so_far) (turned_unsound f c a (get_or x k 0) h.so_far own (drop (k + 1) x) e)))
 
-    pub walking_gone : (s : Option ℕ) → turn_of f c a (get_or x k 0) h.so_far ≡ Gone s → Came s ≡ walked_as (up_to f c own f.root x)
+    pub walking_gone : (s : Option ℕ) → turn_of f c a (get_or x k 0) h.so_far ≡ Gone s → Ok s ≡ walked_as (up_to f c own f.root x)
     walking_gone s e =
         let w = turned_gone f c a (get_or x k 0) h.so_far own (drop (k + 1) x) s e in
-        ap Came w.s_is ∙ sym (ap walked_as (here ∙ ap (plus h.so_far) w.comes))
+        ap Ok w.s_is ∙ sym (ap walked_as (here ∙ ap (plus h.so_far) w.comes))
 
     pub walking_step : (to : ℕ) (s : Option ℕ) → turn_of f c a (get_or x k 0) h.so_far ≡ On to s → Walking f c own x (k + 1) to s
     walking_step to s e =

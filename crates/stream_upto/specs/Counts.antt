@@ -6,7 +6,8 @@
 --     turn_of f c a b n     the byte b looked for at the node at a, with n keys so far
 --     walked_as t           a tally as a walk along a string answers it
 -- Assumes nothing.
-use Rattle.std.specs.Prelude.{◌≡◌, cond, ℕ, ◌+◌, ◌<◌, leb, length, Option, Some, None}
+use Rattle.std.specs.Prelude.{◌≡◌, cond, ℕ, ◌+◌, ◌<◌, leb, length, Option, Some, None, Ok, Err, Result}
+use Rattle.format.specs.declared.Refusal.{Refusal}
 use mathlib.Core.List.{List, Memᴰ}
 use Rattle.format.specs.declared.Transition.{Transition}
 use Rattle.format.specs.Limits.{max_sum}
@@ -17,8 +18,6 @@ use Rattle.reading.specs.Reading.{on_node, on_search}
 use Rattle.plain.specs.Numbers.{Tally, comes_to, refused, keys_below}
 use Rattle.stream_upto.specs.declared.Turned.{Turned}
 use Rattle.stream_upto.specs.declared.Turned.TheVariants.{On, Gone, Unsound}
-use Rattle.stream_upto.specs.declared.Walked.{Walked}
-use Rattle.stream_upto.specs.declared.Walked.TheVariants.{Came, Halted}
 
 -- ---- what is asked of the table
 
@@ -47,6 +46,6 @@ turn_of f c a b n =
     (λ p. Gone (total_as (n + (one m.final + keys_below c b m.transitions)))))
     Unsound
 
-abbrev pub walked_as : Tally → Walked
-walked_as (comes_to n) = Came (total_as n)
-walked_as (refused n) = Halted n
+abbrev pub walked_as : Tally → Result (Option ℕ) Refusal
+walked_as (comes_to n) = Ok (total_as n)
+walked_as (refused n) = Err n

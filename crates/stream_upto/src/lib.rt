@@ -11,7 +11,7 @@ ghost use Rattle.plain.specs.Numbers as N;
 ghost use Rattle.plain.specs.Numbers.{up_to};
 ghost use Rattle.stream_upto.specs.Counts.{HasEntry, HasEntries, total_as, added_to, turn_of, walked_as};
 
-use format::NODE;
+use format::Refusal;
 use node::Node;
 
 // A total is a number of keys, or None where it passes 2^64 - 1. None is kept and not answered: a node further on is refused before it.
@@ -22,13 +22,6 @@ enum Turned {
     On(usize, Option<u64>),
     Gone(Option<u64>),
     Unsound,
-}
-
-// What the walk along a string finds: the total of the keys up to it, or the number of a refusal.
-#[derive(Clone, Copy)]
-pub enum Walked {
-    Came(Option<u64>),
-    Halted(u8),
 }
 
 // A total and n more, or None where that passes the limit.
@@ -108,20 +101,27 @@ fn at_end(
     addr: usize,
     own: bool,
     total: Option<u64>,
-) -> Walked
+) -> Result<Option<u64>, Refusal>
     ensures { (c : List ℕ) (n : ℕ) → total ≡ total_as n
         → result ≡ walked_as (N.plus n
         (up_to (fst_with file.now version root) c own addr [])) }
 {
     let Ok(m) = node::node_at(file, version, root, addr) else {
-        return Walked::Halted(NODE);
+        return Err(Refusal::Node);
     };
     let k = own_key(own, m.is_final);
-    Walked::Came(added(total, k))
+    Ok(added(total, k))
 }
 
 // The keys that come before the string x, and x itself if own; NODE for the first node on its way that is not sound, the last included.
-pub fn up_to(file: &[u8], version: u64, root: usize, own: bool, x: &[u8], counts: &[u64]) -> Walked
+pub fn up_to(
+    file: &[u8],
+    version: u64,
+    root: usize,
+    own: bool,
+    x: &[u8],
+    counts: &[u64],
+) -> Result<Option<u64>, Refusal>
     requires { length file.now ≤ length counts.now }
     ensures { result ≡ walked_as (up_to (fst_with file.now version root)
         counts.now own root x.now) }
@@ -131,8 +131,8 @@ pub fn up_to(file: &[u8], version: u64, root: usize, own: bool, x: &[u8], counts
     for b in x {
         let turned = turn(file, version, root, addr, *b, counts, total);
         match turned {
-            Turned::Unsound => return Walked::Halted(NODE),
-            Turned::Gone(sum) => return Walked::Came(sum),
+            Turned::Unsound => return Err(Refusal::Node),
+            Turned::Gone(sum) => return Ok(sum),
             Turned::On(target, sum) => {
                 addr = target;
                 total = sum;

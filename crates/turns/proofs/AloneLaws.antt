@@ -9,6 +9,7 @@ use Rattle.std.proofs.Common.{sym, ◌∙◌, ap, subst, ⊎_elim, inl, inr, ari
 use Rattle.std.proofs.Math.Option.{Option, some}
 use Rattle.std.proofs.Math.Decide.{ℕ_discrete}
 use Rattle.std.proofs.lemmas.Bool.{eqb-false}
+use Rattle.format.specs.declared.Refusal.{Refusal}
 use Rattle.format.specs.Paths.{fst_of}
 use Rattle.format.specs.Admitted.{Admitted}
 use Rattle.format.specs.Limits.{max_path}
@@ -165,7 +166,7 @@ asked_answers r (c ∷ cs) = ap (λ (l : List Answer). (call_plain r c).answer �
 pub begun_inj : {p q : Plain} → begun p ≡ begun q → p ≡ q
 begun_inj e = cc
 
-begun_refused : {p : Plain} {n : ℕ} → ¬ (begun p ≡ Begun.refused n)
+begun_refused : {p : Plain} {n : Refusal} → ¬ (begun p ≡ Begun.refused n)
 begun_refused e = let z : ◌≡◌ {A = ℕ} 0 1 = cc in omega arith
 
 -- a start that gave a reading had bounds of at most 255 bytes and a table that is long enough

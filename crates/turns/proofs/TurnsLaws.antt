@@ -10,6 +10,7 @@
 use Rattle.std.specs.Prelude.{◌≡◌, refl, ◌⊎◌, Bool, true, false, cond, ◌&&◌, List, [], ◌∷◌, ℕ, zero, suc, ◌+◌, ◌%◌, ◌≤◌, ◌<◌, leb, length, get_or, set}
 use Rattle.std.proofs.Common.{sym, ◌∙◌, ap, subst, ⊎_elim, inl, inr, arith, leb-true, le-leb, length-set, get_or-set_same, get_or-set_other}
 use Rattle.std.proofs.Math.Option.{Option, none, some}
+use Rattle.format.specs.declared.Refusal.{Refusal}
 use Rattle.format.specs.Limits.{SEAT}
 use Rattle.reading.specs.Reading.{Answer, key, end}
 use Rattle.plain.specs.Plain.{Plain, next_plain}
@@ -190,7 +191,7 @@ right_set s last i x h hl hx =
 
 pub data Raised (s : Seats) (i : ℕ) : Done → Type 0 where
   raised : i ≤ 7 → taken (seat_at s i).reading ≡ true → Raised s i (done (with_seat s i (record { reading = (seat_at s i).reading; waiting = true })))
-  not_raised : (n : ℕ) → Raised s i (Done.refused n)
+  not_raised : (n : Refusal) → Raised s i (Done.refused n)
 
 pub raise_ways : (s : Seats) (i : ℕ) → Raised s i (raise s i)
 unfolding raise
@@ -205,7 +206,7 @@ raise_ways s i = by (leb i 7) (right_test s) (taken (seat_at s i).reading) refl 
 
 pub data Sat (s : Seats) (i : ℕ) (r : Plain) : Done → Type 0 where
   sat : i ≤ 7 → Sat s i r (done (with_seat s i (record { reading = some r; waiting = (seat_at s i).waiting })))
-  not_sat : (n : ℕ) → Sat s i r (Done.refused n)
+  not_sat : (n : Refusal) → Sat s i r (Done.refused n)
 
 pub seat_ways : (s : Seats) (i : ℕ) (r : Plain) → Sat s i r (seat s i r)
 unfolding seat
@@ -219,14 +220,14 @@ seat_ways s i r = by (leb i 7) (right_test s) refl
 
 pub data Ways (file : List ℕ) (s : Seats) (space : ℕ) : Dispatch → Type 0 where
   way_served : (i : ℕ) (r : Plain) (a : Answer) → right_test s ≡ true → turn s ≡ some i → (seat_at s i).reading ≡ some r → (next_plain file r space).answer ≡ a
-      → ((n : ℕ) → ¬ (a ≡ Answer.refused n)) → Ways file s space (served i a (kept s i (next_plain file r space).reading))
+      → ((n : Refusal) → ¬ (a ≡ Answer.refused n)) → Ways file s space (served i a (kept s i (next_plain file r space).reading))
   way_nobody : right_test s ≡ true → turn s ≡ none → Ways file s space nobody
-  way_refused : (n : ℕ) → Ways file s space (Dispatch.refused n)
+  way_refused : (n : Refusal) → Ways file s space (Dispatch.refused n)
 
-key_unrefused : (k : List ℕ) (v n : ℕ) → ¬ (◌≡◌ {A = Answer} (key k v) (Answer.refused n))
+key_unrefused : (k : List ℕ) (v : ℕ) (n : Refusal) → ¬ (◌≡◌ {A = Answer} (key k v) (Answer.refused n))
 key_unrefused k v n e = let z : ◌≡◌ {A = ℕ} 0 1 = cc in omega arith
 
-end_unrefused : (n : ℕ) → ¬ (◌≡◌ {A = Answer} end (Answer.refused n))
+end_unrefused : (n : Refusal) → ¬ (◌≡◌ {A = Answer} end (Answer.refused n))
 end_unrefused n e = let z : ◌≡◌ {A = ℕ} 0 1 = cc in omega arith
 
 pub dispatch_ways : (file : List ℕ) (s : Seats) (space : ℕ) → Ways file s space (dispatch file s space)
@@ -299,7 +300,7 @@ waiting_served file s space w hw h e = by (dispatch file s space) (dispatch_ways
     by d (way_refused n) e = let z : ◌≡◌ {A = ℕ} 0 1 = cc in omega arith
 
 pub serves : (file : List ℕ) (s : Seats) (space w : ℕ) → length s.seats ≡ 8 → w ≤ 7 → (seat_at s w).waiting ≡ true
-    → ((n : ℕ) → ¬ (dispatch file s space ≡ Dispatch.refused n)) → Serves file s space
+    → ((n : Refusal) → ¬ (dispatch file s space ≡ Dispatch.refused n)) → Serves file s space
 serves file s space w h hw wt nr = by (dispatch file s space) refl
   where
     by : (d : Dispatch) → dispatch file s space ≡ d → Serves file s space

@@ -7,6 +7,7 @@
 -- Assumes nothing.
 use Rattle.std.specs.Prelude.{Bool, true, false, cond, ◌&&◌, List, [], ◌∷◌, ℕ, zero, suc, ◌+◌, ◌%◌, leb, get_or, set, replicate}
 use Rattle.std.proofs.Math.Option.{Option, none, some}
+use Rattle.format.specs.declared.Refusal.{Refusal}
 use Rattle.format.specs.Limits.{SEAT}
 use Rattle.reading.specs.Reading.{Answer, key, end}
 use Rattle.plain.specs.Plain.{Plain, PlainStep, next_plain}
@@ -60,7 +61,7 @@ turn s = turn_from 8 s s.last
 
 pub data Done : Type 0 where
   done : Seats → Done
-  refused : ℕ → Done
+  refused : Refusal → Done
 
 abbrev pub with_seat : Seats → ℕ → Seat → Seats
 with_seat s i x = record { last = s.last; seats = set s.seats i x }
@@ -79,7 +80,7 @@ raise s i =
 pub data Dispatch : Type 0 where
   served : ℕ → Answer → Seats → Dispatch
   nobody : Dispatch
-  refused : ℕ → Dispatch
+  refused : Refusal → Dispatch
 
 -- the seat served has the reading afterwards and waits no more, and the next turn begins after it
 abbrev pub kept : Seats → ℕ → Plain → Seats

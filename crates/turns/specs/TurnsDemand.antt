@@ -19,6 +19,7 @@
 use Prim.{Unit}
 use Rattle.std.specs.Prelude.{◌≡◌, ◌⊎◌, true, false, cond, ℕ, ◌+◌, ◌-◌, ◌%◌, ◌≤◌, eqb, length, take}
 use Rattle.std.proofs.Math.Option.{Option, none, some}
+use Rattle.format.specs.declared.Refusal.{Refusal}
 use mathlib.Core.List.{List, [], ◌∷◌, ◌++◌, map, Memᴰ}
 use Rattle.format.specs.Paths.{fst_of}
 use Rattle.format.specs.Admitted.{Admitted}
@@ -87,7 +88,7 @@ pub record OneServed (file : List ℕ) (s : Seats) (space i : ℕ) (a : Answer) 
   pub reading : Plain
   pub held : (seat_at s i).reading ≡ some reading
   pub answered : (next_plain file reading space).answer ≡ a
-  pub unrefused : (n : ℕ) → ¬ (a ≡ Answer.refused n)
+  pub unrefused : (n : Refusal) → ¬ (a ≡ Answer.refused n)
   pub now : seat_at t i ≡ record { reading = some (next_plain file reading space).reading; waiting = false }
   pub others : (j : ℕ) → ¬ (j ≡ i) → seat_at t j ≡ seat_at s j
   pub last_is : t.last ≡ i

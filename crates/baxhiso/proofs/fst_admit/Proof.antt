@@ -18,27 +18,27 @@ enum-known-answer c = search rules
 code-requires : tie.Need-code-requires
 code-requires c κs = search rules
 
-same_length : tie.Need-shape_of-depths-in-Admitted
+same_length : tie.Need-shape_of-depths-in-Ok
 same_length c = search rules
 
-same-length-2 : tie.Need-shape_of-sums-in-Admitted
+same-length-2 : tie.Need-shape_of-sums-in-Ok
 same-length-2 c = search rules
 
 -- the file is admitted
-returns : tie.Need-returns-in-Admitted
+returns : tie.Need-returns-in-Ok
 returns c = let call = c.before.before.before.before.before in
-    admit_admitted _ _ _ _ _ call.admit-answer.ensures c.in-Admitted.is
+    admit_admitted _ _ _ _ _ call.admit-answer.ensures c.in-Ok.is
 
-same-length-3 : tie.Need-shape_of-depths-in-Refused
+same-length-3 : tie.Need-shape_of-depths-in-Err
 same-length-3 c = search rules
 
-same-length-4 : tie.Need-shape_of-sums-in-Refused
+same-length-4 : tie.Need-shape_of-sums-in-Err
 same-length-4 c = search rules
 
 -- the file is refused
-returns-2 : tie.Need-returns-in-Refused
+returns-2 : tie.Need-returns-in-Err
 returns-2 c = let call = c.before.before.before.before.before.before in
-    admit_refused _ _ _ _ _ call.admit-answer.ensures _ _ c.before.in-Refused.is (code_is c.code.result c.code.type_inv c.code.ensures)
+    admit_refused _ _ _ _ _ call.admit-answer.ensures _ _ c.before.in-Err.is (code_is c.code.result c.code.type_inv c.code.ensures)
 
 pub fst_admit_spec : {M : Type 1} → statement M
 fst_admit_spec =

@@ -24,16 +24,16 @@ enum_told c = search rules
 placed-requires : tie.Need-placed-requires
 placed-requires c κs = search rules
 
-returns : tie.Need-returns-in-Halted
+returns : tie.Need-returns-in-Err
 returns c = let told = c.before in
     let q = told.before in
     let a = (start q).args in
-    levels_halted a.reading q.carry_levels.ensures (length a.new.now) _ told.in-Halted.is _ c.refused.ensures
+    levels_halted a.reading q.carry_levels.ensures (length a.new.now) _ told.in-Err.is _ c.refused.ensures
 
-returns-2 : tie.Need-returns-in-All
+returns-2 : tie.Need-returns-in-Ok
 returns-2 c = let q = c.before.before in
     let a = (start q).args in
-    levels_all a.reading q.carry_levels.ensures (length a.new.now) c.before.in-All.is _ c.placed.ensures
+    levels_all a.reading q.carry_levels.ensures (length a.new.now) c.before.in-Ok.is _ c.placed.ensures
 
 pub carry_opened_spec : {M : Type 1} → statement M
 carry_opened_spec =

@@ -19,7 +19,7 @@ use Rattle.carry.proofs.carry_reading.Tie as tie
 -- ---- what is known where the old file opens, where both do, and where the state is right
 
 abbrev Old : Type 0
-Old = tie.In-Meta
+Old = tie.In-Ok
 
 abbrev start : Old → tie.Start
 start q = q.before.before.before.before
@@ -28,13 +28,13 @@ abbrev old : Old → List ℕ
 old q = (start q).args.old.now
 
 abbrev meta : Old → Meta
-meta q = q.in-Meta.m
+meta q = q.in-Ok.m
 
 opens : (q : Old) → O.opening (old q) ≡ O.opened (meta_is (meta q))
-opens q = sym q.before.open-opened.ensures ∙ ap opening_is q.in-Meta.is
+opens q = sym q.before.open-opened.ensures ∙ ap opening_is q.in-Ok.is
 
 abbrev Both : Type 0
-Both = tie.In-Meta-opened_new
+Both = tie.In-Ok-opened_new
 
 abbrev q_of : Both → Old
 q_of w = w.before.before
@@ -43,10 +43,10 @@ abbrev new : Both → List ℕ
 new w = (start (q_of w)).args.new.now
 
 abbrev meta_new : Both → Meta
-meta_new w = w.in-Meta-opened_new.q
+meta_new w = w.in-Ok-opened_new.q
 
 opens_new : (w : Both) → O.opening (new w) ≡ O.opened (meta_is (meta_new w))
-opens_new w = sym w.before.open-opened_new.ensures ∙ ap opening_is w.in-Meta-opened_new.is
+opens_new w = sym w.before.open-opened_new.ensures ∙ ap opening_is w.in-Ok-opened_new.is
 
 abbrev Right : Type 0
 Right = tie.Else-not-state_right
@@ -67,7 +67,7 @@ enum-known-opened c = search rules
 refused-requires : tie.Need-refused-requires
 refused-requires c κs = search rules
 
-enum-known-opened-2 : tie.Need-enum_known-opened-in-Meta-1
+enum-known-opened-2 : tie.Need-enum_known-opened-in-Ok-1
 enum-known-opened-2 c = search rules
 
 open-requires-2 : tie.Need-open-opened_new-requires
@@ -76,10 +76,10 @@ open-requires-2 c κs = search rules
 enum-known-opened-new : tie.Need-enum_known-opened_new
 enum-known-opened-new c = search rules
 
-refused-requires-2 : tie.Need-refused-requires-in-Refused-opened_new
+refused-requires-2 : tie.Need-refused-requires-in-Err-opened_new
 refused-requires-2 c κs = search rules
 
-enum-known-opened-new-2 : tie.Need-enum_known-opened_new-in-Meta-opened_new
+enum-known-opened-new-2 : tie.Need-enum_known-opened_new-in-Ok-opened_new
 enum-known-opened-new-2 c = search rules
 
 state-right-requires : tie.Need-state_right-requires
@@ -110,23 +110,23 @@ returns-2 c = let v = c.before.before in
     let a = (start q).args in
     levels_carried a.fits (old q) (new w) a.reading _ (meta_is (meta q)) (opens q) (meta_is (meta_new w)) (opens_new w) (right v) c.before.if-fits.true c.carry_opened.ensures
 
-refused-requires-4 : tie.Need-refused-requires-in-Meta-opened_new
+refused-requires-4 : tie.Need-refused-requires-in-Ok-opened_new
 refused-requires-4 c κs = search rules
 
 -- the old file does not open
-returns-3 : tie.Need-returns-in-Refused
+returns-3 : tie.Need-returns-in-Err
 returns-3 c = let told = c.before in
     let call = told.before in
     let a = call.before.before.before.args in
-    old_refused a.fits a.old.now a.new.now a.reading _ _ (sym call.open-opened.ensures ∙ ap opening_is told.in-Refused.is) c.refused.ensures
+    old_refused a.fits a.old.now a.new.now a.reading _ _ (sym call.open-opened.ensures ∙ ap opening_is told.in-Err.is) c.refused.ensures
 
 -- the new file does not open
-returns-4 : tie.Need-returns-in-Refused-opened_new
+returns-4 : tie.Need-returns-in-Err-opened_new
 returns-4 c = let told = c.before in
     let call = told.before in
     let q = call.before in
     let a = (start q).args in
-    new_refused a.fits (old q) a.new.now a.reading _ (meta_is (meta q)) (opens q) _ (sym call.open-opened_new.ensures ∙ ap opening_is told.in-Refused-opened_new.is) c.refused-in-Refused-opened_new.ensures
+    new_refused a.fits (old q) a.new.now a.reading _ (meta_is (meta q)) (opens q) _ (sym call.open-opened_new.ensures ∙ ap opening_is told.in-Err-opened_new.is) c.refused-in-Err-opened_new.ensures
 
 -- a pattern has too many positions: PATTERN
 returns-5 : tie.Need-returns-else-fits
@@ -134,7 +134,7 @@ returns-5 c = let v = c.before.before in
     let w = w_of v in
     let q = q_of w in
     let a = (start q).args in
-    pattern_wrong a.fits (old q) (new w) a.reading _ (meta_is (meta q)) (opens q) (meta_is (meta_new w)) (opens_new w) (right v) c.before.if-fits.false c.refused-in-Meta-opened_new.ensures
+    pattern_wrong a.fits (old q) (new w) a.reading _ (meta_is (meta q)) (opens q) (meta_is (meta_new w)) (opens_new w) (right v) c.before.if-fits.false c.refused-in-Ok-opened_new.ensures
 
 pub carry_reading_spec : {M : Type 1} → statement M
 carry_reading_spec =

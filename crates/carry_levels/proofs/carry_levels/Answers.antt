@@ -1,9 +1,9 @@
 -- No level, a first level that is refused, or the first and the others.
 -- Assumes nothing.
-use Rattle.std.proofs.Common.{ℕ, arith, sym, subst}
+use Rattle.std.proofs.Common.{◌≡◌, ℕ, arith, sym, subst}
+use Rattle.std.specs.Prelude.{Ok, Err}
 use Rattle.format.specs.Paths.{fst_with}
 use Rattle.carry_levels.specs.Settling.{LevelsCarried}
-use Rattle.carry_levels.specs.declared.CarriedLevels.TheVariants as Levels
 use Rattle.carry_levels.proofs.LevelCases.{walked_first, first_halted, walked_none}
 use Rattle.carry_levels.proofs.carry_levels.Goals as goal
 
@@ -11,17 +11,19 @@ pub returns-then-levels-eq0 : goal.returns-then-levels-eq0
 returns-then-levels-eq0 c =
     let a = c.args in
     let old = fst_with a.old.now a.old_version a.old_root in
-    subst (λ (n : ℕ). LevelsCarried old (fst_with a.new.now a.version a.root) n a.addrs.now a.inps.now a.outs.now a.moved.now Levels.All)
+    subst (λ (n : ℕ). LevelsCarried old (fst_with a.new.now a.version a.root) n a.addrs.now a.inps.now a.outs.now a.moved.now (Ok tt))
     (sym c.if-levels-eq0.true) (walked_none old a.new.now a.version a.root a.addrs.now a.inps.now a.outs.now a.moved.now)
 
 pub other_levels-requires-clause-walked_to : goal.other_levels-requires-clause-walked_to
 other_levels-requires-clause-walked_to c =
     let a = c.args in
     walked_first (fst_with a.old.now a.old_version a.old_root) a.new.now a.version a.root a.addrs.now a.inps.now a.outs.now a.moved.now _ _ (omega arith)
-    c.first_level-settled.ensures c.in-Stands.is
+    c.first_level.ensures c.in_ok-to.was
 
-pub returns-in-Halted : goal.returns-in-Halted
-returns-in-Halted c =
+pub returns-in_err-to : goal.returns-in_err-to
+returns-in_err-to c =
     let a = c.args in
-    first_halted (fst_with a.old.now a.old_version a.old_root) a.new.now a.version a.root a.addrs.now a.inps.now a.outs.now a.levels a.moved.now (omega arith)
-    c.first_level-settled.ensures _ c.in-Halted.is
+    let told : c.from_residual.result ≡ Err c.in_err-to.field-0.0 = grind arith in
+    rw told
+    (first_halted (fst_with a.old.now a.old_version a.old_root) a.new.now a.version a.root a.addrs.now a.inps.now a.outs.now a.levels a.moved.now (omega arith)
+    c.first_level.ensures _ c.in_err-to.was)

@@ -1,17 +1,19 @@
 -- One more level is carried, one is refused, or all are carried.
 -- Assumes nothing.
-use Rattle.std.proofs.Common.{rules, ◌≡◌, ℕ, length, arith, subst}
+use Rattle.std.proofs.Common.{rules, ◌≡◌, Err, ℕ, length, arith, subst}
 use Rattle.format.specs.Paths.{fst_with}
 use Rattle.carry_levels.specs.Settling.{WalkedTo}
 use Rattle.carry_levels.proofs.LevelCases.{walked_step, walked_halted, walked_all}
 use Rattle.carry_levels.proofs.other_levels.Goals as goal
 
-pub returns-in-Halted : goal.returns-in-Halted
-returns-in-Halted c =
+pub returns-in_err-to : goal.returns-in_err-to
+returns-in_err-to c =
     let a = c.args in
     let l = c.loop-k in
-    walked_halted (fst_with a.old.now a.old_version a.old_root) a.new.now a.version a.root a.addrs.now a.inps.now a.outs.now l.k a.levels l.moved l.below
-    c.loop-k-test.true l.invariant c.next_level-settled.ensures _ c.in-Halted.is
+    let told : c.from_residual.result ≡ Err c.in_err-to.field-0.0 = grind arith in
+    rw told
+    (walked_halted (fst_with a.old.now a.old_version a.old_root) a.new.now a.version a.root a.addrs.now a.inps.now a.outs.now l.k a.levels l.moved l.below
+    c.loop-k-test.true l.invariant c.next_level.ensures _ c.in_err-to.was)
 
 pub loop-k-preserved : goal.loop-k-preserved
 loop-k-preserved c =
@@ -19,7 +21,7 @@ loop-k-preserved c =
     let l = c.loop-k in
     let room : length l.moved ≡ 256 = search rules in
     walked_step (fst_with a.old.now a.old_version a.old_root) a.new.now a.version a.root a.addrs.now a.inps.now a.outs.now l.k l.moved l.below
-    (omega arith) (omega arith) l.invariant c.next_level-settled.ensures _ _ c.in-Stands.is
+    (omega arith) (omega arith) l.invariant c.next_level.ensures _ _ c.in_ok-to.was
 
 pub returns : goal.returns
 returns c =

@@ -1,7 +1,6 @@
 -- `convert::convert_old` meets its contract.
 -- Assumes nothing.
 use mathlib.Core.Path.{◌≡◌, subst}
-use lib.ListN.{length}
 use mathlib.Core.List.{List}
 use Prim.Native.Nat.{ℕ}
 use Rattle.format.specs.Paths.{Fst, fst_with}
@@ -9,7 +8,6 @@ use Rattle.convert_layout.specs.Layout.{Lays}
 use Rattle.std.specs.Prelude.{Option, Some, None}
 use Rattle.convert.proofs.Old.{old_markable, old_layable, old_over, old_finishable, old_finished}
 use borrow.Author.Rules.{rules}
-use native.Mathlib.Omega.{arith}
 use Rattle.convert.proofs.convert_old.Statement.{statement}
 use Rattle.convert.proofs.convert_old.Tie as tie
 

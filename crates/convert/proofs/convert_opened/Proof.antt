@@ -2,7 +2,6 @@
 -- Assumes nothing.
 use Rattle.convert.proofs.Again.{edition_again, old_of, restored}
 use borrow.Author.Rules.{rules}
-use native.Mathlib.Omega.{arith}
 use Rattle.convert.proofs.convert_opened.Statement.{statement}
 use Rattle.convert.proofs.convert_opened.Tie as tie
 

@@ -1,9 +1,7 @@
 -- `convert::finish` meets its contract.
 -- Assumes nothing.
-use mathlib.Core.Path.{refl}
 use Rattle.convert.proofs.Finishing.{finish_short_out, finish_short_table, finish_writable, finish_narrow, finish_done}
 use borrow.Author.Rules.{rules}
-use native.Mathlib.Omega.{arith}
 use Rattle.convert.proofs.finish.Statement.{statement}
 use Rattle.convert.proofs.finish.Tie as tie
 

@@ -87,43 +87,43 @@ enum-known-done c = search rules
 enum_told : tie.Need-enum_told-1
 enum_told c = search rules
 
-same_length : tie.Need-shape_of-inputs-in-Len
+same_length : tie.Need-shape_of-inputs-in-Ok
 same_length c = search rules
 
-same-length-2 : tie.Need-shape_of-outputs-in-Len
+same-length-2 : tie.Need-shape_of-outputs-in-Ok
 same-length-2 c = search rules
 
-same-length-3 : tie.Need-shape_of-targets-in-Len
+same-length-3 : tie.Need-shape_of-targets-in-Ok
 same-length-3 c = search rules
 
-same-length-4 : tie.Need-shape_of-out-in-Len
+same-length-4 : tie.Need-shape_of-out-in-Ok
 same-length-4 c = search rules
 
-returns : tie.Need-returns-in-Len
+returns : tie.Need-returns-in-Ok
 returns c =
     let packed = c.before.before.before in
     let q = packed.before.before.before.before.before.before.before.before in
     let s = start q in
-    pack_done (meaning s.args.file.now s.args.node) s.args.node.ntrans (sym (count s)) q.gather.ensures s.requires.1 packed.compile_record-done.ensures _ c.in-Len.is
+    pack_done (meaning s.args.file.now s.args.node) s.args.node.ntrans (sym (count s)) q.gather.ensures s.requires.1 packed.compile_record-done.ensures _ c.in-Ok.is
 
-same-length-5 : tie.Need-shape_of-inputs-in-Refused
+same-length-5 : tie.Need-shape_of-inputs-in-Err
 same-length-5 c = search rules
 
-same-length-6 : tie.Need-shape_of-outputs-in-Refused
+same-length-6 : tie.Need-shape_of-outputs-in-Err
 same-length-6 c = search rules
 
-same-length-7 : tie.Need-shape_of-targets-in-Refused
+same-length-7 : tie.Need-shape_of-targets-in-Err
 same-length-7 c = search rules
 
-same-length-8 : tie.Need-shape_of-out-in-Refused
+same-length-8 : tie.Need-shape_of-out-in-Err
 same-length-8 c = search rules
 
-returns-2 : tie.Need-returns-in-Refused
+returns-2 : tie.Need-returns-in-Err
 returns-2 c =
     let packed = c.before.before.before in
     let q = packed.before.before.before.before.before.before.before.before in
     let s = start q in
-    absurd (pack_never (meaning s.args.file.now s.args.node) s.args.node.ntrans (sym (count s)) q.gather.ensures s.requires.1 packed.compile_record-done.ensures _ c.in-Refused.is)
+    absurd (pack_never (meaning s.args.file.now s.args.node) s.args.node.ntrans (sym (count s)) q.gather.ensures s.requires.1 packed.compile_record-done.ensures _ c.in-Err.is)
 
 pub pack_spec : {M : Type 1} → statement M
 pack_spec =

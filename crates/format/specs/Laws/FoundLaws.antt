@@ -9,6 +9,7 @@
 use Rattle.std.specs.Prelude.{◌≡◌, refl, Bool, true, false, ◌&&◌, List, [], ◌∷◌, ◌++◌, ℕ, zero, suc, ◌+◌, ◌-◌, ◌≤◌, ◌<◌, eqb, length}
 use Rattle.std.proofs.Common.{sym, ◌∙◌, subst, arith, length-append}
 use Rattle.std.proofs.Math.Decide.{ℕ_discrete, dec_lt}
+use Rattle.format.specs.declared.Refusal.{Refusal}
 use Rattle.format.specs.Limits.{max_path, SPACE}
 use Rattle.format.specs.Node.{Node, Judgement, sound, unsound, Place, at, absent, transition_at}
 use Rattle.format.specs.Laws.TransitionLaws.{at_member}
@@ -46,7 +47,7 @@ with_byte_found b (KeyAnswer.found r) k e = (r, refl, cc)
 with_byte_found b KeyAnswer.none k e = absurd (let z : ◌≡◌ {A = ℕ} 0 1 = cc in omega arith)
 with_byte_found b (KeyAnswer.refused n) k e = absurd (let z : ◌≡◌ {A = ℕ} 0 1 = cc in omega arith)
 
-with_byte_refused : (b : ℕ) (x : KeyAnswer) (n : ℕ) → with_byte b x ≡ KeyAnswer.refused n → x ≡ KeyAnswer.refused n
+with_byte_refused : (b : ℕ) (x : KeyAnswer) (n : Refusal) → with_byte b x ≡ KeyAnswer.refused n → x ≡ KeyAnswer.refused n
 with_byte_refused b (KeyAnswer.found r) n e = absurd (let z : ◌≡◌ {A = ℕ} 0 1 = cc in omega arith)
 with_byte_refused b KeyAnswer.none n e = absurd (let z : ◌≡◌ {A = ℕ} 0 1 = cc in omega arith)
 with_byte_refused b (KeyAnswer.refused m) n e = e
@@ -139,7 +140,7 @@ length_snoc p b = length-append p (b ∷ [])
 
 module _ {f : Fst} (reached : (k : List ℕ) (sum b : ℕ) → Path f f.root k sum b → PathEnd f k sum b) where
   -- every node on the way is sound, and no path has a 256th byte
-  not_refused_from : (room v n : ℕ) {p : List ℕ} {sum a : ℕ} → Path f f.root p sum a → length p + room ≡ max_path → ¬ (get_key_from room f a v ≡ KeyAnswer.refused n)
+  not_refused_from : (room v : ℕ) (n : Refusal) {p : List ℕ} {sum a : ℕ} → Path f f.root p sum a → length p + room ≡ max_path → ¬ (get_key_from room f a v ≡ KeyAnswer.refused n)
   not_refused_from zero v n {p} {sum} {a} path full is = let r = reached p sum a path in go r.node r.judged (key_step r.node v)
     where
       go : (m : Node) → node_in f a ≡ sound m → KeyStep m v → ⊥
@@ -165,7 +166,7 @@ module _ {f : Fst} (reached : (k : List ℕ) (sum b : ℕ) → Path f f.root k s
           rest (v - t.out) (p ++ (t.inp ∷ [])) (sum + t.out) t.addr next (omega (arith, length_snoc p t.inp))
           (with_byte_refused t.inp (get_key_from room f t.addr (v - t.out)) n (sym (get_key_from_step f a v m e on room i fits) ∙ is))
 
-pub get_key_not_refused : {s : List ℕ} (A : Admitted s) (v space n : ℕ) → max_path ≤ space → ¬ (get_key s v space ≡ KeyAnswer.refused n)
+pub get_key_not_refused : {s : List ℕ} (A : Admitted s) (v space : ℕ) (n : Refusal) → max_path ≤ space → ¬ (get_key s v space ≡ KeyAnswer.refused n)
 get_key_not_refused {s} A v space n h is =
     elim (ℕ_discrete (length s) 0) [
       | yes z ↦ let r = get_key_blank s v space A.meta A.opens h z in let z : ◌≡◌ {A = ℕ} 0 1 = cc in omega arith
@@ -174,7 +175,7 @@ get_key_not_refused {s} A v space n h is =
           not_refused_from (λ p sum b path. path_reached A pos path) max_path v n here (omega arith) (sym (get_key_opened s v space A.meta A.opens h pos) ∙ is)
     ]
 
-pub get_key_refused_space : {s : List ℕ} (A : Admitted s) (v space n : ℕ) → get_key s v space ≡ KeyAnswer.refused n → (space < max_path) × (n ≡ SPACE)
+pub get_key_refused_space : {s : List ℕ} (A : Admitted s) (v space : ℕ) (n : Refusal) → get_key s v space ≡ KeyAnswer.refused n → (space < max_path) × (n ≡ SPACE)
 get_key_refused_space {s} A v space n is =
     elim (dec_lt space max_path) [
       | yes l ↦ let r = get_key_space s v space A.meta A.opens l in (l, cc)

@@ -11,6 +11,7 @@ use Rattle.std.proofs.Math.Bool.{cond}
 use mathlib.Core.List.{List, [], ◌∷◌}
 use Prim.Native.Nat.{ℕ, zero, suc, ◌+◌, ◌-◌, ◌≤◌, ◌<◌}
 use Rattle.std.proofs.Math.Decide.{ℕ_discrete, dec_le}
+use Rattle.format.specs.declared.Refusal.{Refusal}
 use borrow.Author.Tests.{le-leb, lt-leb, eq-eqb, ne_eqb}
 use Rattle.format.specs.declared.Transition.{Transition}
 use Rattle.format.specs.Limits.{max_path, max_sum, NODE, DEEP, SUM, SPACE}
@@ -72,7 +73,7 @@ pub get_blank : (s k : List ℕ) (m : Meta) → opening s ≡ opened m → lengt
 unfolding get
 get_blank s k m e z = rw (e, eq-eqb (length s) 0 z)
 
-pub get_refused : (s k : List ℕ) (n : ℕ) → opening s ≡ Opening.refused n → get s k ≡ Answer.refused n
+pub get_refused : (s k : List ℕ) (n : Refusal) → opening s ≡ Opening.refused n → get s k ≡ Answer.refused n
 unfolding get
 get_refused s k n e = rw e
 
@@ -231,7 +232,7 @@ module _ (f : Fst) (a v : ℕ) (m : Node) (e : node_in f a ≡ sound m) where
 key_opened_as_lem : (o : Opening) (m : Meta) (go : Meta → KeyAnswer) → o ≡ opened m → key_opened_as o go ≡ go m
 key_opened_as_lem o m go e = rw e
 
-key_refused_as : (o : Opening) (n : ℕ) (go : Meta → KeyAnswer) → o ≡ Opening.refused n → key_opened_as o go ≡ KeyAnswer.refused n
+key_refused_as : (o : Opening) (n : Refusal) (go : Meta → KeyAnswer) → o ≡ Opening.refused n → key_opened_as o go ≡ KeyAnswer.refused n
 key_refused_as o n go e = rw e
 
 cond_true : (t : Bool) (x y : KeyAnswer) → t ≡ true → cond t x y ≡ x
@@ -245,7 +246,7 @@ module _ (s : List ℕ) (v space : ℕ) where
   unfoldable search : Meta → KeyAnswer
   search m = cond (eqb (length s) 0) KeyAnswer.none (get_key_from max_path (fst_of s m) m.root v)
 
-  pub get_key_refused : (n : ℕ) → opening s ≡ Opening.refused n → get_key s v space ≡ KeyAnswer.refused n
+  pub get_key_refused : (n : Refusal) → opening s ≡ Opening.refused n → get_key s v space ≡ KeyAnswer.refused n
   unfolding get_key search
   get_key_refused n e = key_refused_as (opening s) n (λ m. cond (leb max_path space) (search m) (KeyAnswer.refused SPACE)) e
 

@@ -15,6 +15,7 @@ use borrow.Author.Tests.{lt-ltb, le-ltb, le-leb, lt-leb, eq-eqb, ne_eqb, ltb-tru
 use Rattle.std.proofs.Math.Dec.{ltb, eqb}
 use Rattle.buffers.specs.Decide.{Decides}
 use Rattle.buffers.specs.DecideLaws.{decides_and, decides_le, decides_eq, decides_iff, true_of, false_of}
+use Rattle.format.specs.declared.Refusal.{Refusal}
 use Rattle.format.specs.Limits.{first_node, min_len, max_len, SHORT, VERSION, ROOT, LARGE}
 use Rattle.format.specs.Bytes.{le}
 use Rattle.format.specs.Opening.{Meta, trailer_len, least_len, meta_of, version_test, root_test, Opening, opened, refused, opening}
@@ -188,11 +189,11 @@ large_exactly s = (λ e. go (refused LARGE) ((opening_exactly s (refused LARGE))
   where
     go : (o : Opening) → OpeningCase s o → o ≡ refused LARGE → max_len < length s
     go o (no_bytes z) e = absurd (let z : ◌≡◌ {A = ℕ} 0 1 = cc in omega arith)
-    go o (under_32 pos few) e = absurd (let z : ◌≡◌ {A = ℕ} SHORT LARGE = cc in omega arith)
+    go o (under_32 pos few) e = absurd (let y : ◌≡◌ {A = Refusal} SHORT LARGE = cc in cc)
     go o (over_limit h) e = h
-    go o (other_version low high ne) e = absurd (let z : ◌≡◌ {A = ℕ} VERSION LARGE = cc in omega arith)
-    go o (under_36 low few three) e = absurd (let z : ◌≡◌ {A = ℕ} SHORT LARGE = cc in omega arith)
-    go o (wrong_root w ne) e = absurd (let z : ◌≡◌ {A = ℕ} ROOT LARGE = cc in omega arith)
+    go o (other_version low high ne) e = absurd (let y : ◌≡◌ {A = Refusal} VERSION LARGE = cc in cc)
+    go o (under_36 low few three) e = absurd (let y : ◌≡◌ {A = Refusal} SHORT LARGE = cc in cc)
+    go o (wrong_root w ne) e = absurd (let y : ◌≡◌ {A = Refusal} ROOT LARGE = cc in cc)
     go o (right_root w is) e = absurd (let z : ◌≡◌ {A = ℕ} 0 1 = cc in omega arith)
 
 -- ---- what an opened file says

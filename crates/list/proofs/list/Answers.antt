@@ -4,4 +4,4 @@ use Rattle.list.proofs.list.Goals as goal
 
 -- the reading that began is on its way
 pub lines-requires : goal.lines-requires
-lines-requires g c = way_begins _ c.begin-begun.ensures c.in-Began.is
+lines-requires g c = way_begins _ c.begin-begun.ensures c.in-Ok.is

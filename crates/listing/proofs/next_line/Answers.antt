@@ -1,6 +1,6 @@
 -- `listing::next_line` meets its contract: each way out is a law of LinedLaws.
 -- Assumes nothing.
-use Rattle.std.proofs.Common.{refl, rules}
+use Rattle.std.proofs.Common.{◌≡◌, Ok, Some, None, refl, sym, length, length-take-le, rules, arith}
 use Rattle.listing.proofs.LinedLaws.{lined_short, lined_key, lined_end, lined_refused}
 use Rattle.stream.specs.PlainsLaws.{plain_told}
 use Rattle.stream_step.specs.SteppedLaws.{step_fits}
@@ -10,26 +10,30 @@ use Rattle.listing.proofs.next_line.Goals as goal
 pub returns-then-line-lt-LINE : goal.returns-then-line-lt-LINE
 returns-then-line-lt-LINE c = lined_short _ _ c.args.line.now _ c.if-line-lt-LINE.true refl refl
 
--- the key has at most 255 bytes, and the buffer holds the longest line
-pub key_line-len-requires : goal.key_line-len-requires
-key_line-len-requires c =
-    let fits = step_fits (plain_told c.next-step.ensures) _ _ c.in-Key.is (search rules) in
-    (search rules, search rules, c.if-line-lt-LINE.false)
+-- the key lies in its buffer of 255 bytes
+pub slice_bounds-key_line-end : goal.slice_bounds-key_line-end
+slice_bounds-key_line-end c =
+    let e : c.next-step.result.answer ≡ Ok (Some (c.in-Ok-Some.n, c.in-Ok-Some.value)) = grind arith in
+    let fits = step_fits (plain_told c.next-step.ensures) _ _ e (search rules) in
+    let len : length c.next-step.new.key ≡ 255 = search rules in
+    sym (length-take-le c.in-Ok-Some.n c.next-step.new.key (omega (arith, fits, len)))
 
 -- a key is left: its line
-pub returns-in-Key : goal.returns-in-Key
-returns-in-Key c =
+pub returns-in-Ok-Some : goal.returns-in-Ok-Some
+returns-in-Ok-Some c =
     let a = c.args in
-    lined_key a.file.now _ a.keys _ refl c.next-step.ensures a.line.now _ _ _ refl c.if-line-lt-LINE.false _ _ c.in-Key.is c.key_line-len.ensures refl c.counted.ensures
+    let e : c.next-step.result.answer ≡ Ok (Some (c.in-Ok-Some.n, c.in-Ok-Some.value)) = grind arith in
+    lined_key a.file.now _ a.keys _ refl c.next-step.ensures a.line.now _ _ _ refl c.if-line-lt-LINE.false _ _ e c.key_line-len.ensures refl c.counted.ensures
 
 -- no key is left: the last line
-pub returns-in-End : goal.returns-in-End
-returns-in-End c =
+pub returns-in-Ok-None : goal.returns-in-Ok-None
+returns-in-Ok-None c =
     let a = c.args in
-    lined_end a.file.now _ a.keys _ refl c.next-step.ensures a.line.now _ _ _ refl c.if-line-lt-LINE.false c.in-End.is c.end_line-len.ensures refl refl
+    let e : c.next-step.result.answer ≡ Ok None = grind arith in
+    lined_end a.file.now _ a.keys _ refl c.next-step.ensures a.line.now _ _ _ refl c.if-line-lt-LINE.false e c.end_line-len.ensures refl refl
 
 -- the reading is refused: its line
-pub returns-in-Refused : goal.returns-in-Refused
-returns-in-Refused c =
+pub returns-in-Err : goal.returns-in-Err
+returns-in-Err c =
     let a = c.args in
-    lined_refused a.file.now _ a.keys _ refl c.next-step.ensures a.line.now _ _ _ refl c.if-line-lt-LINE.false _ c.in-Refused.is c.refused_line-len.ensures refl refl
+    lined_refused a.file.now _ a.keys _ refl c.next-step.ensures a.line.now _ _ _ refl c.if-line-lt-LINE.false _ c.in-Err.is c.refused_line-len.ensures refl refl

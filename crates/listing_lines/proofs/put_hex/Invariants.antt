@@ -1,7 +1,8 @@
 -- `listing_lines::put_hex`: the first bytes are written, up to place p.
 -- Assumes nothing.
+use Rattle.std.proofs.Common.{length}
 use Rattle.listing_lines.proofs.Hexes.{HexTo}
 use Rattle.listing_lines.proofs.put_hex.Given as goal
 
 abbrev pub invariant-loop-x : goal.invariant-loop-x
-invariant-loop-x l = HexTo l.initial.line l.at l.key l.n l.line l.p l.x-index
+invariant-loop-x l = HexTo l.initial.line l.at l.key (length l.key) l.line l.p l.x-index

@@ -6,9 +6,9 @@ use Rattle.listing_start.proofs.BegunLaws.{begins_counted}
 use Rattle.listing_start.proofs.begin.Goals as goal
 
 -- the keys are not counted
-pub returns-in-Refused : goal.returns-in-Refused
-returns-in-Refused c = not_counted c.if-file-gt-LARGEST.false _ (ap (λ (r : Started). r.answer) c.refused-in-Refused.ensures) c.in-Refused.ensures
+pub returns-in-Err : goal.returns-in-Err
+returns-in-Err c = not_counted c.if-file-gt-LARGEST.false _ (ap (λ (r : Started). r.answer) c.refused-in-Err.ensures) c.in-Err.ensures
 
 -- they are: the unbounded reading begins
-pub returns-in-Counted : goal.returns-in-Counted
-returns-in-Counted c = begins_counted _ c.if-file-gt-LARGEST.false c.in-Counted.ensures c.start.ensures
+pub returns-in-Ok : goal.returns-in-Ok
+returns-in-Ok c = begins_counted _ c.if-file-gt-LARGEST.false c.in-Ok.ensures c.start.ensures

@@ -4,7 +4,7 @@ use Rattle.std.proofs.Common.{rules, arith, ◌≡◌, ◌≤◌, ◌<◌, ◌+�
 use native.Mathlib.Decide.{ℕ_discrete}
 use Rattle.marking.specs.MarkCalls as M
 use Rattle.marking.specs.MarkCalls.{same_name}
-use Rattle.marks_held.specs.MarkViews.{stated, no_mark, mark_is, marks_is, mark_at, at_place, nowhere}
+use Rattle.marks_held.specs.MarkViews.{no_mark, mark_is, marks_is, mark_at, at_place, nowhere}
 use Rattle.marks_held.specs.MarkViewsLaws.{stated_length, mark_at_lem}
 use Rattle.marks_held.proofs.name_from.Goals as goal
 
@@ -20,14 +20,14 @@ returns-then-same_name c =
     let a = c.args in
     let is = mark_at_lem a.marks (search rules) c.requires.0 c.loop-i.i _ (omega arith) in
     at_place c.loop-i.i (omega arith) (omega (arith, stated_length a.marks.count no_mark (map mark_is a.marks.marks)))
-    (ap (λ (m : M.Mark). same_name m.name (stated a.len 0 a.name)) is ∙ sym c.same_name.ensures ∙ c.if-same_name.true) c.loop-i.invariant
+    (ap (λ (m : M.Mark). same_name m.name a.name.now) is ∙ sym c.same_name.ensures ∙ c.if-same_name.true) c.loop-i.invariant
 
 pub loop-i-preserved : goal.loop-i-preserved
 loop-i-preserved c =
     let a = c.args in
     let is = mark_at_lem a.marks (search rules) c.requires.0 c.loop-i.i _ (omega arith) in
-    further a.from c.loop-i.i (λ j. same_name (mark_at (marks_is a.marks) j).name (stated a.len 0 a.name) ≡ false) c.loop-i.invariant
-    (ap (λ (m : M.Mark). same_name m.name (stated a.len 0 a.name)) is ∙ sym c.same_name.ensures ∙ c.if-same_name.false)
+    further a.from c.loop-i.i (λ j. same_name (mark_at (marks_is a.marks) j).name a.name.now ≡ false) c.loop-i.invariant
+    (ap (λ (m : M.Mark). same_name m.name a.name.now) is ∙ sym c.same_name.ensures ∙ c.if-same_name.false)
 
 pub returns : goal.returns
 returns c =

@@ -19,8 +19,8 @@ returns-then-too_long c =
 pub loop-j-init : goal.loop-j-init
 loop-j-init c = λ ms e are k le lt. absurd (omega arith)
 
-pub returns-then-same_name : goal.returns-then-same_name
-returns-then-same_name c =
+pub returns-then-same_names : goal.returns-then-same_names
+returns-then-same_names c =
     let a = c.args in
     let j = c.loop-j.j in
     λ ms e are.
@@ -28,7 +28,7 @@ returns-then-same_name c =
     let below : j < length ms = omega arith in
     name_again ms a.i _ (name_long ms a.names are a.i _ within) c.if-held-eq0.false c.if-too_long.false
     (there_place (mark_at ms a.i).name ms (a.i + 1) j
-    (at_place j (omega arith) below (pair_is ms a.names are a.i _ within j _ below ∙ sym c.same_name.ensures ∙ c.if-same_name.true) (c.loop-j.invariant ms e are)))
+    (at_place j (omega arith) below (pair_is ms a.names are a.i _ within j _ below ∙ sym c.same_names.ensures ∙ c.if-same_names.true) (c.loop-j.invariant ms e are)))
 
 pub loop-j-preserved : goal.loop-j-preserved
 loop-j-preserved c =
@@ -37,7 +37,7 @@ loop-j-preserved c =
     λ ms e are.
     let within : a.i < length ms = rw e c.requires.1 in
     let below : j < length ms = omega arith in
-    once_on ms a.i j (c.loop-j.invariant ms e are) (pair_is ms a.names are a.i _ within j _ below ∙ sym c.same_name.ensures ∙ c.if-same_name.false)
+    once_on ms a.i j (c.loop-j.invariant ms e are) (pair_is ms a.names are a.i _ within j _ below ∙ sym c.same_names.ensures ∙ c.if-same_names.false)
 
 pub returns : goal.returns
 returns c =

@@ -28,7 +28,7 @@ shared-slice-read-small c =
     let start = test.before.before in
     omega (arith, start.requires.room, start.requires.entries_len test.if-index_len-ne0.true, start.ranges.b.fits)
 
-small-requires : tie.Need-small-e-requires
+small-requires : tie.Need-from-e-requires
 small-requires c κs = search rules
 
 -- by the index
@@ -39,9 +39,9 @@ returns c =
     let start = test.before.before in
     let a = start.args in
     let s = a.file.now in
-    entry_finds (bytes_down s a.at a.n) (take 256 (drop (a.at + a.n) s)) a.b call.small-e.result (start.requires.index test.if-index_len-ne0.true) start.ranges.b.fits
+    entry_finds (bytes_down s a.at a.n) (take 256 (drop (a.at + a.n) s)) a.b call.from-e.result (start.requires.index test.if-index_len-ne0.true) start.ranges.b.fits
     (rw (length_bytes_down s a.at a.n) c.if-is_place.true)
-    (entry_is_lem s (a.at + a.n) a.b call.small-e.result start.ranges.b.fits call.small-e.ensures)
+    (entry_is_lem s (a.at + a.n) a.b call.from-e.result start.ranges.b.fits call.from-e.ensures)
 
 seek-requires : tie.Need-seek-requires
 seek-requires c κs = search rules

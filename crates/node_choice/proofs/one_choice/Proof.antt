@@ -33,30 +33,30 @@ low : (b : tie.Start) → 16 ≤ b.args.addr
 low b = sound_low b.args.file.now b.args.version b.args.root b.args.addr b.requires.0
 
 -- the parameters and the shape, seen from where the sizes byte is read
-abbrev start : tie.After-small-sizes → tie.Start
+abbrev start : tie.After-from-sizes → tie.Start
 start q = q.before.before.before.before
 
-abbrev file : tie.After-small-sizes → List ℕ
+abbrev file : tie.After-from-sizes → List ℕ
 file q = (start q).args.file.now
 
-abbrev addr : tie.After-small-sizes → ℕ
+abbrev addr : tie.After-from-sizes → ℕ
 addr q = (start q).args.addr
 
-abbrev sizes : tie.After-small-sizes → ℕ
-sizes q = q.small-sizes.result
+abbrev sizes : tie.After-from-sizes → ℕ
+sizes q = q.from-sizes.result
 
-abbrev size : tie.After-small-sizes → ℕ
+abbrev size : tie.After-from-sizes → ℕ
 size q = sizes q % 16 + sizes q / 16 + 1 + q.before.before.head_len-len.result
 
-abbrev h_at : tie.After-small-sizes → F.Shape
+abbrev h_at : tie.After-from-sizes → F.Shape
 h_at q = one_shape (sizes q / 16) (sizes q % 16) (size q)
 
-is_h : (q : tie.After-small-sizes) → h_at q ≡ shape_of (file q) (start q).args.version (addr q)
+is_h : (q : tie.After-from-sizes) → h_at q ≡ shape_of (file q) (start q).args.version (addr q)
 is_h q =
     shape_one (file q) (start q).args.version (addr q) q.before.before.head_len-len.result (sizes q) (start q).requires.1 (start q).requires.2 q.before.before.head_len-len.ensures.is
-    q.small-sizes.ensures
+    q.from-sizes.ensures
 
-sound_at : (q : tie.After-small-sizes) → SoundShape (file q) (start q).args.root (addr q) (h_at q) (addr q + 1 - size q)
+sound_at : (q : tie.After-from-sizes) → SoundShape (file q) (start q).args.root (addr q) (h_at q) (addr q + 1 - size q)
 sound_at q = shape_sound (file q) (start q).args.version (start q).args.root (addr q) (h_at q) (is_h q) (λ z. omega (arith, low (start q))) (start q).requires.0
 
 -- the address lies in the file
@@ -71,7 +71,7 @@ sub_small c = omega (arith, low c.before.before)
 shared-slice-read-small : tie.Need-bounds-file-addr
 shared-slice-read-small c = omega (arith, low c.before.before.before, c.before.before.before.requires.0.inside)
 
-small-requires : tie.Need-small-sizes-requires
+small-requires : tie.Need-from-sizes-requires
 small-requires c κs = search rules
 
 -- the address lies in the file

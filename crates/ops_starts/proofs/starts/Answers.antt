@@ -11,14 +11,14 @@ loop-i-init c =
     let a = c.args in
     starting_none (map (λ f. f.now) a.files) a.count (bound_is a.lower_kind a.lower.now) (bound_is a.upper_kind a.upper.now) _ (search rules)
 
-pub returns-in-Refused : goal.returns-in-Refused
-returns-in-Refused c =
+pub returns-in-Err : goal.returns-in-Err
+returns-in-Err c =
     let a = c.args in
     let l = c.loop-i in
     let w = c.start-started in
     let one = w.ensures ∙ ap (λ (f : List ℕ). R.start f (bound_is a.lower_kind a.lower.now) (bound_is a.upper_kind a.upper.now)) (sym (at_file a.files l.i _ refl)) in
     starting_refused (map (λ f. f.now) a.files) a.count (bound_is a.lower_kind a.lower.now) (bound_is a.upper_kind a.upper.now) l.cards l.i l.invariant c.requires
-    (files_long a.files (search rules)) (omega arith) w.result one _ c.in-Refused.is
+    (files_long a.files (search rules)) (omega arith) w.result one _ c.in-Err.is
 
 pub loop-i-preserved : goal.loop-i-preserved
 loop-i-preserved c =
@@ -27,7 +27,7 @@ loop-i-preserved c =
     let w = c.start-started in
     let one = w.ensures ∙ ap (λ (f : List ℕ). R.start f (bound_is a.lower_kind a.lower.now) (bound_is a.upper_kind a.upper.now)) (sym (at_file a.files l.i _ refl)) in
     starting_on (map (λ f. f.now) a.files) a.count (bound_is a.lower_kind a.lower.now) (bound_is a.upper_kind a.upper.now) l.cards l.i l.invariant c.requires
-    (files_long a.files (search rules)) (omega arith) w.result one c.in-Began.is _ c.wide.ensures
+    (files_long a.files (search rules)) (omega arith) w.result one c.in-Ok.is _ c.wide.ensures
 
 pub returns : goal.returns
 returns c =

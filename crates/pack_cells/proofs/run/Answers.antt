@@ -1,15 +1,27 @@
 -- A turn takes the two cells of a row, a step is made, and two cells are put back.
 -- Assumes nothing.
-use Rattle.std.proofs.Common.{rules, ◌≡◌, refl, true, false, ap, ◌∙◌, ◌+◌, ◌<◌, arith, length}
+use Rattle.std.proofs.Common.{rules, ◌≡◌, refl, ap, ◌∙◌, ◌+◌, ◌<◌, arith, length}
+use Rattle.std.specs.Prelude.{Ok, Err, Result}
 use Rattle.std.proofs.lemmas.List.{get_or_default}
+use Rattle.std.proofs.lemmas.Result.{err_from_is_err_and}
+use Rattle.format.specs.declared.Refusal.{Refusal}
 use Rattle.pack_cells.specs.Pairs.{pairs_is}
 use Rattle.pack_cells.specs.PairsLaws.{pairs_empty}
-use Rattle.pack_cells.proofs.Turns.{State, within, asked, between, less}
+use Rattle.pack_step.specs.declared.Turn.{Turn}
+use Rattle.pack_step.specs.declared.Turn.TheVariants.{Next}
+use Rattle.pack_cells.proofs.Turns.{State, standing_as, within, asked, after, between}
 use Rattle.pack_cells.proofs.run.Goals as goal
 
-pub loop-counts-init : goal.loop-counts-init
-loop-counts-init c = record {
-  standing = c.begin-turn.ensures c.args.output.now (pairs_is c.args.cells.now) c.requires.0 (ap pairs_is c.requires.1 ∙ pairs_empty (length c.args.cells.now));
+-- the list or the tables are refused before the first turn
+pub returns-in_err-turn : goal.returns-in_err-turn
+returns-in_err-turn c =
+    let p = err_from_is_err_and c.from_residual.result c.from_residual.ensures.1 in
+    let st = c.begin.ensures c.args.output.now (pairs_is c.args.cells.now) c.requires.0 (ap pairs_is c.requires.1 ∙ pairs_empty (length c.args.cells.now)) in
+    rw (p.1, p.2) (st.ended (Err _) c.in_err-turn.was)
+
+pub loop-turn-init : goal.loop-turn-init
+loop-turn-init c = record {
+  standing = standing_as c.in_ok-turn.was (c.begin.ensures c.args.output.now (pairs_is c.args.cells.now) c.requires.0 (ap pairs_is c.requires.1 ∙ pairs_empty (length c.args.cells.now)));
   inputs_same = refl;
   leasts_same = refl;
   targets_same = refl;
@@ -17,43 +29,43 @@ loop-counts-init c = record {
 
 pub offset_bounds-cells-i : goal.offset_bounds-cells-i
 offset_bounds-cells-i c =
-    let w : c.row_of-i.result + 1 < length c.loop-counts.cells = within _ c.loop-counts.invariant (cc) _ c.row_of-i.ensures in
+    let w : c.in-Next.due.row + 1 < length c.loop-turn.cells = within _ c.loop-turn.invariant c.in-Next.due (ap Ok c.in-Next.is) in
     search rules
 
 pub slice_copy_out-step : goal.slice_copy_out-step
 slice_copy_out-step c =
-    let w : c.row_of-i.result + 1 < length c.loop-counts.cells = within _ c.loop-counts.invariant (cc) _ c.row_of-i.ensures in
+    let w : c.in-Next.due.row + 1 < length c.loop-turn.cells = within _ c.loop-turn.invariant c.in-Next.due (ap Ok c.in-Next.is) in
     omega arith
 
 pub overflow_add-i : goal.overflow_add-i
 overflow_add-i c =
-    let w : c.row_of-i.result + 1 < length c.loop-counts.cells = within _ c.loop-counts.invariant (cc) _ c.row_of-i.ensures in
+    let w : c.in-Next.due.row + 1 < length c.loop-turn.cells = within _ c.loop-turn.invariant c.in-Next.due (ap Ok c.in-Next.is) in
     search rules
 
-pub offset_bounds-cells-i-in-loop-counts : goal.offset_bounds-cells-i-in-loop-counts
-offset_bounds-cells-i-in-loop-counts c =
-    let w : c.row_of-i.result + 1 < length c.loop-counts.cells = within _ c.loop-counts.invariant (cc) _ c.row_of-i.ensures in
+pub offset_bounds-cells-i-in-loop-turn : goal.offset_bounds-cells-i-in-loop-turn
+offset_bounds-cells-i-in-loop-turn c =
+    let w : c.in-Next.due.row + 1 < length c.loop-turn.cells = within _ c.loop-turn.invariant c.in-Next.due (ap Ok c.in-Next.is) in
     search rules
 
-pub slice_copy_out-step-in-loop-counts : goal.slice_copy_out-step-in-loop-counts
-slice_copy_out-step-in-loop-counts c = within _ c.loop-counts.invariant (cc) _ c.row_of-i.ensures
+pub slice_copy_out-step-in-loop-turn : goal.slice_copy_out-step-in-loop-turn
+slice_copy_out-step-in-loop-turn c = within _ c.loop-turn.invariant c.in-Next.due (ap Ok c.in-Next.is)
 
 pub step-done-requires : goal.step-done-requires
 step-done-requires c =
-    let go : c.loop-counts.turn.going ≡ true = cc in
-    let j = c.row_of-i.result in
-    let w = within _ c.loop-counts.invariant go j c.row_of-i.ensures in
-    asked _ c.loop-counts.invariant go j c.row_of-i.ensures (get_or_default c.loop-counts.cells j _ _ (omega (arith, w))) (get_or_default c.loop-counts.cells (j + 1) _ _ w)
+    let d = c.in-Next.due in
+    let w = within _ c.loop-turn.invariant d (ap Ok c.in-Next.is) in
+    asked _ c.loop-turn.invariant d (ap Ok c.in-Next.is) (get_or_default c.loop-turn.cells d.row _ _ (omega (arith, w))) (get_or_default c.loop-turn.cells (d.row + 1) _ _ w)
 
 pub put_row-requires : goal.put_row-requires
-put_row-requires c = within _ c.loop-counts.invariant (cc) _ c.row_of-i.ensures
+put_row-requires c = within _ c.loop-turn.invariant c.in-Next.due (ap Ok c.in-Next.is)
 
-pub loop-counts-smaller : goal.loop-counts-smaller
-loop-counts-smaller c =
-    let go : c.loop-counts.turn.going ≡ true = cc in
-    let j = c.row_of-i.result in
-    let w = within _ c.loop-counts.invariant go j c.row_of-i.ensures in
-    let after : State = record {
+-- a step has no room
+pub returns-in_err-turn-2 : goal.returns-in_err-turn-2
+returns-in_err-turn-2 c =
+    let p = err_from_is_err_and c.from_residual-in_err-turn-2.result c.from_residual-in_err-turn-2.ensures.1 in
+    let d = c.in-Next.due in
+    let w = within _ c.loop-turn.invariant d (ap Ok c.in-Next.is) in
+    let left : State = record {
       out = c.step-done.new.output;
       cells = c.put_row.new.cells;
       inputs = c.step-done.new.inputs;
@@ -63,18 +75,15 @@ loop-counts-smaller c =
       led = c.step-done.new.led;
       finals = c.step-done.new.finals;
       values = c.step-done.new.values;
-      turn = c.turn_of-turn.result;
+      turn = c.step-done.result.turn;
     } in
-    less _ c.loop-counts.invariant go j c.row_of-i.ensures (get_or_default c.loop-counts.cells j _ _ (omega (arith, w))) (get_or_default c.loop-counts.cells (j + 1) _ _ w)
-    after c.step-done.ensures c.first_of.ensures c.second_of.ensures c.turn_of-turn.ensures c.put_row.ensures
+    let st = after _ c.loop-turn.invariant d (ap Ok c.in-Next.is) (get_or_default c.loop-turn.cells d.row _ _ (omega (arith, w))) (get_or_default c.loop-turn.cells (d.row + 1) _ _ w)
+    left c.step-done.ensures refl c.put_row.ensures in
+    rw (p.1, p.2) (st.ended (Err _) c.in_err-turn-2.was)
 
-pub loop-counts-preserved : goal.loop-counts-preserved
-loop-counts-preserved c =
-    let go : c.loop-counts.turn.going ≡ true = cc in
-    let j = c.row_of-i.result in
-    let w = within _ c.loop-counts.invariant go j c.row_of-i.ensures in
-    between _ c.loop-counts.invariant go j c.row_of-i.ensures (get_or_default c.loop-counts.cells j _ _ (omega (arith, w))) (get_or_default c.loop-counts.cells (j + 1) _ _ w)
-    _ c.step-done.ensures c.first_of.ensures c.second_of.ensures c.turn_of-turn.ensures c.put_row.ensures c.step-done.auto.inputs c.step-done.auto.leasts c.step-done.auto.targets
-
-pub returns : goal.returns
-returns c = let stop : c.loop-counts.turn.going ≡ false = cc in c.loop-counts.invariant.standing.ended stop
+pub loop-turn-preserved : goal.loop-turn-preserved
+loop-turn-preserved c =
+    let d = c.in-Next.due in
+    let w = within _ c.loop-turn.invariant d (ap Ok c.in-Next.is) in
+    between _ c.loop-turn.invariant d (ap Ok c.in-Next.is) (get_or_default c.loop-turn.cells d.row _ _ (omega (arith, w))) (get_or_default c.loop-turn.cells (d.row + 1) _ _ w)
+    _ c.step-done.ensures c.in_ok-turn-2.was c.put_row.ensures c.step-done.auto.inputs c.step-done.auto.leasts c.step-done.auto.targets

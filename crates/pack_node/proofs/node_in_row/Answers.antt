@@ -32,6 +32,6 @@ pub returns : goal.returns
 returns c =
     let deep : c.args.way.depth ≡ c.args.way.depth - 1 + 1 = omega (arith, c.requires.low) in
     let g = c.ahead-on.ensures in
-    steps_done refl
+    steps_done _ refl
     (λ table row at taken. node_at at taken (c.args.way.depth - 1) deep c.close_in_row-done.ensures c.in-Some.next c.in-Some.is refl g c.row_next-row.ensures)
     (omega (arith, g.gone.less))

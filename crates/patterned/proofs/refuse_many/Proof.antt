@@ -19,25 +19,25 @@ refused-requires c κs = search rules
 enum_told : tie.Need-enum_told-1
 enum_told c = search rules
 
-refused-requires-2 : tie.Need-refused-requires-in-Meta
+refused-requires-2 : tie.Need-refused-requires-in-Ok
 refused-requires-2 c κs = search rules
 
 -- the file does not open
-returns : tie.Need-returns-in-Refused
+returns : tie.Need-returns-in-Err
 returns c = let q = c.before in
     let call = q.before in
     let a = call.before.before.before.args in
-    λ lo hi. refused_open a.file.now a.positions.now a.rest lo hi q.in-Refused.why (sym call.open-opened.ensures ∙ ap opening_is q.in-Refused.is)
+    λ lo hi. refused_open a.file.now a.positions.now a.rest lo hi q.in-Err.why (sym call.open-opened.ensures ∙ ap opening_is q.in-Err.is)
     c.refused.result c.refused.ensures
 
 -- it opens: PATTERN
-returns-2 : tie.Need-returns-in-Meta
+returns-2 : tie.Need-returns-in-Ok
 returns-2 c = let q = c.before in
     let call = q.before in
     let start = call.before.before.before in
     let a = start.args in
-    λ lo hi. refused_many a.file.now a.positions.now a.rest lo hi (meta_is q.in-Meta.field-0)
-    (sym call.open-opened.ensures ∙ ap opening_is q.in-Meta.is) start.requires c.refused-in-Meta.result c.refused-in-Meta.ensures
+    λ lo hi. refused_many a.file.now a.positions.now a.rest lo hi (meta_is q.in-Ok.field-0)
+    (sym call.open-opened.ensures ∙ ap opening_is q.in-Ok.is) start.requires c.refused-in-Ok.result c.refused-in-Ok.ensures
 
 pub refuse_many_spec : {M : Type 1} → statement M
 refuse_many_spec =

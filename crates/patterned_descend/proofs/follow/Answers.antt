@@ -1,6 +1,6 @@
 -- `patterned_descend::follow` meets its contract: one law for each way out.
 -- Assumes nothing.
-use Rattle.std.proofs.Common.{◌≡◌, arith, ◌+◌, ◌<◌, ◌≤◌, ℕ, get_or}
+use Rattle.std.proofs.Common.{◌≡◌, arith, ◌+◌, ◌<◌, ◌≤◌, get_or}
 use Rattle.format.specs.Limits.{max_sum}
 use Rattle.node.specs.ReadLaws.{answer_sound, answer_unsound}
 use Rattle.patterned_descend.proofs.FollowLaws.{place_fits, target_fits, follows_sum, follows_bad, follows_to}

@@ -20,16 +20,16 @@ use Rattle.patterned_step.proofs.step.Tie as tie
 
 -- ---- what is known where the file opens, where the state is right, and where the pattern and the buffer are
 
-abbrev start : tie.In-Meta → tie.Start
+abbrev start : tie.In-Ok → tie.Start
 start q = q.before.before.before.before
 
-abbrev meta : tie.In-Meta → Meta
-meta q = q.in-Meta.m
+abbrev meta : tie.In-Ok → Meta
+meta q = q.in-Ok.m
 
-opens : (q : tie.In-Meta) → O.opening (start q).args.file.now ≡ O.opened (meta_is (meta q))
-opens q = sym q.before.open-opened.ensures ∙ ap opening_is q.in-Meta.is
+opens : (q : tie.In-Ok) → O.opening (start q).args.file.now ≡ O.opened (meta_is (meta q))
+opens q = sym q.before.open-opened.ensures ∙ ap opening_is q.in-Ok.is
 
-abbrev q_of : tie.After-state_right → tie.In-Meta
+abbrev q_of : tie.After-state_right → tie.In-Ok
 q_of w = w.before
 
 right : (v : tie.Then-state_right)
@@ -51,7 +51,7 @@ open-requires c κs = search rules
 enum-known-opened : tie.Need-enum_known-opened
 enum-known-opened c = search rules
 
-enum-known-opened-2 : tie.Need-enum_known-opened-in-Meta-1
+enum-known-opened-2 : tie.Need-enum_known-opened-in-Ok-1
 enum-known-opened-2 c = search rules
 
 state-right-requires : tie.Need-state_right-requires
@@ -104,10 +104,10 @@ walk-requires c κs = let told = c.before.before in
     (e.0, e.1, root_fits (start q).args.file.now (meta_is (meta q)) (opens q), told.if-key-lt-MAX_KEY.false, u.if-too_many.false)
 
 -- the file does not open
-returns-4 : tie.Need-returns-in-Refused
+returns-4 : tie.Need-returns-in-Err
 returns-4 c = let call = c.before in
     let a = call.before.before.before.args in
-    next_refused a.file.now (held_is a.pattern) a.reading a.key.now c.in-Refused.why (sym call.open-opened.ensures ∙ ap opening_is c.in-Refused.is)
+    next_refused a.file.now (held_is a.pattern) a.reading a.key.now c.in-Err.why (sym call.open-opened.ensures ∙ ap opening_is c.in-Err.is)
 
 same_length : tie.Need-shape_of-key-in-Some
 same_length c = search rules

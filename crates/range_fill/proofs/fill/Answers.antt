@@ -23,18 +23,18 @@ step_on-requires-clause-levels_le_max_levels c =
     (g.few, omega (arith, root_fits c.args.file.now o.meta o.opens, o.root_is), g.sounds, g.beside)
 
 -- no key is left
-pub returns-in-End : goal.returns-in-End
-returns-in-End c =
+pub returns-in-Ok-None : goal.returns-in-Ok-None
+returns-in-Ok-None c =
     let h = c.requires.ready in
     let r = c.requires.most_in_bounds in
-    going_end h.opens h.short r.0 r.1 c.loop-count.invariant c.loop-count-test.true (c.step_on.ensures (length c.args.file.now) c.args.bound_len) c.in-End.is 0
+    going_end h.opens h.short r.0 r.1 c.loop-count.invariant c.loop-count-test.true (c.step_on.ensures (length c.args.file.now) c.args.bound_len) (rw c.in-Ok-None.field-0-is at c.in-Ok-None.is) 0
 
-pub returns-in-Refused : goal.returns-in-Refused
-returns-in-Refused c =
+pub returns-in-Err : goal.returns-in-Err
+returns-in-Err c =
     let h = c.requires.ready in
     let r = c.requires.most_in_bounds in
     going_refused h.opens h.short r.0 r.1 c.loop-count.invariant c.loop-count-test.true (c.step_on.ensures (length c.args.file.now) c.args.bound_len) _
-    c.in-Refused.is 0
+    c.in-Err.is 0
 
 -- the inputs hold the key, and its row lies within the rows
 pub put_row-requires : goal.put_row-requires
@@ -43,10 +43,11 @@ put_row-requires c =
     let r = c.requires.most_in_bounds in
     let t = c.step_on.ensures (length c.args.file.now) c.args.bound_len in
     let g = c.loop-count.invariant in
-    let left = c.loop-count-test.true in (
-      inputs_hold h.opens h.short r.0 r.1 g left t _ _ _ c.in-Key.is,
-      omega (arith, key_low h.opens h.short r.0 r.1 g left t _ _ _ c.in-Key.is),
-      row_within h.opens h.short r.0 r.1 g left t _ _ _ c.in-Key.is,
+    let left = c.loop-count-test.true in
+    let e = rw c.in-Ok-Some.field-0-is at c.in-Ok-Some.is in (
+      inputs_hold h.opens h.short r.0 r.1 g left t _ _ _ e,
+      omega (arith, key_low h.opens h.short r.0 r.1 g left t _ _ _ e),
+      row_within h.opens h.short r.0 r.1 g left t _ _ _ e,
     )
 
 pub overflow_add-height : goal.overflow_add-height
@@ -54,7 +55,7 @@ overflow_add-height c =
     let h = c.requires.ready in
     let r = c.requires.most_in_bounds in
     let t = c.step_on.ensures (length c.args.file.now) c.args.bound_len in
-    search (rules, key_low h.opens h.short r.0 r.1 c.loop-count.invariant c.loop-count-test.true t _ _ _ c.in-Key.is)
+    search (rules, key_low h.opens h.short r.0 r.1 c.loop-count.invariant c.loop-count-test.true t _ _ _ (rw c.in-Ok-Some.field-0-is at c.in-Ok-Some.is))
 
 -- a key more
 pub loop-count-preserved : goal.loop-count-preserved
@@ -62,7 +63,7 @@ loop-count-preserved c =
     let h = c.requires.ready in
     let r = c.requires.most_in_bounds in
     let t = c.step_on.ensures (length c.args.file.now) c.args.bound_len in
-    going_key h.opens h.short r.0 r.1 c.loop-count.invariant c.loop-count-test.true t _ _ _ c.in-Key.is c.put_row.ensures
+    going_key h.opens h.short r.0 r.1 c.loop-count.invariant c.loop-count-test.true t _ _ _ (rw c.in-Ok-Some.field-0-is at c.in-Ok-Some.is) c.put_row.ensures
 
 -- as many as asked for
 pub returns : goal.returns

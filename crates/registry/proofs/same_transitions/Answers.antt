@@ -1,6 +1,7 @@
 -- Rows of different lengths differ; a turn compares one place, and a place that differs decides.
 -- Assumes nothing.
-use Rattle.std.proofs.Common.{◌≡◌, length, sym, ◌∙◌, arith}
+use Rattle.std.proofs.Common.{◌≡◌, Bool, true, false, ◌&&◌, eqb, ℕ, refl, length, get_or, sym, ◌∙◌, arith}
+use Rattle.std.specs.Prelude.{not}
 use Rattle.format.specs.Node.{transitions_of}
 use Rattle.format.specs.Laws.TransitionLaws.{length_transitions_of}
 use Rattle.node.specs.Read.{transitions_in}
@@ -21,19 +22,36 @@ loop-i-init c =
     let same : length a.inputs.now ≡ length (transitions_in a.file.now a.node) = c.if-inputs-node.false ∙ sym (length_node_transitions a.file.now a.node c.requires.0) in
     compared_none _ a.inputs.now a.outputs.now a.targets.now c.requires.1 c.requires.2 same
 
-pub returns-then-not-same_transition : goal.returns-then-not-same_transition
-returns-then-not-same_transition c =
+-- the three parts of a tuple are compared from the left
+grouped : (a b d : Bool) → ((a && b) && d) ≡ (a && (b && d))
+grouped true b d = refl
+grouped false b d = refl
+
+not_true : (b : Bool) → not b ≡ true → b ≡ false
+not_true true e = absurd (let z : ◌≡◌ {A = ℕ} 0 1 = cc in omega arith)
+not_true false e = refl
+
+not_false : (b : Bool) → not b ≡ false → b ≡ true
+not_false true e = refl
+not_false false e = absurd (let z : ◌≡◌ {A = ℕ} 0 1 = cc in omega arith)
+
+pub returns-then-ne : goal.returns-then-ne
+returns-then-ne c =
     let a = c.args in
+    let t = c.transition-t.result in
+    let i = c.loop-i.i in
     let same : length a.inputs.now ≡ length (transitions_in a.file.now a.node) = c.if-inputs-node.false ∙ sym (length_node_transitions a.file.now a.node c.requires.0) in
     compared_differ _ a.inputs.now a.outputs.now a.targets.now c.requires.1 c.requires.2 same
-    c.loop-i.i (omega arith) _ c.transition-t.ensures _ c.same_transition.ensures c.loop-i.invariant c.if-not-same_transition.true
+    i (omega arith) _ c.transition-t.ensures _ (grouped (eqb t.inp (get_or a.inputs.now i 0)) (eqb t.out (get_or a.outputs.now i 0)) (eqb t.addr (get_or a.targets.now i 0))) c.loop-i.invariant (not_true _ (sym c.ne.ensures ∙ c.if-ne.true))
 
 pub loop-i-preserved : goal.loop-i-preserved
 loop-i-preserved c =
     let a = c.args in
+    let t = c.transition-t.result in
+    let i = c.loop-i.i in
     let same : length a.inputs.now ≡ length (transitions_in a.file.now a.node) = c.if-inputs-node.false ∙ sym (length_node_transitions a.file.now a.node c.requires.0) in
     compared_step _ a.inputs.now a.outputs.now a.targets.now c.requires.1 c.requires.2 same
-    c.loop-i.i (omega arith) _ c.transition-t.ensures _ c.same_transition.ensures c.loop-i.invariant c.if-not-same_transition.false
+    i (omega arith) _ c.transition-t.ensures _ (grouped (eqb t.inp (get_or a.inputs.now i 0)) (eqb t.out (get_or a.outputs.now i 0)) (eqb t.addr (get_or a.targets.now i 0))) c.loop-i.invariant (not_false _ (sym c.ne.ensures ∙ c.if-ne.false))
 
 pub returns : goal.returns
 returns c =

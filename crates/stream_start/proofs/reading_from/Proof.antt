@@ -20,22 +20,22 @@ enum-known-sought c = search rules
 refused-requires : tie.Need-refused-requires
 refused-requires c κs = search rules
 
-enum-known-sought-2 : tie.Need-enum_known-sought-in-Levels-1
+enum-known-sought-2 : tie.Need-enum_known-sought-in-Ok-1
 enum-known-sought-2 c = search rules
 
 -- the walk is refused
-returns : tie.Need-returns-in-Halted
+returns : tie.Need-returns-in-Err
 returns c = let given = c.before in
     let w = given.before in
     let a = w.before.before.before.before.before.before.before.args in
-    rw c.refused.ensures (reading_halted (length a.file.now) (bound_is a.kind (take a.bound_len a.bound)) a.bound_len (empty_is a.empty_output) _ (rw given.in-Halted.is at w.start_levels-sought.ensures.found))
+    rw c.refused.ensures (reading_halted (length a.file.now) (bound_is a.kind (take a.bound_len a.bound)) a.bound_len (empty_is a.empty_output) _ (rw given.in-Err.is at w.start_levels-sought.ensures.found))
 
 -- the walk gives levels
-returns-2 : tie.Need-returns-in-Levels
+returns-2 : tie.Need-returns-in-Ok
 returns-2 c = let given = c in
     let w = given.before in
     let a = w.before.before.before.before.before.before.before.args in
-    reading_levels (length a.file.now) (bound_is a.kind (take a.bound_len a.bound)) a.bound_len (empty_is a.empty_output) _ (rw given.in-Levels.is at w.start_levels-sought.ensures.found)
+    reading_levels (length a.file.now) (bound_is a.kind (take a.bound_len a.bound)) a.bound_len (empty_is a.empty_output) _ (rw given.in-Ok.is at w.start_levels-sought.ensures.found)
 
 pub reading_from_spec : {M : Type 1} → statement M
 reading_from_spec =

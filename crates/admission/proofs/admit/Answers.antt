@@ -1,0 +1,16 @@
+-- Opening's refusals, and then the answer for a file that opens.
+-- Assumes nothing.
+use Rattle.std.proofs.Common.{◌≡◌, arith}
+use Rattle.std.specs.Prelude.{Err}
+use Rattle.admission.proofs.Admitting.{opening_refused, opening_opens}
+use Rattle.admission.proofs.admit.Goals as goal
+
+-- the file opens
+pub admit_opened-requires : goal.admit_opened-requires
+admit_opened-requires c = opening_opens c.open.ensures c.in_ok-m.m c.in_ok-m.was
+
+-- refused by opening
+pub returns-in_err-m : goal.returns-in_err-m
+returns-in_err-m c =
+    let told : c.from_residual.result ≡ Err c.in_err-m.field-0.0 = grind arith in
+    rw told (opening_refused c.open.ensures _ _ c.in_err-m.field-0.0 c.in_err-m.was)

@@ -1,0 +1,29 @@
+-- `marks::mark` meets its contract: opening refuses, the state is wrong, or the mark is set. Assumes nothing.
+use mathlib.Core.Path.{refl, sym, ap, ◌∙◌}
+use mathlib.Core.Bool.{true, false}
+use lib.ListN.{length}
+use Rattle.fst.specs.Open.{opening_is}
+use Rattle.stream.specs.Plains.{plain_is}
+use Rattle.marks_held.specs.MarkViews.{marks_is}
+use Rattle.marks.proofs.MarkCases.{marks_few, mark_ways}
+use Rattle.marks.proofs.mark.Goals as goal
+
+pub returns-then-not-state_right : goal.returns-then-not-state_right
+returns-then-not-state_right c =
+    let a = c.args in
+    mark_ways a.file.now (plain_is a.reading) (marks_is a.marks) _ (sym c.open-opened.ensures ∙ ap opening_is c.in-Ok.is) false (sym c.state_right.ensures ∙ c.if-not-state_right.true) a.name.now c.refused-then-not-state_right.ensures
+
+pub set_mark-requires : goal.set_mark-requires
+set_mark-requires c =
+    let a = c.args in
+    marks_few (plain_is a.reading) a.marks (length a.file.now) (sym c.state_right.ensures ∙ c.if-not-state_right.false)
+
+pub returns-in-Err : goal.returns-in-Err
+returns-in-Err c =
+    let a = c.args in
+    mark_ways a.file.now (plain_is a.reading) (marks_is a.marks) _ (sym c.open-opened.ensures ∙ ap opening_is c.in-Err.is) _ refl a.name.now c.refused.ensures
+
+pub returns-else-not-state_right : goal.returns-else-not-state_right
+returns-else-not-state_right c =
+    let a = c.args in
+    mark_ways a.file.now (plain_is a.reading) (marks_is a.marks) _ (sym c.open-opened.ensures ∙ ap opening_is c.in-Ok.is) true (sym c.state_right.ensures ∙ c.if-not-state_right.false) a.name.now c.set_mark.ensures
