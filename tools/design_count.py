@@ -124,12 +124,25 @@ def by_hand():
             yield at, "enum " + name
 
 
+def apart(params):
+    """The parameters; a comma within brackets parts none."""
+    out, depth, at = [], 0, 0
+    for i, c in enumerate(params + ","):
+        depth += (c in "(<[") - (c in ")>]")
+        if c == "," and depth == 0:
+            one = re.sub(r"\s+", " ", params[at:i].strip())
+            if one:
+                out.append(one)
+            at = i + 1
+    return out
+
+
 def together():
     "5a: functions with parameters that travel together in three or more functions (runs of three and more)"
     runs = defaultdict(set)
     where = {}
     for at, name, params, _, _ in functions():
-        ps = [re.sub(r"\s+", " ", p.strip()) for p in params.split(",") if p.strip()]
+        ps = apart(params)
         for i in range(len(ps) - 2):
             runs[tuple(ps[i:i + 3])].add(at)
         where[at] = name

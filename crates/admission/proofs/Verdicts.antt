@@ -18,7 +18,7 @@ use Rattle.format.specs.Paths.{Fst, node_in, Path, here, follow, Reached}
 use Rattle.format.specs.Laws.NodeLaws.{node_at_cases}
 use Rattle.format.specs.Laws.NodeFacts.{node_inside, node_target_lt, node_zero_none}
 use Rattle.format.specs.Admitted.{Chain, empty, rooted, Nodes, Shallow, Light}
-use Rattle.format.specs.Laws.ChainLaws.{chain_sound, chain_low, chain_head, root_chain_cases, root_chain_unique, dec_mem}
+use Rattle.format.specs.Laws.ChainLaws.{chain_sound, chain_low, chain_head, root_chain_unique, dec_mem}
 use Rattle.format.specs.Tables.{longest, largest_sum, InTable}
 use Rattle.format.specs.Laws.TableLaws.{longest_zero, largest_zero, longest_bound, largest_bound, longest_attained, largest_attained}
 use Rattle.admission_fill.specs.declared.Verdict.{Verdict}
@@ -61,11 +61,6 @@ module _ {f : Fst} {d t : List ℕ} (z : f.root ≡ 0) (c : Cleared f.bytes d t 
   pub root_zero_judges : Judges f d t d t Good
   root_zero_judges =
       record { depths_kept = kept_none (length f.bytes) d; sums_kept = kept_none (length f.bytes) t; found = root_zero_good }
-
--- ---- a chain that breaks
-
-pub broken_nodes : {f : Fst} → ¬ (f.root ≡ 0) → ((l : List ℕ) → ¬ Chain f f.root l) → (l : List ℕ) → ¬ Nodes f l
-broken_nodes ne none l n = ⊎_elim (λ h. ne h.0) (λ h. none l h.1) (root_chain_cases n.chain)
 
 -- ---- the marks of the chain, once address 0 has none
 

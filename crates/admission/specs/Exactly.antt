@@ -1,6 +1,6 @@
 -- The answers of admission exclude each other: where both tables have room, a file is admitted by the answer exactly when it is
 -- admitted by the definition.
---     is_admitted     the answer Admitted is given only to an admitted file
+--     is_admitted     the answer Ok is given only to an admitted file
 --     admitted_is     an admitted file is refused only for want of room
 --     exactly         both, as one claim
 -- Assumes nothing.

@@ -1,7 +1,7 @@
 -- What admission answers, and what it leaves in the two tables, in every case (document 01, "An admitted file" and "Refused").
 --     Holds g P n d₀ d        d holds g at the addresses of which P holds, 0 at the others below n, and beyond n what d₀ held
 --     Wiped n d₀ d            0 below n, and beyond n what d₀ held
---     RefusedFor s .. r       why the bytes s are refused with the number r, and the tables afterwards
+--     RefusedFor s .. r       why the bytes s are refused with r, and the tables afterwards
 --     Admits s ..             the bytes s are admitted, and the tables afterwards
 --     Outcome s ..            the answer of admission
 -- Assumes nothing.

@@ -2,31 +2,32 @@
 // A pass from the root down judges each node of the chain, once, and marks what it leads to (`admission_walk`). Then a pass in ascending
 // order of addresses works out the longest path and the largest sum of each reached node from those of its targets (`admission_fill`).
 // There is no recursion, and no memory but the two lent tables.
+// depths and sums are two slices and no struct: the C caller lends them one by one, and the definitions speak of each.
 #![tactic(auto)]
 
 ghost use Rattle.std.specs.Prelude.{◌≡◌, ◌++◌, ◌≤◌, length, drop, replicate};
-ghost use Rattle.format.specs.Paths.{fst_with};
+ghost use Rattle.format.specs.View.{fst_is};
 ghost use Rattle.admission.specs.Outcome.{Cleared, Judges, Opens, Outcome};
 
 use admission_fill::{Verdict, fill};
 use admission_walk::walk;
-use format::Refusal;
+use format::{FstRef, Refusal};
 
 // Judges all nodes, with both tables at zero over the file; root 0 has no chain.
-fn judge(file: &[u8], version: u64, root: usize, depths: &mut [u16], sums: &mut [u64]) -> Verdict
-    requires { Cleared file.now depths.old sums.old root }
-    ensures { Judges (fst_with file.now version root) depths.old
+fn judge(fst: FstRef<'_>, depths: &mut [u16], sums: &mut [u64]) -> Verdict
+    requires { Cleared fst.bytes.now depths.old sums.old fst.root }
+    ensures { Judges (fst_is fst.entry) depths.old
         sums.old depths.new sums.new result }
 {
-    if root == 0 {
+    if fst.root == 0 {
         return Verdict::Good;
     }
-    if !walk(file, version, root, depths) {
+    if !walk(fst, depths) {
         return Verdict::Lost;
     }
     // address 0 may have a mark, and is no node of the chain
     depths[0] = 0;
-    fill(file, version, root, depths, sums)
+    fill(fst, depths, sums)
 }
 
 // A refusal of a file that opens: zeros over the file's length in both tables.
@@ -43,18 +44,12 @@ fn refused(depths: &mut [u16], sums: &mut [u64], n: usize, why: Refusal) -> Resu
 }
 
 // Admits a file that opens, with this version and root.
-fn admit_opened(
-    file: &[u8],
-    version: u64,
-    root: usize,
-    depths: &mut [u16],
-    sums: &mut [u64],
-) -> Result<(), Refusal>
-    requires { Opens file.now version root }
-    ensures { Outcome file.now depths.old sums.old
+fn admit_opened(fst: FstRef<'_>, depths: &mut [u16], sums: &mut [u64]) -> Result<(), Refusal>
+    requires { Opens fst.bytes.now fst.version fst.root }
+    ensures { Outcome fst.entry.bytes.now depths.old sums.old
         depths.new sums.new result }
 {
-    let n = file.len();
+    let n = fst.bytes.len();
     if depths.len() < n {
         return Err(Refusal::Space);
     }
@@ -63,7 +58,7 @@ fn admit_opened(
     }
     depths[..n].fill(0);
     sums[..n].fill(0);
-    let v = judge(file, version, root, depths, sums);
+    let v = judge(fst, depths, sums);
     match v {
         Verdict::Good => Ok(()),
         Verdict::Lost => refused(depths, sums, n, Refusal::Node),
@@ -79,5 +74,5 @@ pub fn admit(file: &[u8], depths: &mut [u16], sums: &mut [u64]) -> Result<(), Re
         depths.new sums.new result }
 {
     let m = fst::open(file)?;
-    admit_opened(file, m.version, m.root, depths, sums)
+    admit_opened(m.over(file), depths, sums)
 }

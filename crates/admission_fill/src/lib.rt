@@ -1,13 +1,15 @@
 // The pass of admission in ascending order of addresses: it works out the longest path and the largest sum of each reached node from those of
 // its targets, which lie below it.
+// depths and sums are two slices and no struct: the C caller lends them one by one, and the definitions speak of each.
 #![tactic(auto)]
 
 ghost use Rattle.std.specs.Prelude.{◌≡◌, cond};
-ghost use Rattle.format.specs.Paths.{fst_with};
+ghost use Rattle.format.specs.View.{fst_is};
 ghost use Rattle.admission_fill.specs.Fills.{Fillable, Filled};
 ghost use Rattle.admission_fill.specs.declared.Verdict.TheVariants.{Deep, Good, Heavy};
 
 use admission_node::{UNUSED, clamped, entry_of, or_deep, or_over, survey_at};
+use format::{FstRef, are_bytes};
 
 // What judging the nodes found: nothing wrong, or the first of document 01's refusals that holds over the whole file.
 #[derive(Clone, Copy)]
@@ -35,14 +37,15 @@ fn verdict_of(deep: bool, heavy: bool) -> Verdict
 }
 
 // Fills both tables at the marks, in ascending order of addresses. The sums' entries are zeros at entry.
-pub fn fill(file: &[u8], version: u64, root: usize, depths: &mut [u16], sums: &mut [u64]) -> Verdict
-    requires { Fillable (fst_with file.now version root) depths.old sums.old }
-    ensures { Filled (fst_with file.now version root) depths.old
+pub fn fill(fst: FstRef<'_>, depths: &mut [u16], sums: &mut [u64]) -> Verdict
+    requires { Fillable (fst_is fst) depths.old sums.old }
+    ensures { Filled (fst_is fst.entry) depths.old
         sums.old depths.new sums.new result }
 {
+    are_bytes(fst.bytes);
     let mut deep = false;
     let mut heavy = false;
-    for a in 0..file.len() {
+    for a in 0..fst.bytes.len() {
         let mark = depths[a];
         if mark != 0 {
             // a node leads here, and here is none of the chain
@@ -50,7 +53,7 @@ pub fn fill(file: &[u8], version: u64, root: usize, depths: &mut [u16], sums: &m
             if lost {
                 return Verdict::Lost;
             }
-            let s = survey_at(file, version, root, a, mark, depths, sums);
+            let s = survey_at(fst, a, mark, depths, sums);
             let d = s.depth;
             let t = s.total;
             deep = or_deep(deep, d);

@@ -1,15 +1,17 @@
 // What admission does at one node: on the way down the node marks what it leads to, on the way up it is surveyed, that is, its longest path and
 // its largest sum come from the entries of its targets.
+// depths and sums are two slices and no struct: the C caller lends them one by one, and the definitions speak of each.
+// What is asked of the address and of the tables stands in each contract: no type has the file, the address and the tables that they speak of.
 #![tactic(auto)]
 
 ghost use Rattle.std.specs.Prelude.{◌≡◌, true, cond, min, ◌+◌, ◌≤◌, ◌<◌, ltb, length, get_or};
 ghost use Rattle.format.specs.Limits.{max_levels};
 ghost use Rattle.format.specs.Node.{SoundAt};
-ghost use Rattle.format.specs.Paths.{fst_with};
+ghost use Rattle.format.specs.View.{fst_is};
 ghost use Rattle.node.specs.Read.{transitions_in, Readable};
 ghost use Rattle.admission_node.specs.Entries.{Markable, MarksTargets, MarksAt, child_depth, child_sum, raised_by, Surveyable, Surveyed, SurveyReady, SurveyedNode, SurveyableAt, SurveyedAt, entry_is, or_over};
 
-use format::LEVELS;
+use format::{FstRef, LEVELS};
 use node::Node;
 
 // The largest entry of an admitted file: 1 plus a path of 255.
@@ -56,7 +58,8 @@ fn raised(t: Option<u64>, w: u64, s: u64) -> Option<u64>
     Some(t?.max(sum))
 }
 
-// The entries of a node's targets, in one pass over its transitions.
+// The entries of a node's targets, in one pass over its transitions. Here and above the two tables are apart, and no table of pairs: the C
+// interface has the caller lend two arrays.
 fn survey_node(file: &[u8], node: Node, depths: &[u16], sums: &[u64]) -> Survey
     requires { Readable file.now node × Surveyable depths.now sums.now
         node.final_output (transitions_in file.now node) }
@@ -83,24 +86,17 @@ fn survey_node(file: &[u8], node: Node, depths: &[u16], sums: &[u64]) -> Survey
 // The same of a sound node with one transition: its form is known, so no node is made.
 // `survey_next` is a function of its own: one for both would ask for either range of the state byte by a case, and choose the one call
 // in which they differ.
-fn survey_one(
-    file: &[u8],
-    version: u64,
-    root: usize,
-    a: usize,
-    depths: &[u16],
-    sums: &[u64],
-) -> Survey
-    requires { SoundAt file.now version root a × (128 ≤ get_or file.now a 0) × (get_or file.now a 0 < 192)
-        × SurveyReady (fst_with file.now version root) depths.now sums.now a }
-    ensures { SurveyedNode (fst_with file.now version root) depths.now
+fn survey_one(fst: FstRef<'_>, a: usize, depths: &[u16], sums: &[u64]) -> Survey
+    requires { SoundAt fst.bytes.now fst.version fst.root a × (128 ≤ get_or fst.bytes.now a 0) × (get_or fst.bytes.now a 0 < 192)
+        × SurveyReady (fst_is fst) depths.now sums.now a }
+    ensures { SurveyedNode (fst_is fst.entry) depths.now
         sums.now a result }
 {
-    let m = node::one_node(file, version, root, a);
-    let t = node::transition_addr(file, m, 0);
+    let m = node::one_node(fst, a);
+    let t = node::transition_addr(fst.bytes, m, 0);
     let d = child_depth(depths, t);
     let s = child_sum(sums, t);
-    let w = node::output(file, m, 0);
+    let w = node::output(fst.bytes, m, 0);
     let total = raised(Some(m.final_output), w, s);
     Survey {
         depth: d + 1,
@@ -109,24 +105,17 @@ fn survey_one(
 }
 
 // The same of a sound node with one transition to the node just below it: its form is known, so no node is made.
-fn survey_next(
-    file: &[u8],
-    version: u64,
-    root: usize,
-    a: usize,
-    depths: &[u16],
-    sums: &[u64],
-) -> Survey
-    requires { SoundAt file.now version root a × (192 ≤ get_or file.now a 0)
-        × SurveyReady (fst_with file.now version root) depths.now sums.now a }
-    ensures { SurveyedNode (fst_with file.now version root) depths.now
+fn survey_next(fst: FstRef<'_>, a: usize, depths: &[u16], sums: &[u64]) -> Survey
+    requires { SoundAt fst.bytes.now fst.version fst.root a × (192 ≤ get_or fst.bytes.now a 0)
+        × SurveyReady (fst_is fst) depths.now sums.now a }
+    ensures { SurveyedNode (fst_is fst.entry) depths.now
         sums.now a result }
 {
-    let m = node::next_node(file, version, root, a);
-    let t = node::transition_addr(file, m, 0);
+    let m = node::next_node(fst, a);
+    let t = node::transition_addr(fst.bytes, m, 0);
     let d = child_depth(depths, t);
     let s = child_sum(sums, t);
-    let w = node::output(file, m, 0);
+    let w = node::output(fst.bytes, m, 0);
     let total = raised(Some(m.final_output), w, s);
     Survey {
         depth: d + 1,
@@ -135,17 +124,9 @@ fn survey_next(
 }
 
 // The same for the address a of the chain, which has this mark. A node that is not reached is not read: its entries are 0.
-pub fn survey_at(
-    file: &[u8],
-    version: u64,
-    root: usize,
-    a: usize,
-    mark: u16,
-    depths: &[u16],
-    sums: &[u64],
-) -> Survey
-    requires { SurveyableAt (fst_with file.now version root) depths.now sums.now a mark }
-    ensures { SurveyedAt (fst_with file.now version root) depths.now
+pub fn survey_at(fst: FstRef<'_>, a: usize, mark: u16, depths: &[u16], sums: &[u64]) -> Survey
+    requires { SurveyableAt (fst_is fst) depths.now sums.now a mark }
+    ensures { SurveyedAt (fst_is fst.entry) depths.now
         sums.now a mark result }
 {
     if mark == UNUSED {
@@ -154,15 +135,15 @@ pub fn survey_at(
             total: Some(0),
         };
     }
-    let state = file[a];
+    let state = fst.bytes[a];
     if state < 128 {
-        let m = node::any_node(file, version, root, a);
-        return survey_node(file, m, depths, sums);
+        let m = node::any_node(fst, a);
+        return survey_node(fst.bytes, m, depths, sums);
     }
     if state < 192 {
-        return survey_one(file, version, root, a, depths, sums);
+        return survey_one(fst, a, depths, sums);
     }
-    survey_next(file, version, root, a, depths, sums)
+    survey_next(fst, a, depths, sums)
 }
 
 // ---- the flags
@@ -221,67 +202,46 @@ fn mark_targets(file: &[u8], node: Node, mark: u16, depths: &mut [u16])
 
 // The same of a sound node with one transition; answers its first byte.
 // `mark_next` is a function of its own, as `survey_next` is.
-fn mark_one(
-    file: &[u8],
-    version: u64,
-    root: usize,
-    a: usize,
-    mark: u16,
-    depths: &mut [u16],
-) -> usize
-    requires { SoundAt file.now version root a × (128 ≤ get_or file.now a 0) × (get_or file.now a 0 < 192)
-        × (length file.now ≤ length depths.old) }
-    ensures { MarksAt (fst_with file.now version root) a mark
+fn mark_one(fst: FstRef<'_>, a: usize, mark: u16, depths: &mut [u16]) -> usize
+    requires { SoundAt fst.bytes.now fst.version fst.root a × (128 ≤ get_or fst.bytes.now a 0) × (get_or fst.bytes.now a 0 < 192)
+        × (length fst.bytes.now ≤ length depths.old) }
+    ensures { MarksAt (fst_is fst.entry) a mark
         depths.old depths.new result }
 {
-    let m = node::one_node(file, version, root, a);
-    let t = node::transition_addr(file, m, 0);
+    let m = node::one_node(fst, a);
+    let t = node::transition_addr(fst.bytes, m, 0);
     depths[t] = depths[t].max(mark);
     m.first
 }
 
 // The same of a sound node with one transition to the node just below it; answers its first byte.
-fn mark_next(
-    file: &[u8],
-    version: u64,
-    root: usize,
-    a: usize,
-    mark: u16,
-    depths: &mut [u16],
-) -> usize
-    requires { SoundAt file.now version root a × (192 ≤ get_or file.now a 0)
-        × (length file.now ≤ length depths.old) }
-    ensures { MarksAt (fst_with file.now version root) a mark
+fn mark_next(fst: FstRef<'_>, a: usize, mark: u16, depths: &mut [u16]) -> usize
+    requires { SoundAt fst.bytes.now fst.version fst.root a × (192 ≤ get_or fst.bytes.now a 0)
+        × (length fst.bytes.now ≤ length depths.old) }
+    ensures { MarksAt (fst_is fst.entry) a mark
         depths.old depths.new result }
 {
-    let m = node::next_node(file, version, root, a);
-    let t = node::transition_addr(file, m, 0);
+    let m = node::next_node(fst, a);
+    let t = node::transition_addr(fst.bytes, m, 0);
     depths[t] = depths[t].max(mark);
     m.first
 }
 
 // The same of any sound node.
-pub fn mark_at(
-    file: &[u8],
-    version: u64,
-    root: usize,
-    a: usize,
-    mark: u16,
-    depths: &mut [u16],
-) -> usize
-    requires { SoundAt file.now version root a
-        × (length file.now ≤ length depths.old) }
-    ensures { MarksAt (fst_with file.now version root) a mark
+pub fn mark_at(fst: FstRef<'_>, a: usize, mark: u16, depths: &mut [u16]) -> usize
+    requires { SoundAt fst.bytes.now fst.version fst.root a
+        × (length fst.bytes.now ≤ length depths.old) }
+    ensures { MarksAt (fst_is fst.entry) a mark
         depths.old depths.new result }
 {
-    let state = file[a];
+    let state = fst.bytes[a];
     if state < 128 {
-        let m = node::any_node(file, version, root, a);
-        mark_targets(file, m, mark, depths);
+        let m = node::any_node(fst, a);
+        mark_targets(fst.bytes, m, mark, depths);
         return m.first;
     }
     if state < 192 {
-        return mark_one(file, version, root, a, mark, depths);
+        return mark_one(fst, a, mark, depths);
     }
-    mark_next(file, version, root, a, mark, depths)
+    mark_next(fst, a, mark, depths)
 }

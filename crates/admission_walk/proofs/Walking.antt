@@ -109,10 +109,10 @@ module _ {f : Fst} {d : List ℕ} {a : ℕ} {l : List ℕ} (w : Walking f d a l)
       entry_le : get_or d a 0 ≤ 2
       entry_le = w.marks.off a walked_inside fresh
 
-      pub mark_low : 1 ≤ mark
+      mark_low : 1 ≤ mark
       mark_low = elim (ℕ_discrete (get_or d a 0) 2) [ yes q ↦ omega (arith, two q) | no q ↦ omega (arith, one q) ]
 
-      pub mark_high : mark ≤ 2
+      mark_high : mark ≤ 2
       mark_high = elim (ℕ_discrete (get_or d a 0) 2) [ yes q ↦ omega (arith, two q) | no q ↦ omega (arith, one q) ]
 
       reached_here : get_or d a 0 ≡ 2 → Reached f a

@@ -1,6 +1,7 @@
 // The functions that open and admit a file for the C display firmware. include/baxhiso.h declares them for C, and crate `baxhiso_c` exports them.
 // A slice is passed as its pointer and then its length, an array as its pointer. Results: 0 for an answer, -1 for none, else the number of a
 // refusal. No function asks anything of its arguments' values. Lookups are in `baxhiso_get`, readings and ranges in `baxhiso_readings`.
+// Each function takes what the C caller lends, one by one: the C interface.
 #![tactic(auto)]
 
 ghost use Rattle.std.specs.Prelude.{◌≡◌, pos};

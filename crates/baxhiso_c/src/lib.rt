@@ -1,5 +1,6 @@
 // What C links of crate `baxhiso` (include/baxhiso.h): opening and admission. Each function calls the one of the same name there, and states its
 // contract again. A slice is passed as its pointer and then its length, an array as its pointer. No function asks anything of its arguments' values.
+// Each function takes what the C caller lends, one by one: the C interface.
 #![tactic(auto)]
 
 ghost use Rattle.format.specs.Opening.{opening};

@@ -5,7 +5,6 @@
 --     as_told a               an answer with its refusal as a number: no two refusals have the same (format, `number_apart`)
 --     plain_of h n            the plain reading of the code that the arrays hold
 --     codes_of h n cs         the same calls as calls of `stream::next`
---     start_of h n            a start that gave this reading
 --     ReadingTells           demand 3 and the number of keys to come, of what the program was told
 -- A name with ₀ is what the caller handed in. Assumes nothing.
 use Prim.{Unit}
@@ -18,7 +17,6 @@ use Rattle.reading.specs.Reading.{key, end}
 use Rattle.plain.specs.Plain.{next_plain}
 use Rattle.stream_step.specs.Stepped.{answer_as}
 use Rattle.stream.specs.declared.Plain.{Plain}
-use Rattle.stream.specs.declared.Started.{Started}
 use Rattle.stream_calls.specs.Calls.{CodeCall, code_answers, DemandCode}
 use Rattle.stream_arrays.specs.Arrays.{Held, held_is, held_plain}
 use Rattle.baxhiso_readings.specs.Readings.{NextLeaves}
@@ -67,9 +65,6 @@ CMade s h n (c ∷ cs) = CCallMade s h n c × CMade s c.arrays c.keys cs
 abbrev pub plain_of : Held → List ℕ → Plain
 plain_of h n = record { reading = held_is h; keys = get_or n 0 0 }
 
-abbrev pub start_of : Held → List ℕ → Started
-start_of h n = record { answer = Ok tt; plain = plain_of h n }
-
 abbrev pub code_of : Held → List ℕ → CCall → CodeCall
 code_of h n c =
     record {
@@ -87,5 +82,5 @@ codes_of h n (c ∷ cs) = code_of h n c ∷ codes_of c.arrays c.keys cs
 
 -- demand 3 of these calls in the code's terms, whose answers are those that the C program reads off
 pub record ReadingTells {s : List ℕ} (A : Admitted s) (lo hi : S.Bound) (h : Held) (n : List ℕ) (cs : List CCall) : Type 0 where
-  pub demand : DemandCode A lo hi (start_of h n) (codes_of h n cs)
+  pub demand : DemandCode A lo hi (plain_of h n) (codes_of h n cs)
   pub same_answers : map told cs ≡ map as_told (code_answers (codes_of h n cs))

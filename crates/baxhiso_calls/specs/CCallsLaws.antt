@@ -20,7 +20,7 @@ use Rattle.stream_arrays.specs.Arrays.{Held, held_plain}
 use Rattle.baxhiso.specs.Exports.{OK}
 use Rattle.baxhiso_readings.specs.Readings.{StartLeaves, NextLeaves}
 use Rattle.baxhiso_readings.specs.ReadingsLaws.{NextTells, hands_out, comes_to_end, leaves, next_nonzero, start_ok}
-use Rattle.baxhiso_calls.specs.CCalls.{CCall, CCallMade, told_by, told, as_told, CMade, plain_of, start_of, code_of, codes_of, ReadingTells}
+use Rattle.baxhiso_calls.specs.CCalls.{CCall, CCallMade, told_by, told, as_told, CMade, plain_of, code_of, codes_of, ReadingTells}
 
 -- a number that is not 0 is read off as a refusal's
 positive_told : (n : ℕ) → 1 ≤ n → (buf : List ℕ) (len v : ℕ) → told_by (pos n) buf len v ≡ Err n
@@ -52,8 +52,8 @@ made_is s h n (c ∷ cs) w =
 pub reading_tells : {s d₀ s₀ c₀ d t c : List ℕ} (o : Counts s d₀ s₀ c₀ d t c) (lo hi : S.Bound) {h₀ : Held} {n₀ : List ℕ} {h : Held} {n : List ℕ} {r : ℤ}
     → StartLeaves (start_plain s lo hi c) h₀ n₀ h n r → r ≡ OK → (cs : List CCall) → CMade s h n cs → ReadingTells o.admits.admitted lo hi h n cs
 reading_tells {s} {c = c} o lo hi {h = h} {n = n} left ok cs made =
-    let first : StartMade s lo hi c (start_of h n) = record { began = refl; starts = sym (start_ok s lo hi c left ok) } in
+    let first : StartMade s lo hi c (plain_of h n) = record { starts = sym (start_ok s lo hi c left ok) } in
     record {
-      demand = demand_3_code o.admits.admitted lo hi c (inl (counted_filled o)) (start_of h n) first (codes_of h n cs) (made_is s h n cs made);
+      demand = demand_3_code o.admits.admitted lo hi c (inl (counted_filled o)) (plain_of h n) first (codes_of h n cs) (made_is s h n cs made);
       same_answers = answers_told s h n cs made;
     }

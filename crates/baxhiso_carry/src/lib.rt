@@ -1,5 +1,6 @@
 // The function that carries a reading to another file for the C caller. include/baxhiso.h declares it; results and conventions are those of crate `baxhiso`.
 // A slice is passed as its pointer and then its length, an array as its pointer. The function asks nothing of its arguments' values.
+// Each function takes what the C caller lends, one by one: the C interface.
 #![tactic(auto)]
 
 ghost use Rattle.std.specs.Prelude.{replicate};

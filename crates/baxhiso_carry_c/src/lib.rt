@@ -1,6 +1,7 @@
 // What C links of crate `baxhiso_carry` (include/baxhiso.h): carrying a reading to another file. Its function calls the one of the same name there,
 // and states its contract again. A slice is passed as its pointer and then its length, an array as its pointer. The function asks nothing of its
 // arguments' values.
+// Each function takes what the C caller lends, one by one: the C interface.
 #![tactic(auto)]
 
 ghost use Rattle.std.specs.Prelude.{replicate};

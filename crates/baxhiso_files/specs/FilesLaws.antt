@@ -8,10 +8,10 @@ use Rattle.format.specs.Limits.{max_len}
 use Rattle.format.specs.Admitted.{Admitted}
 use Rattle.admission.specs.Outcome.{RefusedFor}
 use Rattle.converting.specs.Converting.{Conversion, written, refused, conversion}
-use Rattle.convert.specs.Convert.{Converts, ConvertsBy, OfAdmitted, NotAdmitted}
-use Rattle.baxhiso.specs.Exports.{OK}
+use Rattle.convert.specs.Convert.{Converts, ConvertsBy}
+use Rattle.baxhiso.specs.Exports.{OK, result_of, len_of}
 use Rattle.baxhiso.specs.ExportsLaws.{positive_not_0}
-use Rattle.baxhiso_files.specs.Files.{convert_result, convert_len, ConvertLeaves}
+use Rattle.baxhiso_files.specs.Files.{ConvertLeaves}
 
 -- ---- conversion
 
@@ -27,17 +27,17 @@ pub record Written (s out₀ table₀ out table : List ℕ) (n : ℕ) : Type 0 w
 
 module _ (s d₀ t₀ out₀ table₀ d t out table : List ℕ) (n₀ n : ℕ) (r : ℤ) (ok : r ≡ OK) where
   of_conversion : (A : Admitted s) (q : Conversion) → conversion max_len A (length out₀) (length table₀) ≡ q
-      → (a : Result ℕ Refusal) → ConvertsBy q out₀ table₀ out table a → r ≡ convert_result a → n ≡ convert_len a n₀ → Written s out₀ table₀ out table n
+      → (a : Result ℕ Refusal) → ConvertsBy q out₀ table₀ out table a → r ≡ result_of a → n ≡ len_of a n₀ → Written s out₀ table₀ out table n
   of_conversion A (written file entries) is a by e len = record {
     admitted = A;
     file = file;
     entries = entries;
     is_written = is;
-    len_is = len ∙ ap (λ (x : Result ℕ Refusal). convert_len x n₀) by.answer;
+    len_is = len ∙ ap (λ (x : Result ℕ Refusal). len_of x n₀) by.answer;
     out_is = by.out_is;
     table_is = by.table_is;
   }
-  of_conversion A (refused k) is a by e len = absurd (positive_not_0 k (sym (ap convert_result by.answer) ∙ sym e ∙ ok))
+  of_conversion A (refused k) is a by e len = absurd (positive_not_0 k (sym (ap result_of by.answer) ∙ sym e ∙ ok))
 
   pub convert_ok : ConvertLeaves s d₀ t₀ out₀ table₀ d t out table n₀ n r → Written s out₀ table₀ out table n
   convert_ok h = go h.converts
@@ -46,6 +46,6 @@ module _ (s d₀ t₀ out₀ table₀ d t out table : List ℕ) (n₀ n : ℕ) (
       go (inl stays) = not_admitted stays.why stays.refuses stays.answer
         where
           not_admitted : (k : Refusal) → RefusedFor s d₀ t₀ d t k → h.answer ≡ Err k → Written s out₀ table₀ out table n
-          not_admitted k f e = absurd (positive_not_0 k (sym (ap convert_result e) ∙ sym h.result ∙ ok))
+          not_admitted k f e = absurd (positive_not_0 k (sym (ap result_of e) ∙ sym h.result ∙ ok))
       go (inr yields) =
           of_conversion yields.admits.admitted _ refl h.answer yields.converts h.result h.len_is

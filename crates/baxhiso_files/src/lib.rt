@@ -1,5 +1,6 @@
 // The function that converts a file for the C caller. include/baxhiso.h declares it; results and conventions are those of crate `baxhiso`.
 // A slice is passed as its pointer and then its length. The function asks nothing of its arguments' values.
+// Each function takes what the C caller lends, one by one: the C interface.
 #![tactic(auto)]
 
 ghost use Rattle.baxhiso_files.specs.Files.{ConvertLeaves};

@@ -1,5 +1,6 @@
 // What C links of crate `baxhiso_files` (include/baxhiso.h): conversion. Its function calls the one of the same name there, and states its contract
 // again. A slice is passed as its pointer and then its length. The function asks nothing of its arguments' values.
+// Each function takes what the C caller lends, one by one: the C interface.
 #![tactic(auto)]
 
 ghost use Rattle.baxhiso_files.specs.Files.{ConvertLeaves};

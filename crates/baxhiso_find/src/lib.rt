@@ -1,5 +1,6 @@
 // The page by pattern for the C caller. include/baxhiso.h declares it; results and conventions are those of crate `baxhiso`.
 // A slice is passed as its pointer and then its length. No function asks anything of its arguments' values.
+// Each function takes what the C caller lends, one by one: the C interface.
 #![tactic(auto)]
 
 ghost use Rattle.std.specs.Prelude.{length};
@@ -11,7 +12,7 @@ ghost use Rattle.baxhiso_readings.specs.Readings.{RangeLeaves};
 ghost use Rattle.baxhiso_find.specs.FindArguments.{rest_is};
 
 use baxhiso_results::stopped;
-use stream_arrays::kind_of;
+use stream_arrays::bound_with;
 
 // Up to `most` keys between two bounds that fit a pattern, the least first, each in a row of 256 bytes with its value beside it, and how many. A position
 // below 256 is its byte, any other number any byte; any rest may follow unless `rest` is 0.
@@ -35,13 +36,10 @@ pub fn fst_find_rows(
         (length values.old)) rows.old rows.new
         values.old values.new count.new result }
 {
-    let from = kind_of(lower_kind);
-    let to = kind_of(upper_kind);
+    let from = bound_with(lower_kind, lower);
+    let to = bound_with(upper_kind, upper);
     let any_rest = 0 < rest;
-    let found = find::find(
-        file, positions, any_rest, from, lower, to, upper, most, rows, values,
-    );
+    let found = find::find(file, positions, any_rest, from, to, most, rows, values);
     *count = found.count;
-    let stop = found.stop;
-    stopped(stop)
+    stopped(found.stop)
 }

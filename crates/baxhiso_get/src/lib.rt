@@ -1,5 +1,6 @@
 // The lookups that the C display firmware calls, by key and by value. include/baxhiso.h declares them for C; results and conventions are those of
 // crate `baxhiso`. A slice is passed as its pointer and then its length. No function asks anything of its arguments' values.
+// Each function takes what the C caller lends, one by one: the C interface.
 #![tactic(auto)]
 
 ghost use Rattle.std.specs.Prelude.{length};

@@ -1,5 +1,6 @@
 // The function over several files for the C caller. include/baxhiso.h declares it; results and conventions are those of crate `baxhiso`.
 // A slice is passed as its pointer and then its length. Nothing is asked of the arguments' values.
+// Each function takes what the C caller lends, one by one: the C interface.
 #![tactic(auto)]
 
 ghost use Rattle.std.specs.Prelude.{◌≡◌, [], ◌∷◌, length};
@@ -11,7 +12,7 @@ ghost use Rattle.baxhiso_ops.specs.Items.{op_of, ItemsLeaves};
 
 use baxhiso_results::stopped;
 use ops_decide::op_of;
-use stream_arrays::kind_of;
+use stream_arrays::bound_with;
 
 // Up to `most` items of an operation over the first count of eight files, the least key first, and how many.
 pub fn fst_items_rows<'a>(
@@ -47,11 +48,11 @@ pub fn fst_items_rows<'a>(
         found.new result }
 {
     let operation = op_of(op);
-    let from = kind_of(lower_kind);
-    let to = kind_of(upper_kind);
+    let from = bound_with(lower_kind, lower);
+    let to = bound_with(upper_kind, upper);
     let files = [a, b, c, d, e, f, g, h];
     let paged = ops_page::items(
-        operation, count, files, from, lower, to, upper, most, rows, counts, numbers, values,
+        operation, count, files, from, to, most, rows, counts, numbers, values,
     );
     *found = paged.count;
     let stop = paged.stop;

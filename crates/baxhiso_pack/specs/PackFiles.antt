@@ -1,10 +1,8 @@
 -- What packing a list answers in C, and what it leaves in each buffer and number, in every case (include/baxhiso.h).
 --     pack_result, pack_len     the result of an answer; the length afterwards
---     result_of, len_of         the same of the code's answer
 --     PackLeaves A ..         packing that answers A: the result, the length, and every lent slice
 -- A name with ₀ is what the caller handed in. Assumes nothing.
-use Rattle.std.specs.Prelude.{◌≡◌, List, ℕ, ℤ, length, replicate, Ok, Err, Result}
-use Rattle.format.specs.declared.Refusal.{Refusal}
+use Rattle.std.specs.Prelude.{◌≡◌, List, ℕ, ℤ, length, replicate}
 use Rattle.packing.specs.Packing.{Answer, written, refused, output_after, cells_after}
 use Rattle.pack_intern.specs.Interning.{cells_is}
 use Rattle.baxhiso.specs.Exports.{OK, code}
@@ -16,14 +14,6 @@ pack_result (refused k) = code k
 abbrev pub pack_len : Answer → ℕ → ℕ
 pack_len (written file cells) n₀ = length file
 pack_len (refused k) n₀ = n₀
-
-abbrev pub result_of : Result ℕ Refusal → ℤ
-result_of (Ok n) = OK
-result_of (Err k) = code k
-
-abbrev pub len_of : Result ℕ Refusal → ℕ → ℕ
-len_of (Ok n) n₀ = n
-len_of (Err k) n₀ = n₀
 
 pub record PackLeaves (A : Answer) (out : List ℕ) (cells : List (List ℕ)) (inputs leasts targets : List ℕ) (n₀ n : ℕ) (r : ℤ) : Type 0 where
   pub result : r ≡ pack_result A

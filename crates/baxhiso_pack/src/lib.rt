@@ -1,5 +1,6 @@
 // The function that packs a list for the C caller. include/baxhiso.h declares it; results and conventions are those of crate `baxhiso`.
 // A slice is passed as its pointer and then its length. The function asks nothing of its arguments' values.
+// Each function takes what the C caller lends, one by one: the C interface.
 #![tactic(auto)]
 
 ghost use Rattle.std.specs.Prelude.{◌≡◌, length};
@@ -7,7 +8,8 @@ ghost use Rattle.format.specs.Limits.{max_len};
 ghost use Rattle.packing.specs.Packing.{pack_answer};
 ghost use Rattle.pack_blank.specs.PackBlank.{tables_test};
 ghost use Rattle.pack_cells.specs.Pairs.{pairs_is};
-ghost use Rattle.baxhiso_pack.specs.PackFiles.{result_of, len_of, PackLeaves};
+ghost use Rattle.baxhiso.specs.Exports.{result_of, len_of};
+ghost use Rattle.baxhiso_pack.specs.PackFiles.{PackLeaves};
 
 use baxhiso::code;
 use format::Refusal;

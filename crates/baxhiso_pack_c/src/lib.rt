@@ -1,5 +1,6 @@
 // What C links of crate `baxhiso_pack` (include/baxhiso.h): packing a list. Its function calls the one of the same name there, and states its
 // contract again. A slice is passed as its pointer and then its length. The function asks nothing of its arguments' values.
+// Each function takes what the C caller lends, one by one: the C interface.
 #![tactic(auto)]
 
 ghost use Rattle.std.specs.Prelude.{length};

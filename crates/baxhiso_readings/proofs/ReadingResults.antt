@@ -15,12 +15,12 @@ use Rattle.paging.specs.Paging as G
 use Rattle.counting.specs.CountOutcomes.{CountRefusedFor, Counts, CountOutcome}
 use Rattle.range_fill.specs.declared.Ranged.{Ranged}
 use Rattle.range_fill.specs.RangedRows.{RangedBy}
-use Rattle.stream_start.specs.declared.Bound.{Bound}
+use Rattle.format.specs.Strings as F
 use Rattle.stream_start.specs.Views.{bound_is}
 use Rattle.stream_step.specs.Stepped.{answer_as}
-use Rattle.stream.specs.declared.Started.{Started}
+use Rattle.stream.specs.declared.Plain.{Plain}
 use Rattle.stream.specs.declared.Step.{Step}
-use Rattle.stream.specs.Plains.{plain_is, begun_is, began_is, PlainStepped}
+use Rattle.stream.specs.Plains.{plain_is, begun_is, PlainStepped}
 use Rattle.stream_arrays.specs.Arrays.{kind_is, Held, PlainPut}
 use Rattle.stream_arrays.specs.ArraysLaws.{plain_back}
 use Rattle.baxhiso.specs.Exports.{OK, code}
@@ -46,19 +46,19 @@ module _ (s d₀ s₀ c₀ d t c : List ℕ) {r : Result ⊤ Refusal} (h : Count
 
 -- ---- start
 
-module _ {w : P.Begun} (s : Started) (e : begun_is s ≡ w) where
-  pub start_refused : (m : Refusal) (z : ℤ) (h : Held) (n : List ℕ) → s.answer ≡ Err m → z ≡ code m → StartLeaves w h n h n z
+module _ {w : P.Begun} (s : Result Plain Refusal) (e : begun_is s ≡ w) where
+  pub start_refused : (m : Refusal) (z : ℤ) (h : Held) (n : List ℕ) → s ≡ Err m → z ≡ code m → StartLeaves w h n h n z
   start_refused m z h n is is_z =
-      let q : w ≡ P.Begun.refused m = sym e ∙ ap (λ b. began_is b s.plain) is in
+      let q : w ≡ P.Begun.refused m = sym e ∙ ap begun_is is in
       rw q (record { result = is_z; reading = λ p no. absurd (let z : ◌≡◌ {A = ℕ} 0 1 = cc in omega arith); kept = λ i same. (refl, refl) })
 
-  pub start_began : (h₀ : Held) (n₀ : List ℕ) (h : Held) (n : List ℕ) → s.answer ≡ Ok tt → PlainPut s.plain h n → StartLeaves w h₀ n₀ h n OK
-  start_began h₀ n₀ h n is put =
-      let q : w ≡ P.begun (plain_is s.plain) = sym e ∙ ap (λ b. began_is b s.plain) is in
+  pub start_began : (p : Plain) (h₀ : Held) (n₀ : List ℕ) (h : Held) (n : List ℕ) → s ≡ Ok p → PlainPut p h n → StartLeaves w h₀ n₀ h n OK
+  start_began b h₀ n₀ h n is put =
+      let q : w ≡ P.begun (plain_is b) = sym e ∙ ap begun_is is in
       rw q
       (record {
         result = refl;
-        reading = λ p same. plain_back put ∙ (let z : plain_is s.plain ≡ p = cc in z);
+        reading = λ p same. plain_back put ∙ (let z : plain_is b ≡ p = cc in z);
         kept = λ m no. absurd (let z : ◌≡◌ {A = ℕ} 0 1 = cc in omega arith);
       })
 
@@ -94,10 +94,10 @@ next_leaves {w} {k₀} {k} {len₀} {len} {v₀} {v} {s} st h n put r z same lef
 
 -- ---- a range
 
--- the bounds are those whose kinds the numbers stand for
-pub range_bounds : (f lo hi : List ℕ) {k l : Bound} (n m most a b : ℕ) {rows₀ rows values₀ values : List ℕ} {g : Ranged} → k ≡ kind_is n → l ≡ kind_is m
-    → RangedBy (G.range f (bound_is k lo) (bound_is l hi) most a b) rows₀ rows values₀ values g
+-- the bounds are those that the numbers with their bytes stand for
+pub range_bounds : (f lo hi : List ℕ) {x y : F.Bound} (n m most a b : ℕ) {rows₀ rows values₀ values : List ℕ} {g : Ranged} → x ≡ bound_is (kind_is n) lo
+    → y ≡ bound_is (kind_is m) hi → RangedBy (G.range f x y most a b) rows₀ rows values₀ values g
     → RangedBy (G.range f (bound_is (kind_is n) lo) (bound_is (kind_is m) hi) most a b) rows₀ rows values₀ values g
-range_bounds f lo hi {k} {l} n m most a b {rows₀} {rows} {values₀} {values} {g} p q h =
-    subst (λ x. RangedBy (G.range f (bound_is (kind_is n) lo) (bound_is x hi) most a b) rows₀ rows values₀ values g) q
-    (subst (λ x. RangedBy (G.range f (bound_is x lo) (bound_is l hi) most a b) rows₀ rows values₀ values g) p h)
+range_bounds f lo hi {x} {y} n m most a b {rows₀} {rows} {values₀} {values} {g} p q h =
+    subst (λ v. RangedBy (G.range f (bound_is (kind_is n) lo) v most a b) rows₀ rows values₀ values g) q
+    (subst (λ v. RangedBy (G.range f v y most a b) rows₀ rows values₀ values g) p h)

@@ -3,6 +3,7 @@
 // asks anything of its arguments' values.
 //
 // A reading stands in the arrays of `stream_arrays`, which C has as one struct: the header's fst_start and fst_next lend each of its fields.
+// Each function takes what the C caller lends, one by one: the C interface.
 #![tactic(auto)]
 
 ghost use Rattle.std.specs.Prelude.{length};
@@ -15,7 +16,7 @@ ghost use Rattle.stream_arrays.specs.Arrays.{kind_is, held, held_plain};
 use baxhiso::code;
 use baxhiso_results::{answered, stopped};
 use stream::Plain;
-use stream_arrays::{kind_of, put_plain, reading_of};
+use stream_arrays::{bound_with, put_plain, reading_of};
 
 const OK: i32 = 0;
 
@@ -55,14 +56,11 @@ pub fn fst_start_arrays(
         (held head.new bound.new addrs.new inps.new
         trans.new outs.new) keys.new result }
 {
-    let lower_bound = kind_of(lower_kind);
-    let upper_bound = kind_of(upper_kind);
-    let started = stream::start(file, lower_bound, lower, upper_bound, upper, counts);
-    let answer = started.answer;
-    match answer {
+    let low = bound_with(lower_kind, lower);
+    let high = bound_with(upper_kind, upper);
+    match stream::start(file, low, high, counts) {
         Err(why) => code(why),
-        Ok(()) => {
-            let plain = started.plain;
+        Ok(plain) => {
             put_plain(plain, head, bound, addrs, inps, trans, outs, keys);
             OK
         }
@@ -131,10 +129,9 @@ pub fn fst_range_rows(
         (length values.old)) rows.old rows.new
         values.old values.new count.new result }
 {
-    let from = kind_of(lower_kind);
-    let to = kind_of(upper_kind);
-    let ranged = range::range(file, from, lower, to, upper, most, rows, values);
+    let from = bound_with(lower_kind, lower);
+    let to = bound_with(upper_kind, upper);
+    let ranged = range::range(file, from, to, most, rows, values);
     *count = ranged.count;
-    let stop = ranged.stop;
-    stopped(stop)
+    stopped(ranged.stop)
 }

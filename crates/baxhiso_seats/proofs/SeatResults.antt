@@ -22,17 +22,6 @@ use Rattle.baxhiso.specs.Exports.{OK, code}
 use Rattle.baxhiso_readings.specs.Readings.{END, AnswerLeaves}
 use Rattle.baxhiso_seats.specs.Seats.{RaiseLeaves, SeatLeaves}
 
--- ---- an answer of a reading
-
-pub key_leaves : (a : Result (Option (ℕ × ℕ)) Refusal) (n x len₀ v₀ : ℕ) → a ≡ Ok (Some (n, x)) → AnswerLeaves a len₀ n v₀ x OK
-key_leaves a n x len₀ v₀ is = rw is (record { result = refl; len_is = refl; value_is = refl })
-
-pub end_leaves : (a : Result (Option (ℕ × ℕ)) Refusal) (len₀ v₀ : ℕ) → a ≡ Ok None → AnswerLeaves a len₀ len₀ v₀ v₀ END
-end_leaves a len₀ v₀ is = rw is (record { result = refl; len_is = refl; value_is = refl })
-
-pub no_leaves : (a : Result (Option (ℕ × ℕ)) Refusal) (n : Refusal) (z : ℤ) (len₀ v₀ : ℕ) → a ≡ Err n → z ≡ code n → AnswerLeaves a len₀ len₀ v₀ v₀ z
-no_leaves a n z len₀ v₀ is is_z = rw (is, is_z) (record { result = refl; len_is = refl; value_is = refl })
-
 -- ---- the definitions, by cases
 
 module _ (s : T.Seats) (i : ℕ) where

@@ -1,6 +1,7 @@
 // Eight seats on one index for the C caller. include/baxhiso.h declares the functions; results and conventions are those of crate `baxhiso`.
 // The seats stand in the arrays of `seats_arrays`, which C has as one struct: the header's fst_seat, fst_raise and fst_dispatch lend its fields. No
 // function asks anything of its arguments' values.
+// Each function takes what the C caller lends, one by one: the C interface.
 #![tactic(auto)]
 
 ghost use Rattle.std.specs.Prelude.{◌<◌, length, replicate};
@@ -8,10 +9,10 @@ ghost use Rattle.plain.specs.Plain as P;
 ghost use Rattle.turns.specs.Turns as T;
 ghost use Rattle.stream_arrays.specs.Arrays.{held, held_plain};
 ghost use Rattle.seats_arrays.specs.SeatArrays.{rows, plain_at, flat, flat_is};
-ghost use Rattle.baxhiso_readings.specs.Readings.{AnswerLeaves};
 ghost use Rattle.baxhiso_seats.specs.Seats.{EmptyLeaves, RaiseTold, SeatLeaves, ServeLeaves, DispatchLeaves};
 
 use baxhiso::code;
+use baxhiso_results::answered;
 use format::Refusal;
 use seats_arrays::{plain_at, put_flag, put_rows};
 use seats_flags::{seats_right, turn_of};
@@ -21,8 +22,6 @@ use seats_turn::LAST_SEAT;
 const OK: i32 = 0;
 
 const NONE: i32 = -1;
-
-const END: i32 = -2;
 
 // No seat has a reading, nobody waits, and the first turn is seat 0's.
 pub fn fst_empty_seats(last: &mut usize, taken: &mut [u8; 8], waiting: &mut [u8; 8])
@@ -106,22 +105,6 @@ pub fn fst_seat_arrays(
     OK
 }
 
-// An answer of a reading as a result. A key's length and value are written on 0 only.
-fn answered(answer: Result<Option<(usize, u64)>, Refusal>, len: &mut usize, value: &mut u64) -> i32
-    ensures { AnswerLeaves answer len.old len.new value.old
-        value.new result }
-{
-    match answer {
-        Ok(Some((length, output))) => {
-            *len = length;
-            *value = output;
-            OK
-        }
-        Ok(None) => END,
-        Err(why) => code(why),
-    }
-}
-
 // One call of the reading of a seat, which is kept unless it was refused.
 fn serve(
     file: &[u8],
@@ -159,9 +142,8 @@ fn serve(
     if is_refused(answer) {
         return answered(answer, len, value);
     }
-    let after = step.plain;
     keep(
-        after, number, last, waiting, heads, bounds, addrs, inps, trans, outs, keys, seat,
+        step.plain, number, last, waiting, heads, bounds, addrs, inps, trans, outs, keys, seat,
     );
     answered(answer, len, value)
 }

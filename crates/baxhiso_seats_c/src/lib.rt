@@ -1,6 +1,7 @@
 // What C links of crate `baxhiso_seats` (include/baxhiso.h): eight seats on one index. Each function calls the one of the same name there, and states
 // its contract again. A slice is passed as its pointer and then its length, an array as its pointer. No function asks anything of its arguments'
 // values.
+// Each function takes what the C caller lends, one by one: the C interface.
 #![tactic(auto)]
 
 ghost use Rattle.std.specs.Prelude.{length, replicate};

@@ -1,6 +1,6 @@
 -- Rows of readings by pattern (document 02, N1), in one theorem, each by computation.
 --     ReadsBy s p lo hi es n      a start and calls of next hand out es, then answer "end", with the total n
---     RefusedBy s p lo hi n       the first call of next is refused with the number n, and changes nothing
+--     RefusedBy s p lo hi n       the first call of next is refused with n, and changes nothing
 --     Nested                      a file that holds "" with 5, a with 1 and ab with 2
 --     Heavy                       a file whose only key, a, has a final output that takes its sum past 2^64 - 1
 -- A pattern is written as its positions, `?` any byte, and a last `*` for any rest.

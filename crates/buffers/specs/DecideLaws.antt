@@ -1,7 +1,7 @@
 -- Laws of `Decide`: one for each connective, so that a test's law has the shape of the test.
 -- Assumes nothing.
-use Rattle.std.specs.Prelude.{◌≡◌, refl, Bool, true, false, not, cond, ◌&&◌, ◌||◌, ◌⊎◌, ℕ, zero, suc, ◌+◌, ◌≤◌, ◌<◌, ltb, leb, eqb}
-use Rattle.std.proofs.Common.{sym, ap, ◌∙◌, true≢false, inl, inr, not-le_of_lt, eq-or-lt_of_le, le_of_suc-le-suc, le_refl, arith, ltb-true, ltb-false, leb-true, leb-false, eqb-true}
+use Rattle.std.specs.Prelude.{◌≡◌, refl, Bool, true, false, not, ◌&&◌, ◌||◌, ◌⊎◌, ℕ, zero, suc, ◌≤◌, ◌<◌, ltb, leb, eqb}
+use Rattle.std.proofs.Common.{sym, true≢false, inl, inr, not-le_of_lt, eq-or-lt_of_le, le_of_suc-le-suc, le_refl, arith, ltb-true, ltb-false, leb-true, leb-false, eqb-true}
 use Rattle.std.proofs.lemmas.Bool.{false≢true, eqb-false}
 use Rattle.buffers.specs.Decide.{Decides, implies, all_below}
 

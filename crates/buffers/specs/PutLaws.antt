@@ -1,10 +1,10 @@
 -- Laws of `put`: two writes in a row are one, so a function that writes parts is proved part by part.
 -- Assumes nothing.
-use Rattle.std.specs.Prelude.{◌≡◌, refl, List, [], ◌∷◌, ◌++◌, ℕ, zero, suc, ◌+◌, ◌-◌, ◌≤◌, ◌<◌, length, get_or, take, drop, set}
-use Rattle.std.proofs.Common.{sym, ap, ◌∙◌, append_assoc, append-nil, add-zero, zero-add, add_assoc, add_comm, add-one, arith, length-append, length-take, length-drop, length-set, take-append-drop, take_at, drop_at, drop-drop, length-take-le}
+use Rattle.std.specs.Prelude.{◌≡◌, List, [], ◌∷◌, ◌++◌, ℕ, suc, ◌+◌, ◌≤◌, ◌<◌, length, take, drop, set}
+use Rattle.std.proofs.Common.{sym, ap, ◌∙◌, append_assoc, append-nil, add-zero, zero-add, add_assoc, add-one, arith, length-append, length-drop, length-set, take-append-drop, take_at, drop_at, drop-drop, length-take-le}
 use Rattle.std.proofs.lemmas.List.{set-append_left, set_split}
 use Rattle.std.proofs.lemmas.List.Edits.{sets, sets-eq}
-use borrow.Rule.Slice.PartMut.{put_mid, post_of}
+use borrow.Rule.Slice.PartMut.{put_mid}
 use Rattle.buffers.specs.Put.{put}
 
 pub put_nil : (out : List ℕ) (at : ℕ) → put out at [] ≡ out

@@ -3,7 +3,7 @@
 --     writing_none, part_written, last_written     before the first part, after a part, after the last
 --     writing_room, part_room            what is left has room, and so has the next part
 -- Assumes nothing.
-use Rattle.std.specs.Prelude.{◌≡◌, refl, List, [], ◌∷◌, ◌++◌, ℕ, ◌+◌, ◌≤◌, length}
+use Rattle.std.specs.Prelude.{◌≡◌, refl, List, [], ◌++◌, ℕ, ◌+◌, ◌≤◌, length}
 use Rattle.std.proofs.Common.{sym, ap, ◌∙◌, append_assoc, arith, length-append}
 use Rattle.buffers.specs.Put.{PutAt}
 use Rattle.buffers.specs.PutLaws.{put_nil, put_next, length_put}

@@ -1,11 +1,14 @@
-// Lent buffers: bytes copied to the front of one, and in specs/ the laws of writing into one part after part, and of tests that
-// decide a fact. Nothing here is about the format.
+// Lent buffers: bytes copied to the front of one, and in specs/ the laws of writing into one part after part (Put, CopyLaws, WritingLaws),
+// of filling one with one value (FillingLaws), and of tests that decide a fact (Decide). Nothing here is about the format.
 #![tactic(auto)]
 
 ghost use Rattle.std.specs.Prelude.{◌≡◌, ◌++◌, ◌≤◌, length, take, drop};
 
 // Copies the first n bytes of bytes to the front of out; the rest of out stays as given.
-// n is less than either length where a part of a larger buffer is copied, so no slice has it as its length.
+// n is less than either length where a part of a larger buffer is copied. It stays beside std's `copy_from_slice`, which says what that part
+// is then, because this contract says what the whole of out is, and the callers' proofs cite that.
+// Between two lent buffers it is compiled to a call of `memmove`, which the library for C must not have: where the library calls this, one of
+// the two is an array of its own.
 pub fn copy_front(bytes: &[u8], n: usize, out: &mut [u8])
     requires { (n ≤ length bytes.now) × (n ≤ length out.old) }
     ensures { out.new ≡ take n bytes.now ++ drop n out.old }

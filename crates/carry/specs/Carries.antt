@@ -1,7 +1,8 @@
 -- What carrying gives back, against the definition (crate carrying).
 --     answer_as q, plain_answer_as q       the code's answer for what the definition answers
---     ReadingCarried q given r          the answer and the reading, where the definition answers q; after a refusal the reading given, entry by entry
---     PlainCarried, PatternedCarried    the same of a plain reading, and of one by pattern, whose pattern stays
+--     carried_is r                      what carrying a reading answered
+--     PlainCarried q given r            the answer and the reading, where the definition answers q; after a refusal the reading given, entry by entry
+--     PatternedCarried q given r        the same of a reading by pattern, whose pattern stays
 -- Assumes nothing.
 use Rattle.std.specs.Prelude.{◌≡◌, ℕ, Ok, Err, Result, ⊤}
 use Rattle.format.specs.declared.Refusal.{Refusal}
@@ -13,7 +14,6 @@ use Rattle.stream.specs.declared.Plain.{Plain}
 use Rattle.stream.specs.Plains.{plain_is}
 use Rattle.patterned.specs.declared.Patterned.{Patterned}
 use Rattle.carrying.specs.Carry as C
-use Rattle.carry.specs.declared.CarriedReading.{CarriedReading}
 use Rattle.carry.specs.declared.Carried.{Carried}
 use Rattle.carry.specs.declared.CarriedBy.{CarriedBy}
 
@@ -25,10 +25,9 @@ abbrev pub plain_answer_as : C.CarriedPlain → Result ⊤ Refusal
 plain_answer_as (C.CarriedPlain.carried p) = Ok tt
 plain_answer_as (C.CarriedPlain.refused n) = Err n
 
-pub record ReadingCarried (q : C.Carried) (given : Reading) (r : CarriedReading) : Type 0 where
-  pub answer : r.answer ≡ answer_as q
-  pub carried : (v : R.View) → q ≡ C.Carried.carried v → view_is r.reading ≡ v
-  pub kept : (n : Refusal) → q ≡ C.Carried.refused n → r.reading ≡ given
+abbrev pub carried_is : Result Reading Refusal → C.Carried
+carried_is (Ok r) = C.Carried.carried (view_is r)
+carried_is (Err n) = C.Carried.refused n
 
 pub record PlainCarried (q : C.CarriedPlain) (given : Plain) (r : Carried) : Type 0 where
   pub answer : r.answer ≡ plain_answer_as q

@@ -4,18 +4,19 @@
 
 ghost use Rattle.std.specs.Prelude.{◌≡◌, true, ◌≤◌, ◌<◌, length};
 ghost use Rattle.format.specs.Limits.{max_levels};
-ghost use Rattle.format.specs.Paths.{fst_with};
-ghost use Rattle.stream_start.specs.Views.{view_is, stack_is};
+ghost use Rattle.format.specs.View.{fst_is};
+ghost use Rattle.stream_start.specs.Views.{view_is, stack_of};
 ghost use Rattle.stream.specs.Plains.{plain_is};
 ghost use Rattle.patterned_held.specs.HeldPatterns.{held_is};
 ghost use Rattle.carrying.specs.Carry as C;
-ghost use Rattle.carry.specs.Carries.{ReadingCarried, PlainCarried, PatternedCarried};
+ghost use Rattle.carry.specs.Carries.{carried_is, PlainCarried, PatternedCarried};
 
 use carry_levels::carry_levels;
-use format::{LEVELS, MAX_KEY, Refusal};
+use format::{FstRef, LEVELS, MAX_KEY, Refusal};
 use patterned::Patterned;
 use stream::Plain;
 use stream_bounds::state_right;
+use stream_levels::Stack;
 use stream_start::Reading;
 
 // What carrying a plain reading gives back: after a refusal the reading that was given.
@@ -32,104 +33,37 @@ pub struct CarriedBy {
     pub patterned: Patterned,
 }
 
-// What carrying a reading gives back.
-#[derive(Clone, Copy)]
-struct CarriedReading {
-    answer: Result<(), Refusal>,
-    reading: Reading,
-}
-
-// A refusal, with the reading as it was given.
-fn refused(why: Refusal, reading: Reading) -> CarriedReading
-    ensures { ReadingCarried (C.Carried.refused why) reading result }
+// Between two files that open, a reading that a next on the old one takes: at its new addresses, with the new file's length; all else is copied.
+fn carry_opened(old: FstRef<'_>, new: FstRef<'_>, reading: Reading) -> Result<Reading, Refusal>
+    requires { (new.root < 4294967296) × (reading.levels ≤ max_levels) }
+    ensures { carried_is result ≡ C.after_levels (length new.entry.bytes.now) (view_is reading)
+        (C.carry_levels (fst_is old.entry) (fst_is new.entry) (stack_of reading.levels reading.stack)) }
 {
-    CarriedReading {
-        answer: Err(why),
-        reading,
-    }
-}
-
-// The reading at its new addresses, with the new file's length; all else is copied.
-fn placed(reading: Reading, len: usize, moved: [u32; LEVELS]) -> CarriedReading
-    ensures { ReadingCarried (C.Carried.carried (C.carried_to len (view_is reading)
-        (stack_is reading.levels moved reading.inps reading.trans reading.outs)))
-        reading result }
-{
-    CarriedReading {
-        answer: Ok(()),
-        reading: Reading {
-            len,
-            addrs: moved,
-            ..reading
+    let mut addrs = [0u32; LEVELS];
+    carry_levels(old, new, reading.levels, &reading.stack, &mut addrs)?;
+    Ok(Reading {
+        len: new.bytes.len(),
+        stack: Stack {
+            addrs,
+            ..reading.stack
         },
-    }
-}
-
-// Between two files that open, a reading that a next on the old one takes.
-fn carry_opened(
-    old: &[u8],
-    old_version: u64,
-    old_root: usize,
-    new: &[u8],
-    version: u64,
-    root: usize,
-    reading: Reading,
-) -> CarriedReading
-    requires { (root < 4294967296) × (reading.levels ≤ max_levels) }
-    ensures { ReadingCarried (C.after_levels (length new.now) (view_is reading)
-        (C.carry_levels (fst_with old.now old_version old_root)
-        (fst_with new.now version root)
-        (stack_is reading.levels reading.addrs reading.inps reading.trans
-        reading.outs))) reading result }
-{
-    let addrs = reading.addrs;
-    let inps = reading.inps;
-    let outs = reading.outs;
-    let mut moved = [0u32; LEVELS];
-    match carry_levels(
-        old,
-        old_version,
-        old_root,
-        new,
-        version,
-        root,
-        reading.levels,
-        &addrs,
-        &inps,
-        &outs,
-        &mut moved,
-    ) {
-        Err(why) => refused(why, reading),
-        Ok(()) => placed(reading, new.len(), moved),
-    }
+        ..reading
+    })
 }
 
 // The old file's refusals, the new file's, STATE as a next on the old file judges it, PATTERN where a pattern does not fit, then the levels.
-fn carry_reading(old: &[u8], new: &[u8], reading: Reading, fits: bool) -> CarriedReading
-    ensures { ReadingCarried (C.carry_with fits old.now new.now
-        (view_is reading)) reading result }
+fn carry_reading(old: &[u8], new: &[u8], reading: Reading, fits: bool) -> Result<Reading, Refusal>
+    ensures { carried_is result ≡ C.carry_with fits old.now new.now (view_is reading) }
 {
-    let opened = fst::open(old);
-    match opened {
-        Err(why) => refused(why, reading),
-        Ok(m) => {
-            let opened_new = fst::open(new);
-            match opened_new {
-                Err(why) => refused(why, reading),
-                Ok(q) => {
-                    if !state_right(reading.levels, reading.bound_len, reading.len, old.len()) {
-                        return refused(Refusal::State, reading);
-                    }
-                    if fits {
-                        return carry_opened(
-                            old, m.version, m.root, new, q.version, q.root, reading,
-                        );
-                    }
-                    refused(Refusal::Pattern, reading)
-                }
-            }
-        }
+    let m = fst::open(old)?;
+    let q = fst::open(new)?;
+    if !state_right(reading.levels, reading.bound_len, reading.len, old.len()) {
+        return Err(Refusal::State);
     }
+    if !fits {
+        return Err(Refusal::Pattern);
+    }
+    carry_opened(m.over(old), q.over(new), reading)
 }
 
 // A plain reading of the old file as a reading of the new one, at the same place. Opening's refusals of the old file, then of the new one, then STATE
@@ -140,16 +74,14 @@ pub fn carry(old: &[u8], new: &[u8], plain: Plain) -> Carried
     ensures { PlainCarried (C.carry_plain old.now new.now
         (plain_is plain)) plain result }
 {
-    let reading = plain.reading;
-    let keys = plain.keys;
-    let done = carry_reading(old, new, reading, true);
-    let answer = done.answer;
-    let after = done.reading;
-    Carried {
-        answer,
-        plain: Plain {
-            reading: after,
-            keys,
+    match carry_reading(old, new, plain.reading, true) {
+        Err(why) => Carried {
+            answer: Err(why),
+            plain,
+        },
+        Ok(reading) => Carried {
+            answer: Ok(()),
+            plain: Plain { reading, ..plain },
         },
     }
 }
@@ -159,16 +91,18 @@ pub fn carry_by(old: &[u8], new: &[u8], patterned: Patterned) -> CarriedBy
     ensures { PatternedCarried (C.carry_by old.now new.now
         (held_is patterned.pattern) (view_is patterned.reading)) patterned result }
 {
-    let reading = patterned.reading;
-    let pattern = patterned.pattern;
-    let done = carry_reading(old, new, reading, pattern.len <= MAX_KEY);
-    let answer = done.answer;
-    let after = done.reading;
-    CarriedBy {
-        answer,
-        patterned: Patterned {
-            reading: after,
-            pattern,
+    let fits = patterned.pattern.len <= MAX_KEY;
+    match carry_reading(old, new, patterned.reading, fits) {
+        Err(why) => CarriedBy {
+            answer: Err(why),
+            patterned,
+        },
+        Ok(reading) => CarriedBy {
+            answer: Ok(()),
+            patterned: Patterned {
+                reading,
+                ..patterned
+            },
         },
     }
 }

@@ -4,6 +4,8 @@
 --     Settles, FirstCarried, LevelCarried      a level at an address; the first one; one over another
 --     WalkedTo .. k .. below       the first k levels are carried, their new addresses in ys, the highest one's new node is below
 --     LevelsCarried .. r           all levels are carried, or why not
+-- Their numbers: v and root are the new file's version and the address of its root; a is the level's address, n its old node's count of transitions,
+-- inp and out the byte that led to it and its running value, sum the running value of the level below.
 -- Next places carry no meaning here: they stay as they are, whatever they are.
 -- Assumes nothing.
 use Rattle.std.specs.Prelude.{◌≡◌, Bool, List, [], ◌∷◌, ℕ, ◌-◌, eqb, length, Ok, Err, Result, ⊤}

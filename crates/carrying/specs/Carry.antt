@@ -1,6 +1,6 @@
 -- A reading carried to another file (document 02, N8; docs/FORMAT.md, "Carrying"), for any two files and any reading, admitted or made.
 --     Carrying, carry_levels        the levels in the new file, level by level from the first
---     Carried, carry_with           what carrying answers: a reading of the new file, or the number of a refusal
+--     Carried, carry_with           what carrying answers: a reading of the new file, or a refusal
 --     carry old new r              a reading without the number of keys to come
 --     carry_by old new p r          a reading by the pattern p, which stays as it is
 --     carry_plain old new p         a plain reading; its number of keys to come is copied

@@ -3,7 +3,7 @@
 use mathlib.Core.Path.{◌≡◌, refl, sym, ap, ◌∙◌, subst}
 use Rattle.std.specs.Prelude.{Ok, Err, Result, ⊤, ℕ}
 use Rattle.format.specs.declared.Refusal.{Refusal}
-use mathlib.Core.Logic.{inl, inr}
+use mathlib.Core.Logic.{inl}
 use mathlib.Core.List.{List}
 use Prim.Native.Nat.{ℕ}
 use native.Mathlib.Omega.{arith}
@@ -11,27 +11,15 @@ use lib.ListN.{length}
 use Rattle.format.specs.Limits.{EDITION}
 use Rattle.format.specs.Opening as O
 use Rattle.format.specs.Opening.{opened, opening}
+use Rattle.format.specs.Paths.{fst_with}
 use Rattle.format.specs.Admitted.{Admitted}
-use Rattle.fst.specs.Open.{opening_is, meta_is}
-use Rattle.fst.specs.declared.Meta.{Meta}
-use Rattle.admission.specs.Outcome.{Admits, Outcome}
+use Rattle.admission.specs.Outcome.{Outcome}
 use Rattle.admission.specs.Exactly.{admitted_is}
 use Rattle.convert.specs.Convert.{Converts, Marked, Says, OldFile, OldConverted, AgainConverted}
 use Rattle.convert.specs.ConvertLaws.{conversion_edition, same_meta, chain_only, admitted_again}
 use Rattle.convert.proofs.Finishing.{converts_as}
 
 -- ---- what the file says
-
-pub says_of : {s : List ℕ} {r : Result Meta Refusal} → opening_is r ≡ opening s → (m : Meta) → r ≡ Ok m → Says s m.version m.len m.root
-says_of is m e = record { meta = meta_is m; opens = sym is ∙ ap opening_is e; version_is = refl; count_is = refl; root_is = refl }
-
--- an admitted file opens
-pub opens_not : {s d t : List ℕ} {r : Result Meta Refusal} → Marked s d t → opening_is r ≡ opening s → (k : Refusal) → r ≡ Err k → ⊥
-opens_not k is n e =
-    let shut = sym is ∙ ap opening_is e in
-    let o = k.admits.admitted.opens in
-    let z : ◌≡◌ {A = ℕ} 0 1 = cc in
-    omega arith
 
 module _ {s d t : List ℕ} {version count root : ℕ} (marks : Marked s d t) (says : Says s version count root) where
   meta_is_lem : (A : Admitted s) → A.meta ≡ says.meta
@@ -48,12 +36,13 @@ module _ {s d t : List ℕ} {version count root : ℕ} (marks : Marked s d t) (s
             (record { answer = refl; out_is = refl; table_is = refl });
       }
 
-  pub old_of : version ≡ 1 → OldFile s root count d t
+  pub old_of : version ≡ 1 → OldFile (fst_with s version root) count d t
   old_of is =
       let X = marks.admits in
       let A = X.admitted in
       record {
         admitted = A;
+        old = is;
         version_is = ap (λ (m : O.Meta). m.version) (meta_is_lem A) ∙ sym says.version_is ∙ is;
         root_is = says.root_is ∙ sym (ap (λ (m : O.Meta). m.root) (meta_is_lem A));
         count_is = says.count_is ∙ sym (ap (λ (m : O.Meta). m.len) (meta_is_lem A));
@@ -81,13 +70,3 @@ pub refused_whole : {limit : ℕ} {s d₀ t₀ d t o b : List ℕ} {x : Result �
     → Converts limit s d₀ t₀ o b d t o b (Err k)
 refused_whole {s = s} {d₀} {t₀} {d} {t} out k e =
     inl (record { why = k; refuses = subst (Outcome s d₀ t₀ d t) e out; answer = refl; out_is = refl; table_is = refl })
-
-pub marked_of : {s d t : List ℕ} (d₀ t₀ : List ℕ) (x : Result ⊤ Refusal) → Outcome s d₀ t₀ d t x → x ≡ Ok tt → Marked s d t
-marked_of {s} {d} {t} d₀ t₀ x out e = record { depths₀ = d₀; sums₀ = t₀; admits = subst (Outcome s d₀ t₀ d t) e out }
-
-pub admitted_whole : {limit : ℕ} {s d₀ t₀ d t o₀ b₀ e u o b : List ℕ} {x : Result ⊤ Refusal} {r : Result ℕ Refusal} → Outcome s d₀ t₀ d t x → x ≡ Ok tt
-    → AgainConverted limit s d t o₀ b₀ e u o b r → Converts limit s d₀ t₀ o₀ b₀ e u o b r
-admitted_whole {s = s} {d₀} {t₀} {d} {t} {e = e} {u} out is done =
-    let X : Admits s d₀ t₀ d t = subst (Outcome s d₀ t₀ d t) is out in
-    let Y : Admits s d₀ t₀ e u = rw (done.depths_same, done.sums_same) X in
-    inr (record { admits = Y; converts = done.each Y.admitted })

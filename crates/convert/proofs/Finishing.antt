@@ -8,6 +8,7 @@ use mathlib.Core.List.{List, ◌++◌}
 use Prim.Native.Nat.{ℕ, ◌+◌, ◌≤◌, ◌<◌}
 use native.Mathlib.Omega.{arith}
 use borrow.Author.Tests.{le-leb, lt-leb}
+use lib.Seq.{get_or-take}
 use lib.ListN.{length, get_or, take, drop, length-append, length-take, length-drop}
 use Rattle.format.specs.Limits.{SPACE}
 use Rattle.format.specs.Bytes.{bytes_of}
@@ -20,7 +21,7 @@ use Rattle.converting.specs.Converting.{Conversion, written, refused, placing}
 use Rattle.converting.specs.Laws.LayLaws.{new_ok}
 use Rattle.convert_marks.specs.Marks.{marked}
 use Rattle.convert_layout.specs.Layout.{laid_to, Narrow}
-use Rattle.convert_write.specs.Written.{header_of, file_of, FileWritable}
+use Rattle.convert_write.specs.Written.{header_of, file_of}
 use Rattle.convert.specs.Convert.{ConvertsBy, Finishable, Finished}
 
 pub length_file : (s nodes : List ℕ) (count root : ℕ) → 16 ≤ length s → length (file_of s nodes count root) ≡ 32 + length nodes
@@ -58,51 +59,27 @@ module _ {f : Fst} {d t : List ℕ} {next : ℕ} (ok : Finishable f d t next) (c
   pub finish_short_out : {o b : List ℕ} {r : Result ℕ Refusal} → length o₀ < next + 16 → (r ≡ Err SPACE) × (o ≡ o₀) × (b ≡ b₀) → Finished f count d t o₀ b₀ o b r
   finish_short_out l h = refused_by (rw (lt-leb (length F) (length o₀) (omega (arith, file_len)))) h
 
-  pub finish_short_table : {o b : List ℕ} {r : Result ℕ Refusal} → next + 16 ≤ length o₀ → length b₀ < n → (r ≡ Err SPACE) × (o ≡ o₀) × (b ≡ b₀)
-      → Finished f count d t o₀ b₀ o b r
-  finish_short_table h l k = refused_by (rw (le-leb (length F) (length o₀) (omega (arith, file_len)), lt-leb n (length b₀) l)) k
-
-  pub finish_writable : next + 16 ≤ length o₀ → FileWritable f d t o₀
-  finish_writable h =
-      record {
-        long = ok.long;
-        root_in = ok.root_in;
-        writable = record {
-          room_depths = ok.room_depths;
-          room_sums = ok.room_sums;
-          sounds = ok.sounds;
-          hops = ok.hops;
-          entered = ok.laid_out.entered;
-          fits = omega (arith, ok.laid_out.next_is, ok.laid_out.fits);
-          room_out = omega (arith, ok.laid_out.next_is);
-        };
-      }
-
   -- new addresses have 32 bits
-  pub finish_narrow : n ≤ length b₀ → Narrow n t b₀
+  pub finish_narrow : n ≤ length b₀ → Narrow (length (take n t)) (take n t) b₀
   unfolding TargetOk
   finish_narrow h =
+      let cut = length-take n t in
+      let room = ok.room_sums in
       record {
-        in_sums = ok.room_sums;
-        in_table = h;
+        in_sums = omega arith;
+        in_table = omega arith;
         small = λ j l.
-            let e = ok.laid_out.entered.entry j l in
+            let low : j < n = omega arith in
+            let same = get_or-take n t j 0 low in
+            let e = ok.laid_out.entered.entry j low in
             let fits = ok.laid_out.fits in
             let is = ok.laid_out.next_is in
             ⊎_elim (λ z. omega (arith, z, e)) (λ p. omega (arith, p.1, e)) (new_ok f (marked d n) j);
       }
 
-  pub finish_done : {o b : List ℕ} → next + 16 ≤ length o₀ → n ≤ length b₀ → o ≡ put o₀ 0 F → b ≡ take n t ++ drop n b₀
+  pub finish_done : {o b : List ℕ} → next + 16 ≤ length o₀ → n ≤ length b₀ → o ≡ put o₀ 0 F → b ≡ take n t ++ drop (length (take n t)) b₀
       → Finished f count d t o₀ b₀ o b (Ok (next + 16))
   finish_done h g p q =
       let e : placing F (take n t) n (length o₀) (length b₀) ≡ written F (take n t) =
       rw (le-leb (length F) (length o₀) (omega (arith, file_len)), le-leb n (length b₀) g) in
-      let m : length (take n t) ≡ n = omega (arith, length-take n t, ok.room_sums) in
-      record {
-        converts = converts_as (sym e)
-            (record {
-              answer = ap Ok (sym file_len);
-              out_is = p ∙ put_zero o₀ F;
-              table_is = q ∙ ap (λ (k : ℕ). take n t ++ drop k b₀) (sym m);
-            });
-      }
+      record { converts = converts_as (sym e) (record { answer = ap Ok (sym file_len); out_is = p ∙ put_zero o₀ F; table_is = q }) }

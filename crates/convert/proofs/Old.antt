@@ -40,18 +40,18 @@ on_chain : (t : Bool) (l : List ℕ) (j : ℕ) → Memᴰ j (cond t [] l) → Me
 on_chain true l j mem = absurd (Memᴰ.not-nil mem)
 on_chain false l j mem = mem
 
-module _ {s : List ℕ} {root count : ℕ} {d₀ t₀ : List ℕ} (old : OldFile s root count d₀ t₀) where
+module _ {f : Fst} {count : ℕ} {d₀ t₀ : List ℕ} (old : OldFile f count d₀ t₀) where
+  abbrev s : List ℕ
+  s = f.bytes
+
   abbrev A : Admitted s
   A = old.admitted
-
-  abbrev f : Fst
-  f = fst_with s 1 root
 
   has_bytes : 0 < length s
   has_bytes = old_has_bytes A old.version_is
 
   file_is_lem : f ≡ fst_of s A.meta
-  file_is_lem = ap₂ (λ (v r : ℕ). fst_with s v r) (sym old.version_is) old.root_is
+  file_is_lem = ap₂ (λ (v r : ℕ). fst_with s v r) (old.old ∙ sym old.version_is) old.root_is
 
   root_chain : RootChain f A.nodes
   root_chain = subst (λ (g : Fst). RootChain g A.nodes) (sym file_is_lem) A.chained.chain
@@ -65,7 +65,7 @@ module _ {s : List ℕ} {root count : ℕ} {d₀ t₀ : List ℕ} (old : OldFile
 
     -- a marked address is on the chain
     marked_on : (j : ℕ) → j < length s → ¬ (get_or d j 0 ≡ 0) → Memᴰ j A.nodes
-    marked_on j l ne = on_chain (vanishes (node_in f root)) A.nodes j (subst (Memᴰ j) (marks.each A.nodes root_chain) (marked_member d (length s) j l ne))
+    marked_on j l ne = on_chain (vanishes (node_in f f.root)) A.nodes j (subst (Memᴰ j) (marks.each A.nodes root_chain) (marked_member d (length s) j l ne))
 
     pub old_sounds : MarkedSound f d
     old_sounds =
@@ -108,11 +108,11 @@ module _ {s : List ℕ} {root count : ℕ} {d₀ t₀ : List ℕ} (old : OldFile
         entry_is_lem : (j : ℕ) → j < length s → get_or t j 0 ≡ moved_to A j
         entry_is_lem j l = laid_out.entered.entry j l ∙ ap (λ (r : Laid). new_addr r.moved j) old_laid
 
-        bytes_are : file_of s (laid_to f d (length s)).nodes count (get_or t root 0) ≡ converted A
+        bytes_are : file_of s (laid_to f d (length s)).nodes count (get_or t f.root 0) ≡ converted A
         bytes_are =
-            let inside : root < length s = rw old.root_is (root_inside s A.meta A.opens has_bytes) in
-            ap (λ (r : Laid). file_of s r.nodes count (get_or t root 0)) old_laid
-            ∙ ap₂ (λ (c x : ℕ). file_of s (laid A).nodes c x) old.count_is (entry_is_lem root inside ∙ ap (moved_to A) old.root_is)
+            let inside : f.root < length s = rw old.root_is (root_inside s A.meta A.opens has_bytes) in
+            ap (λ (r : Laid). file_of s r.nodes count (get_or t f.root 0)) old_laid
+            ∙ ap₂ (λ (c x : ℕ). file_of s (laid A).nodes c x) old.count_is (entry_is_lem f.root inside ∙ ap (moved_to A) old.root_is)
             ∙ sym (converted_is A has_bytes)
 
         entries_are : take (length s) t ≡ table_of A

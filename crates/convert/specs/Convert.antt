@@ -74,14 +74,15 @@ pub record Says (s : List ℕ) (version count root : ℕ) : Type 0 where
   pub root_is : root ≡ meta.root
 
 -- an admitted file of version 1, with entries of the depths at addresses of the chain only
-pub record OldFile (s : List ℕ) (root count : ℕ) (d t : List ℕ) : Type 0 where
-  pub admitted : Admitted s
+pub record OldFile (f : Fst) (count : ℕ) (d t : List ℕ) : Type 0 where
+  pub admitted : Admitted f.bytes
+  pub old : f.version ≡ 1
   pub version_is : admitted.meta.version ≡ 1
-  pub root_is : root ≡ admitted.meta.root
+  pub root_is : f.root ≡ admitted.meta.root
   pub count_is : count ≡ admitted.meta.len
-  pub room_depths : length s ≤ length d
-  pub room_sums : length s ≤ length t
-  pub off : (j : ℕ) → j < length s → ¬ Memᴰ j admitted.nodes → get_or d j 0 ≡ 0
+  pub room_depths : length f.bytes ≤ length d
+  pub room_sums : length f.bytes ≤ length t
+  pub off : (j : ℕ) → j < length f.bytes → ¬ Memᴰ j admitted.nodes → get_or d j 0 ≡ 0
 
 -- the two work tables are changed within the file only
 pub record OldConverted (limit : ℕ) (s d₀ t₀ out₀ table₀ d t out table : List ℕ) (r : Result ℕ Refusal) : Type 0 where

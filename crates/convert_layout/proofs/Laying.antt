@@ -35,7 +35,7 @@ use Rattle.convert_node.specs.Packs.{PackableAt, PackedAt}
 use Rattle.convert_marks.specs.Marks.{marked, Hops}
 use Rattle.convert_marks.specs.MarkLaws.{marked_zero, marked_on, marked_off, marked_gap, member_marked}
 use Rattle.convert_layout.specs.PartLaws.{placed, part_is, none_after}
-use Rattle.convert_layout.specs.Layout.{laid_to, addr_of, MarkedSound, Zeros, Layable, LaidOut, Writable}
+use Rattle.convert_layout.specs.Layout.{laid_to, addr_of, MarkedSound, Zeros, Layable, Writable}
 
 -- ---- one address more
 
@@ -172,15 +172,6 @@ module _ {f : Fst} {d s₀ s : List ℕ} {next a limit : ℕ} (h : Laying f d s�
   pub laying_over : limit < next + 16 → limit < 32 + length (laid_to f d (length f.bytes)).nodes
   laying_over l = omega (arith, h.next_is, laid_grows f d a (length f.bytes) h.within)
 
-  pub laying_out : length f.bytes ≤ a → next + 16 ≤ limit → LaidOut f d s limit next
-  laying_out all fits =
-      let e : a ≡ length f.bytes = omega (arith, h.within) in
-      record {
-        next_is = h.next_is ∙ ap (λ (n : ℕ). 16 + length (laid_to f d n).nodes) e;
-        fits = fits;
-        entered = record { entry = λ j l. h.below.entry j (omega arith) ∙ ap (λ (n : ℕ). new_addr (laid_to f d n).moved j) e };
-      }
-
   module _ (inside : a < length f.bytes) where
     pub laying_room : a < length s
     laying_room = omega (arith, h.kept.long, ok.room_sums)
@@ -288,9 +279,6 @@ module _ {f : Fst} {d s out₀ out : List ℕ} {next a : ℕ} (h : Writes f d ou
 
   pub writes_next : next + 16 ≤ length out
   writes_next = omega (arith, h.is.next, h.long, ok.room_out, laid_grows f d a (length f.bytes) h.within)
-
-  pub writes_all : length f.bytes ≤ a → PutAt out₀ 16 (laid_to f d (length f.bytes)).nodes out next
-  writes_all all = let e : a ≡ length f.bytes = omega (arith, h.within) in subst (λ (n : ℕ). PutAt out₀ 16 (laid_to f d n).nodes out next) e h.is
 
   module _ (inside : a < length f.bytes) where
     -- no node there

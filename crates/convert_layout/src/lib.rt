@@ -1,17 +1,18 @@
 // The two passes of a conversion over the marked nodes, in ascending order of addresses. The sizes of a node's deltas depend on where its
 // targets went, which lie below it: so the first pass works out each new address, and nothing is written before all are known.
+// depths, sums, out and table are slices and no struct: the C caller lends them one by one, and the definitions speak of each.
 #![tactic(auto)]
 
-ghost use Rattle.std.specs.Prelude.{◌≡◌, ◌++◌, ◌+◌, ◌≤◌, length, take, drop};
+ghost use Rattle.std.specs.Prelude.{◌≡◌, ◌++◌, ◌+◌, ◌≤◌, length, drop};
 ghost use Rattle.format.specs.Limits.{max_len};
-ghost use Rattle.format.specs.Paths.{fst_with};
+ghost use Rattle.format.specs.View.{fst_is};
 ghost use Rattle.buffers.specs.Put.{PutAt};
 ghost use Rattle.admission_node.specs.Entries.{Kept};
 ghost use Rattle.convert_layout.specs.Layout.{laid_to, addr_of, Zeros, Layable, Lays, Writable, Narrow};
 
 use convert_node::pack_at;
 use convert_size::len_at;
-use format::FIRST_NODE;
+use format::{FIRST_NODE, FstRef, are_bytes};
 
 // Key count and root, after the nodes.
 pub const TRAILER: usize = 16;
@@ -26,23 +27,18 @@ fn addr_of(next: usize, len: usize) -> u64
 
 // The new address of each marked node, in the sums' table, which is cleared. A mark says how far above its node the next one lies.
 // Answers the place past the nodes of the new file, or None where that file passes the limit.
-fn lay_marked(
-    file: &[u8],
-    root: usize,
-    limit: usize,
-    depths: &[u16],
-    sums: &mut [u64],
-) -> Option<usize>
-    requires { Layable (fst_with file.now 1 root) depths.now sums.old limit
-        × Zeros (length file.now) sums.old }
-    ensures kept { Kept (length file.now) sums.old sums.new }
-    ensures lays { Lays (fst_with file.now 1 root) depths.now
+fn lay_marked(fst: FstRef<'_>, limit: usize, depths: &[u16], sums: &mut [u64]) -> Option<usize>
+    requires { Layable (fst_is fst) depths.now sums.old limit
+        × Zeros (length fst.bytes.now) sums.old }
+    ensures kept { Kept (length fst.entry.bytes.now) sums.old sums.new }
+    ensures lays { Lays (fst_is fst.entry) depths.now
         sums.new limit result }
 {
+    are_bytes(fst.bytes);
     let mut next = FIRST_NODE;
     let mut a = 0;
     // not by `for`: a step is one address, or as many as the mark says
-    while a < file.len() {
+    while a < fst.bytes.len() {
         let hop = depths[a];
         if hop == 0 {
             a += 1;
@@ -51,7 +47,7 @@ fn lay_marked(
         if limit < next + TRAILER {
             return None;
         }
-        let len = len_at(file, root, a, next, sums);
+        let len = len_at(fst, a, next, sums);
         sums[a] = addr_of(next, len);
         next += len;
         a += hop as usize;
@@ -64,44 +60,38 @@ fn lay_marked(
 
 // The new address of each marked node, in the sums' table; 0 at every other entry of the file. Answers the place past the nodes of the new
 // file, or None where that file passes the limit.
-pub fn lay_out(
-    file: &[u8],
-    root: usize,
-    limit: usize,
-    depths: &[u16],
-    sums: &mut [u64],
-) -> Option<usize>
-    requires { Layable (fst_with file.now 1 root) depths.now sums.old limit }
-    ensures kept { Kept (length file.now) sums.old sums.new }
-    ensures lays { Lays (fst_with file.now 1 root) depths.now
+pub fn lay_out(fst: FstRef<'_>, limit: usize, depths: &[u16], sums: &mut [u64]) -> Option<usize>
+    requires { Layable (fst_is fst) depths.now sums.old limit }
+    ensures kept { Kept (length fst.entry.bytes.now) sums.old sums.new }
+    ensures lays { Lays (fst_is fst.entry) depths.now
         sums.new limit result }
 {
-    sums[..file.len()].fill(0);
-    lay_marked(file, root, limit, depths, sums)
+    sums[..fst.bytes.len()].fill(0);
+    lay_marked(fst, limit, depths, sums)
 }
 
 // Writes the marked nodes one after the other from place 16 on; returns the place past them.
-pub fn write_out(file: &[u8], root: usize, depths: &[u16], sums: &[u64], out: &mut [u8]) -> usize
-    requires { Writable (fst_with file.now 1 root) depths.now sums.now out.old }
+pub fn write_out(fst: FstRef<'_>, depths: &[u16], sums: &[u64], out: &mut [u8]) -> usize
+    requires { Writable (fst_is fst) depths.now sums.now out.old }
     ensures { PutAt out.old 16
-        (laid_to (fst_with file.now 1 root) depths.now (length file.now)).nodes
+        (laid_to (fst_is fst.entry) depths.now (length fst.entry.bytes.now)).nodes
         out.new result }
 {
+    are_bytes(fst.bytes);
     let mut inputs: [u8; 256] = [0; 256];
     let mut outputs: [u64; 256] = [0; 256];
     let mut targets: [usize; 256] = [0; 256];
     let mut next = FIRST_NODE;
     let mut a = 0;
     // not by `for`: a step is one address, or as many as the mark says
-    while a < file.len() {
+    while a < fst.bytes.len() {
         let hop = depths[a];
         if hop == 0 {
             a += 1;
             continue;
         }
         next += pack_at(
-            file,
-            root,
+            fst,
             a,
             next,
             sums,
@@ -115,12 +105,12 @@ pub fn write_out(file: &[u8], root: usize, depths: &[u16], sums: &[u64], out: &m
     next
 }
 
-// The first n entries of the sums' table, in 32 bits, to the front of the lent table.
-pub fn put_table(sums: &[u64], n: usize, table: &mut [u32])
-    requires { Narrow n sums.now table.old }
-    ensures { table.new ≡ take n sums.now ++ drop n table.old }
+// The new addresses, in 32 bits, to the front of the lent table.
+pub fn put_table(sums: &[u64], table: &mut [u32])
+    requires { Narrow (length sums.now) sums.now table.old }
+    ensures { table.new ≡ sums.now ++ drop (length sums.now) table.old }
 {
-    for i in 0..n {
-        table[i] = sums[i] as u32;
+    for (i, sum) in sums.iter().enumerate() {
+        table[i] = *sum as u32;
     }
 }

@@ -76,14 +76,18 @@ module _ {f : Fst} {l d₀ d : List ℕ} {a up : ℕ} (h : Marking f l d₀ d a 
   marking_room = omega (arith, marking_inside, h.kept.long)
 
   module _ {first : ℕ} (at : FirstIs f a first) where
-    pub marking_low : 17 ≤ first ⊎ (first ≡ 16)
+    marking_low : 17 ≤ first ⊎ (first ≡ 16)
     marking_low =
         let e = at.each here.0 here.1 in
         let low = node_first_low f a here.0 here.1 (chain_not_zero h.rest) in
         elim (ℕ_discrete first 16) [ yes z ↦ inr z | no z ↦ inl (omega arith) ]
 
-    pub marking_le : first ≤ a
+    marking_le : first ≤ a
     marking_le = omega (arith, at.each here.0 here.1, node_first_le f a here.0 here.1 (chain_not_zero h.rest))
+
+    -- where another node follows, it lies below
+    pub marking_between : ¬ (first ≡ 16) → (17 ≤ first) × (first ≤ a)
+    marking_between more = (⊎_elim (λ l. l) (λ z. absurd (more z)) marking_low, marking_le)
 
   -- the mark x is stored
   module _ {x : ℕ} (some : 1 ≤ x) (le : x ≤ up) where
@@ -143,6 +147,10 @@ module _ {f : Fst} {l d₀ d : List ℕ} {a up : ℕ} (h : Marking f l d₀ d a 
                 off = marks_off;
                 kept = kept_set a x marking_inside h.kept;
               }
+
+-- the marks of a chain, by another name
+pub marks_as : {n : ℕ} {l k d₀ d : List ℕ} → l ≡ k → MarksList n l d₀ d → MarksList n k d₀ d
+marks_as e h = rw (← e) h
 
 -- ---- the nodes that are laid out
 

@@ -1,50 +1,37 @@
 // The marks of a conversion: the nodes that are laid out have an entry other than 0 in the depths' table, so that they can be visited in
 // ascending order. Each says how far above it the next one lies, so that no address between is asked.
+// What is asked of an address or a node stands where it is needed: no type has the file and the table that it speaks of.
 #![tactic(auto)]
 
-ghost use Rattle.std.specs.Prelude.{◌≡◌, ◌&&◌, ◌≤◌, length, eqb};
-ghost use Rattle.format.specs.Node.{SoundAt, node_at};
-ghost use Rattle.format.specs.Paths.{fst_with};
+ghost use Rattle.std.specs.Prelude.{◌≡◌, ◌≤◌};
+ghost use Rattle.format.specs.Node.{SoundAt};
+ghost use Rattle.format.specs.Paths.{node_in};
+ghost use Rattle.format.specs.View.{fst_is};
 ghost use Rattle.converting.specs.Converting.{vanishes};
 ghost use Rattle.convert_marks.specs.Marks.{FirstIs, Markable, ChainMarkable, MarksChain, MarksNodes};
 
-use format::FIRST_NODE;
-use le_bytes::small;
+use format::{FIRST_NODE, FstRef};
 
-// Final, with no transition, and adding nothing.
-fn nothing(is_final: bool, n: usize, final_output: u64) -> bool
-    ensures { result ≡ (is_final && (eqb n 0 && eqb final_output 0)) }
+// Whether the node at a becomes address 0: it is final, has no transition, and adds nothing.
+fn becomes_zero(fst: FstRef<'_>, a: usize) -> bool
+    ensures { result ≡ vanishes (node_in (fst_is fst.entry) a) }
 {
-    is_final && (n == 0 && final_output == 0)
-}
-
-// Whether the node at a of a version 1 file becomes address 0.
-fn becomes_zero(file: &[u8], root: usize, a: usize) -> bool
-    ensures { result ≡ vanishes (node_at file.now 1 root a) }
-{
-    let judged = node::node_at(file, 1, root, a);
-    match judged {
-        Ok(m) => nothing(m.is_final, m.ntrans, m.final_output),
+    match node::node_at(fst, a) {
+        Ok(m) => m.is_final && (m.ntrans == 0 && m.final_output == 0),
         Err(_) => false,
     }
 }
 
 // The first byte of the sound node at a, by its form.
-fn first_of(file: &[u8], root: usize, a: usize) -> usize
-    requires { SoundAt file.now 1 root a }
-    ensures { FirstIs (fst_with file.now 1 root) a result }
+fn first_of(fst: FstRef<'_>, a: usize) -> usize
+    requires { SoundAt fst.bytes.now fst.version fst.root a }
+    ensures { FirstIs (fst_is fst.entry) a result }
 {
-    let state = small(file[a]);
-    if state < 128 {
-        let node = node::any_node(file, 1, root, a);
-        return node.first;
+    match fst.bytes[a] {
+        0..=127 => node::any_node(fst, a).first,
+        128..=191 => node::one_node(fst, a).first,
+        192..=255 => node::next_node(fst, a).first,
     }
-    if state < 192 {
-        let node = node::one_node(file, 1, root, a);
-        return node.first;
-    }
-    let node = node::next_node(file, 1, root, a);
-    node.first
 }
 
 // A distance that fits an entry, or 1.
@@ -65,16 +52,16 @@ fn mark_of(entry: u16, up: usize) -> u16
 }
 
 // Marks the nodes of the chain from the root down.
-fn mark_chain(file: &[u8], root: usize, depths: &mut [u16])
-    requires { ChainMarkable (fst_with file.now 1 root) depths.old }
-    ensures { MarksChain (fst_with file.now 1 root) depths.old
+fn mark_chain(fst: FstRef<'_>, depths: &mut [u16])
+    requires { ChainMarkable (fst_is fst) depths.old }
+    ensures { MarksChain (fst_is fst.entry) depths.old
         depths.new }
 {
-    let mut a = root;
+    let mut a = fst.root;
     let mut up = 1;
     loop {
         depths[a] = mark_of(depths[a], up);
-        let first = first_of(file, root, a);
+        let first = first_of(fst, a);
         if first == FIRST_NODE {
             return;
         }
@@ -85,14 +72,14 @@ fn mark_chain(file: &[u8], root: usize, depths: &mut [u16])
 }
 
 // Marks the nodes that are laid out: all of the chain, and none where the root becomes address 0.
-pub fn mark(file: &[u8], root: usize, depths: &mut [u16])
-    requires { Markable (fst_with file.now 1 root) depths.old }
-    ensures { MarksNodes (fst_with file.now 1 root) depths.old
+pub fn mark(fst: FstRef<'_>, depths: &mut [u16])
+    requires { Markable (fst_is fst) depths.old }
+    ensures { MarksNodes (fst_is fst.entry) depths.old
         depths.new }
 {
-    if becomes_zero(file, root, root) {
-        depths[..file.len()].fill(0);
+    if becomes_zero(fst, fst.root) {
+        depths[..fst.bytes.len()].fill(0);
         return;
     }
-    mark_chain(file, root, depths);
+    mark_chain(fst, depths);
 }

@@ -7,20 +7,39 @@ use mathlib.Core.List.{List}
 use Prim.Native.Nat.{ℕ, ◌≤◌}
 use native.Mathlib.Omega.{arith}
 use borrow.Author.Tests.{le-leb}
-use lib.ListN.{length, take, length-take}
+use lib.ListN.{length, take, length-take, length-map}
 use Rattle.buffers.specs.Put.{PutAt}
 use Rattle.buffers.specs.PutLaws.{put_zero}
+use Rattle.format.specs.declared.Transition.{Transition}
 use Rattle.format.specs.Node.{Node}
+use Rattle.format.specs.Paths.{fst_with}
+use Rattle.node.specs.declared.Node as N
+use Rattle.node.specs.Read.{meaning, transitions_in, Readable, Judges}
+use Rattle.node.specs.ReadLaws.{length_node_transitions}
 use Rattle.format.specs.Packed.{BuilderNode, Packing, written, packed}
 use Rattle.node_compile.specs.Compile.{builder_with, answer_as, buffer_after}
 use Rattle.node_compile.specs.Parts.{RecordFits, Fitted, fitting}
 use Rattle.converting.specs.Converting.{record_by}
 use Rattle.convert_size.specs.Sizes.{entry_in}
-use Rattle.convert_node.specs.Packs.{Gathered, Packable, PackedFront}
+use Rattle.convert_size.specs.SingleLaws.{judged_at}
+use Rattle.convert_node.specs.Packs.{Gathered, Packable, PackedFront, PackableAt}
 
 -- the first n of a list that has as many
 pub prefix_count : (n : ℕ) (l : List ℕ) → n ≤ length l → n ≡ length (take n l)
 prefix_count n l h = omega (arith, length-take n l)
+
+-- a node that is packed has at most 256 transitions
+pub few : {s : List ℕ} {n : N.Node} {first room : ℕ} {moved : List ℕ} → Readable s n → Packable (meaning s n) first moved room → n.ntrans ≤ 256
+few {s} {n} r p =
+    omega (arith, length_node_transitions s n r, p.sizable.fits.few, length-map (transitions_in s n) (λ (t : Transition). t.inp))
+
+-- ---- a node that the code read by its form
+
+module _ {s : List ℕ} {v root a : ℕ} {r : N.Node} (j : Judges s v root a (Ok r)) {first : ℕ} {moved : List ℕ} where
+  pub judged_packable : {room : ℕ} → PackableAt (fst_with s v root) a first moved room → Packable (meaning s r) first moved room
+  judged_packable ok = ok.each (meaning s r) (judged_at j)
+
+-- ---- the bytes
 
 -- bytes put at the front, by another name
 pub front_put : {bs bs' out₀ out : List ℕ} {r : ℕ} → bs ≡ bs' → PutAt out₀ 0 bs out r → PackedFront bs' out₀ out r

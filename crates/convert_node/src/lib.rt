@@ -1,22 +1,25 @@
 // What the second pass of a conversion does at one node of a version 1 file: it is packed as document 01 says, each target replaced by the
 // table's entry. The node is sound, so it is read by its form and not judged.
+// inputs, outputs and targets are slices, as node_compile takes them; moved is the table that the C caller lends.
+// What is asked of an address or a node stands where it is needed: no type has the file and the table that it speaks of.
 #![tactic(auto)]
 
-ghost use Rattle.std.specs.Prelude.{◌≡◌, ◌≤◌, ◌<◌, length, get_or};
+ghost use Rattle.std.specs.Prelude.{◌<◌, length};
 ghost use Rattle.format.specs.Packed.{packed};
-ghost use Rattle.format.specs.Paths.{fst_with};
+ghost use Rattle.format.specs.View.{fst_is};
 ghost use Rattle.node.specs.Read.{meaning, transitions_in, Readable};
 ghost use Rattle.converting.specs.Converting.{record_by};
 ghost use Rattle.format.specs.Node.{SoundAt};
-ghost use Rattle.convert_size.specs.Sizes.{entry_in};
+ghost use Rattle.convert_size.specs.Sizes.{entry_in, OneKept};
 ghost use Rattle.convert_node.specs.Packs.{Gatherable, Gathered, Packable, PackedFront, PackableAt, PackedAt, Roomy};
 
 use convert_one::{idx_of, pack_one};
 use convert_size::new_target;
-use le_bytes::small;
+use format::FstRef;
 use node::Node;
 
 // The inputs, the outputs and the new targets of a node's transitions, each to the front of its buffer.
+// The buffers stay three, here and below: `compile_record` takes the three lists one by one, so that one value for them would only be taken apart.
 fn gather(
     file: &[u8],
     node: Node,
@@ -75,52 +78,32 @@ fn pack(
     }
 }
 
-// The same of the sound node at a, which has one transition. Its form is known, so nothing is gathered.
+// The same of a node with one transition that is not final, where idx is what is kept of its input, which is rare where that is 0. Nothing is
+// gathered.
 fn pack_single(
     file: &[u8],
-    root: usize,
-    a: usize,
+    node: Node,
+    idx: u8,
+    rare: u8,
     first: usize,
     moved: &[u64],
     out: &mut [u8],
 ) -> usize
-    requires { SoundAt file.now 1 root a × (128 ≤ get_or file.now a 0) × (get_or file.now a 0 < 192)
-        × PackableAt (fst_with file.now 1 root) a first moved.now (length out.old) }
-    ensures { PackedAt (fst_with file.now 1 root) a first moved.now
+    requires { Readable file.now node × OneKept (meaning file.now node) idx rare
+        × Packable (meaning file.now node) first moved.now (length out.old) }
+    ensures { PackedFront
+        (packed first (record_by (entry_in moved.now) (meaning file.now node)))
         out.old out.new result }
 {
-    let node = node::one_node(file, 1, root, a);
     let to = node::transition_addr(file, node, 0);
     let output = node::output(file, node, 0);
     let target = new_target(moved, to);
-    pack_one(idx_of(file, a), file[a - 1], output, target, first, out)
+    pack_one(idx, rare, output, target, first, out)
 }
 
-// The same where the transition leads to the node just below.
-fn pack_next(
-    file: &[u8],
-    root: usize,
-    a: usize,
-    first: usize,
-    moved: &[u64],
-    out: &mut [u8],
-) -> usize
-    requires { SoundAt file.now 1 root a × (192 ≤ get_or file.now a 0)
-        × PackableAt (fst_with file.now 1 root) a first moved.now (length out.old) }
-    ensures { PackedAt (fst_with file.now 1 root) a first moved.now
-        out.old out.new result }
-{
-    let node = node::next_node(file, 1, root, a);
-    let to = node::transition_addr(file, node, 0);
-    let output = node::output(file, node, 0);
-    let target = new_target(moved, to);
-    pack_one(idx_of(file, a), file[a - 1], output, target, first, out)
-}
-
-// The same of the sound node at a, which may have any number.
+// The same of the sound node at a, by its form.
 pub fn pack_at(
-    file: &[u8],
-    root: usize,
+    fst: FstRef<'_>,
     a: usize,
     first: usize,
     moved: &[u64],
@@ -129,19 +112,25 @@ pub fn pack_at(
     targets: &mut [usize],
     out: &mut [u8],
 ) -> usize
-    requires { SoundAt file.now 1 root a
-        × PackableAt (fst_with file.now 1 root) a first moved.now (length out.old)
+    requires { SoundAt fst.bytes.now fst.version fst.root a
+        × PackableAt (fst_is fst) a first moved.now (length out.old)
         × Roomy (length inputs.old) (length outputs.old) (length targets.old) }
-    ensures { PackedAt (fst_with file.now 1 root) a first moved.now
+    ensures { PackedAt (fst_is fst.entry) a first moved.now
         out.old out.new result }
 {
-    let state = small(file[a]);
-    if state < 128 {
-        let node = node::any_node(file, 1, root, a);
-        return pack(file, node, first, moved, inputs, outputs, targets, out);
+    let file = fst.bytes;
+    match file[a] {
+        0..=127 => {
+            let node = node::any_node(fst, a);
+            pack(file, node, first, moved, inputs, outputs, targets, out)
+        }
+        128..=191 => {
+            let node = node::one_node(fst, a);
+            pack_single(file, node, idx_of(file, a), file[a - 1], first, moved, out)
+        }
+        192..=255 => {
+            let node = node::next_node(fst, a);
+            pack_single(file, node, idx_of(file, a), file[a - 1], first, moved, out)
+        }
     }
-    if state < 192 {
-        return pack_single(file, root, a, first, moved, out);
-    }
-    pack_next(file, root, a, first, moved, out)
 }

@@ -2,13 +2,12 @@
 --     length_state, length_one, length_bytes    how many bytes; what is kept of the input decides, and not the input
 --     bytes_packed                              the bytes of a record with one transition that is not final
 -- Assumes nothing.
-use Rattle.std.specs.Prelude.{◌≡◌, refl, Bool, true, false, cond, ◌&&◌, List, [], ◌∷◌, ◌++◌, ℕ, ◌+◌, ◌≤◌, eqb, length, get_or}
+use Rattle.std.specs.Prelude.{◌≡◌, refl, Bool, true, false, cond, ◌&&◌, List, [], ◌∷◌, ◌++◌, ℕ, ◌+◌, eqb, length, get_or}
 use Rattle.std.proofs.Common.{sym, ap, ◌∙◌, arith, length-append}
 use Rattle.std.proofs.Math.Decide.{ℕ_discrete}
 use borrow.Author.Tests.{eq-eqb, ne_eqb}
 use Rattle.format.specs.Bytes.{bytes_of, pack_size}
 use Rattle.format.specs.Laws.BytesLaws.{length_bytes_of}
-use Rattle.format.specs.CommonInputs.{common_idx}
 use Rattle.format.specs.Packed.{BuilderNode, delta_of, output_size, sizes_of, input_bytes, packed_next, packed_one, last_addr, has_one, leads_next, packed}
 use Rattle.format.specs.Laws.PackedLaws.{packed_next_is, packed_one_is}
 use Rattle.node_compile.specs.Parts.{state_bytes}

@@ -2,16 +2,16 @@
 // byte where that keeps it, so that neither table of inputs is read for it.
 #![tactic(auto)]
 
-ghost use Rattle.std.specs.Prelude.{◌≡◌, ◌&&◌, ◌+◌, ◌-◌, ◌≤◌, ◌<◌, eqb, length, get_or};
+ghost use Rattle.std.specs.Prelude.{◌≡◌, ◌+◌, ◌-◌, ◌≤◌, ◌<◌, length, get_or};
 ghost use Rattle.buffers.specs.Put.{PutAt};
 ghost use Rattle.format.specs.Limits.{first_node};
 ghost use Rattle.format.specs.Node.{input_of};
 ghost use Rattle.format.specs.Bytes.{pack_size};
-ghost use Rattle.format.specs.Packed.{delta_of, output_size, sizes_of, last_addr};
+ghost use Rattle.format.specs.Packed.{delta_of, output_size, sizes_of};
 ghost use Rattle.convert_one.specs.One.{Code, state_for, one_for, one_bytes};
 
 use common_inputs::common_idx;
-use le_bytes::{pack_size, pack_uint_in, small};
+use le_bytes::{pack_size, pack_uint_in};
 use node_compile::{delta_of, leads_next};
 
 // ---- the parts
@@ -30,13 +30,14 @@ pub fn idx_of(file: &[u8], a: usize) -> u8
 }
 
 // The bytes that each output takes where n is the largest: none where all are 0.
+#[tactic(auto, unfolding(format::specs::Packed::output_size))]
 pub fn output_size(n: u64) -> usize
     ensures { result ≡ output_size n }
 {
     if n == 0 {
         return 0;
     }
-    small(pack_size(n))
+    usize::from(pack_size(n))
 }
 
 // The bytes of the state, and of the input where the state byte does not keep it.
@@ -59,7 +60,7 @@ pub fn one_len(idx: u8, output: u64, target: usize, first: usize) -> usize
     }
     let delta = delta_of(first, target);
     let osize = output_size(output);
-    let tsize = small(pack_size(delta));
+    let tsize = usize::from(pack_size(delta));
     osize + tsize + 1 + head
 }
 
@@ -129,6 +130,6 @@ pub fn pack_one(
     }
     let delta = delta_of(first, target);
     let osize = output_size(output);
-    let tsize = small(pack_size(delta));
+    let tsize = usize::from(pack_size(delta));
     put_one(out, idx, rare, output, osize, delta, tsize)
 }

@@ -5,20 +5,20 @@
 --     L1            one node, neither final nor with a transition
 --     I1            one node of 33 transitions
 -- Assumes nothing.
-use Rattle.std.specs.Prelude.{◌≡◌, refl, Bool, true, false, cond, List, [], ◌∷◌, ◌++◌, ℕ, zero, suc, ◌+◌, eqb, ltb, length, take, drop, replicate}
-use Rattle.std.proofs.Common.{sym, ap, ◌∙◌, subst, arith, ne_eqb}
+use Rattle.std.specs.Prelude.{◌≡◌, refl, Bool, true, false, cond, List, [], ◌∷◌, ◌++◌, ℕ, zero, suc, eqb, ltb, length, take, drop, replicate}
+use Rattle.std.proofs.Common.{ap, ◌∙◌, subst, arith, ne_eqb}
 use Rattle.std.proofs.Math.Path.{ap₂}
 use Rattle.std.proofs.Math.Option.{none}
 use Rattle.format.specs.Limits.{max_len, LARGE, SPACE, EDITION}
 use Rattle.format.specs.declared.Transition.{Transition}
 use Rattle.format.specs.Laws.OpeningLaws.{blank_meta, opening_blank}
 use Rattle.format.specs.Bytes.{le, bytes_of, size_up_to, pack_size, largest}
-use Rattle.format.specs.CommonInputs.{common_inputs, common_inputs_inv, common_idx, common_input}
+use Rattle.format.specs.CommonInputs.{common_inputs, common_inputs_inv, common_idx}
 use Rattle.format.specs.Packed.{stored_numbers, stored_bytes, place_from, up_from, index_of, index_bytes, output_size, delta_size, input_bytes, packed_next, packed_one, head_of, packed_any, packed}
 use Rattle.format.specs.Node.{Node, sound, head_len, input_of, ntrans_of, sizes_byte, index_len, size_of, down_from, bytes_down, numbers_down, transitions_of, node_of, sound_test, node_at}
 use Rattle.format.specs.Opening.{Meta, meta_of, root_test, opened, opening}
-use Rattle.format.specs.Paths.{Fst, fst_of, node_in}
-use Rattle.format.specs.Admitted.{Chain, last, next, RootChain, empty, rooted, Admitted}
+use Rattle.format.specs.Paths.{fst_of, node_in}
+use Rattle.format.specs.Admitted.{last, next, RootChain, empty, rooted, Admitted}
 use Rattle.format.specs.Laws.ChainLaws.{root_chain_unique}
 use Rattle.converting.specs.Converting.{new_addr, Laid, lay_out, chain_of, converted, table_of, Conversion, refused, placing, conversion}
 

@@ -4,27 +4,26 @@
 --     nothing_is, one_is        which form the node packs to, by what the code tests
 --     Seen, seen-..             what a turn of the loop over the transitions knows
 -- Assumes nothing.
-use mathlib.Core.Path.{◌≡◌, refl, sym, ap, ap₂, ◌∙◌}
+use mathlib.Core.Path.{◌≡◌, refl, sym, ap, ◌∙◌}
 use mathlib.Core.Bool.{Bool, true, false, cond, not, ◌&&◌, false≢true}
 use mathlib.Core.List.{List, [], ◌∷◌, map}
-use Prim.Native.Nat.{ℕ, ◌-◌, ◌*◌, ◌≤◌, ◌<◌}
+use Prim.Native.Nat.{ℕ, ◌+◌, ◌-◌, ◌*◌, ◌≤◌, ◌<◌}
 use native.Mathlib.Nat.{le_trans, mul-le-mul_right, mul-le-mul_left}
 use native.Mathlib.Omega.{arith}
-use borrow.Author.Tests.{eq-eqb, ne_eqb, eqb-true}
+use borrow.Author.Tests.{eqb-true}
 use lib.Dec.{ltb, leb, eqb}
 use lib.ListN.{length, length-map}
 use Rattle.format.specs.declared.Transition.{Transition}
 use Rattle.format.specs.Limits.{index_threshold}
 use Rattle.format.specs.Bytes.{pack_size, largest}
-use Rattle.format.specs.Laws.BytesLaws.{pack_size_high}
 use Rattle.format.specs.Node.{Node, end_len, index_len, transition_at}
-use Rattle.format.specs.Packed.{BuilderNode, delta_of, output_size, delta_size, packed_any, packs_to_nothing, has_one, packed}
+use Rattle.format.specs.Packed.{BuilderNode, delta_of, output_size, delta_size, head_of, packed_any, packs_to_nothing, has_one, packed}
 use Rattle.format.specs.Laws.PackedLaws.{length_deltas, get_d_deltas, length_index_bytes, length_packed_any, delta_size_is, packed_any_is}
 use Rattle.node_compile.specs.Parts.{RecordFits, any_len}
 use Rattle.converting.specs.Converting.{record_by}
 use Rattle.converting.specs.Laws.LayLaws.{get_d_map_lt}
 use Rattle.convert_size.specs.declared.Most.{Most}
-use Rattle.convert_size.specs.Sizes.{entry_in, delta_size_by, Sizable, Mosts}
+use Rattle.convert_size.specs.Sizes.{entry_in, Sizable, Mosts}
 use Rattle.convert_size.specs.SingleLaws.{Single}
 use Rattle.convert_size.proofs.Largest.{LargestFrom, largest_none, largest_step, largest_all, largest_cons}
 
@@ -62,30 +61,29 @@ any_len_is first b osize tsize ok =
     ap (λ (n : ℕ). n * tsize) (length_deltas first b.targets ∙ ok.targets_len) in
     omega (arith, length_index_bytes 3 b.inputs (omega arith))
 
--- the largest delta of count deltas
-delta_size_by_lem : (ds : List ℕ) (count : ℕ) → count ≡ length ds → delta_size_by count (largest ds) ≡ delta_size ds
+-- the bytes of all deltas: none where there is none, whatever one takes
+deltas_len : (ds : List ℕ) (n : ℕ) → n ≡ length ds → n * pack_size (largest ds) ≡ n * delta_size ds
 unfolding delta_size
-delta_size_by_lem [] count is = rw (eq-eqb count 0 is)
-delta_size_by_lem (d ∷ ds) count is = rw (ne_eqb count 0 (λ z. omega (arith, is))) (sym (delta_size_is (d ∷ ds) (omega arith)))
-
-pub delta_size_le : (count most : ℕ) → delta_size_by count most ≤ 8
-delta_size_le count most = cond_le (eqb count 0) 0 (pack_size most) 8 (omega arith) (pack_size_high most)
+deltas_len [] n is = rw is
+deltas_len (d ∷ ds) n is = rw (delta_size_is (d ∷ ds) (omega arith))
 
 module _ {m : Node} {first : ℕ} {moved : List ℕ} (ok : Sizable m first moved) where
   abbrev b : BuilderNode
   b = record_by (entry_in moved) m
 
   pub any_sized : {r : Most} (n osize tsize : ℕ) → packs_to_nothing b ≡ false → has_one b ≡ false → n ≡ length m.transitions → Mosts m first moved r
-      → osize ≡ output_size r.output → tsize ≡ delta_size_by n r.delta → any_len m.final n osize tsize ≡ length (packed first b)
+      → osize ≡ output_size r.output → tsize ≡ pack_size r.delta → any_len m.final n osize tsize ≡ length (packed first b)
   any_sized {r} n osize tsize some many is_n most is_o is_t =
       let count : n ≡ length b.inputs = is_n ∙ sym (length-map m.transitions (λ (t : Transition). t.inp)) in
       let o : osize ≡ output_size (largest (b.final_output ∷ b.outputs)) = is_o ∙ ap output_size most.output_is in
       let deltas : n ≡ length (map (delta_of first) b.targets) =
       is_n ∙ sym (length-map m.transitions (λ (t : Transition). entry_in moved t.addr)) ∙ sym (length_deltas first b.targets) in
-      let t : tsize ≡ delta_size (map (delta_of first) b.targets) =
-      is_t ∙ ap (delta_size_by n) most.delta_is ∙ delta_size_by_lem (map (delta_of first) b.targets) n deltas in
-      ap (λ (x : ℕ). any_len m.final x osize tsize) count ∙ any_len_is first b osize tsize ok.fits
-      ∙ ap₂ (λ (x y : ℕ). length (packed_any b (map (delta_of first) b.targets) x y)) o t
+      let t : n * tsize ≡ n * delta_size (map (delta_of first) b.targets) =
+      ap (λ (x : ℕ). n * x) (is_t ∙ ap pack_size most.delta_is) ∙ deltas_len (map (delta_of first) b.targets) n deltas in
+      ap (λ (x : ℕ). end_len m.final osize + n * osize + x + n + index_len 3 n + 1 + length (head_of m.final n)) t
+      ∙ ap (λ (x : ℕ). any_len m.final x osize (delta_size (map (delta_of first) b.targets))) count
+      ∙ any_len_is first b osize (delta_size (map (delta_of first) b.targets)) ok.fits
+      ∙ ap (λ (x : ℕ). length (packed_any b (map (delta_of first) b.targets) x (delta_size (map (delta_of first) b.targets)))) o
       ∙ ap (λ (l : List ℕ). length l) (sym (packed_any_is first b some many))
 
 -- ---- the forms, by what the code tests

@@ -1,11 +1,11 @@
 -- The sound node at an address whose state byte says that it has one transition.
 --     Single m inp        the node m is not final, and its one transition has the input inp
 --     single_node         such a node is one
---     single_packed       its bytes, with its target by a table
+--     single_packed       its bytes, with its target by a table; kept_packed    the same of what is kept of its input
 --     target_in, target_le     where a transition leads, and where that went
 --     judged-..                what the code read by the node's form is the node
 -- Assumes nothing.
-use Rattle.std.specs.Prelude.{Ok, Err}
+use Rattle.std.specs.Prelude.{Ok}
 use Rattle.std.specs.Prelude.{◌≡◌, refl, Bool, true, false, ℕ, ◌+◌, ◌-◌, ◌/◌, ◌%◌, ◌≤◌, ◌<◌, ltb, length, get_or}
 use Rattle.std.proofs.Common.{sym, ap, ◌∙◌, subst, true≢false, ⊎_elim, arith, ltb-true, ltb-false}
 use mathlib.Core.List.{List, map}
@@ -27,7 +27,7 @@ use Rattle.converting.specs.Converting.{record_by}
 use Rattle.converting.specs.Laws.LayLaws.{get_d_map_lt}
 use Rattle.convert_one.specs.One.{Code, one_bytes}
 use Rattle.convert_one.specs.OneLaws.{bytes_packed}
-use Rattle.convert_size.specs.Sizes.{entry_in, Sizable}
+use Rattle.convert_size.specs.Sizes.{entry_in, Sizable, first_input, OneKept, SizableAt}
 
 -- a target that RECORD passes does not lie past F
 within_one : (first t : ℕ) → TargetOk first t → t ≤ first
@@ -96,6 +96,12 @@ module _ {m : Node} {inp : ℕ} (is : Single m inp) (first : ℕ) (moved : List 
       (is_out ∙ sym (get_d_map_lt (λ (t : Transition). t.out) ts 0 (listed (λ (t : Transition). t.out))))
       (is_target ∙ ap (entry_in moved) is_to ∙ sym (get_d_map_lt (λ (t : Transition). entry_in moved t.addr) ts 0 (listed (λ (t : Transition). entry_in moved t.addr))))
 
+-- the same of a node with what is kept of its input
+pub kept_packed : {m : Node} {idx rare : ℕ} → OneKept m idx rare → (first : ℕ) (moved : List ℕ) (out to target : ℕ) → out ≡ (transition_at m.transitions 0).out
+    → to ≡ (transition_at m.transitions 0).addr → target ≡ entry_in moved to → one_bytes first idx rare out target ≡ packed first (record_by (entry_in moved) m)
+kept_packed {m} {idx} {rare} kept first moved out to target is_out is_to is_target =
+    single_packed {m = m} {inp = first_input m} (record { final = kept.final; one = kept.one; input = refl }) first moved idx rare out to target kept.code is_out is_to is_target
+
 -- ---- its target
 
 module _ {m : Node} {first : ℕ} {moved : List ℕ} (ok : Sizable m first moved) (i : ℕ) (l : i < length m.transitions) where
@@ -111,22 +117,37 @@ module _ {m : Node} {first : ℕ} {moved : List ℕ} (ok : Sizable m first moved
 
 -- ---- a node that the code read by its form
 
-module _ {s : List ℕ} {root a : ℕ} {r : N.Node} (j : Judges s 1 root a (Ok r)) where
-  pub judged_at : node_in (fst_with s 1 root) a ≡ sound (meaning s r)
+module _ {s : List ℕ} {v root a : ℕ} {r : N.Node} (j : Judges s v root a (Ok r)) where
+  pub judged_at : node_in (fst_with s v root) a ≡ sound (meaning s r)
   judged_at = answer_sound j r refl
 
-  pub judged_same : (m : Node) → node_in (fst_with s 1 root) a ≡ sound m → meaning s r ≡ m
+  pub judged_same : (m : Node) → node_in (fst_with s v root) a ≡ sound m → meaning s r ≡ m
   judged_same m e = let e' = judged_at in cc
 
-  module _ (at : SoundAt s 1 root a) (form : 128 ≤ get_or s a 0) where
+  pub judged_sizable : {first : ℕ} {moved : List ℕ} → SizableAt (fst_with s v root) a first moved → Sizable (meaning s r) first moved
+  judged_sizable ok = ok.each (meaning s r) judged_at
+
+  module _ (at : SoundAt s v root a) (form : 128 ≤ get_or s a 0) where
     pub judged_single : Single (meaning s r) (input_of s a)
     judged_single =
-        let low = sound_low s 1 root a at in
-        let is = judged_same (node_of s 1 a) (node_at_sound s 1 root a (λ z. omega arith) at) in
-        subst (λ (m : Node). Single m (input_of s a)) (sym is) (single_node s 1 a form)
+        let low = sound_low s v root a at in
+        let is = judged_same (node_of s v a) (node_at_sound s v root a (λ z. omega arith) at) in
+        subst (λ (m : Node). Single m (input_of s a)) (sym is) (single_node s v a form)
 
     pub judged_listed : 0 < length (transitions_in s r)
     judged_listed = omega (arith, judged_single.one)
 
     pub judged_count : 0 < r.ntrans
     judged_count = omega (arith, judged_single.one, length_node_transitions s r (j.readable r refl))
+
+    -- what is kept of its input by the old state byte
+    pub judged_kept : {idx rare : ℕ} → Code (input_of s a) idx rare → OneKept (meaning s r) idx rare
+    judged_kept {idx} {rare} code =
+        let is = judged_single in
+        record { final = is.final; one = is.one; code = subst (λ (x : ℕ). Code x idx rare) (sym is.input) code }
+
+    -- where the length alone is asked, any input may be called rare: this one is
+    pub judged_kept_own : {idx rare : ℕ} → Code (input_of s a) idx rare → OneKept (meaning s r) idx (first_input (meaning s r))
+    judged_kept_own code =
+        let kept = judged_kept code in
+        record { final = kept.final; one = kept.one; code = record { is = kept.code.is; lt = code.lt; rare_is = λ _. refl } }

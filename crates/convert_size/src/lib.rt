@@ -1,21 +1,22 @@
 // How long a node of a version 1 file is when it is packed with its targets replaced by the table's entries: from its largest output and
 // its largest new delta, in one pass over its transitions. The node is sound, so it is read by its form and not judged.
+// What is asked of an address or a node stands where it is needed: no type has the file and the table that it speaks of.
 #![tactic(auto)]
 
-ghost use Rattle.std.specs.Prelude.{◌≡◌, cond, not, ◌&&◌, ◌≤◌, ◌<◌, eqb, ltb, length, get_or};
+ghost use Rattle.std.specs.Prelude.{◌≡◌, cond, not, ◌&&◌, ◌≤◌, ◌<◌, eqb, ltb, length};
 ghost use Rattle.format.specs.Limits.{max_trans};
 ghost use Rattle.format.specs.Node.{SoundAt, end_len, index_len};
 ghost use Rattle.format.specs.Packed.{packed};
-ghost use Rattle.format.specs.Paths.{fst_with};
-ghost use Rattle.node.specs.Read.{meaning, transitions_in, Readable};
+ghost use Rattle.format.specs.View.{fst_is};
+ghost use Rattle.node.specs.Read.{meaning, Readable};
 ghost use Rattle.node_compile.specs.Parts.{any_len};
 ghost use Rattle.converting.specs.Converting.{record_by};
-ghost use Rattle.convert_size.specs.Sizes.{entry_in, delta_size_by, Mosts, Sizable, SizableAt, SizedAt};
+ghost use Rattle.convert_size.specs.Sizes.{entry_in, Mosts, Sizable, first_input, OneKept, SizableAt, SizedAt};
 
 use common_inputs::common_idx;
 use convert_one::{idx_of, one_len, output_size};
-use format::TRANS_INDEX_THRESHOLD;
-use le_bytes::{pack_size, small};
+use format::{FstRef, TRANS_INDEX_THRESHOLD};
+use le_bytes::pack_size;
 use node::Node;
 use node_compile::{delta_of, packs_to_nothing};
 
@@ -36,43 +37,20 @@ pub fn new_target(moved: &[u64], to: usize) -> usize
 
 // ---- a node with one transition
 
-// The packed length of the sound node at a, which has one transition. Its form is known, so no node is made.
-fn len_one(file: &[u8], root: usize, a: usize, first: usize, moved: &[u64]) -> usize
-    requires { SoundAt file.now 1 root a × (128 ≤ get_or file.now a 0) × (get_or file.now a 0 < 192)
-        × SizableAt (fst_with file.now 1 root) a first moved.now }
-    ensures { SizedAt (fst_with file.now 1 root) a first moved.now result }
+// The packed length of a node with one transition that is not final, where idx is what is kept of its input.
+fn len_single(file: &[u8], node: Node, idx: u8, first: usize, moved: &[u64]) -> usize
+    requires { Readable file.now node × OneKept (meaning file.now node) idx (first_input (meaning file.now node))
+        × Sizable (meaning file.now node) first moved.now }
+    ensures { result ≡ length
+        (packed first (record_by (entry_in moved.now) (meaning file.now node))) }
 {
-    let node = node::one_node(file, 1, root, a);
     let to = node::transition_addr(file, node, 0);
     let out = node::output(file, node, 0);
     let target = new_target(moved, to);
-    one_len(idx_of(file, a), out, target, first)
-}
-
-// The same where the transition leads to the node just below.
-fn len_next(file: &[u8], root: usize, a: usize, first: usize, moved: &[u64]) -> usize
-    requires { SoundAt file.now 1 root a × (192 ≤ get_or file.now a 0)
-        × SizableAt (fst_with file.now 1 root) a first moved.now }
-    ensures { SizedAt (fst_with file.now 1 root) a first moved.now result }
-{
-    let node = node::next_node(file, 1, root, a);
-    let to = node::transition_addr(file, node, 0);
-    let out = node::output(file, node, 0);
-    let target = new_target(moved, to);
-    one_len(idx_of(file, a), out, target, first)
+    one_len(idx, out, target, first)
 }
 
 // ---- a node with any number of transitions
-
-// The bytes that each delta takes where n is the largest: none where there is no transition.
-fn delta_size(count: usize, n: u64) -> usize
-    ensures { result ≡ delta_size_by count n }
-{
-    if count == 0 {
-        return 0;
-    }
-    small(pack_size(n))
-}
 
 // The bytes of the final output.
 fn end_len(is_final: bool, osize: usize) -> usize
@@ -82,6 +60,7 @@ fn end_len(is_final: bool, osize: usize) -> usize
 }
 
 // The bytes of the index.
+#[tactic(auto, unfolding(format::specs::Node::index_len))]
 fn index_len(n: usize) -> usize
     ensures { result ≡ index_len 3 n }
 {
@@ -144,35 +123,27 @@ fn len_any(file: &[u8], node: Node, first: usize, moved: &[u64]) -> usize
         return 0;
     }
     if has_one(is_final, n) {
-        let to = node::transition_addr(file, node, 0);
-        let out = node::output(file, node, 0);
-        let target = new_target(moved, to);
-        return one_len(common_idx(node::input(file, node, 0)), out, target, first);
+        let idx = common_idx(node::input(file, node, 0));
+        return len_single(file, node, idx, first, moved);
     }
     let most = most_of(file, node, first, moved);
-    any_len(
-        is_final,
-        n,
-        output_size(most.output),
-        delta_size(n, most.delta),
-    )
+    // where there is no transition no delta is stored, and none is counted
+    let tsize = usize::from(pack_size(most.delta));
+    any_len(is_final, n, output_size(most.output), tsize)
 }
 
 // ---- any node
 
 // The packed length of the sound node at a; a node that becomes address 0 has none.
-pub fn len_at(file: &[u8], root: usize, a: usize, first: usize, moved: &[u64]) -> usize
-    requires { SoundAt file.now 1 root a
-        × SizableAt (fst_with file.now 1 root) a first moved.now }
-    ensures { SizedAt (fst_with file.now 1 root) a first moved.now result }
+pub fn len_at(fst: FstRef<'_>, a: usize, first: usize, moved: &[u64]) -> usize
+    requires { SoundAt fst.bytes.now fst.version fst.root a
+        × SizableAt (fst_is fst) a first moved.now }
+    ensures { SizedAt (fst_is fst.entry) a first moved.now result }
 {
-    let state = small(file[a]);
-    if state < 128 {
-        let node = node::any_node(file, 1, root, a);
-        return len_any(file, node, first, moved);
+    let file = fst.bytes;
+    match file[a] {
+        0..=127 => len_any(file, node::any_node(fst, a), first, moved),
+        128..=191 => len_single(file, node::one_node(fst, a), idx_of(file, a), first, moved),
+        192..=255 => len_single(file, node::next_node(fst, a), idx_of(file, a), first, moved),
     }
-    if state < 192 {
-        return len_one(file, root, a, first, moved);
-    }
-    len_next(file, root, a, first, moved)
 }

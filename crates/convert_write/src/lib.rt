@@ -1,13 +1,15 @@
 // A new file, written: header, nodes, key count and root.
+// depths, sums and out are slices and no struct: the C caller lends them one by one, and the definitions speak of each.
 #![tactic(auto)]
 
 ghost use Rattle.std.specs.Prelude.{◌≡◌, ◌≤◌, length, get_or};
-ghost use Rattle.format.specs.Paths.{fst_with};
+ghost use Rattle.format.specs.View.{fst_is};
 ghost use Rattle.buffers.specs.Put.{put};
 ghost use Rattle.convert_layout.specs.Layout.{laid_to};
 ghost use Rattle.convert_write.specs.Written.{header_of, file_of, FileWritable};
 
 use convert_layout::write_out;
+use format::FstRef;
 use le_bytes::pack_uint_in;
 
 // The version of a converted file.
@@ -24,23 +26,16 @@ fn write_header(file: &[u8], out: &mut [u8])
 }
 
 // The whole file; the rest of out stays.
-pub fn write_file(
-    file: &[u8],
-    root: usize,
-    count: u64,
-    depths: &[u16],
-    sums: &[u64],
-    out: &mut [u8],
-)
-    requires { FileWritable (fst_with file.now 1 root) depths.now sums.now out.old }
+pub fn write_file(fst: FstRef<'_>, count: u64, depths: &[u16], sums: &[u64], out: &mut [u8])
+    requires { FileWritable (fst_is fst) depths.now sums.now out.old }
     ensures { out.new ≡ put out.old 0
-        (file_of file.now
-        (laid_to (fst_with file.now 1 root) depths.now (length file.now)).nodes
-        count (get_or sums.now root 0)) }
+        (file_of fst.entry.bytes.now
+        (laid_to (fst_is fst.entry) depths.now (length fst.entry.bytes.now)).nodes
+        count (get_or sums.now fst.entry.root 0)) }
 {
-    write_header(file, out);
-    let end = write_out(file, root, depths, sums, out);
+    write_header(fst.bytes, out);
+    let end = write_out(fst, depths, sums, out);
     pack_uint_in(out, end, count, 8);
     let at = end + 8;
-    pack_uint_in(out, at, sums[root], 8);
+    pack_uint_in(out, at, sums[fst.root], 8);
 }

@@ -9,13 +9,12 @@
 --     table_of A              the table of new addresses, an entry for each byte of the old file
 --     Conversion, conversion limit A room entries    what converting answers into an output of room bytes and a table of so many entries
 -- Assumes nothing.
-use Rattle.std.specs.Prelude.{◌≡◌, Bool, true, false, cond, ◌&&◌, List, [], ◌∷◌, ◌++◌, map, ℕ, ◌+◌, eqb, ltb, leb, length, take, drop}
+use Rattle.std.specs.Prelude.{Bool, false, cond, ◌&&◌, List, [], ◌∷◌, ◌++◌, map, ℕ, ◌+◌, eqb, ltb, leb, length, take, drop}
 use Rattle.format.specs.declared.Refusal.{Refusal}
 use Rattle.format.specs.declared.Transition.{Transition}
 use Rattle.format.specs.Limits.{LARGE, SPACE, EDITION}
 use Rattle.format.specs.Bytes.{bytes_of}
 use Rattle.format.specs.Node.{Node, Judgement, sound, unsound}
-use Rattle.format.specs.Opening.{Meta}
 use Rattle.format.specs.Packed.{BuilderNode, packed, up_from}
 use Rattle.format.specs.Paths.{Fst, fst_of, node_in}
 use Rattle.format.specs.Admitted.{Admitted}

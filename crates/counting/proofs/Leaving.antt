@@ -26,7 +26,7 @@ use Rattle.format.specs.Laws.ReachedLaws.{reached_by, reached_stays}
 use Rattle.format.specs.Laws.ChainLaws.{root_chain_sound}
 use Rattle.fst.specs.declared.Meta as Code
 use Rattle.fst.specs.Open.{meta_is, opening_is}
-use Rattle.admission.specs.Outcome.{Wiped, RefusedFor, Admits, Opens}
+use Rattle.admission.specs.Outcome.{RefusedFor, Admits, Opens}
 use Rattle.admission.specs.Outcome as Admission
 use Rattle.counting.specs.CountOutcomes.{FewKeys, ManyKeys, CountRefusedFor, not_opened, no_space, not_admitted, too_many, Counts, CountOutcome}
 use Rattle.counting.specs.CountPasses.{HasEntry, Countable, OverOne, Passed, Leaves}

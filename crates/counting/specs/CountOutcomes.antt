@@ -1,7 +1,7 @@
 -- What filling the table of keys answers, and what it leaves in the three tables, in every case (document 02, N11).
 --     FewKeys f               no reached node has more than 2^64 - 1 keys
 --     ManyKeys f              a reached node has
---     CountRefusedFor s .. r  why the bytes s are refused with the number r, and the tables afterwards
+--     CountRefusedFor s .. r  why the bytes s are refused with r, and the tables afterwards
 --     Counts s ..             the bytes s are admitted and the table is filled; the tables afterwards
 --     CountOutcome s ..       the answer
 -- Of a table, the first name is as it was lent and the second as it is left: d₀ d the depths, s₀ t the sums, c₀ c the numbers of keys.

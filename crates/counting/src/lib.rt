@@ -1,19 +1,20 @@
 // The table of keys (document 02, N11): the number of keys from each reached node, at its address. The file is admitted first. Then
 // one pass in ascending order of addresses works out each node's number from those of its targets, which lie below it. A node is reached
 // where admission left an entry in the depths.
+// depths, sums and counts are slices and no struct: the C caller lends them one by one, and the definitions speak of each.
 #![tactic(auto)]
 
 ghost use Rattle.std.specs.Prelude.{◌≤◌, length};
-ghost use Rattle.format.specs.Paths.{fst_with};
+ghost use Rattle.format.specs.View.{fst_is};
 ghost use Rattle.admission.specs.Outcome.{Opens};
 ghost use Rattle.counting.specs.CountPasses.{ZerosTo, Countable, Passed, Leaves};
 ghost use Rattle.counting.specs.CountOutcomes.{CountOutcome};
 
 use counting_node::count_at;
-use format::Refusal;
+use format::{FstRef, Refusal};
 
 // Zeros from an address on, up to the next one that has an entry in the depths; answers that, or n. A loop of its own is quicker, since
-// most addresses have none.
+// most addresses have none. No plainer by std: the entry would be looked for in one pass, and the zeros filled in by a second.
 // n is the file's length, and either table may be longer.
 fn zeros_to(depths: &[u16], from: usize, n: usize, counts: &mut [u64]) -> usize
     requires { (from ≤ n) × (n ≤ length depths.now) × (n ≤ length counts.old) }
@@ -31,16 +32,16 @@ fn zeros_to(depths: &[u16], from: usize, n: usize, counts: &mut [u64]) -> usize
 }
 
 // Fills the table, in ascending order of addresses; false at the first node with more keys than an entry holds.
-fn fill(file: &[u8], version: u64, root: usize, depths: &[u16], counts: &mut [u64]) -> bool
-    requires { Countable (fst_with file.now version root) depths.now counts.old }
-    ensures { Passed (fst_with file.now version root) depths.now
+fn fill(fst: FstRef<'_>, depths: &[u16], counts: &mut [u64]) -> bool
+    requires { Countable (fst_is fst) depths.now counts.old }
+    ensures { Passed (fst_is fst.entry) depths.now
         counts.old counts.new result }
 {
-    let n = file.len();
+    let n = fst.bytes.len();
     let mut a = zeros_to(depths, 0, n, counts);
     // not by `for`: `zeros_to` says where the next node lies
     while a < n {
-        let Some(keys) = count_at(file, version, root, a, counts) else {
+        let Some(keys) = count_at(fst, a, counts) else {
             return false;
         };
         counts[a] = keys;
@@ -50,19 +51,13 @@ fn fill(file: &[u8], version: u64, root: usize, depths: &[u16], counts: &mut [u6
 }
 
 // Fills the table of an admitted file; where a number does not fit, zeros over the file's length.
-fn count_nodes(
-    file: &[u8],
-    version: u64,
-    root: usize,
-    depths: &[u16],
-    counts: &mut [u64],
-) -> Result<(), Refusal>
-    requires { Countable (fst_with file.now version root) depths.now counts.old }
-    ensures { Leaves (fst_with file.now version root) depths.now
+fn count_nodes(fst: FstRef<'_>, depths: &[u16], counts: &mut [u64]) -> Result<(), Refusal>
+    requires { Countable (fst_is fst) depths.now counts.old }
+    ensures { Leaves (fst_is fst.entry) depths.now
         counts.old counts.new result }
 {
-    let n = file.len();
-    if fill(file, version, root, depths, counts) {
+    let n = fst.bytes.len();
+    if fill(fst, depths, counts) {
         return Ok(());
     }
     counts[..n].fill(0);
@@ -71,24 +66,22 @@ fn count_nodes(
 
 // Admits a file that opens, with this version and root, and fills the table.
 fn count_opened(
-    file: &[u8],
-    version: u64,
-    root: usize,
+    fst: FstRef<'_>,
     depths: &mut [u16],
     sums: &mut [u64],
     counts: &mut [u64],
 ) -> Result<(), Refusal>
-    requires { Opens file.now version root }
-    ensures { CountOutcome file.now depths.old sums.old
+    requires { Opens fst.bytes.now fst.version fst.root }
+    ensures { CountOutcome fst.entry.bytes.now depths.old sums.old
         counts.old depths.new sums.new counts.new result }
 {
     // the third table is judged with the other two, before any node
-    let short = counts.len() < file.len();
+    let short = counts.len() < fst.bytes.len();
     if short {
         return Err(Refusal::Space);
     }
-    admission::admit(file, depths, sums)?;
-    count_nodes(file, version, root, depths, counts)
+    admission::admit(fst.bytes, depths, sums)?;
+    count_nodes(fst, depths, counts)
 }
 
 // Admits a file, fills admission's two tables and then the third with the number of keys from each reached node, or refuses it: opening's
@@ -103,5 +96,5 @@ pub fn count_keys(
         counts.old depths.new sums.new counts.new result }
 {
     let m = fst::open(file)?;
-    count_opened(file, m.version, m.root, depths, sums, counts)
+    count_opened(m.over(file), depths, sums, counts)
 }

@@ -3,12 +3,13 @@
 
 ghost use Rattle.std.specs.Prelude.{◌≡◌, ◌≤◌, ◌<◌, length};
 ghost use Rattle.format.specs.Node.{SoundAt};
-ghost use Rattle.format.specs.Paths.{fst_with};
 ghost use Rattle.format.specs.Tables.{one, keys_at};
+ghost use Rattle.format.specs.View.{fst_is};
 ghost use Rattle.node.specs.Read.{transitions_in, Readable};
 ghost use Rattle.admission_node.specs.Entries.{total_as};
 ghost use Rattle.counting_node.specs.CountNodes.{added_to, keys_by, Inside, CountedAt};
 
+use format::FstRef;
 use node::Node;
 
 // The key that ends at a node.
@@ -63,21 +64,21 @@ fn count_one(file: &[u8], node: Node, counts: &[u64]) -> Option<u64>
 }
 
 // The same of the sound node at the address a.
-pub fn count_at(file: &[u8], version: u64, root: usize, a: usize, counts: &[u64]) -> Option<u64>
-    requires { SoundAt file.now version root a
-        × (length file.now ≤ length counts.now) }
-    ensures { CountedAt (fst_with file.now version root)
+pub fn count_at(fst: FstRef<'_>, a: usize, counts: &[u64]) -> Option<u64>
+    requires { SoundAt fst.bytes.now fst.version fst.root a
+        × (length fst.bytes.now ≤ length counts.now) }
+    ensures { CountedAt (fst_is fst.entry)
         counts.now a result }
 {
-    let state = file[a];
+    let state = fst.bytes[a];
     if state < 128 {
-        let m = node::any_node(file, version, root, a);
-        return count_any(file, m, counts);
+        let m = node::any_node(fst, a);
+        return count_any(fst.bytes, m, counts);
     }
     if state < 192 {
-        let m = node::one_node(file, version, root, a);
-        return count_one(file, m, counts);
+        let m = node::one_node(fst, a);
+        return count_one(fst.bytes, m, counts);
     }
-    let m = node::next_node(file, version, root, a);
-    count_one(file, m, counts)
+    let m = node::next_node(fst, a);
+    count_one(fst.bytes, m, counts)
 }

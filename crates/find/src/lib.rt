@@ -1,12 +1,16 @@
 // A page by pattern in one call (src/raw/mod.rs: `search` with an automaton for the pattern, and the loop of `next_with` over it): up to so many keys
 // between two bounds that fit, each in a row of 256 bytes with its value beside it, on any file, admitted or not.
+// rows and values are two slices and no struct: the C caller lends them one by one, and the definitions speak of each.
+// The pattern is given as the C caller has it, positions and whether any rest may follow.
+// The two bounds are two values and no pair: each is taken by itself.
+// How many keys are asked for is a number of its own, and no length of rows or values.
 #![tactic(auto)]
 
 ghost use Rattle.std.specs.Prelude.{◌*◌, ◌≤◌, length};
 ghost use Rattle.paging.specs.Paging as P;
 ghost use Rattle.pattern.specs.Pattern.{start_by};
 ghost use Rattle.finding.specs.Finding as F;
-ghost use Rattle.stream_start.specs.Views.{bound_is};
+ghost use Rattle.stream_start.specs.Views.{bound_of};
 ghost use Rattle.patterned_held.specs.HeldPatterns.{given_is};
 ghost use Rattle.range_fill.specs.RangedRows.{RangedBy};
 
@@ -15,17 +19,15 @@ use format::{MAX_KEY, Refusal};
 use patterned::start;
 use range_fill::{Ranged, refused};
 use range_rows::{bounds_right, has_room};
-use stream_start::Bound;
+use std::ops::Bound;
 
 // The walk, where the buffers have room.
 fn find_from(
     file: &[u8],
     positions: &[u16],
     rest: bool,
-    lower_kind: Bound,
-    lower: &[u8],
-    upper_kind: Bound,
-    upper: &[u8],
+    lower: Bound<&[u8]>,
+    upper: Bound<&[u8]>,
     most: usize,
     rows: &mut [u8],
     values: &mut [u64],
@@ -33,15 +35,12 @@ fn find_from(
     requires { (P.row_len * most ≤ length rows.old) × (most ≤ length values.old) }
     ensures { RangedBy (F.page_by file.now (given_is positions.now rest)
         most (start_by file.now (given_is positions.now rest)
-        (bound_is lower_kind lower.now) (bound_is upper_kind upper.now)))
+        (bound_of lower.entry) (bound_of upper.entry)))
         rows.old rows.new values.old values.new result }
 {
-    let started = start(file, positions, rest, lower_kind, lower, upper_kind, upper);
-    let answer = started.answer;
-    let patterned = started.patterned;
-    match answer {
+    match start(file, positions, rest, lower, upper) {
         Err(why) => refused(why),
-        Ok(()) => fill(file, patterned, most, rows, values),
+        Ok(patterned) => fill(file, patterned, most, rows, values),
     }
 }
 
@@ -53,35 +52,28 @@ pub fn find(
     file: &[u8],
     positions: &[u16],
     rest: bool,
-    lower_kind: Bound,
-    lower: &[u8],
-    upper_kind: Bound,
-    upper: &[u8],
+    lower: Bound<&[u8]>,
+    upper: Bound<&[u8]>,
     most: usize,
     rows: &mut [u8],
     values: &mut [u64],
 ) -> Ranged
     ensures { RangedBy (F.find file.now (given_is positions.now rest)
-        (bound_is lower_kind lower.now) (bound_is upper_kind upper.now) most
+        (bound_of lower.entry) (bound_of upper.entry) most
         (length rows.old) (length values.old)) rows.old
         rows.new values.old values.new result }
 {
-    let opened = fst::open(file);
-    match opened {
-        Err(why) => refused(why),
-        Ok(_) => {
-            if MAX_KEY < positions.len() {
-                return refused(Refusal::Pattern);
-            }
-            if !bounds_right(lower_kind, lower, upper_kind, upper) {
-                return refused(Refusal::Bound);
-            }
-            if !has_room(most, rows.len(), values.len()) {
-                return refused(Refusal::Space);
-            }
-            find_from(
-                file, positions, rest, lower_kind, lower, upper_kind, upper, most, rows, values,
-            )
-        }
+    if let Err(why) = fst::open(file) {
+        return refused(why);
     }
+    if MAX_KEY < positions.len() {
+        return refused(Refusal::Pattern);
+    }
+    if !bounds_right(lower, upper) {
+        return refused(Refusal::Bound);
+    }
+    if !has_room(most, rows.len(), values.len()) {
+        return refused(Refusal::Space);
+    }
+    find_from(file, positions, rest, lower, upper, most, rows, values)
 }

@@ -1,4 +1,6 @@
 // The keys of a reading by pattern, each in a row of 256 bytes with its value beside it: the loop of `find`.
+// rows and values are two slices and no struct: the C caller lends them one by one, and the definitions speak of each.
+// How many keys are asked for is a number of its own, and no length of rows or values.
 #![tactic(auto)]
 
 ghost use Rattle.std.specs.Prelude.{◌*◌, ◌≤◌, length};

@@ -6,6 +6,7 @@ pub mod Packed
 pub mod Opening
 pub mod OpeningExact
 pub mod Paths
+pub mod View
 pub mod Admitted
 pub mod Tables
 pub mod Lookup

@@ -3,7 +3,7 @@
 --     trailer_len v           the bytes after the root's node in version v: key count, root address, in version 3 a checksum
 --     least_len v             the bytes of a file of version v with no node: header and trailer
 --     root_test v root len    the rule on roots
---     Opening, opening s     what opening the bytes s answers: what they say, or the number of a refusal
+--     Opening, opening s     what opening the bytes s answers: what they say, or a refusal
 -- Assumes nothing.
 use Rattle.std.specs.Prelude.{Bool, true, false, cond, ◌&&◌, List, [], ℕ, ◌+◌, ◌-◌, ltb, leb, eqb, length, take, drop}
 use Rattle.std.proofs.Math.Option.{Option, none, some}

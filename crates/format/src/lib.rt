@@ -3,7 +3,7 @@
 // each number here to the definition of its name.
 #![tactic(auto)]
 
-ghost use Rattle.std.specs.Prelude.{◌≡◌};
+ghost use Rattle.std.specs.Prelude.{◌≡◌, ◌<◌, ℕ, get_or};
 ghost use Rattle.format.specs.Limits as L;
 ghost use Rattle.format.specs.Limits.{number};
 
@@ -14,7 +14,7 @@ pub enum Refusal {
     Short,
     // a version that is none of 1 to 3
     Version,
-    // a root that does not lie in the file
+    // a root that breaks the root rule (Opening)
     Root,
     // a length past the largest
     Large,
@@ -30,7 +30,7 @@ pub enum Refusal {
     Bound,
     // a record that no node has
     Record,
-    // a reading that no call has made
+    // a reading, or marks or a card beside it, that cannot be right: over 256 levels, a bound over 255 bytes, or another file's length
     State,
     // over 255 positions of a pattern
     Pattern,
@@ -107,6 +107,19 @@ pub struct Transition {
     // the address of the node that it leads to
     pub addr: usize,
 }
+
+// A file as its nodes are read: its bytes, its version and the address of its root.
+#[derive(Clone, Copy)]
+pub struct FstRef<'f> {
+    pub bytes: &'f [u8],
+    pub version: u64,
+    pub root: usize,
+}
+
+// Says that what a slice of bytes holds are bytes. A proof knows it of a parameter, and of a slice in a struct by this call.
+pub fn are_bytes(bytes: &[u8])
+    ensures { (i : ℕ) → get_or bytes.now i 0 < 256 }
+{}
 
 // How a node is stored, by the top two bits of its state byte (node.rs, `State`).
 #[derive(Clone, Copy)]

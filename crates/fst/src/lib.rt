@@ -6,11 +6,12 @@ ghost use Rattle.std.specs.Prelude.{◌≡◌, ◌+◌, ◌-◌, ◌≤◌, ◌<
 ghost use Rattle.std.proofs.Math.Option.{some, none};
 ghost use Rattle.format.specs.Limits as L;
 ghost use Rattle.format.specs.Opening.{trailer_len, least_len, number_at, meta_of, root_test, opened, refused, opening};
-ghost use Rattle.format.specs.Node.{node_at};
+ghost use Rattle.format.specs.View.{view_with, fst_is};
 ghost use Rattle.format.specs.Lookup.{past_sum};
+ghost use Rattle.format.specs.Paths.{node_in};
 ghost use Rattle.fst.specs.Open.{opening_is, meta_is, checksum_is};
 
-use format::{FIRST_NODE, MAX_LEN, MIN_LEN, Refusal};
+use format::{FIRST_NODE, FstRef, MAX_LEN, MIN_LEN, Refusal};
 use le_bytes::{read_u32_le, read_u64_le};
 
 // What the header and the trailer say.
@@ -25,20 +26,25 @@ pub struct Meta {
     pub checksum: Option<u32>,
 }
 
+impl Meta {
+    // The file that says this, as its nodes are read.
+    pub fn over<'f>(self, bytes: &'f [u8]) -> FstRef<'f>
+        ensures { result ≡ view_with bytes.entry self.version self.root }
+    {
+        FstRef {
+            bytes,
+            version: self.version,
+            root: self.root,
+        }
+    }
+}
+
 // How many bytes stand after the root's node.
 fn trailer_len(version: u64) -> usize
     ensures { (result ≡ trailer_len version) × (result ≤ 20) × (16 ≤ result) }
 {
     // key count and root address, and in version 3 a checksum
     if version == 3 { 20 } else { 16 }
-}
-
-// The length of a file without nodes that has a trailer of this many bytes: the trailer stands right after the header.
-fn len_without_nodes(trailer: usize) -> usize
-    requires { trailer ≤ 20 }
-    ensures { result ≡ 16 + trailer }
-{
-    FIRST_NODE + trailer
 }
 
 // The rule on roots.
@@ -112,15 +118,13 @@ pub fn open(file: &[u8]) -> Result<Meta, Refusal>
         return Err(Refusal::Large);
     }
     let version = read_u64_le(file);
-    if version < 1 {
-        return Err(Refusal::Version);
-    }
     let too_new = 3 < version;
-    if too_new {
+    if version < 1 || too_new {
         return Err(Refusal::Version);
     }
     let trailer = trailer_len(version);
-    let least = len_without_nodes(trailer);
+    // without nodes the trailer stands right after the header
+    let least = FIRST_NODE + trailer;
     if n < least {
         return Err(Refusal::Short);
     }
@@ -143,10 +147,10 @@ pub fn open(file: &[u8]) -> Result<Meta, Refusal>
 }
 
 // The refusal where the sum that leads to the node at addr passes 2^64 - 1: the node is judged first.
-pub fn past_sum(file: &[u8], version: u64, root: usize, addr: usize) -> Refusal
-    ensures { result ≡ past_sum (node_at file.now version root addr) }
+pub fn past_sum(fst: FstRef<'_>, addr: usize) -> Refusal
+    ensures { result ≡ past_sum (node_in (fst_is fst.entry) addr) }
 {
-    match node::node_at(file, version, root, addr) {
+    match node::node_at(fst, addr) {
         Err(_) => Refusal::Node,
         Ok(_) => Refusal::Sum,
     }

@@ -1,6 +1,7 @@
 // Little-endian numbers of up to 8 bytes: read, sized and written, and read out of a row that is stored last first.
 // A caller gives the place and the count of bytes, and keeps both inside the slice.
 // Ports src/bytes.rs.
+// The length that is read is asked of the slice, where an array would ask each caller to copy.
 #![tactic(auto)]
 
 ghost use Rattle.std.specs.Prelude.{◌≡◌, ◌+◌, ◌*◌, ◌≤◌, ◌<◌, length, take, get_or};
@@ -10,13 +11,6 @@ ghost use Rattle.format.specs.Node.{numbers_down};
 ghost use Rattle.le_bytes.specs.Size.{PackedIn};
 
 use buffers::copy_front;
-
-// A byte as a count or a place.
-pub fn small(x: u8) -> usize
-    ensures { result ≡ x }
-{
-    x as usize
-}
 
 // The number that the first 4 bytes of slice stand for.
 pub fn read_u32_le(slice: &[u8]) -> u32
@@ -31,10 +25,13 @@ pub fn read_u64_le(slice: &[u8]) -> u64
     requires { 8 ≤ length slice.now }
     ensures { result ≡ le (take 8 slice.now) }
 {
-    load8(slice)
+    u64::from_le_bytes([
+        slice[0], slice[1], slice[2], slice[3], slice[4], slice[5], slice[6], slice[7],
+    ])
 }
 
 // The number that the first nbytes bytes of slice stand for; 0 bytes stand for 0.
+// nbytes is no length of the slice: where it has 8 bytes or more, 8 are read at once.
 pub fn unpack_uint(slice: &[u8], nbytes: usize) -> u64
     requires { (nbytes ≤ 8) × (nbytes ≤ length slice.now) }
     ensures { result ≡ le (take nbytes slice.now) }
@@ -46,6 +43,7 @@ pub fn unpack_uint(slice: &[u8], nbytes: usize) -> u64
 }
 
 // The same where 8 bytes are there: all 8 are read, and a pair of shifts drops those above nbytes.
+#[tactic(auto, unfolding(format::specs::Bytes::le))]
 fn unpack_wide(slice: &[u8], nbytes: usize) -> u64
     requires { (nbytes ≤ 8) × (8 ≤ length slice.now) }
     ensures { result ≡ le (take nbytes slice.now) }
@@ -55,17 +53,7 @@ fn unpack_wide(slice: &[u8], nbytes: usize) -> u64
         return 0;
     }
     let above = 64 - 8 * nbytes;
-    (load8(slice) << above) >> above
-}
-
-// The number that the first 8 bytes of slice stand for.
-fn load8(slice: &[u8]) -> u64
-    requires { 8 ≤ length slice.now }
-    ensures { result ≡ le (take 8 slice.now) }
-{
-    u64::from_le_bytes([
-        slice[0], slice[1], slice[2], slice[3], slice[4], slice[5], slice[6], slice[7],
-    ])
+    (read_u64_le(slice) << above) >> above
 }
 
 // The same where fewer than 8 bytes are there: they are copied before zeros, which add nothing.
@@ -75,7 +63,7 @@ fn unpack_short(slice: &[u8], nbytes: usize) -> u64
 {
     let mut eight: [u8; 8] = [0; 8];
     copy_front(slice, nbytes, &mut eight);
-    load8(&eight)
+    read_u64_le(&eight)
 }
 
 // How many bytes the packer gives n, from its leading zero bits; zero, which has no bit, takes one byte.
@@ -101,7 +89,8 @@ pub fn pack_uint_in(out: &mut [u8], at: usize, n: u64, nbytes: usize)
 }
 
 // Number i of n numbers of size bytes that stand last first from place at on.
-// at, size and n stand as in `numbers_down`, of which the contract speaks: for a slice in their place it would have to be proved that the slice is that part of the file.
+// at, size and n stand as in `numbers_down`, of which the contract speaks: for a slice in their place it would have to be proved that
+// the slice is that part of the file.
 pub fn number_of(file: &[u8], at: usize, size: usize, n: usize, i: usize) -> u64
     requires { (at + n * size ≤ length file.now) × (size ≤ 8) × (i < n) }
     ensures { result ≡ get_or (numbers_down file.now at size n) i 0 }

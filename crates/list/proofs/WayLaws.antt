@@ -2,7 +2,8 @@
 -- buffer; and a listing that begins is on its way.
 -- Assumes nothing.
 use mathlib.Core.Path.{◌≡◌, refl, sym, ap, ◌∙◌, subst}
-use Rattle.std.specs.Prelude.{Ok}
+use Rattle.std.specs.Prelude.{Ok, Result}
+use Rattle.format.specs.declared.Refusal.{Refusal}
 use mathlib.Core.List.{List}
 use Prim.Native.Nat.{ℕ, ◌≤◌, ◌<◌}
 use native.Mathlib.Omega.{arith}
@@ -15,12 +16,12 @@ use Rattle.format.specs.Strings.{unbounded}
 use Rattle.format.specs.Admitted.{Admitted}
 use Rattle.reading.specs.Reading as R
 use Rattle.reading.specs.Reading.{View, Answer, key, end, counted, next}
-use Rattle.plain.specs.Plain.{Plain, next_plain}
+use Rattle.plain.specs.Plain.{Plain, next_plain, begun, start_plain}
 use Rattle.plain.proofs.PlainRunLaws.{plain_key, plain_started}
 use Rattle.reading.proofs.ProgressLaws.{left}
 use Rattle.reading.proofs.WholeLaws.{OnWay, OnWayNext, goes_on, comes_to_end, on_way_start, on_way_next}
 use Rattle.stream.specs.Plains.{plain_is}
-use Rattle.stream.specs.declared.Started.{Started}
+use Rattle.stream.specs.declared.Plain as Code
 use Rattle.listing.specs.declared.Line.TheVariants.{Key, Last}
 use Rattle.listing.specs.declared.Listed.{Listed}
 use Rattle.listing.specs.Listing.{Line, State, state, more, last, line_by, line_of}
@@ -99,12 +100,14 @@ module _ (s : List ℕ) (p : Plain) (keys : ℕ) (buf₀ buf : List ℕ) (r : Li
 
 -- ---- the beginning
 
-pub way_begins : {s d₀ s₀ c₀ d t c : List ℕ} (r : Started) → Begins s d₀ s₀ c₀ d t c r → r.answer ≡ Ok tt → Stands s (plain_is r.plain).view
-way_begins r (too_large h e p q w) is = let z : ◌≡◌ {A = ℕ} 0 1 = cc in absurd (omega arith)
-way_begins r (not_counted h n e p) is = let z : ◌≡◌ {A = ℕ} 0 1 = cc in absurd (omega arith)
-way_begins {s} {c = c} r (begins h e a st) is =
+pub way_begins : {s d₀ s₀ c₀ d t c : List ℕ} {r : Result Code.Plain Refusal} (p : Code.Plain) → Begins s d₀ s₀ c₀ d t c r → r ≡ Ok p → Stands s (plain_is p).view
+way_begins p (too_large h e k q w) is = let z : ◌≡◌ {A = ℕ} 0 1 = cc in absurd (omega arith)
+way_begins p (not_counted h n e k) is = let z : ◌≡◌ {A = ℕ} 0 1 = cc in absurd (omega arith)
+way_begins {s} {c = c} p (begins h b e a st) is =
     let A = a.admits.admitted in
+    let same : b ≡ p = cc in
+    let q = subst (λ x. start_plain s unbounded unbounded c ≡ begun (plain_is x)) same st in
     record {
       admitted = A;
-      on_way = on_way_start A unbounded unbounded (omega arith) (omega arith) (plain_is r.plain).view (plain_started s unbounded unbounded c (plain_is r.plain) st);
+      on_way = on_way_start A unbounded unbounded (omega arith) (omega arith) (plain_is p).view (plain_started s unbounded unbounded c (plain_is p) q);
     }

@@ -64,9 +64,9 @@ fn list(rt: &impl Print, file: &[u8]) {
     let mut sums = [0u64; CELLS];
     let mut counts = [0u64; CELLS];
     let begun = listing_start::begin(file, &mut depths, &mut sums, &mut counts);
-    match begun.answer {
+    match begun {
         Err(why) => refuse(rt, why),
-        Ok(()) => lines(rt, file, begun.plain),
+        Ok(plain) => lines(rt, file, plain),
     }
 }
 

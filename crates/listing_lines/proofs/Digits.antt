@@ -3,7 +3,7 @@
 -- Assumes nothing.
 use mathlib.Core.Path.{◌≡◌, refl, sym, ap, ◌∙◌}
 use mathlib.Core.List.{List, [], ◌∷◌, ◌++◌}
-use Prim.Native.Nat.{ℕ, zero, suc, ◌+◌, ◌-◌, ◌/◌, ◌%◌, ◌^◌, ◌≤◌, ◌<◌}
+use Prim.Native.Nat.{ℕ, zero, suc, ◌+◌, ◌-◌, ◌*◌, ◌/◌, ◌%◌, ◌^◌, ◌≤◌, ◌<◌}
 use native.Mathlib.Omega.{arith}
 use lib.ListN.{length, set, length-append, length-set}
 use Rattle.buffers.specs.Put.{put, PutAt}
@@ -14,51 +14,24 @@ use Rattle.listing_lines.proofs.LineParts.{put_before}
 
 -- ---- counted
 
--- the digits of n are those that have been counted but one, and those of rest
-pub record CountedTo (n count rest : ℕ) : Type 0 where
-  pub low : 1 ≤ count
-  pub high : count ≤ 20
-  pub small : rest < 10 ^ (21 - count)
-  pub is : length (decimal n) + 1 ≡ count + length (decimal_up_to (21 - count) rest)
+ten_pos : (j : ℕ) → 1 ≤ 10 ^ j
+ten_pos zero = omega arith
+ten_pos (suc j) = let p = pow_10_suc j in let rest = ten_pos j in omega arith
 
-pub counted_none : (n : ℕ) → n < 2 ^ 64 → CountedTo n 1 n
+-- a number has a digit more than the highest power of ten that is not above it
+counted_up_to : (k j n : ℕ) → j < k → n < 10 * 10 ^ j → (0 < j → 10 ^ j ≤ n) → length (decimal_up_to k n) ≡ j + 1
+counted_up_to zero j n l high low = absurd (omega arith)
+counted_up_to (suc k) zero n l high low = omega (arith, ap length (decimal_one k n (omega arith)))
+counted_up_to (suc k) (suc j) n l high low =
+    let p = pow_10_suc j in
+    let pos : 1 ≤ 10 ^ j = ten_pos j in
+    let at : 10 ^ suc j ≤ n = low (omega arith) in
+    let rest = counted_up_to k j (n / 10) (omega arith) (omega arith) (λ _. omega arith) in
+    omega (arith, ap length (decimal_more k n (omega arith)), length-append (decimal_up_to k (n / 10)) ((48 + n % 10) ∷ []), rest)
+
+pub counted : (j n : ℕ) → j < 20 → n < 10 * 10 ^ j → (0 < j → 10 ^ j ≤ n) → j + 1 ≡ length (decimal n)
 unfolding decimal
-counted_none n fits = record { low = omega arith; high = omega arith; small = omega arith; is = omega arith }
-
--- while a number of two digits is left, fewer than 20 are counted
-pub counted_few : {n count rest : ℕ} → 10 ≤ rest → CountedTo n count rest → count < 20
-counted_few {n} {count} {rest} big w = go (20 - count) refl
-  where
-    go : (k : ℕ) → 20 - count ≡ k → count < 20
-    go zero e =
-        let one : 21 - count ≡ 1 = omega (arith, w.high) in
-        let h : rest < 10 ^ 1 = rw one at w.small in
-        omega arith
-    go (suc k) e = omega arith
-
-pub counted_step : {n count rest : ℕ} → 10 ≤ rest → CountedTo n count rest → CountedTo n (count + 1) (rest / 10)
-counted_step {n} {count} {rest} big w =
-    let l = counted_few big w in
-    let k : ℕ = 21 - (count + 1) in
-    let e : 21 - count ≡ suc k = omega arith in
-    let h : rest < 10 ^ suc k = rw e at w.small in
-    let p = pow_10_suc k in
-    let more = ap length (decimal_more k rest big) in
-    let one = length-append (decimal_up_to k (rest / 10)) ((48 + rest % 10) ∷ []) in
-    let is : length (decimal n) + 1 ≡ count + length (decimal_up_to (suc k) rest) = rw e at w.is in
-    record {
-      low = omega arith;
-      high = omega arith;
-      small = omega arith;
-      is = omega arith;
-    }
-
-pub counted_all : {n count rest : ℕ} → rest < 10 → CountedTo n count rest → count ≡ length (decimal n)
-counted_all {n} {count} {rest} small w =
-    let k : ℕ = 20 - count in
-    let e : 21 - count ≡ suc k = omega (arith, w.high) in
-    let is : length (decimal n) + 1 ≡ count + length (decimal_up_to (suc k) rest) = rw e at w.is in
-    omega (arith, ap length (decimal_one k rest small))
+counted j n l high low = sym (counted_up_to 20 j n l high low)
 
 -- ---- written
 

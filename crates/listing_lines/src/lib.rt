@@ -1,4 +1,5 @@
 // The lines of a listing, written byte by byte into a lent buffer: a key's, the last, and the only one of a file that is refused.
+// The room of a line is asked of the buffer in each contract: a caller may lend a longer one.
 #![tactic(auto)]
 
 ghost use Rattle.std.specs.Prelude.{◌≡◌, ◌+◌, ◌*◌, ◌≤◌, ◌<◌, length};
@@ -58,13 +59,7 @@ fn put_key(line: &mut [u8], key: &[u8]) -> usize
 fn digit_count(n: u64) -> usize
     ensures { result ≡ length (decimal n) }
 {
-    let mut count = 1;
-    let mut rest = n;
-    while 10 <= rest {
-        rest /= 10;
-        count += 1;
-    }
-    count
+    if n == 0 { 1 } else { n.ilog10() as usize + 1 }
 }
 
 // Writes n in decimal from place at on, the last digit first; returns the place past it. By hand, since no clause of std says which bytes

@@ -1,4 +1,4 @@
--- What the answers of a lookup by key stand for: document 01's number and values for each case.
+-- What the answers of a lookup by key stand for: document 01's refusal and values for each case.
 --     answer_is r              what a lookup by key answered
 -- Assumes nothing.
 use Rattle.format.specs.Lookup as L

@@ -6,21 +6,15 @@ ghost use Rattle.std.specs.Prelude.{◌≡◌, []};
 ghost use Rattle.format.specs.Lookup as L;
 ghost use Rattle.format.specs.Lookup.{get_from};
 ghost use Rattle.lookup.specs.Answers.{answer_is};
-ghost use Rattle.format.specs.Paths.{fst_with};
+ghost use Rattle.format.specs.View.{fst_is};
 
-use format::Refusal;
+use format::{FstRef, Refusal};
 
 // The answer where the key ends at the node at last, with this running sum.
-fn at_end(
-    file: &[u8],
-    version: u64,
-    root: usize,
-    last: usize,
-    sum: u64,
-) -> Result<Option<u64>, Refusal>
-    ensures { answer_is result ≡ get_from (fst_with file.now version root) [] last sum }
+fn at_end(fst: FstRef<'_>, last: usize, sum: u64) -> Result<Option<u64>, Refusal>
+    ensures { answer_is result ≡ get_from (fst_is fst.entry) [] last sum }
 {
-    let Ok(m) = node::node_at(file, version, root, last) else {
+    let Ok(m) = node::node_at(fst, last) else {
         return Err(Refusal::Node);
     };
     if !m.is_final {
@@ -33,14 +27,14 @@ fn at_end(
 }
 
 // Follows the key from the root of a file that opens.
-fn get_from(file: &[u8], version: u64, root: usize, key: &[u8]) -> Result<Option<u64>, Refusal>
-    ensures { answer_is result ≡ get_from (fst_with file.now version root)
-        key.now root 0 }
+fn get_from(fst: FstRef<'_>, key: &[u8]) -> Result<Option<u64>, Refusal>
+    ensures { answer_is result ≡ get_from (fst_is fst.entry)
+        key.now fst.entry.root 0 }
 {
-    let mut addr = root;
+    let mut addr = fst.root;
     let mut sum: u64 = 0;
     for &b in key {
-        let Ok(way) = node_step::step_at(file, version, root, addr, b) else {
+        let Ok(way) = node_step::step_at(fst, addr, b) else {
             return Err(Refusal::Node);
         };
         let Ok((out, target)) = way else {
@@ -48,11 +42,11 @@ fn get_from(file: &[u8], version: u64, root: usize, key: &[u8]) -> Result<Option
         };
         addr = target;
         let Some(total) = sum.checked_add(out) else {
-            return Err(fst::past_sum(file, version, root, addr));
+            return Err(fst::past_sum(fst, addr));
         };
         sum = total;
     }
-    at_end(file, version, root, addr, sum)
+    at_end(fst, addr, sum)
 }
 
 // The value of a key of any length. Opening's refusals; then for each node as it is entered, the last included, NODE for the node and
@@ -65,5 +59,5 @@ pub fn get(file: &[u8], key: &[u8]) -> Result<Option<u64>, Refusal>
     if m.version == 0 {
         return Ok(None);
     }
-    get_from(file, m.version, m.root, key)
+    get_from(m.over(file), key)
 }

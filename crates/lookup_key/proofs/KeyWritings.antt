@@ -1,7 +1,7 @@
 -- The answer and the key buffer of a search by value, for each answer of the definition.
 -- Assumes nothing.
-use mathlib.Core.Path.{◌≡◌, refl}
-use Rattle.std.specs.Prelude.{Ok, Err, Some, None, Result, Option, ℕ}
+use mathlib.Core.Path.{◌≡◌}
+use Rattle.std.specs.Prelude.{Ok, Err, Some, None, ℕ}
 use Rattle.format.specs.declared.Refusal.{Refusal}
 use mathlib.Core.List.{List, ◌++◌}
 use Prim.Native.Nat.{ℕ, ◌≤◌}
@@ -9,7 +9,7 @@ use lib.ListN.{length, take, drop}
 use lib.Seq.{length-take-le}
 use Rattle.format.specs.Lookup as L
 use Rattle.format.specs.Lookup.{found}
-use Rattle.lookup_search.specs.KeyAnswers.{key_is, KeyWritten}
+use Rattle.lookup_search.specs.KeyAnswers.{KeyWritten}
 
 pub written_none : (w : L.KeyAnswer) (buf : List ℕ) → w ≡ L.KeyAnswer.none → KeyWritten w buf buf (Ok None)
 written_none w buf e = record { answer = rw e; buffer = rw e }
@@ -21,9 +21,3 @@ pub written_key : (w : L.KeyAnswer) (path buf₀ buf : List ℕ) (n : ℕ) → w
 written_key w path buf₀ buf n e fits is =
     let len = length-take-le n path fits in
     record { answer = rw (e, len); buffer = rw (e, len) is }
-
--- an answer that is no key stands for itself
-pub written_unfound : (w : L.KeyAnswer) (path buf : List ℕ) (r : Result (Option ℕ) Refusal) → ((n : ℕ) → r ≡ Ok (Some n) → ⊥) → w ≡ key_is r path → KeyWritten w buf buf r
-written_unfound w path buf (Ok (Some n)) unlike e = absurd (unlike n refl)
-written_unfound w path buf (Ok None) unlike e = written_none w buf e
-written_unfound w path buf (Err n) unlike e = written_refused w buf n e

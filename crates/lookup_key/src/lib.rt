@@ -1,4 +1,4 @@
-// A key for a value (src/raw/mod.rs: `get_key_into`), on any file, admitted or not.
+// A key for a value (src/raw/mod.rs: `get_key_into`), on any file, admitted or not. file, value and key are what the C caller lends, one by one.
 #![tactic(auto)]
 
 ghost use Rattle.std.specs.Prelude.{length};
@@ -26,7 +26,7 @@ pub fn get_key(file: &[u8], value: u64, key: &mut [u8]) -> Result<Option<usize>,
         return Ok(None);
     }
     let mut path = [0u8; MAX_KEY];
-    let found = find_key(file, m.version, m.root, value, &mut path)?;
+    let found = find_key(m.over(file), value, &mut path)?;
     if let Some(n) = found {
         key[..n].copy_from_slice(&path[..n]);
     }

@@ -5,31 +5,29 @@
 ghost use Rattle.std.specs.Prelude.{◌≡◌, length};
 ghost use Rattle.format.specs.Limits.{max_path};
 ghost use Rattle.format.specs.Lookup.{get_key_from};
-ghost use Rattle.format.specs.Paths.{fst_with};
+ghost use Rattle.format.specs.View.{fst_is};
 ghost use Rattle.lookup_search.specs.KeyAnswers.{key_is, KeyFits};
 
-use format::{MAX_KEY, Refusal};
+use format::{FstRef, MAX_KEY, Refusal};
 use node_choice::Choice;
 
-// Searches from the root of a file that opens; the key's bytes stand at the front of path where a key is found.
+// Searches from the root of a file that opens. Ok(Some(n)): the key has n bytes, which stand at the front of path. Ok(None): no key has this value.
 pub fn find_key(
-    file: &[u8],
-    version: u64,
-    root: usize,
+    fst: FstRef<'_>,
     value: u64,
     path: &mut [u8; MAX_KEY],
 ) -> Result<Option<usize>, Refusal>
     requires { length path.old ≡ max_path }
     ensures path_after { key_is result path.new ≡ get_key_from max_path
-        (fst_with file.now version root) root value }
+        (fst_is fst.entry) fst.entry.root value }
     ensures key_fits { KeyFits result path.new }
 {
-    let mut addr = root;
+    let mut addr = fst.root;
     let mut left = value;
     let mut n = 0;
     // no for over the places of path: one node more than it has places is entered
     loop {
-        let Ok(choice) = node_fit::fit_at(file, version, root, addr, left) else {
+        let Ok(choice) = node_fit::fit_at(fst, addr, left) else {
             return Err(Refusal::Node);
         };
         match choice {

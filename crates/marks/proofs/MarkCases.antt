@@ -43,7 +43,7 @@ use Rattle.marks.specs.MarkAnswers.{both_test, set_in, back_in, MarkingTold, Ret
 -- ---- whether they are right
 
 pub state_is_lem : (r : Reading) (len : ℕ) → state_test (view_is r) len ≡ state_right r.levels r.bound_len r.len len
-state_is_lem r len = rw (stack_length r.levels r.addrs r.inps r.trans r.outs)
+state_is_lem r len = rw (stack_length r.levels r.stack.addrs r.stack.inps r.stack.trans r.stack.outs)
 
 pub both_is : (p : P.Plain) (ms : List M.Mark) (len : ℕ) (b : Bool) → state_test p.view len ≡ b → both_test p ms len ≡ (b && marks_test len ms)
 both_is p ms len b e = ap (λ (c : Bool). c && marks_test len ms) e

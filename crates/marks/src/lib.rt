@@ -1,5 +1,6 @@
 // Marks, places of a plain reading to come back to (document 02, N10): up to 16 names beside a reading, each with a whole reading. Going back gives the
 // answers that followed the mark, with the total and the number of keys to come as they were there.
+// A call takes the file, a reading and its marks, and gives both back; no struct is made for the two, since a call of next takes a reading alone.
 #![tactic(auto)]
 
 ghost use Rattle.std.specs.Prelude.{◌≡◌, [], ◌≤◌, length};
@@ -44,7 +45,7 @@ pub fn state_right(reading: Plain, marks: Marks, len: usize) -> bool
 
 // ---- mark
 
-// A refused mark.
+// A refused mark. `stay` is no twin to be joined with it: this one gives back the marks, that one the reading, in structs of different fields.
 pub fn refused(why: Refusal, marks: Marks) -> Marking
     ensures { MarkingTold (M.Marking.refused why) (marks_is marks) result }
 {

@@ -30,7 +30,7 @@ use Rattle.marking.specs.MarksDemand.{reading_at}
 use Rattle.stream_start.specs.Views.{view_is}
 use Rattle.stream.specs.Plains.{plain_is}
 use Rattle.patterned_fit.specs.PositionLaws.{positions_length}
-use Rattle.patterned_held.specs.declared.Pattern.{Pattern}
+use Rattle.patterned_fit.specs.declared.Pattern.{Pattern}
 use Rattle.patterned.specs.declared.Patterned.{Patterned}
 use Rattle.patterned.specs.declared.PatternedStep.{PatternedStep}
 use Rattle.patterned_held.specs.HeldPatterns.{held_is}

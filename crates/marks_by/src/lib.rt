@@ -1,5 +1,6 @@
 // Marks of a reading by pattern (document 02, N10): as those of a plain reading (crate marks), with PATTERN judged after STATE. A mark holds the reading
 // inside; the pattern is the reading's own and never changes. The number of keys to come in a mark carries no meaning here, and is 0.
+// A call takes the file, a reading and its marks, and gives both back; no struct is made for the two, since a call of next takes a reading alone.
 #![tactic(auto)]
 
 ghost use Rattle.std.specs.Prelude.{length};
@@ -30,17 +31,17 @@ pub fn mark_by(file: &[u8], patterned: Patterned, marks: Marks, name: &[u8]) -> 
     ensures { MarkingTold (mark_by file.now (held_is patterned.pattern)
         (view_is patterned.reading) (marks_is marks) name.now) (marks_is marks) result }
 {
-    let reading = patterned.reading;
-    let pattern = patterned.pattern;
-    let plain = Plain { reading, keys: 0 };
-    let opened = fst::open(file);
-    match opened {
+    let plain = Plain {
+        reading: patterned.reading,
+        keys: 0,
+    };
+    match fst::open(file) {
         Err(why) => marks::refused(why, marks),
         Ok(_) => {
             if !marks::state_right(plain, marks, file.len()) {
                 return marks::refused(Refusal::State, marks);
             }
-            if MAX_KEY < pattern.len {
+            if MAX_KEY < patterned.pattern.len {
                 return marks::refused(Refusal::Pattern, marks);
             }
             marks::set_mark(plain, marks, name)
@@ -53,8 +54,7 @@ fn back_by(file: &[u8], plain: Plain, pattern: Pattern, marks: Marks, name: &[u8
     ensures { ReturnTold (back_by file.now (held_is pattern) (plain_is plain)
         (marks_is marks) name.now) (plain_is plain) result }
 {
-    let opened = fst::open(file);
-    match opened {
+    match fst::open(file) {
         Err(why) => marks::stay(why, plain),
         Ok(_) => {
             if !marks::state_right(plain, marks, file.len()) {
@@ -75,16 +75,17 @@ pub fn go_back_by(file: &[u8], patterned: Patterned, marks: Marks, name: &[u8]) 
         (plain_is (record { reading = patterned.reading; keys = 0 })) (marks_is marks)
         name.now) patterned result }
 {
-    let reading = patterned.reading;
-    let pattern = patterned.pattern;
-    let plain = Plain { reading, keys: 0 };
-    let back = back_by(file, plain, pattern, marks, name);
-    let answer = back.answer;
-    let after = back.reading;
-    let reading = after.reading;
+    let plain = Plain {
+        reading: patterned.reading,
+        keys: 0,
+    };
+    let back = back_by(file, plain, patterned.pattern, marks, name);
     ReturnBy {
-        answer,
-        patterned: Patterned { reading, pattern },
+        answer: back.answer,
+        patterned: Patterned {
+            reading: back.reading.reading,
+            ..patterned
+        },
     }
 }
 
@@ -99,8 +100,7 @@ pub fn next_marked_by(
         (view_is patterned.reading) (marks_is marks) (length key.old))
         patterned.pattern key.old key.new result }
 {
-    let opened = fst::open(file);
-    match opened {
+    match fst::open(file) {
         Err(why) => PatternedStep {
             answer: Err(why),
             patterned,

@@ -1,13 +1,14 @@
 -- The loops over a name and over the marks: what is known after each turn.
 --     names_differ, names_compared                       whether two names are the same
---     name_none, name_over, name_again, name_once       whether the name of one mark is right
+--     name_none, name_over, name_told                    whether the name of one mark is right
 --     head_test, head_state, head_name                   whether the mark is
---     names_on, once_on, name_long, pair_is             the names by themselves
+--     name_at, long_at, state_at               what the code's marks have
 --     each_on, each_wrong, each_through                 whether all are
 -- Assumes nothing.
 use mathlib.Core.Path.{◌≡◌, refl, sym, ap, ◌∙◌, subst}
-use mathlib.Core.Bool.{Bool, true, false, ◌&&◌, not}
-use mathlib.Core.Option.{none}
+use mathlib.Core.Bool.{Bool, true, false, ◌&&◌, not, false≢true}
+use Rattle.std.specs.Prelude.{Option}
+use Rattle.std.specs.Option.{is_some}
 use mathlib.Core.List.{List, [], ◌∷◌}
 use Prim.Native.Nat.{ℕ, zero, suc, ◌+◌, ◌≤◌, ◌<◌}
 use native.Mathlib.Omega.{arith}
@@ -28,9 +29,8 @@ use Rattle.marking.specs.MarkCalls.{same_name, name_test, marked, is_there, each
 use Rattle.marking.proofs.NamedLaws.{same_not}
 use Rattle.marks_held.specs.declared.Mark.{Mark}
 use Rattle.marks_held.specs.declared.Marks.{Marks}
-use Rattle.marks_held.specs.declared.Name.{Name}
-use Rattle.marks_held.specs.MarkViews.{stated, no_mark, mark_is, marks_is, mark_at, name_right, NamesAre}
-use Rattle.marks_held.specs.MarkViewsLaws.{stated_length, stated_take, mark_at_lem}
+use Rattle.marks_held.specs.MarkViews.{stated, no_mark, mark_is, marks_is, mark_at, name_right, SeekTold, at_place, nowhere}
+use Rattle.marks_held.specs.MarkViewsLaws.{stated_length, stated_take, mark_at_lem, there_place, marked_nowhere}
 
 -- ---- two names
 
@@ -50,7 +50,7 @@ names_compared held name n eight small e = rw (stated_take n 0 held (omega arith
 -- ---- one mark
 
 pub state_is_lem : (r : Reading) (len : ℕ) → state_test (view_is r) len ≡ state_right r.levels r.bound_len r.len len
-state_is_lem r len = rw (stack_length r.levels r.addrs r.inps r.trans r.outs)
+state_is_lem r len = rw (stack_length r.levels r.stack.addrs r.stack.inps r.stack.trans r.stack.outs)
 
 -- its name, of n bytes
 module _ (ms : List M.Mark) (i n : ℕ) (long : length (mark_at ms i).name ≡ n) where
@@ -60,11 +60,16 @@ module _ (ms : List M.Mark) (i n : ℕ) (long : length (mark_at ms i).name ≡ n
   pub name_over : 8 < n → false ≡ name_right ms i
   name_over h = rw (long, le-leb 1 n (omega arith), lt-leb n 8 h)
 
-  pub name_again : ¬ (n ≡ 0) → n ≤ 8 → is_there (marked (mark_at ms i).name (drop (i + 1) ms)) ≡ true → false ≡ name_right ms i
-  name_again a b t = rw (long, le-leb 1 n (omega arith), le-leb n 8 b, t)
-
-  pub name_once : ¬ (n ≡ 0) → n ≤ 8 → marked (mark_at ms i).name (drop (i + 1) ms) ≡ none → true ≡ name_right ms i
-  name_once a b t = rw (long, le-leb 1 n (omega arith), le-leb n 8 b, t)
+  -- right where no later mark is found to have it
+  pub name_told : {r : Option ℕ} (b : Bool) → ¬ (n ≡ 0) → n ≤ 8 → SeekTold (mark_at ms i).name ms (i + 1) r → is_some r ≡ not b → b ≡ name_right ms i
+  name_told true ne le (at_place j from lt is before) e = absurd (false≢true (sym e))
+  name_told false ne le (at_place j from lt is before) e =
+      let t = there_place (mark_at ms i).name ms (i + 1) j (at_place j from lt is before) in
+      rw (long, le-leb 1 n (omega arith), le-leb n 8 le, t)
+  name_told true ne le (nowhere off) e =
+      let t = marked_nowhere (mark_at ms i).name ms (i + 1) (nowhere off) in
+      rw (long, le-leb 1 n (omega arith), le-leb n 8 le, t)
+  name_told false ne le (nowhere off) e = absurd (false≢true e)
 
 -- as each_right judges its first mark
 abbrev pub head_test : ℕ → List M.Mark → ℕ → Bool
@@ -91,43 +96,13 @@ module _ (m : Marks) (sixteen : length m.marks ≡ 16) (few : m.count ≤ 16) (i
   pub name_at : (mark_at (marks_is m) i).name ≡ stated (get_or m.marks i d).name_len 0 (get_or m.marks i d).name
   name_at = ap (λ (x : M.Mark). x.name) at_is
 
+  pub long_at : length (mark_at (marks_is m) i).name ≡ (get_or m.marks i d).name_len
+  long_at = ap length name_at ∙ stated_length (get_or m.marks i d).name_len 0 (get_or m.marks i d).name
+
   pub state_at : (len : ℕ) (b : Bool)
       → state_right (get_or m.marks i d).reading.reading.levels (get_or m.marks i d).reading.reading.bound_len (get_or m.marks i d).reading.reading.len len ≡ b
       → state_test (mark_at (marks_is m) i).held.view len ≡ b
   state_at len b e = ap (λ (x : M.Mark). state_test x.held.view len) at_is ∙ state_is_lem (get_or m.marks i d).reading.reading len ∙ e
-
--- ---- the names by themselves
-
--- those below a place
-abbrev pub NamesTo : List M.Mark → ℕ → List Name → Type 0
-NamesTo ms i names = (j : ℕ) (d : Name) → j < i → (mark_at ms j).name ≡ stated (get_or names j d).len 0 (get_or names j d).bytes
-
-pub names_on : (ms : List M.Mark) (names : List Name) (i : ℕ) (x : Name) → i < length names → NamesTo ms i names → (mark_at ms i).name ≡ stated x.len 0 x.bytes
-    → NamesTo ms (i + 1) (set names i x)
-names_on ms names i x h to here j d lt = elim (ℕ_discrete j i) [
-  | yes e ↦
-      subst (λ (k : ℕ). (mark_at ms k).name ≡ stated (get_or (set names i x) k d).len 0 (get_or (set names i x) k d).bytes) (sym e)
-      (here ∙ ap (λ (y : Name). stated y.len 0 y.bytes) (sym (get_or-set_same names i x d h)))
-  | no ne ↦ to j d (omega arith) ∙ ap (λ (y : Name). stated y.len 0 y.bytes) (sym (get_or-set_other names i j x d ne))
-]
-
--- no mark between the place i and the place j has the name of i
-abbrev pub Once : List M.Mark → ℕ → ℕ → Type 0
-Once ms i j = (k : ℕ) → i + 1 ≤ k → k < j → same_name (mark_at ms k).name (mark_at ms i).name ≡ false
-
-pub once_on : (ms : List M.Mark) (i j : ℕ) → Once ms i j → same_name (mark_at ms j).name (mark_at ms i).name ≡ false → Once ms i (j + 1)
-once_on ms i j before here k le lt = elim (ℕ_discrete k j) [
-  | yes e ↦ subst (λ (n : ℕ). same_name (mark_at ms n).name (mark_at ms i).name ≡ false) (sym e) here
-  | no ne ↦ before k le (omega arith)
-]
-
-module _ (ms : List M.Mark) (names : List Name) (are : NamesAre ms names) (i : ℕ) (d : Name) (lt : i < length ms) where
-  pub name_long : length (mark_at ms i).name ≡ (get_or names i d).len
-  name_long = ap length (are i d lt) ∙ stated_length (get_or names i d).len 0 (get_or names i d).bytes
-
-  pub pair_is : (j : ℕ) (e : Name) → j < length ms
-      → same_name (mark_at ms j).name (mark_at ms i).name ≡ same_name (stated (get_or names j e).len 0 (get_or names j e).bytes) (stated (get_or names i d).len 0 (get_or names i d).bytes)
-  pair_is j e h = rw (are j e h, are i d lt)
 
 -- ---- all marks
 

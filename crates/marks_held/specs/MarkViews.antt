@@ -2,8 +2,6 @@
 --     stated n d xs       the first n of xs; those that are stated and not held are d
 --     mark_is, marks_is     a mark: its name and its reading; the marks below the count, so that more than 16 are seen as that many
 --     name_right           whether the name of one mark is right, the later ones beside it
---     NamesAre            names by themselves, each in the place of its mark
---     NameTold            what is told of one of them, of any marks that have these names
 --     SeekTold            the first place of a name, from a place on
 --     no_marks, put_at      no marks; the marks with one put at a place
 -- Assumes nothing.
@@ -15,7 +13,6 @@ use Rattle.stream.specs.declared.Plain.{Plain}
 use Rattle.stream.specs.Plains.{plain_is}
 use Rattle.marks_held.specs.declared.Mark.{Mark}
 use Rattle.marks_held.specs.declared.Marks.{Marks}
-use Rattle.marks_held.specs.declared.Name.{Name}
 
 unfoldable pub stated : {A : Type 0} → ℕ → A → List A → List A
 stated zero d xs = []
@@ -40,12 +37,6 @@ mark_at ms i = get_or ms i no_mark
 -- as each_right judges its first mark's name
 abbrev pub name_right : List M.Mark → ℕ → Bool
 name_right ms i = name_test (mark_at ms i).name && not (is_there (marked (mark_at ms i).name (drop (i + 1) ms)))
-
-abbrev pub NamesAre : List M.Mark → List Name → Type 0
-NamesAre ms names = (j : ℕ) (d : Name) → j < length ms → (mark_at ms j).name ≡ stated (get_or names j d).len 0 (get_or names j d).bytes
-
-abbrev pub NameTold : List Name → ℕ → ℕ → Bool → Type 0
-NameTold names count i r = (ms : List M.Mark) → length ms ≡ count → NamesAre ms names → r ≡ name_right ms i
 
 -- none before it, from a place on
 pub data SeekTold (n : List ℕ) (ms : List M.Mark) (from : ℕ) : Option ℕ → Type 0 where

@@ -1,10 +1,11 @@
 // Marks of a plain reading (document 02, N10): up to 16 names, each with a reading. What is held for them, whether it is right, the place of a
 // name, and one mark put in its place.
+// The length of a name is asked in each contract: a caller's name may be longer, and is refused before it comes here (marks).
 #![tactic(auto)]
 
 ghost use Rattle.std.specs.Prelude.{◌≡◌, ◌≤◌, ◌<◌, length};
 ghost use Rattle.marking.specs.MarkCalls as M;
-ghost use Rattle.marks_held.specs.MarkViews.{stated, marks_is, NamesAre, NameTold, no_marks, SeekTold, put_at};
+ghost use Rattle.marks_held.specs.MarkViews.{stated, mark_is, marks_is, name_right, no_marks, SeekTold, put_at};
 
 use stream::Plain;
 
@@ -21,18 +22,29 @@ pub struct Mark {
     pub reading: Plain,
 }
 
+impl Mark {
+    // The name, where it is no longer than its room.
+    fn stated(&self) -> &[u8]
+        requires { self.now.name_len ≤ 8 }
+        ensures { result.now ≡ (mark_is self.now).name }
+    {
+        &self.name[..self.name_len]
+    }
+
+    // Whether the mark has this name. A mark may state more bytes than a name has room for.
+    fn is_named(&self, name: &[u8]) -> bool
+        requires { length name.now ≤ 8 }
+        ensures { result ≡ M.same_name (mark_is self.now).name name.now }
+    {
+        self.name_len == name.len() && &self.name[..self.name_len] == name
+    }
+}
+
 // The marks of a reading, passed by value beside it. Marks from count on carry no meaning.
 #[derive(Clone, Copy)]
 pub struct Marks {
     pub count: usize,
     pub marks: [Mark; MARKS],
-}
-
-// A mark's name by itself, as Mark holds it.
-#[derive(Clone, Copy)]
-struct Name {
-    len: usize,
-    bytes: [u8; MAX_NAME],
 }
 
 // No marks.
@@ -63,75 +75,42 @@ pub fn hold_name(name: &[u8]) -> [u8; MAX_NAME]
     held
 }
 
-// Whether a held name of n bytes, more than it has room for perhaps, is this one.
-fn same_name(held: [u8; MAX_NAME], n: usize, name: &[u8]) -> bool
-    requires { length name.now ≤ 8 }
-    ensures { result ≡ M.same_name (stated n 0 held) name.now }
-{
-    n == name.len() && &held[..n] == name
-}
-
 // The first place of a name, from a place on.
-pub fn name_from(marks: Marks, from: usize, name: &[u8]) -> Option<usize>
-    requires { (marks.count ≤ 16) × (length name.now ≤ 8) × (from ≤ marks.count) }
-    ensures { SeekTold name.now (marks_is marks) from result }
+fn place_from(marks: &Marks, from: usize, name: &[u8]) -> Option<usize>
+    requires { (marks.now.count ≤ 16) × (length name.now ≤ 8) × (from ≤ marks.now.count) }
+    ensures { SeekTold name.now (marks_is marks.now) from result }
 {
     for i in from..marks.count {
-        let held = &marks.marks[i];
-        if same_name(held.name, held.name_len, name) {
+        if marks.marks[i].is_named(name) {
             return Some(i);
         }
     }
     None
 }
 
-// The names of the marks, each in its place: to judge a name takes no reading, and a name is 16 bytes of a mark's 4,176.
-fn names_of(marks: Marks) -> [Name; MARKS]
-    requires { marks.count ≤ 16 }
-    ensures { NamesAre (marks_is marks) result }
+// The first place of a name, from a place on, in marks that are passed by value.
+pub fn name_from(marks: Marks, from: usize, name: &[u8]) -> Option<usize>
+    requires { (marks.count ≤ 16) × (length name.now ≤ 8) × (from ≤ marks.count) }
+    ensures { SeekTold name.now (marks_is marks) from result }
 {
-    let none = Name {
-        len: 0,
-        bytes: [0; MAX_NAME],
-    };
-    let mut names = [none; MARKS];
-    for i in 0..marks.count {
-        let held = &marks.marks[i];
-        names[i] = Name {
-            len: held.name_len,
-            bytes: held.name,
-        };
-    }
-    names
-}
-
-// Whether two names by themselves are the same.
-fn same_names(a: Name, b: Name) -> bool
-    requires { b.len ≤ 8 }
-    ensures { result ≡ M.same_name (stated a.len 0 a.bytes) (stated b.len 0 b.bytes) }
-{
-    same_name(a.bytes, a.len, &b.bytes[..b.len])
+    place_from(&marks, from, name)
 }
 
 // Whether the name at a place is right: of 1 to 8 bytes, and no later mark has it.
-fn name_right(names: [Name; MARKS], count: usize, i: usize) -> bool
-    requires { (count ≤ 16) × (i < count) }
-    ensures { NameTold names count i result }
+fn name_right(marks: &Marks, i: usize) -> bool
+    requires { (marks.now.count ≤ 16) × (i < marks.now.count) }
+    ensures { result ≡ name_right (marks_is marks.now) i }
 {
-    let held = names[i];
-    if held.len == 0 {
+    let held = &marks.marks[i];
+    let n = held.name_len;
+    if n == 0 {
         return false;
     }
-    let too_long = MAX_NAME < held.len;
+    let too_long = MAX_NAME < n;
     if too_long {
         return false;
     }
-    for j in i + 1..count {
-        if same_names(names[j], held) {
-            return false;
-        }
-    }
-    true
+    place_from(marks, i + 1, held.stated()).is_none()
 }
 
 // Whether the marks are right: at most 16, each with a reading that can go on with a file of this length, and a right name.
@@ -141,13 +120,12 @@ pub fn marks_right(marks: Marks, len: usize) -> bool
     if MARKS < marks.count {
         return false;
     }
-    let names = names_of(marks);
     for i in 0..marks.count {
         let reading = &marks.marks[i].reading.reading;
         if !stream_bounds::state_right(reading.levels, reading.bound_len, reading.len, len) {
             return false;
         }
-        if !name_right(names, marks.count, i) {
+        if !name_right(&marks, i) {
             return false;
         }
     }

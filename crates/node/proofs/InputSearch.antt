@@ -23,9 +23,6 @@ pub record Over (s : List ℕ) (at n b over j : ℕ) : Type 0 where
   pub above : (k : ℕ) → k < over → b < get_or s (at + k) 0
   pub rest : (k : ℕ) → over ≤ k → k < j → get_or s (at + k) 0 ≤ b
 
-pub over_none : (s : List ℕ) (at n b : ℕ) → Over s at n b 0 0
-over_none s at n b = record { within = omega arith; few = omega arith; above = λ k l. absurd (omega arith); rest = λ k h l. absurd (omega arith) }
-
 module _ {s : List ℕ} {at n b over j : ℕ} (asc : Ascending (bytes_down s at n)) (l : j < n) (o : Over s at n b over j) where
   -- a byte above b follows none that is not
   over_all : b < get_or s (at + j) 0 → over ≡ j

@@ -1,6 +1,8 @@
 // A node, judged and read (src/raw/node.rs: `Node::new`, `transition`, `find_input`).
 // `node_at` judges the node at an address in one pass and answers its numbers, or `Unsound`. The other functions read
 // a node that it answered, out of the same file. Nothing outside the lent file is read, whatever the numbers are.
+// A node's numbers do not hold its file: what reads them is lent the bytes too and asks that the node was judged in them (`Readable`); node_view has both as
+// one value.
 #![tactic(auto)]
 
 ghost use Rattle.std.specs.Prelude.{Ok, Err, ◌≡◌, ◌+◌, ◌≤◌, ◌<◌, length, get_or, take, drop, [], ◌∷◌};
@@ -8,7 +10,7 @@ ghost use Rattle.format.specs.Node.{bytes_down, Ascending, SoundAt, transition_a
 ghost use Rattle.node.specs.Read.{Searchable, empty_node, Judges, transitions_in, node_inputs, node_deltas, Readable, Finds, search_is};
 ghost use Rattle.format.specs.declared.State.TheVariants.{OneTransNext, OneTrans, AnyTrans};
 
-use format::{State, Transition};
+use format::{FstRef, State, Transition};
 use le_bytes::{number_of, unpack_uint};
 use node_sound::{head_len, input_of, is_sound, shape_of};
 
@@ -42,12 +44,12 @@ pub struct Unsound;
 // ---- the numbers of a sound node
 
 // A node with any number of transitions.
-pub fn any_node(file: &[u8], version: u64, root: usize, addr: usize) -> Node
-    requires { SoundAt file.now version root addr × (get_or file.now addr 0 < 128) }
-    ensures { Judges file.now version root addr (Ok result)
+pub fn any_node(fst: FstRef<'_>, addr: usize) -> Node
+    requires { SoundAt fst.bytes.now fst.version fst.root addr × (get_or fst.bytes.now addr 0 < 128) }
+    ensures { Judges fst.entry.bytes.now fst.entry.version fst.entry.root addr (Ok result)
         × (result.state ≡ AnyTrans) }
 {
-    let shape = shape_of(file, version, addr);
+    let shape = shape_of(fst.bytes, fst.version, addr);
     let size = shape.size;
     let is_final = shape.is_final;
     let ntrans = shape.ntrans;
@@ -57,7 +59,7 @@ pub fn any_node(file: &[u8], version: u64, root: usize, addr: usize) -> Node
     let first = addr + 1 - size;
     let end_len = shape.end_len;
     let outputs = first + end_len;
-    let final_output = unpack_uint(&file[first..], end_len);
+    let final_output = unpack_uint(&fst.bytes[first..], end_len);
     Node {
         state: State::AnyTrans,
         first,
@@ -73,18 +75,18 @@ pub fn any_node(file: &[u8], version: u64, root: usize, addr: usize) -> Node
 }
 
 // A node with one transition.
-pub fn one_node(file: &[u8], version: u64, root: usize, addr: usize) -> Node
-    requires { SoundAt file.now version root addr × (128 ≤ get_or file.now addr 0)
-        × (get_or file.now addr 0 < 192) }
-    ensures { Judges file.now version root addr (Ok result)
+pub fn one_node(fst: FstRef<'_>, addr: usize) -> Node
+    requires { SoundAt fst.bytes.now fst.version fst.root addr × (128 ≤ get_or fst.bytes.now addr 0)
+        × (get_or fst.bytes.now addr 0 < 192) }
+    ensures { Judges fst.entry.bytes.now fst.entry.version fst.entry.root addr (Ok result)
         × (result.state ≡ OneTrans) }
 {
-    let len = head_len(file, addr);
-    let sizes = usize::from(file[addr - len]);
+    let len = head_len(fst.bytes, addr);
+    let sizes = usize::from(fst.bytes[addr - len]);
     let tsize = sizes / 16;
     let osize = sizes % 16;
     let first = addr + 1 - (osize + tsize + 1 + len);
-    let input = input_of(file, addr);
+    let input = input_of(fst.bytes, addr);
     Node {
         state: State::OneTrans,
         first,
@@ -100,13 +102,13 @@ pub fn one_node(file: &[u8], version: u64, root: usize, addr: usize) -> Node
 }
 
 // A node with one transition to the node just below it.
-pub fn next_node(file: &[u8], version: u64, root: usize, addr: usize) -> Node
-    requires { SoundAt file.now version root addr × (192 ≤ get_or file.now addr 0) }
-    ensures { Judges file.now version root addr (Ok result)
+pub fn next_node(fst: FstRef<'_>, addr: usize) -> Node
+    requires { SoundAt fst.bytes.now fst.version fst.root addr × (192 ≤ get_or fst.bytes.now addr 0) }
+    ensures { Judges fst.entry.bytes.now fst.entry.version fst.entry.root addr (Ok result)
         × (result.state ≡ OneTransNext) }
 {
-    let first = addr + 1 - head_len(file, addr);
-    let input = input_of(file, addr);
+    let first = addr + 1 - head_len(fst.bytes, addr);
+    let input = input_of(fst.bytes, addr);
     Node {
         state: State::OneTransNext,
         first,
@@ -123,18 +125,15 @@ pub fn next_node(file: &[u8], version: u64, root: usize, addr: usize) -> Node
 
 // The numbers of the sound node at addr. They are made once it is judged, so that judging hands out
 // no more than a bool.
-fn node_of(file: &[u8], version: u64, root: usize, addr: usize) -> Node
-    requires { SoundAt file.now version root addr }
-    ensures { Judges file.now version root addr (Ok result) }
+fn node_of(fst: FstRef<'_>, addr: usize) -> Node
+    requires { SoundAt fst.bytes.now fst.version fst.root addr }
+    ensures { Judges fst.entry.bytes.now fst.entry.version fst.entry.root addr (Ok result) }
 {
-    let state = usize::from(file[addr]);
-    if state < 128 {
-        return any_node(file, version, root, addr);
+    match fst.bytes[addr] {
+        0..=127 => any_node(fst, addr),
+        128..=191 => one_node(fst, addr),
+        _ => next_node(fst, addr),
     }
-    if state < 192 {
-        return one_node(file, version, root, addr);
-    }
-    next_node(file, version, root, addr)
 }
 
 // Address 0 of a file that has bytes: a final node with no transitions, output 0 and no bytes.
@@ -156,19 +155,19 @@ fn empty_final() -> Node
 }
 
 // The node at addr, in a file of this version and root: exactly `node_at`, for every file, version, root and address.
-pub fn node_at(file: &[u8], version: u64, root: usize, addr: usize) -> Result<Node, Unsound>
-    ensures { Judges file.now version root addr result }
+pub fn node_at(fst: FstRef<'_>, addr: usize) -> Result<Node, Unsound>
+    ensures { Judges fst.entry.bytes.now fst.entry.version fst.entry.root addr result }
 {
     if addr == 0 {
         // a file without bytes has no node
-        let has_bytes = 0 < file.len();
+        let has_bytes = 0 < fst.bytes.len();
         if has_bytes {
             return Ok(empty_final());
         }
         return Err(Unsound);
     }
-    if is_sound(file, version, root, addr) {
-        return Ok(node_of(file, version, root, addr));
+    if is_sound(fst, addr) {
+        return Ok(node_of(fst, addr));
     }
     Err(Unsound)
 }
@@ -183,11 +182,9 @@ pub fn input(file: &[u8], node: Node, i: usize) -> u8
     let n = node.ntrans;
     let outputs = node.outputs;
     let inputs = outputs + n * node.osize + n * node.tsize;
-    let state = node.state;
-    match state {
+    match node.state {
         State::AnyTrans => file[inputs + (n - 1 - i)],
-        State::OneTrans => node.input,
-        State::OneTransNext => node.input,
+        State::OneTrans | State::OneTransNext => node.input,
     }
 }
 
@@ -210,10 +207,8 @@ fn delta(file: &[u8], node: Node, i: usize) -> u64
     let n = node.ntrans;
     let tsize = node.tsize;
     let deltas = node.outputs + n * node.osize;
-    let state = node.state;
-    match state {
-        State::AnyTrans => number_of(file, deltas, tsize, n, i),
-        State::OneTrans => number_of(file, deltas, tsize, n, i),
+    match node.state {
+        State::AnyTrans | State::OneTrans => number_of(file, deltas, tsize, n, i),
         // the node just below ends one byte before this one starts
         State::OneTransNext => 1,
     }
@@ -243,7 +238,8 @@ pub fn transition(file: &[u8], node: Node, i: usize) -> Transition
 
 // The place of b among n ascending inputs that stand last first from place at on: those above b
 // stand first.
-// at and n, here and in `find_in`, stand as in `bytes_down`, of which the contract speaks: for a slice in their place it would have to be proved that the slice is that part of the file.
+// at and n, here and in `find_in`, stand as in `bytes_down`, of which the contract speaks: for a slice in their place it would have to be
+// proved that the slice is that part of the file.
 fn seek(file: &[u8], at: usize, n: usize, b: u8) -> Result<usize, usize>
     requires { (at + n ≤ length file.now) × Ascending (bytes_down file.now at n) }
     ensures { Finds (bytes_down file.now at n) b result }
@@ -312,10 +308,8 @@ pub fn find_input(file: &[u8], node: Node, b: u8) -> Result<usize, usize>
     requires { Readable file.now node }
     ensures { search_is result ≡ find_input (transitions_in file.now node) b }
 {
-    let state = node.state;
-    match state {
+    match node.state {
         State::AnyTrans => find_any(file, node, b),
-        State::OneTrans => find_one(node.input, b),
-        State::OneTransNext => find_one(node.input, b),
+        State::OneTrans | State::OneTransNext => find_one(node.input, b),
     }
 }

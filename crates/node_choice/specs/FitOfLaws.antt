@@ -7,7 +7,7 @@ use Rattle.format.specs.Node as F
 use Rattle.format.specs.Node.{numbers_down, target_of, transition_at, SoundAt, node_at}
 use Rattle.format.specs.Laws.NodeLaws.{node_at_unsound, node_at_blank}
 use Rattle.format.specs.Laws.StoredLaws.{length_numbers_down}
-use Rattle.format.specs.Laws.LookupLaws.{Scanned, fitting_last, fitting_none, key_goes_on_value}
+use Rattle.format.specs.Laws.LookupLaws.{Scanned, fitting_last, fitting_none, key_goes_on_value, key_goes_on_final}
 use Rattle.node.specs.declared.Node.{Node}
 use Rattle.node.specs.Read.{Readable, Judges, meaning, transitions_in, node_deltas, empty_node}
 use Rattle.node.specs.ReadLaws.{node_transition, length_node_transitions}
@@ -103,6 +103,18 @@ module _ (s : List ℕ) (v root a left : ℕ) where
 
   pub fit_yes : (m : Node) (c : Choice) → Judges s v root a (Ok m) → c ≡ choice_in (meaning s m) left → Ok c ≡ fit_of (node_at s v root a) left
   fit_yes m c j is_c = rw (← j.answer, is_c)
+
+  -- the search ends at the node
+  pub fit_ends : (m : Node) → Judges s v root a (Ok m) → (eqb left 0 && m.is_final) ≡ true → Ok Ends ≡ fit_of (node_at s v root a) left
+  fit_ends m j e = fit_yes m Ends j (choice_ends (meaning s m) left e)
+
+  -- or goes on, as it does at each node that is not final
+  pub fit_goes : (m : Node) (c : Choice) → Judges s v root a (Ok m) → (eqb left 0 && m.is_final) ≡ false → c ≡ fitting_in (transitions_in s m) left
+      → Ok c ≡ fit_of (node_at s v root a) left
+  fit_goes m c j e is_c = fit_yes m c j (choice_on (meaning s m) left c e is_c)
+
+  pub fit_on : (m : Node) (c : Choice) → Judges s v root a (Ok m) → m.is_final ≡ false → c ≡ fitting_in (transitions_in s m) left → Ok c ≡ fit_of (node_at s v root a) left
+  fit_on m c j not_final = fit_goes m c j (key_goes_on_final left m.is_final not_final)
 
 -- no bytes, no node
 pub fit_blank : (s : List ℕ) (v root a left : ℕ) → length s ≡ 0 → Err (record {}) ≡ fit_of (node_at s v root a) left

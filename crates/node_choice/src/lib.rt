@@ -1,12 +1,17 @@
 // Which transition of a sound node fits a value that is left: the part of a step of a lookup by value that comes after the judging.
+// A part of a file is its place, size and count, and no slice: the definitions speak of places in the whole file.
+// Each step takes the file, a node's address and what is left, and its way is by the state byte there.
 #![tactic(auto)]
 
 ghost use Rattle.std.specs.Prelude.{Ok, ◌≡◌, ◌&&◌, ◌+◌, ◌*◌, ◌≤◌, ◌<◌, eqb, length, get_or};
-ghost use Rattle.format.specs.Node.{numbers_down, SoundAt, node_at};
+ghost use Rattle.format.specs.Node.{numbers_down, SoundAt};
+ghost use Rattle.format.specs.View.{fst_is};
+ghost use Rattle.format.specs.Paths.{node_in};
 ghost use Rattle.node.specs.Read.{transitions_in, Readable};
 ghost use Rattle.node_way.specs.Ways.{any_node};
 ghost use Rattle.node_choice.specs.Choices.{Leading, fitting_in, fit_of};
 
+use format::FstRef;
 use le_bytes::number_of;
 use node::Unsound;
 use node_sound::{head_len, input_of};
@@ -27,10 +32,12 @@ pub enum Choice {
 pub type Fit = Result<Choice, Unsound>;
 
 // How many of the leading numbers of n are not above what is left.
-// at, size and n, and the places in `any_choice`, stand as in `numbers_down`, of which the contract speaks: for a slice in their place it would have to be proved that the slice is that part of the file.
+// at, size and n, and the places in `any_choice`, stand as in `numbers_down`, of which the contract speaks: for a slice in their place it would have to be
+// proved that the slice is that part of the file.
 fn fitting(file: &[u8], at: usize, size: usize, n: usize, left: u64) -> usize
     requires { (at + n * size ≤ length file.now) × (size ≤ 8) }
-    ensures { Leading (numbers_down file.now at size n) left result }
+    ensures leading { Leading (numbers_down file.now at size n) left result }
+    ensures within { result ≤ n }
 {
     for i in 0..n {
         if left < number_of(file, at, size, n, i) {
@@ -76,31 +83,31 @@ pub fn ends(left: u64, is_final: bool) -> bool
 }
 
 // The one transition of a sound node, where its output is not above what is left.
-pub fn one_choice(file: &[u8], version: u64, root: usize, addr: usize, left: u64) -> Choice
-    requires { SoundAt file.now version root addr × (128 ≤ get_or file.now addr 0)
-        × (get_or file.now addr 0 < 192) }
-    ensures { Ok result ≡ fit_of (node_at file.now version root addr) left }
+pub fn one_choice(fst: FstRef<'_>, addr: usize, left: u64) -> Choice
+    requires { SoundAt fst.bytes.now fst.version fst.root addr × (128 ≤ get_or fst.bytes.now addr 0)
+        × (get_or fst.bytes.now addr 0 < 192) }
+    ensures { Ok result ≡ fit_of (node_in (fst_is fst.entry) addr) left }
 {
-    let len = head_len(file, addr);
-    let sizes = usize::from(file[addr - len]);
+    let len = head_len(fst.bytes, addr);
+    let sizes = usize::from(fst.bytes[addr - len]);
     let tsize = sizes / 16;
     let osize = sizes % 16;
     let first = addr + 1 - (osize + tsize + 1 + len);
-    let inp = input_of(file, addr);
-    let out = number_of(file, first, osize, 1, 0);
+    let inp = input_of(fst.bytes, addr);
+    let out = number_of(fst.bytes, first, osize, 1, 0);
     if left < out {
         return Choice::Absent;
     }
-    let delta = number_of(file, first + osize, tsize, 1, 0);
+    let delta = number_of(fst.bytes, first + osize, tsize, 1, 0);
     Choice::To(inp, out, target_of(first, delta))
 }
 
 // The one transition of a sound node to the node just below it: its output is 0, so it always fits.
-pub fn next_choice(file: &[u8], version: u64, root: usize, addr: usize, left: u64) -> Choice
-    requires { SoundAt file.now version root addr × (192 ≤ get_or file.now addr 0) }
-    ensures { Ok result ≡ fit_of (node_at file.now version root addr) left }
+pub fn next_choice(fst: FstRef<'_>, addr: usize, left: u64) -> Choice
+    requires { SoundAt fst.bytes.now fst.version fst.root addr × (192 ≤ get_or fst.bytes.now addr 0) }
+    ensures { Ok result ≡ fit_of (node_in (fst_is fst.entry) addr) left }
 {
-    let len = head_len(file, addr);
-    let inp = input_of(file, addr);
+    let len = head_len(fst.bytes, addr);
+    let inp = input_of(fst.bytes, addr);
     Choice::To(inp, 0, addr - len)
 }

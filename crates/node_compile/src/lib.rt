@@ -2,6 +2,8 @@
 // A caller gives the node's first byte F and the record as its parts, and gets the number of bytes,
 // or a refusal.
 // Ports `Node::compile` of src/raw/node.rs, and the `compile` of its three states.
+// inputs, outputs and targets are slices and no struct: the packer's are rows of tables that the C caller lends one by one. What is asked of the targets is
+// asked of them with F, and no type has both.
 #![tactic(auto)]
 
 ghost use Rattle.std.specs.Prelude.{◌≡◌, cond, not, ◌&&◌, map, ◌+◌, ◌≤◌, ◌<◌, eqb, ltb, length};
@@ -382,7 +384,8 @@ pub fn compile_record(
     compile_any(is_final, final_output, inputs, outputs, targets, first, out)
 }
 
-// Packs the node record of these parts, whose first byte is to stand at first, into out.
+// Packs the node record of these parts, whose first byte is to stand at first, into out: Ok(n) is that it takes n bytes, which stand at out's front.
+// A refusal leaves out as it was: RECORD where the parts are no record, and SPACE where out is too short.
 // The record that is final with no transitions and output 0 packs to no bytes: it is address 0.
 pub fn compile(
     is_final: bool,

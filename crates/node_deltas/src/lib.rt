@@ -1,4 +1,5 @@
 // The deltas of a node, judged: whether each leads to a right target, all at once by a bound of them or one after the other (docs/FORMAT.md, "A node").
+// A part of a file is its place, size and count, and no slice: the definitions speak of places in the whole file.
 #![tactic(auto)]
 
 ghost use Rattle.std.specs.Prelude.{◌≡◌, true, ◌+◌, ◌*◌, ◌≤◌, length, take, drop};
@@ -22,7 +23,8 @@ pub fn target_right(first: usize, delta: u64) -> bool
 }
 
 // Whether each of n deltas of size bytes, stored last first from place at on, leads to a right target.
-// at, size and n, here and below, stand as in `numbers_down`, of which the contract speaks: for a slice in their place it would have to be proved that the slice is that part of the file.
+// at, size and n, here and below, stand as in `numbers_down`, of which the contract speaks: for a slice in their place it would have to be
+// proved that the slice is that part of the file.
 pub fn targets_right(file: &[u8], at: usize, size: usize, n: usize, first: usize) -> bool
     requires { (at + n * size ≤ length file.now) × (size ≤ 8) × (first_node ≤ first) }
     ensures { Decides result (TargetsRight first (numbers_down file.now at size n)) }

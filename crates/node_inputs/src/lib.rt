@@ -1,4 +1,5 @@
 // The inputs of a node and their index, judged: whether the inputs ascend, and whether each entry of the index is right (docs/FORMAT.md, "A node").
+// A part of a file is its place, size and count, and no slice: the definitions speak of places in the whole file.
 #![tactic(auto)]
 
 ghost use Rattle.std.specs.Prelude.{◌≡◌, ◌&&◌, ◌+◌, ◌≤◌, ◌<◌, length, take, drop};
@@ -11,7 +12,8 @@ ghost use Rattle.node_inputs.specs.Inputs.{Falls, Probed, below};
 // Whether n inputs, stored last first from place at on, ascend strictly: whether the stored bytes
 // fall, pair by pair. The pairs are tested in groups of 4, 8 or 16 that may overlap, so that none is
 // left over.
-// at and n, here and below, stand as in `bytes_down`, of which the contract speaks: for a slice in their place it would have to be proved that the slice is that part of the file.
+// at and n, here and below, stand as in `bytes_down`, of which the contract speaks: for a slice in their place it would have to be
+// proved that the slice is that part of the file.
 pub fn ascends(file: &[u8], at: usize, n: usize) -> bool
     requires { at + n ≤ length file.now }
     ensures { Decides result (Ascending (bytes_down file.now at n)) }
@@ -91,6 +93,7 @@ fn count_below(file: &[u8], index: usize, n: usize) -> usize
 }
 
 // How many of 128 bytes from place at on are below m, counted in a byte.
+#[tactic(auto, unfolding(crate::specs::Inputs::below))]
 fn below128(file: &[u8], at: usize, m: u8) -> u8
     requires { at + 128 ≤ length file.now }
     ensures { result ≡ below m (take 128 (drop at file.now)) }

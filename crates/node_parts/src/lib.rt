@@ -70,7 +70,7 @@ fn count_byte(n: usize) -> u8
 }
 
 // Writes the state byte, and the count byte before it where it is not 1 to 63; returns the place
-// past them.
+// past them. at and n say where the head is to stand and how many transitions the node has: neither is how much of out is in use.
 pub fn put_head(out: &mut [u8], at: usize, is_final: bool, n: usize) -> usize
     requires { (at + length (head_of is_final n) ≤ length out.old) × (n ≤ max_trans) }
     ensures { PutAt out.old at (head_of is_final n) out.new result }

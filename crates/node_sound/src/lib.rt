@@ -1,5 +1,6 @@
 // Whether the node at an address is sound, by its shape: what its last bytes say of its parts (src/raw/node.rs, `Node::new`).
 // Nothing outside the lent file is read, whatever the numbers are.
+// A part of a file is its place, size and count, and no slice: the definitions speak of places in the whole file.
 #![tactic(auto)]
 
 ghost use Rattle.std.specs.Prelude.{◌≡◌, ◌+◌, ◌*◌, ◌≤◌, ◌<◌, length, get_or};
@@ -9,7 +10,7 @@ ghost use Rattle.format.specs.Node.{count_of, input_of, index_len, end_len, Usef
 ghost use Rattle.node_sound.specs.Shapes.{Head, shape_is, AtForm, PartsRight};
 
 use common_inputs::common_input;
-use format::{FIRST_NODE, MAX_TRANS, TRANS_INDEX_THRESHOLD};
+use format::{FIRST_NODE, FstRef, MAX_TRANS, TRANS_INDEX_THRESHOLD};
 use le_bytes::number_of;
 use node_deltas::{target_right, targets_right};
 use node_inputs::{ascends, entries_right};
@@ -131,7 +132,8 @@ pub fn useful(is_final: bool, n: usize, addr: usize, root: usize) -> bool
 
 // Whether the inputs ascend, each delta leads to a right target, and the index is right: what takes
 // time of a node with any number of transitions.
-// The places and n stand as in `bytes_down` and `numbers_down`, of which the contract speaks: for a slice in their place it would have to be proved that the slice is that part of the file.
+// The places and n stand as in `bytes_down` and `numbers_down`, of which the contract speaks: for a slice in their place it would have to
+// be proved that the slice is that part of the file.
 pub fn parts_right(
     file: &[u8],
     first: usize,
@@ -155,11 +157,11 @@ pub fn parts_right(
 // ---- judging
 
 // Whether a node with any number of transitions is sound (node.rs, `StateAnyTrans`).
-fn any_sound(file: &[u8], version: u64, root: usize, addr: usize) -> bool
-    requires { AtForm file.now root addr × (get_or file.now addr 0 < 128) }
-    ensures { Decides result (SoundAt file.now version root addr) }
+fn any_sound(fst: FstRef<'_>, addr: usize) -> bool
+    requires { AtForm fst.bytes.now fst.root addr × (get_or fst.bytes.now addr 0 < 128) }
+    ensures { Decides result (SoundAt fst.entry.bytes.now fst.entry.version fst.entry.root addr) }
 {
-    let shape = shape_of(file, version, addr);
+    let shape = shape_of(fst.bytes, fst.version, addr);
     let size = shape.size;
     // the first byte, addr + 1 - size, is 16 at least
     if addr - 15 < size {
@@ -172,7 +174,7 @@ fn any_sound(file: &[u8], version: u64, root: usize, addr: usize) -> bool
     if !sizes_right(ntrans, tsize, osize) {
         return false;
     }
-    if !useful(is_final, ntrans, addr, root) {
+    if !useful(is_final, ntrans, addr, fst.root) {
         return false;
     }
     let first = addr + 1 - size;
@@ -181,18 +183,18 @@ fn any_sound(file: &[u8], version: u64, root: usize, addr: usize) -> bool
     let deltas = outputs + ntrans * osize;
     let inputs = deltas + ntrans * tsize;
     let index_len = shape.index_len;
-    parts_right(file, first, deltas, tsize, inputs, ntrans, index_len)
+    parts_right(fst.bytes, first, deltas, tsize, inputs, ntrans, index_len)
 }
 
 // Whether a node with one transition, with its output and its delta, is sound (node.rs,
 // `StateOneTrans`).
-pub fn one_sound(file: &[u8], version: u64, root: usize, addr: usize) -> bool
-    requires { AtForm file.now root addr × (128 ≤ get_or file.now addr 0)
-        × (get_or file.now addr 0 < 192) }
-    ensures { Decides result (SoundAt file.now version root addr) }
+pub fn one_sound(fst: FstRef<'_>, addr: usize) -> bool
+    requires { AtForm fst.bytes.now fst.root addr × (128 ≤ get_or fst.bytes.now addr 0)
+        × (get_or fst.bytes.now addr 0 < 192) }
+    ensures { Decides result (SoundAt fst.entry.bytes.now fst.entry.version fst.entry.root addr) }
 {
-    let len = head_len(file, addr);
-    let sizes = file[addr - len] as usize;
+    let len = head_len(fst.bytes, addr);
+    let sizes = fst.bytes[addr - len] as usize;
     let tsize = sizes / 16;
     let osize = sizes % 16;
     if !sizes_right(1, tsize, osize) {
@@ -204,32 +206,32 @@ pub fn one_sound(file: &[u8], version: u64, root: usize, addr: usize) -> bool
         return false;
     }
     let first = addr + 1 - size;
-    let delta = number_of(file, first + osize, tsize, 1, 0);
+    let delta = number_of(fst.bytes, first + osize, tsize, 1, 0);
     target_right(first, delta)
 }
 
 // Whether a node with one transition to the node just below it is sound (node.rs,
 // `StateOneTransNext`).
-pub fn next_sound(file: &[u8], version: u64, root: usize, addr: usize) -> bool
-    requires { AtForm file.now root addr × (192 ≤ get_or file.now addr 0) }
-    ensures { Decides result (SoundAt file.now version root addr) }
+pub fn next_sound(fst: FstRef<'_>, addr: usize) -> bool
+    requires { AtForm fst.bytes.now fst.root addr × (192 ≤ get_or fst.bytes.now addr 0) }
+    ensures { Decides result (SoundAt fst.entry.bytes.now fst.entry.version fst.entry.root addr) }
 {
-    let len = head_len(file, addr);
+    let len = head_len(fst.bytes, addr);
     // the target, addr - len, is 16 at least
     len <= addr - FIRST_NODE
 }
 
 // Whether the node at addr is sound, in a file of this version and root.
-pub fn is_sound(file: &[u8], version: u64, root: usize, addr: usize) -> bool
-    ensures { Decides result (SoundAt file.now version root addr) }
+pub fn is_sound(fst: FstRef<'_>, addr: usize) -> bool
+    ensures { Decides result (SoundAt fst.entry.bytes.now fst.entry.version fst.entry.root addr) }
 {
     // the state byte itself lies from 16 to the root, and in the file
-    if addr < FIRST_NODE || root < addr || file.len() <= addr {
+    if addr < FIRST_NODE || fst.root < addr || fst.bytes.len() <= addr {
         return false;
     }
-    match file[addr] {
-        0..=127 => any_sound(file, version, root, addr),
-        128..=191 => one_sound(file, version, root, addr),
-        _ => next_sound(file, version, root, addr),
+    match fst.bytes[addr] {
+        0..=127 => any_sound(fst, addr),
+        128..=191 => one_sound(fst, addr),
+        _ => next_sound(fst, addr),
     }
 }

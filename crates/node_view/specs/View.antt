@@ -1,17 +1,17 @@
 -- A view of a node, and what it answers, out of what the node at its address means (`format`, `node_at`).
---     view_with file v root a     the view of the node at a
+--     view_with fst a             the view of the node at a
 --     transition_in j i         transition i of the judged node, or none where it is not sound or has no transition i
 --     place_in j b              the place of the byte b among its inputs, or of the first greater one; a case of its own where it is not sound
 -- Assumes nothing.
-use Rattle.std.specs.Prelude.{Option, Some, None, Result, Ok, Err, cond, List, ℕ, ltb, length}
-use Rattle.std.specs.Borrow.{Bor}
+use Rattle.std.specs.Prelude.{Option, Some, None, Result, Ok, Err, cond, ℕ, ltb, length}
+use Rattle.format.specs.declared.FstRef.{FstRef}
 use Rattle.format.specs.declared.Transition.{Transition}
 use Rattle.format.specs.Node.{Judgement, sound, unsound, Search, transition_at, find_input}
 use Rattle.node.specs.declared.Unsound.{Unsound}
 use Rattle.node_view.specs.declared.Node.{Node}
 
-abbrev pub view_with : Bor (List ℕ) → ℕ → ℕ → ℕ → Node
-view_with file v root a = record { «data» = file; version = v; root = root; addr = a }
+abbrev pub view_with : FstRef → ℕ → Node
+view_with fst a = record { fst = fst; addr = a }
 
 abbrev pub transition_in : Judgement → ℕ → Option Transition
 transition_in (sound m) i = cond (ltb i (length m.transitions)) (Some (transition_at m.transitions i)) None

@@ -1,3 +1,4 @@
 pub mod Ways
 pub mod WaysLaws
 pub mod StepOfLaws
+pub mod FormLaws

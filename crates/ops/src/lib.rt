@@ -1,5 +1,6 @@
 // Several files as one (src/raw/ops.rs: `OpBuilder`): union, intersection, difference and symmetric difference over one to eight plain readings, on any
 // files, admitted or not, and from any cards, also such as no begin gave.
+// The cards in use are the first count of eight, passed whole by value: fixed memory.
 #![tactic(auto)]
 
 ghost use Rattle.std.specs.Prelude.{◌≡◌, map, ◌++◌, ◌-◌, ◌≤◌, ◌<◌, length, take, drop};

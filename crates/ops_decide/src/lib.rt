@@ -1,5 +1,6 @@
 // What a round comes to, once its steps are made (src/raw/ops.rs: `Union`, `Intersection`, `Difference`, `SymmetricDifference`): an item, the end, or
 // another round.
+// The cards in use are the first count of eight, passed whole: fixed memory. What is asked of keys, count and cards is of the three together.
 #![tactic(auto)]
 
 ghost use Rattle.std.specs.Prelude.{◌≡◌, List, ◌≤◌, ◌<◌};
@@ -25,7 +26,8 @@ pub enum Op {
     SymmetricDifference,
 }
 
-// The operation of a number, which the C interface and the comparisons give. Any number from 3 on stands for the symmetric difference.
+// The operation of a number, which the C interface and the comparisons give. Any number from 3 on stands for the symmetric difference. No `From`: not every
+// number is an operation, so a conversion that is called by its name is plainer.
 pub fn op_of(n: u64) -> Op
     ensures { result ≡ op_of n }
 {

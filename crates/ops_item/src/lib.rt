@@ -1,5 +1,6 @@
 // What a round looks up in what is seen of the cards: the least key held, the values of a key, and the cards with some keys used up. Each goes over the
 // cards one by one.
+// The cards in use are the first count of eight, passed whole: fixed memory. What is asked of keys, count and cards is of the three together.
 #![tactic(auto)]
 
 ghost use Rattle.std.specs.Prelude.{◌≡◌, ◌≤◌, ◌<◌, length, IfSome};
@@ -13,7 +14,7 @@ use ops_round::Slot;
 use ops_seen::Seen;
 use std::cmp::Ordering;
 
-// The lesser of a key, if one was found, and the one that a card holds.
+// The lesser of a key, if one was found, and the one that a card holds. Not std's `min`: the bytes that order two places stand in keys, beside them.
 fn lesser(keys: &[u8; KEYS], least: Option<Place>, card: Seen) -> Option<Place>
     requires { (length keys.now ≡ 2048) × IfSome least Within × Few card }
     ensures { LesserBy keys.now least card result }
@@ -29,7 +30,8 @@ fn lesser(keys: &[u8; KEYS], least: Option<Place>, card: Seen) -> Option<Place>
     if order.is_lt() { least } else { Some(held) }
 }
 
-// The least key that the first count cards hold.
+// The least key that the first count cards hold. The count stands beside the eight, here and in the crates above: they are passed whole by value, in fixed
+// memory, and the clauses speak of the first count of them.
 pub fn least_key(keys: &[u8; KEYS], count: usize, cards: [Seen; 8]) -> Option<Place>
     requires { (count ≤ 8) × Ready keys.now count cards }
     ensures { LeastBy keys.now count cards result }

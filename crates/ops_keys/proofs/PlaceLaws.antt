@@ -76,8 +76,8 @@ putting_mid is from ks₀ ks li lk room pasted =
           ∙ ap (λ (x : ℕ). get_or ks₀ x 0) (omega arith));
     }
 
-module _ (p : Plain) (i : ℕ) (ks₀ ks : List ℕ) (eight : i < 8) (long : length p.reading.inps ≡ 256) (len : length ks₀ ≡ 2048)
-    (P : Putting p.reading.inps (i * 256) ks₀ ks) where
+module _ (p : Plain) (i : ℕ) (ks₀ ks : List ℕ) (eight : i < 8) (long : length p.reading.stack.inps ≡ 256) (len : length ks₀ ≡ 2048)
+    (P : Putting p.reading.stack.inps (i * 256) ks₀ ks) where
   abbrev place : Place
   place = record { at = i; levels = p.reading.levels }
 
@@ -104,8 +104,8 @@ module _ (p : Plain) (i : ℕ) (ks₀ ks : List ℕ) (eight : i < 8) (long : len
           at = refl;
           levels = refl;
           key = λ few.
-              same_bytes ks r.inps place P.long long (record { eight = eight; few = few }) (λ m h. P.done m (omega arith))
-              ∙ head_key_lem r.levels r.addrs r.inps r.trans r.outs long few;
+              same_bytes ks r.stack.inps place P.long long (record { eight = eight; few = few }) (λ m h. P.done m (omega arith))
+              ∙ head_key_lem r.levels r.stack.addrs r.stack.inps r.stack.trans r.stack.outs long few;
         };
         others = other;
         long = P.long;

@@ -65,10 +65,8 @@ pub fn put_bytes(plain: Plain, i: usize, keys: &mut [u8; KEYS]) -> Place
     requires { (length keys.old ≡ 2048) × (i < 8) }
     ensures { BytesPut plain i keys.old keys.new result }
 {
-    let reading = plain.reading;
-    let levels = reading.levels;
-    let inps = reading.inps;
+    let levels = plain.reading.levels;
     let from = i * LEVELS;
-    keys[from..from + LEVELS].copy_from_slice(&inps);
+    keys[from..from + LEVELS].copy_from_slice(&plain.reading.stack.inps);
     Place { at: i, levels }
 }

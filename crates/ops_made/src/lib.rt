@@ -1,6 +1,7 @@
 // One call of an operation over several files, from cards that stand in arrays, also such as no begin gave, for the comparison with the model (crate
 // `oracle_cards`). Nothing is asked of a caller: it answers on every input. It promises nothing of what it writes: that is promised of
 // `ops::next_item`. The readings stand in the arrays of `seats_arrays`, a row for each card.
+// Each function takes what the comparison lends, one by one, as the C interface does.
 #![tactic(auto)]
 
 ghost use Rattle.std.specs.Prelude.{◌<◌};

@@ -44,12 +44,12 @@ use Rattle.ops_decide.specs.declared.Verdict.TheVariants.{This, NoMore, Another}
 use Rattle.ops_decide.specs.declared.Decided.{Decided}
 use Rattle.ops_decide.specs.Verdicts.{DecidedBy}
 use Rattle.ops_decide.specs.VerdictsLaws.{ThisOf, AnotherOf, this_by, over_by, another_by}
-use Rattle.ops_starts.specs.declared.StartedCards.{StartedCards}
-use Rattle.ops_starts.specs.StartedCards.{StartsAs, StartsBy}
+use Rattle.ops_starts.specs.StartedCards.{StartsBy}
 use Rattle.ops_put.specs.ItemPut.{HasPlace, ItemPut}
 use Rattle.range_fill.specs.declared.Stop.TheVariants.{End, More}
-use Rattle.ops_page.specs.declared.Paged.{Paged}
-use Rattle.ops_page.specs.PagedItems.{stop_as, refused_paged, HasRoom, PagedBy}
+use Rattle.range_fill.specs.declared.Ranged.{Ranged}
+use Rattle.range_fill.specs.RangedRows.{refused_range}
+use Rattle.ops_page.specs.PagedItems.{stop_as, HasRoom, PagedBy}
 
 -- ---- an item's pairs
 
@@ -307,12 +307,12 @@ module _ {w : ItemPage} {fs : List (List ℕ)} {op : O.Op} {n : ℕ} {all : List
             }
 
 -- by an equation between pages
-pub paged_as : {v w : ItemPage} {rows₀ rows counts₀ counts numbers₀ numbers values₀ values : List ℕ} {r : Paged} → v ≡ w
+pub paged_as : {v w : ItemPage} {rows₀ rows counts₀ counts numbers₀ numbers values₀ values : List ℕ} {r : Ranged} → v ≡ w
     → PagedBy v rows₀ rows counts₀ counts numbers₀ numbers values₀ values r → PagedBy w rows₀ rows counts₀ counts numbers₀ numbers values₀ values r
 paged_as {v} {w} {rows₀} {rows} {counts₀} {counts} {numbers₀} {numbers} {values₀} {values} {r} e h =
     subst (λ (q : ItemPage). PagedBy q rows₀ rows counts₀ counts numbers₀ numbers values₀ values r) e h
 
-pub refused_by : {w : ItemPage} (n : Refusal) (rows counts numbers values : List ℕ) → w ≡ refused_items n → {r : Paged} → r ≡ refused_paged n
+pub refused_by : {w : ItemPage} (n : Refusal) (rows counts numbers values : List ℕ) → w ≡ refused_items n → {r : Ranged} → r ≡ refused_range n
     → PagedBy w rows rows counts counts numbers numbers values values r
 refused_by n rows counts numbers values is {r} e =
     paged_as (sym is)
@@ -337,12 +337,9 @@ room_of most rows counts numbers values e =
     ).yes e in
     record { row = d.0; count = d.1.0; number = d.1.1.0; value = d.1.1.1 }
 
-module _ (op : O.Op) (most : ℕ) (fs : List (List ℕ)) (n : ℕ) (m : Starts) (r : StartedCards) (by : StartsBy fs n m r) where
-  as_answer : (a : Result ⊤ Refusal) → r.answer ≡ a → StartsAs fs n m r.cards a
-  as_answer a e = subst (StartsAs fs n m r.cards) e by.is
+module _ (op : O.Op) (most : ℕ) (fs : List (List ℕ)) (n : ℕ) (m : Starts) (r : Result (List Card) Refusal) (by : StartsBy fs n m r) where
+  pub page_began : (cs : List Card) → r ≡ Ok cs → fold op (cards_is fs n cs) most ≡ page_from op most m
+  page_began cs e = sym (ap (page_from op most) (subst (StartsBy fs n m) e by))
 
-  pub page_began : r.answer ≡ Ok tt → fold op (cards_is fs n r.cards) most ≡ page_from op most m
-  page_began e = sym (ap (page_from op most) (as_answer (Ok tt) e))
-
-  pub page_refused : (c : Refusal) → r.answer ≡ Err c → page_from op most m ≡ refused_items c
-  page_refused c e = ap (page_from op most) (as_answer (Err c) e)
+  pub page_refused : (c : Refusal) → r ≡ Err c → page_from op most m ≡ refused_items c
+  page_refused c e = ap (page_from op most) (subst (StartsBy fs n m) e by)

@@ -1,18 +1,13 @@
 -- What a page of items gives back, against `items` (crate ops_paging).
 --     stop_as w                  the stop that stands for one of the definition: that of a range
---     refused_paged why          refused before any item
 --     HasRoom most ..           the four buffers have room for `most` items
 --     PagedBy w ..              the answer and the four buffers of a call whose definition answers w
 -- Assumes nothing.
-use Rattle.std.specs.Prelude.{◌≡◌, List, ℕ, ◌*◌, ◌≤◌, length, Err}
-use Rattle.format.specs.declared.Refusal.{Refusal}
+use Rattle.std.specs.Prelude.{◌≡◌, List, ℕ, ◌*◌, ◌≤◌, length}
 use Rattle.paging.specs.Paging.{row_len, rows_after, values_after}
 use Rattle.ops_paging.specs.ItemPaging.{ItemPage, lines_of, eights_after, index_of, value_of}
 pub use Rattle.range_fill.specs.RangedRows.{stop_as}
-use Rattle.ops_page.specs.declared.Paged.{Paged}
-
-abbrev pub refused_paged : Refusal → Paged
-refused_paged why = record { count = 0; stop = Err why }
+use Rattle.range_fill.specs.declared.Ranged.{Ranged}
 
 pub record HasRoom (most : ℕ) (rows counts numbers values : List ℕ) : Type 0 where
   pub row : row_len * most ≤ length rows
@@ -20,7 +15,7 @@ pub record HasRoom (most : ℕ) (rows counts numbers values : List ℕ) : Type 0
   pub number : 8 * most ≤ length numbers
   pub value : 8 * most ≤ length values
 
-pub record PagedBy (w : ItemPage) (rows₀ rows counts₀ counts numbers₀ numbers values₀ values : List ℕ) (r : Paged) : Type 0 where
+pub record PagedBy (w : ItemPage) (rows₀ rows counts₀ counts numbers₀ numbers values₀ values : List ℕ) (r : Ranged) : Type 0 where
   pub count : r.count ≡ length w.items
   pub stop : r.stop ≡ stop_as w.stop
   pub rows_are : rows ≡ rows_after (lines_of w.items) rows₀

@@ -1,13 +1,16 @@
 // A page of items in one call (src/raw/ops.rs: `OpBuilder`, and the loop over its stream): up to so many items of an operation over one to eight files,
 // the least key first, between two bounds that all files share, on any files, admitted or not. No table of keys is lent.
+// rows, counts, numbers and values are slices and no struct: the C caller lends them one by one, and the definitions speak of each.
+// The two bounds are two values and no pair: each is taken by itself.
+// The cards in use are the first count of eight, passed whole by value: fixed memory.
 #![tactic(auto)]
 
 ghost use Rattle.std.specs.Prelude.{◌≡◌, map, ◌≤◌, ◌<◌, length, take};
 ghost use Rattle.ops_paging.specs.ItemPaging as P;
-ghost use Rattle.stream_start.specs.Views.{bound_is};
+ghost use Rattle.stream_start.specs.Views.{bound_of};
 ghost use Rattle.ops_round.specs.Cards.{cards_is};
 ghost use Rattle.ops_decide.specs.Verdicts.{op_is};
-ghost use Rattle.ops_page.specs.PagedItems.{HasRoom, PagedBy, refused_paged};
+ghost use Rattle.ops_page.specs.PagedItems.{HasRoom, PagedBy};
 
 use format::{MAX_KEY, Refusal};
 use ops_decide::{Op, Verdict, decide};
@@ -17,29 +20,11 @@ use ops_round::Card;
 use ops_seen::{is_long, is_used, see};
 use ops_starts::starts;
 use ops_turn::step_seen;
-use range_fill::Stop;
-use stream_start::Bound;
+use range_fill::{Ranged, Stop, refused};
+use std::ops::Bound;
 
-// What a page gives back: how many items were written, and how it stopped or why it refuses. A refusal stands beside the items before it, so the two are
-// no Result.
-#[derive(Clone, Copy)]
-pub struct Paged {
-    pub count: usize,
-    pub stop: Result<Stop, Refusal>,
-}
-
-// A page that is refused before any item.
-fn refused(why: Refusal) -> Paged
-    ensures { result ≡ refused_paged why }
-{
-    Paged {
-        count: 0,
-        stop: Err(why),
-    }
-}
-
-// The items of cards, up to `most`. A refusal stands beside the items before it. Each turn steps one card, or decides once all are stepped: so the cards
-// stay in one place, and what is seen of them stands beside them.
+// The items of cards, up to `most`: how many were written, and how it stopped, as a range says it. A refusal stands beside the items before it. Each turn
+// steps one card, or decides once all are stepped: so the cards stay in one place, and what is seen of them stands beside them.
 fn fill(
     files: [&[u8]; 8],
     op: Op,
@@ -50,7 +35,7 @@ fn fill(
     counts: &mut [u8],
     numbers: &mut [u8],
     values: &mut [u64],
-) -> Paged
+) -> Ranged
     requires count_nonzero { (0 < count) × (count ≤ 8) }
     requires has_room { HasRoom most rows.old counts.old numbers.old values.old }
     ensures { PagedBy (P.fold (op_is op) (cards_is (map (λ f. f.now) files.entry) count cards) most)
@@ -72,7 +57,7 @@ fn fill(
                 let reading = card.reading;
                 let step = step_seen(file, reading, i, &mut keys, MAX_KEY);
                 if let Err(why) = step.answer {
-                    return Paged {
+                    return Ranged {
                         count: done,
                         stop: Err(why),
                     };
@@ -85,7 +70,7 @@ fn fill(
                 continue;
             }
             if is_long(one) {
-                return Paged {
+                return Ranged {
                     count: done,
                     stop: Err(Refusal::State),
                 };
@@ -100,7 +85,7 @@ fn fill(
         let marked = decided.cards;
         match verdict {
             Verdict::NoMore => {
-                return Paged {
+                return Ranged {
                     count: done,
                     stop: Ok(Stop::End),
                 };
@@ -121,7 +106,7 @@ fn fill(
             }
         }
     }
-    Paged {
+    Ranged {
         count: done,
         stop: Ok(Stop::More), // as many as asked for
     }
@@ -132,30 +117,25 @@ fn items_from(
     op: Op,
     count: usize,
     files: [&[u8]; 8],
-    lower_kind: Bound,
-    lower: &[u8],
-    upper_kind: Bound,
-    upper: &[u8],
+    lower: Bound<&[u8]>,
+    upper: Bound<&[u8]>,
     most: usize,
     rows: &mut [u8],
     counts: &mut [u8],
     numbers: &mut [u8],
     values: &mut [u64],
-) -> Paged
+) -> Ranged
     requires count_nonzero { (0 < count) × (count ≤ 8) }
     requires has_room { HasRoom most rows.old counts.old numbers.old values.old }
     ensures { PagedBy (P.page_from (op_is op) most (P.start_all
-        (bound_is lower_kind lower.now) (bound_is upper_kind upper.now)
+        (bound_of lower.entry) (bound_of upper.entry)
         (take count (map (λ f. f.now) files.entry))))
         rows.old rows.new counts.old counts.new
         numbers.old numbers.new values.old values.new result }
 {
-    let started = starts(files, count, lower_kind, lower, upper_kind, upper);
-    let answer = started.answer;
-    let cards = started.cards;
-    match answer {
+    match starts(files, count, lower, upper) {
         Err(why) => refused(why),
-        Ok(()) => fill(files, op, count, cards, most, rows, counts, numbers, values),
+        Ok(cards) => fill(files, op, count, cards, most, rows, counts, numbers, values),
     }
 }
 
@@ -167,34 +147,29 @@ pub fn items(
     op: Op,
     count: usize,
     files: [&[u8]; 8],
-    lower_kind: Bound,
-    lower: &[u8],
-    upper_kind: Bound,
-    upper: &[u8],
+    lower: Bound<&[u8]>,
+    upper: Bound<&[u8]>,
     most: usize,
     rows: &mut [u8],
     counts: &mut [u8],
     numbers: &mut [u8],
     values: &mut [u64],
-) -> Paged
+) -> Ranged
     ensures { PagedBy (P.items (op_is op) count (map (λ f. f.now) files.entry)
-        (bound_is lower_kind lower.now) (bound_is upper_kind upper.now) most
+        (bound_of lower.entry) (bound_of upper.entry) most
         (length rows.old) (length counts.old)
         (length numbers.old) (length values.old))
         rows.old rows.new counts.old counts.new
         numbers.old numbers.new values.old values.new result }
 {
-    if count == 0 {
-        return refused(Refusal::Cards);
-    }
     let too_many = 8 < count;
-    if too_many {
+    if count == 0 || too_many {
         return refused(Refusal::Cards);
     }
-    if has_room(most, rows.len(), counts.len(), numbers.len(), values.len()) {} else {
+    if !has_room(most, rows.len(), counts.len(), numbers.len(), values.len()) {
         return refused(Refusal::Space);
     }
     items_from(
-        op, count, files, lower_kind, lower, upper_kind, upper, most, rows, counts, numbers, values,
+        op, count, files, lower, upper, most, rows, counts, numbers, values,
     )
 }

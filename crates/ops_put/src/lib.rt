@@ -1,5 +1,6 @@
 // What a page of items tests before its calls, the room for its items, and how an item is written: its key in a row of 256 bytes, how many files hold it,
 // and eight places for the numbers of these files and eight for its values.
+// rows, counts, numbers and values are slices and no struct: the C caller lends them one by one, and the definitions speak of each.
 #![tactic(auto)]
 
 ghost use Rattle.std.specs.Prelude.{◌≡◌, ◌≤◌};

@@ -31,7 +31,7 @@ told_by_lem : {w : P.PlainStep} {r : Step} → CallGave w r → Told w.answer r.
 told_by_lem g = record { answer = g.answer; buffer = refl }
 
 levels_number : (p : Plain) → length (plain_is p).view.levels ≡ p.reading.levels
-levels_number p = stack_length p.reading.levels p.reading.addrs p.reading.inps p.reading.trans p.reading.outs
+levels_number p = stack_length p.reading.levels p.reading.stack.addrs p.reading.stack.inps p.reading.stack.trans p.reading.stack.outs
 
 module _ (f : List ℕ) (space : ℕ) (c : Card) where
   slot_as : (x : O.Slot) (others : O.Stepped) → slot_is c.slot c.value ≡ x

@@ -1,4 +1,5 @@
 // The rounds of a call of an operation: steps, and what they come to, until there is an item, the end or a refusal. The cards stay in one place.
+// The cards in use are the first count of eight, passed whole by value: fixed memory.
 #![tactic(auto)]
 
 ghost use Rattle.std.specs.Prelude.{◌≡◌, false, ◌||◌, map, ◌≤◌, ◌<◌, leb};

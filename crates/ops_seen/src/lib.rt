@@ -1,5 +1,6 @@
 // What a round sees of the cards: where their keys stand, their slots and values. The readings, which are large, do not go through the functions that
 // decide, and the bytes of the keys are lent to them.
+// The cards in use are the first count of eight, passed whole: fixed memory. What is asked of keys, count and cards is of the three together.
 #![tactic(auto)]
 
 ghost use Rattle.std.specs.Prelude.{◌≡◌, ◌≤◌, ◌<◌, length};

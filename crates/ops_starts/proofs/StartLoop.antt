@@ -4,7 +4,7 @@
 --     starting_none, starting_on, starting_refused, starting_all     at the start, after a file, and each way out
 -- Assumes nothing.
 use mathlib.Core.Path.{◌≡◌, refl, sym, ap, ap₂, ◌∙◌, subst}
-use Rattle.std.specs.Prelude.{Ok, Err, Result, ⊤}
+use Rattle.std.specs.Prelude.{Ok, Err, Result}
 use Rattle.format.specs.declared.Refusal.{Refusal}
 use mathlib.Core.List.{List, [], ◌∷◌, ◌++◌, map, append_assoc, append-nil}
 use Prim.Native.Nat.{ℕ, suc, ◌+◌, ◌<◌, ◌≤◌}
@@ -18,8 +18,8 @@ use Rattle.reading.specs.Reading as R
 use Rattle.ops_spec.specs.Ops as O
 use Rattle.ops_paging.specs.ItemPaging.{Starts, wide_card, with_start, start_all}
 use Rattle.ops_paging.specs.ItemPaging as P
-use Rattle.stream_start.specs.Views.{view_is, started_is, began_is}
-use Rattle.stream_start.specs.declared.Started.{Started}
+use Rattle.stream_start.specs.Views.{view_is, started_is}
+use Rattle.stream_start.specs.declared.Reading.{Reading}
 use Rattle.ops_round.specs.declared.Card.{Card}
 use Rattle.ops_round.specs.Cards.{card_is, cards_is}
 use Rattle.ops_round.specs.CardsLaws.{cards_length, put_front}
@@ -60,29 +60,26 @@ module _ (fs : List (List ℕ)) (n : ℕ) (lo hi : S.Bound) (cs : List Card) (i 
         ∙ ap (λ (gs : List (List ℕ)). before (take i (cards_is fs n cs)) (start_all lo hi gs)) files_cons
         ∙ ap (λ (x : R.Started). before (take i (cards_is fs n cs)) (with_start (get_or fs i []) x (start_all lo hi (drop (i + 1) (take n fs))))) e
 
-    module _ (s : Started) (one : started_is s ≡ R.start (get_or fs i []) lo hi) where
-      as_began : (a : Result ⊤ Refusal) → s.answer ≡ a → R.start (get_or fs i []) lo hi ≡ began_is a s.reading
-      as_began a e = sym one ∙ ap (λ (x : Result ⊤ Refusal). began_is x s.reading) e
+    module _ (s : Result Reading Refusal) (one : started_is s ≡ R.start (get_or fs i []) lo hi) where
+      pub starting_refused : (c : Refusal) → s ≡ Err c → StartsBy fs n (start_all lo hi (take n fs)) (Err c)
+      starting_refused c e = head_started (R.Started.refused c) (sym one ∙ ap started_is e)
 
-      pub starting_refused : (c : Refusal) → s.answer ≡ Err c → StartsBy fs n (start_all lo hi (take n fs)) (record { answer = Err c; cards = cs })
-      starting_refused c e = record { is = head_started (R.Started.refused c) (as_began (Err c) e) }
-
-      pub starting_on : s.answer ≡ Ok tt → (d : Card) → d ≡ wide_is s.reading → Starting fs n lo hi (set cs i d) (i + 1)
-      starting_on e d is =
+      pub starting_on : (r : Reading) → s ≡ Ok r → (d : Card) → d ≡ wide_is r → Starting fs n lo hi (set cs i d) (i + 1)
+      starting_on r e d is =
           let eight = T.eight in
-          let v = view_is s.reading in
+          let v = view_is r in
           let same : card_is (get_or fs i []) d ≡ wide_card (get_or fs i []) v = ap (card_is (get_or fs i [])) is in
           let front : take (i + 1) (cards_is fs n (set cs i d)) ≡ take i (cards_is fs n cs) ++ (wide_card (get_or fs i []) v ∷ []) =
           put_front fs n cs (omega arith) i h d ∙ ap (λ (x : O.Card). take i (cards_is fs n cs) ++ (x ∷ [])) same in
           record {
             within = omega arith;
             eight = length-set cs i d ∙ eight;
-            rest = head_started (R.started v) (as_began (Ok tt) e)
+            rest = head_started (R.started v) (sym one ∙ ap started_is e)
                 ∙ one_more (take i (cards_is fs n cs)) (get_or fs i []) v (start_all lo hi (drop (i + 1) (take n fs)))
                 ∙ ap (λ (ds : List O.Card). before ds (start_all lo hi (drop (i + 1) (take n fs)))) (sym front);
           }
 
-  pub starting_all : n ≤ i → StartsBy fs n (start_all lo hi (take n fs)) (record { answer = Ok tt; cards = cs })
+  pub starting_all : n ≤ i → StartsBy fs n (start_all lo hi (take n fs)) (Ok cs)
   unfolding start_all
   starting_all h =
       let within = T.within in
@@ -92,11 +89,9 @@ module _ (fs : List (List ℕ)) (n : ℕ) (lo hi : S.Bound) (cs : List Card) (i 
       let files_len : length (take n fs) ≡ n = length-take-le n fs (omega arith) in
       let front : take i (cards_is fs n cs) ≡ cards_is fs n cs = ap (λ (j : ℕ). take j (cards_is fs n cs)) (same ∙ sym len) ∙ take-length (cards_is fs n cs) in
       let back : drop i (take n fs) ≡ [] = drop_of_length-le (take n fs) {i = i} (omega arith) in
-      record {
-        is = T.rest
-            ∙ ap₂ (λ (ds : List O.Card) (gs : List (List ℕ)). before ds (start_all lo hi gs)) front back
-            ∙ ap P.cards (append-nil (cards_is fs n cs));
-      }
+      T.rest
+      ∙ ap₂ (λ (ds : List O.Card) (gs : List (List ℕ)). before ds (start_all lo hi gs)) front back
+      ∙ ap P.cards (append-nil (cards_is fs n cs))
 
 -- the file at a place
 pub at_file : (l : List (Bor (List ℕ))) (i : ℕ) (d : Bor (List ℕ)) → d.now ≡ []

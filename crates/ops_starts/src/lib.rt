@@ -1,27 +1,23 @@
 // The starts of a page of items: a card for each file, its reading between two bounds that all files share, still to be stepped.
+// The two bounds are two values and no pair: each is taken by itself.
+// The cards in use are the first count of eight, passed whole by value: fixed memory.
 #![tactic(auto)]
 
 ghost use Rattle.std.specs.Prelude.{◌≡◌, map, ◌≤◌, take};
 ghost use Rattle.ops_paging.specs.ItemPaging as P;
-ghost use Rattle.stream_start.specs.Views.{bound_is};
+ghost use Rattle.stream_start.specs.Views.{bound_of};
 ghost use Rattle.ops_starts.specs.StartedCards.{wide_is, StartsBy};
 
 use format::Refusal;
 use ops_round::{Card, Slot};
+use std::ops::Bound;
 use stream::Plain;
-use stream_start::{Bound, Reading};
+use stream_start::Reading;
 
 // As many keys may come as a number can say: a page is lent no table of keys.
 const ANY: u64 = u64::MAX;
 
-// The cards of the starts beside the answer, in the form of stream_start::Started. After a refusal they carry no meaning.
-#[derive(Clone, Copy)]
-pub struct StartedCards {
-    pub answer: Result<(), Refusal>,
-    pub cards: [Card; 8],
-}
-
-// The card of a reading that is still to be stepped.
+// The card of a reading that is still to be stepped. No `From`: neither type is of this crate.
 fn wide(reading: Reading) -> Card
     ensures { result ≡ wide_is reading }
 {
@@ -37,34 +33,18 @@ fn wide(reading: Reading) -> Card
 pub fn starts(
     files: [&[u8]; 8],
     count: usize,
-    lower_kind: Bound,
-    lower: &[u8],
-    upper_kind: Bound,
-    upper: &[u8],
-) -> StartedCards
+    lower: Bound<&[u8]>,
+    upper: Bound<&[u8]>,
+) -> Result<[Card; 8], Refusal>
     requires { count ≤ 8 }
     ensures { StartsBy (map (λ f. f.now) files.entry) count
-        (P.start_all (bound_is lower_kind lower.now) (bound_is upper_kind upper.now)
+        (P.start_all (bound_of lower.entry) (bound_of upper.entry)
         (take count (map (λ f. f.now) files.entry))) result }
 {
-    let blank = wide(stream_start::no_reading());
-    let mut cards = [blank; 8];
+    let mut cards = [wide(stream_start::no_reading()); 8];
     for i in 0..count {
-        let started = stream_start::start(files[i], lower_kind, lower, upper_kind, upper);
-        match started.answer {
-            Err(why) => {
-                return StartedCards {
-                    answer: Err(why),
-                    cards,
-                };
-            }
-            Ok(()) => {
-                cards[i] = wide(started.reading);
-            }
-        }
+        let started = stream_start::start(files[i], lower, upper);
+        cards[i] = wide(started?);
     }
-    StartedCards {
-        answer: Ok(()),
-        cards,
-    }
+    Ok(cards)
 }

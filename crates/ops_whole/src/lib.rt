@@ -1,13 +1,14 @@
 // A whole operation over several files in one call, on numbers and slices, for the comparison with the Rust (crate `oracle_ops`). Nothing is asked of a
 // caller: it answers on every input. It promises nothing of the items that it writes: what they are is promised of `ops::next_item`.
+// Each function takes what the comparison lends, one by one, as the C interface does.
 #![tactic(auto)]
 
 use format::Refusal;
 use ops::Cards;
 use ops_decide::{Op, op_of};
 use ops_round::Card;
-use stream::{Plain, Started};
-use stream_arrays::kind_of;
+use stream::Plain;
+use stream_arrays::bound_with;
 
 // The bytes of an item: room for the longest key, and the number of the file of each pair.
 const ROW: usize = 263;
@@ -63,15 +64,18 @@ fn start(
     lower: &[u8],
     upper_kind: u64,
     upper: &[u8],
-) -> Started {
-    let lower_bound = kind_of(lower_kind);
-    let upper_bound = kind_of(upper_kind);
-    stream::start(file, lower_bound, lower, upper_bound, upper, counts)
+) -> Result<Plain, Refusal> {
+    stream::start(
+        file,
+        bound_with(lower_kind, lower),
+        bound_with(upper_kind, upper),
+        counts,
+    )
 }
 
 // ---- the items
 
-// Writes a number, if there is a place for it.
+// Writes a number, if there is a place for it: std has no call that is this.
 fn put_number(item: &mut [u64], i: usize, n: u64) {
     if i < item.len() {
         item[i] = n;
@@ -229,9 +233,9 @@ fn start_at(
     stated: [u64; 32],
     bounds: &[u8],
     i: usize,
-) -> Started {
+) -> Result<Plain, Refusal> {
     if 8 <= i {
-        return stream::refused(Refusal::Cards);
+        return Err(Refusal::Cards);
     }
     let from = begins_at(ends, i);
     let to = ends[i] as usize;
@@ -246,28 +250,12 @@ fn start_at(
     start(file, counts, lower_kind, lower, upper_kind, upper)
 }
 
-// START_REFUSED plus the refusal of a start, or 0.
-fn refusal(started: Started) -> u64 {
-    let answer = started.answer;
-    match answer {
-        Ok(()) => 0,
-        Err(why) => START_REFUSED + u64::from(u8::from(why)),
-    }
-}
-
-// The first refusal, or 0.
-fn first_refusal(starts: [Started; 8]) -> u64 {
-    for started in starts.iter() {
-        let why = refusal(*started);
-        if why != 0 {
-            return why;
-        }
-    }
-    0
-}
-
-fn reading_of(started: Started) -> Plain {
-    started.plain
+// The readings of eight starts, or the first refusal.
+fn readings_of(starts: [Result<Plain, Refusal>; 8]) -> Result<[Plain; 8], Refusal> {
+    Ok([
+        starts[0]?, starts[1]?, starts[2]?, starts[3]?, starts[4]?, starts[5]?, starts[6]?,
+        starts[7]?,
+    ])
 }
 
 // The operation over readings of these files that stand at their starts.
@@ -329,20 +317,10 @@ pub fn whole(
         start_at(blob, tables, e, s, bounds, 6),
         start_at(blob, tables, e, s, bounds, 7),
     ];
-    let why = first_refusal(starts);
-    if why != 0 {
-        return why;
-    }
-    let all = [
-        reading_of(starts[0]),
-        reading_of(starts[1]),
-        reading_of(starts[2]),
-        reading_of(starts[3]),
-        reading_of(starts[4]),
-        reading_of(starts[5]),
-        reading_of(starts[6]),
-        reading_of(starts[7]),
-    ];
+    let all = match readings_of(starts) {
+        Err(why) => return START_REFUSED + u64::from(u8::from(why)),
+        Ok(all) => all,
+    };
     run(
         op_of(op),
         count,

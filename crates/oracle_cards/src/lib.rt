@@ -1,6 +1,7 @@
 // One call of an operation over several files, from cards that stand in arrays, for the comparison with the model (oracle/README.md): so cards that no
 // begin gave can be handed in. The work is that of `ops_made::made_item`: only the export stands here. A slice is passed as its pointer and then its
 // length, an array as its pointer.
+// Each function takes what the comparison lends, one by one, as the C interface does.
 #![tactic(auto)]
 
 // As `ops_made::made_item`.

@@ -1,6 +1,7 @@
 // Carrying a reading as functions on numbers, slices and arrays, for the comparison with a model (oracle/README.md). Nothing is asked of a caller: each
 // function answers on every input, and its contract says the answer and what the lent buffers hold afterwards. A slice is passed as its pointer and
 // then its length, an array as its pointer. A reading stands in the arrays of `stream_arrays`.
+// Each function takes what the comparison lends, one by one, as the C interface does.
 #![tactic(auto)]
 
 ghost use Rattle.std.specs.Prelude.{false, replicate};

@@ -1,6 +1,7 @@
 // Opening, admission, the table of keys and lookup as functions on numbers and slices, for the comparison with the Rust (oracle/README.md).
 // Nothing is asked of a caller: each function answers on every input, and its contract says the answer and what the
 // lent buffers hold afterwards. A slice is passed as its pointer and then its length.
+// Each function takes what the comparison lends, one by one, as the C interface does.
 #![tactic(auto)]
 
 ghost use Rattle.std.specs.Prelude.{◌≡◌, [], ◌∷◌, length};
@@ -11,14 +12,7 @@ ghost use Rattle.oracle_fst.specs.FstTells.{front, checksum_number, OpenTold, Ad
 
 // ---- opening
 
-// A checksum as a number: 2^32 where there is none.
-fn checksum_number(c: Option<u32>) -> u64
-    ensures { result ≡ checksum_number (checksum_is c) }
-{
-    c.map_or(4_294_967_296, u64::from)
-}
-
-// Puts the numbers at the front of out where it has room for them.
+// Puts the numbers at the front of out where it has room for them. oracle_node has the same: no crate below these two libraries is for the comparison alone.
 #[tactic(auto, unfolding(crate::specs::FstTells::front))]
 fn put(out: &mut [u64], numbers: &[u64])
     ensures { out.new ≡ front numbers.now out.old }
@@ -39,8 +33,8 @@ pub extern "C" fn oracle_open(file: &[u8], out: &mut [u64]) -> u64
     match fst::open(file) {
         Err(why) => u64::from(u8::from(why)),
         Ok(m) => {
-            let stored = m.checksum;
-            let checksum = checksum_number(stored);
+            // 2^32 where there is none
+            let checksum = m.checksum.map_or(4_294_967_296, u64::from);
             put(out, &[m.version, m.ty, m.len, m.root as u64, checksum]);
             0
         }

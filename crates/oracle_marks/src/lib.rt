@@ -1,6 +1,7 @@
 // A whole list of operations on one reading and its marks, exported for the comparison with the Rust (oracle/README.md): crate oracle_marks_run has
 // it, and says what the numbers are. Here it is one call, since what is exported is proved a second time as its library is built. A slice is passed
 // as its pointer and then its length.
+// Each function takes what the comparison lends, one by one, as the C interface does.
 #![tactic(auto)]
 
 // Runs the operations one after the other from no reading and no marks, as far as there is room for answers and rows; how many were run.

@@ -1,31 +1,16 @@
 // One start, next, mark or return of the comparison of marks, plain or by pattern, for crate oracle_marks. Nothing is promised of the answers: what they are
 // is promised of the calls of crates marks and marks_by that are made here.
+// Each function takes what the comparison lends, one by one, as the C interface does.
 #![tactic(auto)]
 
 use format::Refusal;
 use oracle_marks_held::{Held, Ran, held_by, told};
 use patterned::Patterned;
-use patterned_held::Pattern;
-use stream::Plain;
-use stream_arrays::kind_of;
+use stream_arrays::bound_with;
 
-// A reading of either kind in the place of the one before.
-fn begun(answer: Result<(), Refusal>, plain: Plain, pattern: Pattern, held: Held) -> Ran {
-    match answer {
-        Err(why) => told(3000 + u64::from(u8::from(why)), 0, held),
-        Ok(()) => {
-            let marks = held.marks;
-            told(
-                1002,
-                0,
-                Held {
-                    plain,
-                    pattern,
-                    marks,
-                },
-            )
-        }
-    }
+// A refused start: the reading before it stays.
+fn refused(why: Refusal, held: Held) -> Ran {
+    told(3000 + u64::from(u8::from(why)), 0, held)
 }
 
 // A start.
@@ -41,21 +26,18 @@ pub fn started(
     upper: &[u8],
     held: Held,
 ) -> Ran {
-    let low = kind_of(lower_kind);
-    let high = kind_of(upper_kind);
+    let low = bound_with(lower_kind, lower);
+    let high = bound_with(upper_kind, upper);
     if by == 0 {
-        let start = stream::start(file, low, lower, high, upper, table);
-        let answer = start.answer;
-        let plain = start.plain;
-        let pattern = held.pattern;
-        return begun(answer, plain, pattern, held);
+        return match stream::start(file, low, high, table) {
+            Err(why) => refused(why, held),
+            Ok(plain) => told(1002, 0, Held { plain, ..held }),
+        };
     }
-    let start = patterned::start(file, positions, rest, low, lower, high, upper);
-    let answer = start.answer;
-    let inside = start.patterned;
-    let reading = inside.reading;
-    let pattern = inside.pattern;
-    begun(answer, Plain { reading, keys: 0 }, pattern, held)
+    match patterned::start(file, positions, rest, low, high) {
+        Err(why) => refused(why, held),
+        Ok(patterned) => told(1002, 0, held_by(patterned, held.marks)),
+    }
 }
 
 // What a next answered.

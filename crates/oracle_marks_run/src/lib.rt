@@ -1,6 +1,6 @@
 // A whole list of operations on one reading and its marks as one function on numbers and slices, for the comparison with the Rust (oracle/README.md; crate
-// oracle_marks exports it), so that no marks are passed. Nothing is asked of a caller, and nothing is promised of the answers but that there are some: what they are is promised of
-// the calls of crates marks and marks_by that are made here. A slice is passed as its pointer and then its length.
+// oracle_marks exports it), so that no marks are passed. Nothing is asked of a caller, and nothing is promised of the answers but that there are some:
+// what they are is promised of the calls of crates marks and marks_by that are made here. A slice is passed as its pointer and then its length.
 //
 // An operation is ten numbers: what it is; which file (0 the first, any other number the second); the kind of a lower bound, or by how many bytes the
 // key buffer is shorter than 255; the kind of an upper bound; three places in `bytes`; and a change, a place and a value.
@@ -21,6 +21,7 @@
 // An answer is six numbers: a key's length, or 1000 for the end, 1002 for what was done, 2000 plus a refusal, 3000 plus the refusal of a start, or 4000
 // for an operation that is none; the value; and then the reading's total, number of keys to come and levels, and how many marks there are. The key stands
 // in a row of 255 bytes.
+// Each function takes what the comparison lends, one by one, as the C interface does.
 #![tactic(auto)]
 
 use oracle_marks_calls::{named, next_of, started};

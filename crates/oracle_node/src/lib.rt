@@ -1,6 +1,7 @@
 // The node layer as functions on numbers and slices, for the comparison with the Rust (oracle/README.md).
 // Nothing is asked of a caller: each function answers on every input, and its contract says the answer and what the
 // lent buffer holds afterwards. A slice is passed as its pointer and then its length.
+// Each function takes what the comparison lends, one by one, as the C interface does.
 #![tactic(auto)]
 
 ghost use Rattle.std.specs.Prelude.{◌≡◌, [], ◌∷◌, length, get_or};
@@ -10,6 +11,8 @@ ghost use Rattle.format.specs.Node.{node_at};
 ghost use Rattle.format.specs.Packed.{packing};
 ghost use Rattle.node_compile.specs.Compile.{builder_with};
 ghost use Rattle.oracle_node.specs.NodeTells.{unpacked, flag_as, is_set, PackingTold, front, NodeTold, TransitionTold, found_as};
+
+use format::FstRef;
 
 // ---- stored numbers (src/bytes.rs)
 
@@ -95,7 +98,7 @@ pub extern "C" fn oracle_compile(
     }
 }
 
-// Puts the numbers at the front of out where it has room for them.
+// Puts the numbers at the front of out where it has room for them. oracle_fst has the same: no crate below these two libraries is for the comparison alone.
 #[tactic(auto, unfolding(crate::specs::NodeTells::front))]
 fn put(out: &mut [u64], numbers: &[u64])
     ensures { out.new ≡ front numbers.now out.old }
@@ -119,7 +122,14 @@ pub extern "C" fn oracle_node(
     ensures { NodeTold (node_at file.now version root addr) out.old
         out.new result }
 {
-    let Ok(n) = node::node_at(file, version, root, addr) else {
+    let Ok(n) = node::node_at(
+        FstRef {
+            bytes: file,
+            version,
+            root,
+        },
+        addr,
+    ) else {
         return 0;
     };
     let is_final = u64::from(n.is_final);
@@ -144,7 +154,14 @@ pub extern "C" fn oracle_transition(
     ensures { TransitionTold (node_at file.now version root addr) i
         out.old out.new result }
 {
-    let Ok(n) = node::node_at(file, version, root, addr) else {
+    let Ok(n) = node::node_at(
+        FstRef {
+            bytes: file,
+            version,
+            root,
+        },
+        addr,
+    ) else {
         return 0;
     };
     if n.ntrans <= i {
@@ -170,7 +187,14 @@ pub extern "C" fn oracle_find_input(
 ) -> u64
     ensures { result ≡ found_as (node_at file.now version root addr) b }
 {
-    let Ok(n) = node::node_at(file, version, root, addr) else {
+    let Ok(n) = node::node_at(
+        FstRef {
+            bytes: file,
+            version,
+            root,
+        },
+        addr,
+    ) else {
         return 513;
     };
     let found = node::find_input(file, n, b);

@@ -1,6 +1,7 @@
 // A whole operation over several files in one call, on numbers and slices, for the comparison with the Rust (oracle/README.md): so the readings of eight
 // files need not cross the border. The work is that of `ops_whole::whole`: only the export stands here. A slice is passed as its pointer and then its
 // length, an array as its pointer.
+// Each function takes what the comparison lends, one by one, as the C interface does.
 #![tactic(auto)]
 
 // As `ops_whole::whole`.

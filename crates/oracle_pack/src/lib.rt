@@ -1,6 +1,7 @@
 // Packing of a list as a function on numbers and slices, for the comparison with the Rust (oracle/README.md).
 // Nothing is asked of a caller: the limit has 32 bits, and so is none above document 02's. A slice is passed as its pointer and then its
 // length.
+// Each function takes what the comparison lends, one by one, as the C interface does.
 #![tactic(auto)]
 
 ghost use Rattle.std.specs.Prelude.{◌≡◌, length};

@@ -4,6 +4,7 @@
 //
 // A reading stands in the six arrays of `stream_arrays`; by pattern it holds no number of keys to come. A held pattern stands in two: pattern has
 // its length and 0 where no rest may follow, positions its positions.
+// Each function takes what the comparison lends, one by one, as the C interface does.
 #![tactic(auto)]
 
 ghost use Rattle.std.specs.Prelude.{◌≡◌, ltb, length, get_or};
@@ -17,7 +18,7 @@ ghost use Rattle.oracle_pattern.specs.HeldBy.{StartByTold, NextByTold};
 use oracle_stream::told;
 use patterned::Patterned;
 use patterned_held::Pattern;
-use stream_arrays::{kind_of, put, reading_of};
+use stream_arrays::{bound_with, put, reading_of};
 
 // 0 where a start gives a reading, which stands in the arrays then; else the refusal, the arrays as they were.
 #[unsafe(no_mangle)]
@@ -45,17 +46,12 @@ pub extern "C" fn oracle_start_by(
         (held head.new bound.new addrs.new inps.new
         trans.new outs.new) result }
 {
-    let lower_bound = kind_of(lower_kind);
-    let upper_bound = kind_of(upper_kind);
-    let any = 0 < rest;
-    let started = patterned::start(file, positions, any, lower_bound, lower, upper_bound, upper);
-    let answer = started.answer;
-    match answer {
+    let from = bound_with(lower_kind, lower);
+    let to = bound_with(upper_kind, upper);
+    match patterned::start(file, positions, 0 < rest, from, to) {
         Err(why) => u64::from(u8::from(why)),
-        Ok(()) => {
-            let patterned = started.patterned;
-            let reading = patterned.reading;
-            put(reading, head, bound, addrs, inps, trans, outs);
+        Ok(patterned) => {
+            put(patterned.reading, head, bound, addrs, inps, trans, outs);
             0
         }
     }

@@ -1,15 +1,12 @@
 -- What is told of a range: one law for each way that it stops.
 -- Assumes nothing.
-use mathlib.Core.Path.{◌≡◌, refl, ap, subst, ◌∙◌}
+use mathlib.Core.Path.{◌≡◌, refl, ap, ◌∙◌}
 use mathlib.Core.List.{List, [], ◌∷◌}
 use Prim.Native.Nat.{ℕ}
 use Rattle.paging.specs.Paging as P
 use Rattle.paging.specs.Paging.{Page, ended, more}
-use Rattle.stream_start.specs.declared.Bound.{Bound}
-use Rattle.stream_start.specs.Views.{bound_is}
 use Rattle.range_fill.specs.declared.Ranged.{Ranged}
 use Rattle.range_fill.specs.RangedRows.{stop_as, RangedBy}
-use Rattle.stream_arrays.specs.Arrays.{kind_is}
 use Rattle.oracle_range.specs.RangeTold.{stop_told, stop_number, RangeTold}
 
 stop_as_lem : (w : P.Stop) → stop_told (stop_as w) ≡ stop_number w
@@ -26,11 +23,3 @@ range_told {w} {r = r} h count is n told =
       rows_are = h.rows_are;
       values_are = h.values_are;
     }
-
--- by the kinds that the numbers stand for
-pub told_kinds : (s lower upper : List ℕ) (most a b m n : ℕ) {lo hi : Bound} → lo ≡ kind_is m → hi ≡ kind_is n → {rows₀ rows values₀ values : List ℕ} {r : Ranged}
-    → RangedBy (P.range s (bound_is lo lower) (bound_is hi upper) most a b) rows₀ rows values₀ values r
-    → RangedBy (P.range s (bound_is (kind_is m) lower) (bound_is (kind_is n) upper) most a b) rows₀ rows values₀ values r
-told_kinds s lower upper most a b m n {lo} {hi} e f {rows₀} {rows} {values₀} {values} {r} h =
-    subst (λ (x : Bound). RangedBy (P.range s (bound_is (kind_is m) lower) (bound_is x upper) most a b) rows₀ rows values₀ values r) f
-    (subst (λ (x : Bound). RangedBy (P.range s (bound_is x lower) (bound_is hi upper) most a b) rows₀ rows values₀ values r) e h)

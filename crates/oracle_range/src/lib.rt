@@ -1,6 +1,7 @@
 // A range as a function on numbers and slices, for the comparison with the Rust (oracle/README.md). Nothing is asked of a caller: it answers on every
 // input, and its contract says the answer and what the lent buffers hold afterwards. A slice is passed as its pointer and then its length, an array
 // as its pointer.
+// Each function takes what the comparison lends, one by one, as the C interface does.
 #![tactic(auto)]
 
 ghost use Rattle.std.specs.Prelude.{◌≡◌, length};
@@ -11,9 +12,9 @@ ghost use Rattle.oracle_range.specs.RangeTold.{stop_told, RangeTold};
 
 use format::Refusal;
 use range_fill::Stop;
-use stream_arrays::kind_of;
+use stream_arrays::bound_with;
 
-// Why a range stopped, as a number.
+// Why a range stopped, as a number. No `From`: the type of the stop, and that of its refusal, are of other crates.
 fn stop_number(stop: Result<Stop, Refusal>) -> u64
     ensures { result ≡ stop_told stop }
 {
@@ -43,14 +44,10 @@ pub extern "C" fn oracle_range(
         (length values.old)) rows.old rows.new values.old
         values.new count.new result }
 {
-    let lower_bound = kind_of(lower_kind);
-    let upper_bound = kind_of(upper_kind);
     let ranged = range::range(
         file,
-        lower_bound,
-        lower,
-        upper_bound,
-        upper,
+        bound_with(lower_kind, lower),
+        bound_with(upper_kind, upper),
         most,
         rows,
         values,

@@ -1,6 +1,7 @@
 // A whole list of events on eight seats, exported for the comparison with the Rust (oracle/README.md): crate oracle_seats_run has
 // it, and says what the numbers are. Here it is one call, since what is exported is proved a second time as its library is built. A slice is passed
 // as its pointer and then its length.
+// Each function takes what the comparison lends, one by one, as the C interface does.
 #![tactic(auto)]
 
 // Runs the events one after the other from no readings, as far as there is room for answers and rows; how many were run.

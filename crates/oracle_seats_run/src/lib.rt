@@ -1,6 +1,6 @@
 // A whole list of events on eight seats as one function on numbers and slices, for the comparison with the Rust (oracle/README.md; crate oracle_seats
-// exports it), so that no eight readings are passed. Nothing is asked of a caller, and nothing is promised of the answers but that there are some: what they are is promised of
-// the calls of crate seats that are made here. A slice is passed as its pointer and then its length.
+// exports it), so that no eight readings are passed. Nothing is asked of a caller, and nothing is promised of the answers but that there are some:
+// what they are is promised of the calls of crate seats that are made here. A slice is passed as its pointer and then its length.
 //
 // An event is eight numbers: what it is, a seat's number, which file (0 the first, any other number the second), the kinds of a lower and of an upper
 // bound, and three places in `bounds`: the lower bound stands from the first to the second, the upper from there to the third.
@@ -13,12 +13,13 @@
 // An answer is four numbers: a key's length, or 1000 for the end, 1001 for nobody, 1002 for a change that was made, 2000 plus a refusal, 3000 plus the
 // refusal of a start, or 4000 for an event that is none; the seat; the value; and the total of that seat's reading. The key stands in a row of 255
 // bytes.
+// Each function takes what the comparison lends, one by one, as the C interface does.
 #![tactic(auto)]
 
 use seats::{Seated, Served};
 use seats_turn::{LAST_SEAT, Seat, Seats};
 use stream::Plain;
-use stream_arrays::kind_of;
+use stream_arrays::bound_with;
 
 // The bytes of a row, room for the longest key.
 const ROW: usize = 255;
@@ -80,20 +81,11 @@ fn seat_started(file: &[u8], table: &[u64], bounds: &[u8], event: [u64; 8], seat
     if middle < from {
         return told(4000, number, 0, seats);
     }
-    let lower_kind = kind_of(event[3]);
-    let upper_kind = kind_of(event[4]);
-    let started = stream::start(
-        file,
-        lower_kind,
-        &bounds[from..middle],
-        upper_kind,
-        &bounds[middle..to],
-        table,
-    );
-    let answer = started.answer;
-    match answer {
+    let lower = bound_with(event[3], &bounds[from..middle]);
+    let upper = bound_with(event[4], &bounds[middle..to]);
+    match stream::start(file, lower, upper, table) {
         Err(why) => told(3000 + u64::from(u8::from(why)), number, 0, seats),
-        Ok(()) => changed(seats::seat(seats, number, started.plain), number),
+        Ok(plain) => changed(seats::seat(seats, number, plain), number),
     }
 }
 

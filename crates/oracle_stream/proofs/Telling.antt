@@ -12,15 +12,14 @@ use native.Mathlib.Omega.{arith}
 use Rattle.reading.specs.Reading as R
 use Rattle.reading.specs.Reading.{View, key, end, written}
 use Rattle.plain.specs.Plain as P
-use Rattle.stream_start.specs.declared.Bound.{Bound}
-use Rattle.stream_start.specs.declared.Started.{Started}
+use Rattle.format.specs.Strings as F
+use Rattle.stream_start.specs.declared.Reading.{Reading}
 use Rattle.stream_step.specs.declared.Step.{Step}
-use Rattle.stream.specs.declared.Started.{Started as Begun}
+use Rattle.stream.specs.declared.Plain.{Plain}
 use Rattle.stream.specs.declared.Step.{Step as PlainStep}
-use Rattle.stream_start.specs.Views.{bound_is, view_is, started_is, began_is}
+use Rattle.stream_start.specs.Views.{bound_is, view_is, started_is}
 use Rattle.stream_step.specs.Stepped.{answer_as, Stepped}
 use Rattle.stream.specs.Plains.{plain_is, begun_is, PlainStepped}
-use Rattle.stream.specs.Plains as Plains
 use Rattle.stream_arrays.specs.Arrays.{kind_is, Held, PlainPut}
 use Rattle.stream_arrays.specs.ArraysLaws.{plain_back, bounds_of}
 use Rattle.oracle_stream.specs.StreamTells.{StartTold, answer_number, answer_value, Told, NextTold}
@@ -29,23 +28,23 @@ use Rattle.oracle_stream.specs.Runs.{key_test, on_key, Calls, keys_by, buffer_by
 
 -- ---- start
 
-pub bare_bounds : {w : R.Started} (f lo hi : List ℕ) {k l : Bound} (n m : ℕ) → k ≡ kind_is n → l ≡ kind_is m
-    → w ≡ R.start f (bound_is k lo) (bound_is l hi) → w ≡ R.start f (bound_is (kind_is n) lo) (bound_is (kind_is m) hi)
+pub bare_bounds : {w : R.Started} (f lo hi : List ℕ) {x y : F.Bound} (n m : ℕ) → x ≡ bound_is (kind_is n) lo → y ≡ bound_is (kind_is m) hi
+    → w ≡ R.start f x y → w ≡ R.start f (bound_is (kind_is n) lo) (bound_is (kind_is m) hi)
 bare_bounds f lo hi n m a b e = bounds_of (λ x y. R.start f x y) lo hi n m a b e
 
-module _ {w : P.Begun} (s : Begun) (e : begun_is s ≡ w) where
-  pub start_refused : (m : Refusal) (h : Held) (n : List ℕ) → s.answer ≡ Err m → StartTold w h n h n (number m)
+module _ {w : P.Begun} (s : Result Plain Refusal) (e : begun_is s ≡ w) where
+  pub start_refused : (m : Refusal) (h : Held) (n : List ℕ) → s ≡ Err m → StartTold w h n h n (number m)
   start_refused m h n is =
-      let q : w ≡ P.Begun.refused m = sym e ∙ ap (λ b. Plains.began_is b s.plain) is in
+      let q : w ≡ P.Begun.refused m = sym e ∙ ap begun_is is in
       rw q (record { answer = refl; reading = λ p no. absurd (let z : ◌≡◌ {A = ℕ} 0 1 = cc in omega arith); kept = λ i same. (refl, refl) })
 
-  pub start_told : (h₀ : Held) (n₀ : List ℕ) (h : Held) (n : List ℕ) → s.answer ≡ Ok tt → PlainPut s.plain h n → StartTold w h₀ n₀ h n 0
-  start_told h₀ n₀ h n is put =
-      let q : w ≡ P.begun (plain_is s.plain) = sym e ∙ ap (λ b. Plains.began_is b s.plain) is in
+  pub start_told : (b : Plain) (h₀ : Held) (n₀ : List ℕ) (h : Held) (n : List ℕ) → s ≡ Ok b → PlainPut b h n → StartTold w h₀ n₀ h n 0
+  start_told b h₀ n₀ h n is put =
+      let q : w ≡ P.begun (plain_is b) = sym e ∙ ap begun_is is in
       rw q
       (record {
         answer = refl;
-        reading = λ p same. plain_back put ∙ (let z : plain_is s.plain ≡ p = cc in z);
+        reading = λ p same. plain_back put ∙ (let z : plain_is b ≡ p = cc in z);
         kept = λ m no. absurd (let z : ◌≡◌ {A = ℕ} 0 1 = cc in omega arith);
       })
 
@@ -168,32 +167,32 @@ reached_end c m {v₀} {k₀} v {k} n h r =
     let q : keys_by c m v₀ k₀ ≡ n + 0 = r.keys ∙ ap (λ x. n + keys_by c x v k) none in
     record { answer = omega (arith, h, q, r.at_most); buffer = sym (r.buffer ∙ ap (λ x. buffer_by c x v k) none) }
 
-module _ (m : ℕ) (f : List ℕ) {w : R.Started} (s : Started) (e : started_is s ≡ w) where
-  pub bare_refused : (n : Refusal) (k : List ℕ) → s.answer ≡ Err n → BareKeysTold m f w k k 0
+module _ (m : ℕ) (f : List ℕ) {w : R.Started} (s : Result Reading Refusal) (e : started_is s ≡ w) where
+  pub bare_refused : (n : Refusal) (k : List ℕ) → s ≡ Err n → BareKeysTold m f w k k 0
   bare_refused n k is =
-      let q : w ≡ R.Started.refused n = sym e ∙ ap (λ b. began_is b s.reading) is in
+      let q : w ≡ R.Started.refused n = sym e ∙ ap started_is is in
       rw q (record { reading = λ v no. absurd (let z : ◌≡◌ {A = ℕ} 0 1 = cc in omega arith); refused = λ i same. (refl, refl) })
 
-  pub bare_told : (k₀ k : List ℕ) (r : ℕ) → s.answer ≡ Ok tt → KeysTold m f (view_is s.reading) k₀ k r → BareKeysTold m f w k₀ k r
-  bare_told k₀ k r is told =
-      let q : w ≡ R.started (view_is s.reading) = sym e ∙ ap (λ b. began_is b s.reading) is in
+  pub bare_told : (b : Reading) (k₀ k : List ℕ) (r : ℕ) → s ≡ Ok b → KeysTold m f (view_is b) k₀ k r → BareKeysTold m f w k₀ k r
+  bare_told b k₀ k r is told =
+      let q : w ≡ R.started (view_is b) = sym e ∙ ap started_is is in
       rw q
       (record {
-        reading = λ v same. let z : view_is s.reading ≡ v = cc in subst (λ x. KeysTold m f x k₀ k r) z told;
+        reading = λ v same. let z : view_is b ≡ v = cc in subst (λ x. KeysTold m f x k₀ k r) z told;
         refused = λ i no. absurd (let z : ◌≡◌ {A = ℕ} 0 1 = cc in omega arith);
       })
 
-module _ (m : ℕ) (f : List ℕ) {w : P.Begun} (s : Begun) (e : begun_is s ≡ w) where
-  pub keys_refused : (n : Refusal) (k : List ℕ) → s.answer ≡ Err n → StartKeysTold m f w k k 0
+module _ (m : ℕ) (f : List ℕ) {w : P.Begun} (s : Result Plain Refusal) (e : begun_is s ≡ w) where
+  pub keys_refused : (n : Refusal) (k : List ℕ) → s ≡ Err n → StartKeysTold m f w k k 0
   keys_refused n k is =
-      let q : w ≡ P.Begun.refused n = sym e ∙ ap (λ b. Plains.began_is b s.plain) is in
+      let q : w ≡ P.Begun.refused n = sym e ∙ ap begun_is is in
       rw q (record { reading = λ p no. absurd (let z : ◌≡◌ {A = ℕ} 0 1 = cc in omega arith); refused = λ i same. (refl, refl) })
 
-  pub keys_told : (k₀ k : List ℕ) (r : ℕ) → s.answer ≡ Ok tt → PlainKeysTold m f (plain_is s.plain) k₀ k r → StartKeysTold m f w k₀ k r
-  keys_told k₀ k r is told =
-      let q : w ≡ P.begun (plain_is s.plain) = sym e ∙ ap (λ b. Plains.began_is b s.plain) is in
+  pub keys_told : (b : Plain) (k₀ k : List ℕ) (r : ℕ) → s ≡ Ok b → PlainKeysTold m f (plain_is b) k₀ k r → StartKeysTold m f w k₀ k r
+  keys_told b k₀ k r is told =
+      let q : w ≡ P.begun (plain_is b) = sym e ∙ ap begun_is is in
       rw q
       (record {
-        reading = λ p same. let z : plain_is s.plain ≡ p = cc in subst (λ x. PlainKeysTold m f x k₀ k r) z told;
+        reading = λ p same. let z : plain_is b ≡ p = cc in subst (λ x. PlainKeysTold m f x k₀ k r) z told;
         refused = λ i no. absurd (let z : ◌≡◌ {A = ℕ} 0 1 = cc in omega arith);
       })

@@ -1,6 +1,7 @@
 // A plain reading's start and next as functions on numbers, slices and arrays, for the comparison with the Rust (oracle/README.md). Nothing
 // is asked of a caller: each function answers on every input, and its contract says the answer and what the lent buffers hold afterwards. A
 // slice is passed as its pointer and then its length, an array as its pointer. A reading stands in the arrays of `stream_arrays`.
+// Each function takes what the comparison lends, one by one, as the C interface does.
 #![tactic(auto)]
 
 ghost use Rattle.std.specs.Prelude.{◌≡◌, length};
@@ -14,7 +15,7 @@ ghost use Rattle.oracle_stream.specs.Runs.{key_test, KeysTold, PlainKeysTold, St
 
 use format::Refusal;
 use stream::Plain;
-use stream_arrays::{kind_of, put_plain, reading_of};
+use stream_arrays::{bound_with, put_plain, reading_of};
 use stream_start::Reading;
 
 // ---- start
@@ -43,14 +44,11 @@ pub fn oracle_start(
         (held head.new bound.new addrs.new inps.new
         trans.new outs.new) keys.new result }
 {
-    let lower_bound = kind_of(lower_kind);
-    let upper_bound = kind_of(upper_kind);
-    let started = stream::start(file, lower_bound, lower, upper_bound, upper, counts);
-    let answer = started.answer;
-    match answer {
+    let from = bound_with(lower_kind, lower);
+    let to = bound_with(upper_kind, upper);
+    match stream::start(file, from, to, counts) {
         Err(why) => u64::from(u8::from(why)),
-        Ok(()) => {
-            let plain = started.plain;
+        Ok(plain) => {
             put_plain(plain, head, bound, addrs, inps, trans, outs, keys);
             0
         }
@@ -155,20 +153,16 @@ pub fn oracle_keys(
         (bound_is (kind_is upper_kind) upper.now) counts.now)
         key.old key.new result }
 {
-    let lower_bound = kind_of(lower_kind);
-    let upper_bound = kind_of(upper_kind);
-    let started = stream::start(file, lower_bound, lower, upper_bound, upper, counts);
-    let answer = started.answer;
-    match answer {
+    let from = bound_with(lower_kind, lower);
+    let to = bound_with(upper_kind, upper);
+    match stream::start(file, from, to, counts) {
         Err(_) => 0,
-        Ok(()) => {
-            let plain = started.plain;
-            keys_from(file, plain, most, key)
-        }
+        Ok(plain) => keys_from(file, plain, most, key),
     }
 }
 
-// The same of a reading without the number.
+// The same of a reading without the number. One loop for both would be over any type of readings with a step handed in, and its contract over any `Calls`: no
+// plainer than a second loop.
 fn bare_keys_from(file: &[u8], reading: Reading, most: u64, key: &mut [u8]) -> u64
     ensures { KeysTold most file.now (view_is reading) key.old
         key.new result }
@@ -199,15 +193,10 @@ pub fn oracle_bare_keys(
         (bound_is (kind_is upper_kind) upper.now)) key.old key.new
         result }
 {
-    let lower_bound = kind_of(lower_kind);
-    let upper_bound = kind_of(upper_kind);
-    let started = stream_start::start(file, lower_bound, lower, upper_bound, upper);
-    let answer = started.answer;
-    match answer {
+    let from = bound_with(lower_kind, lower);
+    let to = bound_with(upper_kind, upper);
+    match stream_start::start(file, from, to) {
         Err(_) => 0,
-        Ok(()) => {
-            let reading = started.reading;
-            bare_keys_from(file, reading, most, key)
-        }
+        Ok(reading) => bare_keys_from(file, reading, most, key),
     }
 }

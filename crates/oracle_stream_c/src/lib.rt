@@ -1,5 +1,6 @@
 // What the comparison links of crate `oracle_stream` (oracle/README.md): each function calls the one of the same name there, and states its contract
 // again. A slice is passed as its pointer and then its length, an array as its pointer.
+// Each function takes what the comparison lends, one by one, as the C interface does.
 #![tactic(auto)]
 
 ghost use Rattle.std.specs.Prelude.{length};
@@ -11,6 +12,7 @@ ghost use Rattle.oracle_stream.specs.StreamTells.{StartTold, NextTold};
 ghost use Rattle.oracle_stream.specs.Runs.{StartKeysTold, BareKeysTold};
 
 // 0 where a start with this table gives a reading, which stands in the arrays then; else the refusal, the arrays as they were.
+// As fst_start_arrays of the library, with its results by another numbering: the C interface has two exported names.
 #[unsafe(no_mangle)]
 pub extern "C" fn oracle_start(
     file: &[u8],

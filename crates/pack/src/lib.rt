@@ -1,4 +1,5 @@
 // A list of keys and values packed into a file of version 2. The caller lends the output, the cells and the working tables.
+// inputs, leasts and targets are slices and no struct: the C caller lends them one by one.
 #![tactic(auto)]
 
 ghost use Rattle.std.specs.Prelude.{length};
@@ -13,7 +14,8 @@ use pack_cell::{Cell, empty_cells};
 use pack_cells::{empty_after, run};
 use pack_end::finish;
 
-// Packs the list, where the file may have up to limit bytes.
+// Packs the list, where the file may have up to limit bytes. Answers the length of the file, which stands at the output's front; where it
+// refuses, by LIST, SPACE or LARGE, the output is zeros and every cell empty.
 pub fn pack_within(
     limit: usize,
     list: &[u8],
@@ -39,7 +41,7 @@ pub fn pack_within(
     answer
 }
 
-// Packs the list.
+// Packs the list, where the file may have as many bytes as any. Answers as `pack_within` does.
 pub fn pack(
     list: &[u8],
     output: &mut [u8],

@@ -7,15 +7,17 @@
 --     Started, GoesAhead   what opening keys asks, and what it leaves; GoneTo: on the way
 --     row_next, RowAsked    the record of the node to be finished next, and what finding its row asks
 -- Assumes nothing.
-use Rattle.std.specs.Prelude.{◌≡◌, Bool, false, cond, ◌⊎◌, List, ℕ, ◌+◌, ◌-◌, ◌*◌, ◌≤◌, ◌<◌, eqb, length, get_or, replicate}
+use Rattle.std.specs.Prelude.{◌≡◌, false, cond, ◌⊎◌, List, ℕ, ◌+◌, ◌-◌, ◌*◌, ◌≤◌, ◌<◌, eqb, length, get_or, replicate}
 use Rattle.format.specs.Packed.{BuilderNode}
 use Rattle.packing.specs.Lists.{count_in, key_at, value_at, pairs_of}
 use Rattle.packing.specs.Registry.{empty_cell}
 use Rattle.packing.specs.Packing.{State, insert_all, start}
-use Rattle.packing_rows.specs.WorkTables.{Tables, tables_with, row_in, least_from}
+use Rattle.packing_rows.specs.WorkTables.{Tables, row_in, count_at, least_from}
 use Rattle.pack_intern.specs.Interning.{build_is}
 use Rattle.pack_finish.specs.FinishRow.{row_node}
 use Rattle.pack_close.specs.Closing.{closed_to, ClosingTo}
+use Rattle.pack_close.specs.OpenNodes.{tables_of}
+use Rattle.pack_close.specs.declared.Open.{Open}
 use Rattle.pack_insert.specs.Inserting.{CommonIs, Opened}
 use Rattle.pack_keys.specs.AddKeys.{Building}
 use Rattle.pack_ahead.specs.declared.Way.{Way}
@@ -55,7 +57,7 @@ abbrev pub way_left : List ℕ → Way → ℕ
 way_left s w = (count_in s - w.keys) * 256 + w.depth
 
 -- for some output, cells and working tables
-pub record Started (s counts led : List ℕ) (finals : List Bool) (values : List ℕ) (w : Way) : Type 0 where
+pub record Started (s : List ℕ) (o : Open) (w : Way) : Type 0 where
   pub cells : ℕ
   pub out : List ℕ
   pub table : List (List ℕ)
@@ -63,34 +65,33 @@ pub record Started (s counts led : List ℕ) (finals : List Bool) (values : List
   pub leasts : List ℕ
   pub targets : List ℕ
   pub next : ℕ
-  pub underway : Underway s cells out table (tables_with inputs leasts targets counts led finals values) next w
+  pub underway : Underway s cells out table (tables_of inputs leasts targets o) next w
 
 -- for all of them
-pub record GoneTo (s counts led : List ℕ) (finals : List Bool) (values : List ℕ) (w : Way) (counts' led' : List ℕ) (finals' : List Bool) (values' : List ℕ) (r : Way) : Type 0 where
+pub record GoneTo (s : List ℕ) (o : Open) (w : Way) (o' : Open) (r : Way) : Type 0 where
   pub on : (cells : ℕ) (out : List ℕ) (table : List (List ℕ)) (inputs leasts targets : List ℕ) (next : ℕ)
-      → Underway s cells out table (tables_with inputs leasts targets counts led finals values) next w
-      → Underway s cells out table (tables_with inputs leasts targets counts' led' finals' values') next r
+      → Underway s cells out table (tables_of inputs leasts targets o) next w
+      → Underway s cells out table (tables_of inputs leasts targets o') next r
   pub less : way_left s r ≤ way_left s w
 
 -- and a node is to be finished before the next key is opened, or there is no key left
-pub record GoesAhead (s counts led : List ℕ) (finals : List Bool) (values : List ℕ) (w : Way) (counts' led' : List ℕ) (finals' : List Bool) (values' : List ℕ) (r : Way) : Type 0 where
-  pub gone : GoneTo s counts led finals values w counts' led' finals' values' r
+pub record GoesAhead (s : List ℕ) (o : Open) (w : Way) (o' : Open) (r : Way) : Type 0 where
+  pub gone : GoneTo s o w o' r
   pub stops : (r.to < r.depth) ⊎ (count_in s ≤ r.keys)
 
 -- ---- the row of the node to be finished
 
 -- the number from which its outputs are counted
-abbrev pub base_next : List ℕ → List ℕ → List Bool → List ℕ → ℕ → ℕ
-base_next leasts counts finals values d = cond (eqb d 0) 0 (least_from (get_or finals d false) (get_or values d 0) (row_in leasts d (get_or counts d 0)))
+abbrev pub base_next : Tables → ℕ → ℕ
+base_next T d = cond (eqb d 0) 0 (least_from (get_or T.finals d false) (get_or T.values d 0) (row_in T.leasts d (count_at T d)))
 
-abbrev pub row_next : List ℕ → List ℕ → List ℕ → List ℕ → List Bool → List ℕ → ℕ → BuilderNode
-row_next inputs leasts targets counts finals values d =
-    row_node (get_or finals d false) (get_or values d 0) inputs leasts targets d (get_or counts d 0) (base_next leasts counts finals values d)
+abbrev pub row_next : Tables → ℕ → BuilderNode
+row_next T d = row_node (get_or T.finals d false) (get_or T.values d 0) T.inputs T.leasts T.targets d (count_at T d) (base_next T d)
 
-pub record RowAsked (cells d : ℕ) (inputs leasts targets counts : List ℕ) : Type 0 where
+pub record RowAsked (cells d : ℕ) (T : Tables) : Type 0 where
   pub two : 2 ≤ cells
   pub low : d < 256
-  pub few : get_or counts d 0 ≤ 256
-  pub inputs_long : 65536 ≤ length inputs
-  pub leasts_long : 65536 ≤ length leasts
-  pub targets_long : 65536 ≤ length targets
+  pub few : count_at T d ≤ 256
+  pub inputs_long : 65536 ≤ length T.inputs
+  pub leasts_long : 65536 ≤ length T.leasts
+  pub targets_long : 65536 ≤ length T.targets

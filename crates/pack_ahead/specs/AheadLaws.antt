@@ -25,6 +25,8 @@ use Rattle.pack_intern.specs.declared.Placed.{Placed}
 use Rattle.pack_finish.specs.FinishRow.{row_node, Finishable}
 use Rattle.pack_finish.specs.LeastLaws.{from_each, from_value}
 use Rattle.pack_close.specs.Closing.{closed_to, StepTo, JoinedAt, ClosesTo}
+use Rattle.pack_close.specs.OpenNodes.{tables_of}
+use Rattle.pack_close.specs.declared.Open.{Open}
 use Rattle.pack_close.specs.ClosingLaws.{closing_none, closing_step, closing_full, closing_all, step_done, step_no_room}
 use Rattle.pack_insert.specs.Inserting.{CommonIs, Opened, state_of, Between}
 use Rattle.pack_insert.specs.InsertingLaws.{inserted, insert_done, insert_full}
@@ -245,39 +247,36 @@ module _ {s : List ℕ} {cells : ℕ} {out : List ℕ} {table : List (List ℕ)}
 
 -- ---- the loop
 
-pub gone_none : (s counts led : List ℕ) (finals : List Bool) (values : List ℕ) (w : Way) → GoneTo s counts led finals values w counts led finals values w
-gone_none s counts led finals values w = record { on = λ cells out table inputs leasts targets next u. u; less = omega arith }
+pub gone_none : (s : List ℕ) (o : Open) (w : Way) → GoneTo s o w o w
+gone_none s o w = record { on = λ cells out table inputs leasts targets next u. u; less = omega arith }
 
 -- from the way whose numbers the loop has
-pub gone_from : {s counts led : List ℕ} {finals : List Bool} {values : List ℕ} {w : Way} {counts' led' : List ℕ} {finals' : List Bool} {values' : List ℕ} {r : Way} → IsList s
-    → GoneTo s counts led finals values (way_with w.depth w.to w.keys) counts' led' finals' values' r → GoneTo s counts led finals values w counts' led' finals' values' r
+pub gone_from : {s : List ℕ} {o : Open} {w : Way} {o' : Open} {r : Way} → IsList s → GoneTo s o (way_with w.depth w.to w.keys) o' r → GoneTo s o w o' r
 gone_from ok g = record {
   on = λ cells out table inputs leasts targets next u. g.on cells out table inputs leasts targets next (underway_same u ok);
   less = g.less;
 }
 
-module _ {s counts₀ led₀ : List ℕ} {finals₀ : List Bool} {values₀ : List ℕ} {w : Way} {counts led : List ℕ} {finals : List Bool} {values : List ℕ} {d m i : ℕ}
-    (g : GoneTo s counts₀ led₀ finals₀ values₀ w counts led finals values (way_with d m i)) (ok : IsList s) (l : i < count_in s) (le : d ≤ m) where
+module _ {s : List ℕ} {o₀ : Open} {w : Way} {o : Open} {d m i : ℕ} (g : GoneTo s o₀ w o (way_with d m i)) (ok : IsList s) (l : i < count_in s) (le : d ≤ m) where
   -- the key goes along the open nodes that far
-  pub key_goes : Started s counts₀ led₀ finals₀ values₀ w → (m ≤ length (key_at s i)) × (length counts ≡ 256) × (length led ≡ 256) × (length finals ≡ 256) × (length values ≡ 256)
+  pub key_goes : Started s o₀ w → (m ≤ length (key_at s i)) × (length o.counts ≡ 256) × (length o.led ≡ 256) × (length o.finals ≡ 256) × (length o.values ≡ 256)
   key_goes st =
       let u = g.on st.cells st.out st.table st.inputs st.leasts st.targets st.next st.underway in
       let z = u.closing.closable.sized in
       ((u.leaves.on l).within, z.counts_long, z.led_long, z.finals_long, z.values_long)
 
-  pub gone_open : {counts' led' : List ℕ} {finals' : List Bool} {values' : List ℕ} {r : Way}
-      → ((inputs leasts targets : List ℕ) → OpensKey s i m (tables_with inputs leasts targets counts led finals values) (tables_with inputs leasts targets counts' led' finals' values') r)
-      → GoneTo s counts₀ led₀ finals₀ values₀ w counts' led' finals' values' (way_with r.depth r.to (i + 1))
-  gone_open o = record {
-    on = λ cells out table inputs leasts targets next u. underway_open (g.on cells out table inputs leasts targets next u) ok l le (o inputs leasts targets);
-    less = omega (arith, g.less, (o [] [] []).depth, key_short s ok i l);
+  pub gone_open : {o' : Open} {r : Way} → ((inputs leasts targets : List ℕ) → OpensKey s i m (tables_of inputs leasts targets o) (tables_of inputs leasts targets o') r)
+      → GoneTo s o₀ w o' (way_with r.depth r.to (i + 1))
+  gone_open opens = record {
+    on = λ cells out table inputs leasts targets next u. underway_open (g.on cells out table inputs leasts targets next u) ok l le (opens inputs leasts targets);
+    less = omega (arith, g.less, (opens [] [] []).depth, key_short s ok i l);
   }
 
 -- ---- the row of the node to be finished
 
 -- what the loop asks of the next row
 pub row_asked : {s : List ℕ} {cells : ℕ} {out : List ℕ} {table : List (List ℕ)} {T : Tables} {next : ℕ} {w : Way} → Underway s cells out table T next w → 2 ≤ cells
-    → RowAsked cells w.depth T.inputs T.leasts T.targets T.counts
+    → RowAsked cells w.depth T
 row_asked {w = w} u two =
     let C = u.closing.closable in
     record {
@@ -290,9 +289,9 @@ row_asked {w = w} u two =
     }
 
 -- n' being the row's length by its ends
-pub row_given : (cells d n' : ℕ) (inputs leasts targets counts : List ℕ) (final : Bool) (v base : ℕ) → RowAsked cells d inputs leasts targets counts → n' ≡ get_or counts d 0
-    → base ≡ cond (eqb d 0) 0 (least_from final v (take n' (drop (256 * d) leasts))) → RowGiven cells d (get_or counts d 0) base final v inputs leasts targets
-row_given cells d n' inputs leasts targets counts final v base a same e = record {
+pub row_given : (cells d n' : ℕ) (T : Tables) (final : Bool) (v base : ℕ) → RowAsked cells d T → n' ≡ count_at T d
+    → base ≡ cond (eqb d 0) 0 (least_from final v (take n' (drop (256 * d) T.leasts))) → RowGiven cells d (count_at T d) base final v T.inputs T.leasts T.targets
+row_given cells d n' T final v base a same e = record {
   two = a.two;
   low = a.low;
   few = a.few;
@@ -304,39 +303,39 @@ row_given cells d n' inputs leasts targets counts final v base a same e = record
     high = λ j l h.
         let i : ℕ = j - 256 * d in
         let at : 256 * d + i ≡ j = omega arith in
-        let e₁ = get_or-take n (drop (256 * d) leasts) i 0 (omega arith) ∙ get_or-drop (256 * d) leasts i 0 ∙ ap (λ (k : ℕ). get_or leasts k 0) at in
-        omega (arith, base_low, e₁, from_each final v (row_in leasts d n) i (omega (arith, o)));
+        let e₁ = get_or-take n (drop (256 * d) T.leasts) i 0 (omega arith) ∙ get_or-drop (256 * d) T.leasts i 0 ∙ ap (λ (k : ℕ). get_or T.leasts k 0) at in
+        omega (arith, base_low, e₁, from_each final v (row_in T.leasts d n) i (omega (arith, o)));
   };
-  value_high = λ z. omega (arith, base_low, from_value final v (row_in leasts d n) z);
+  value_high = λ z. omega (arith, base_low, from_value final v (row_in T.leasts d n) z);
 }
   where
     n : ℕ
-    n = get_or counts d 0
+    n = count_at T d
 
-    o : length (row_in leasts d n) ≡ n
-    o = length_row leasts d n (omega (arith, a.leasts_long, a.low, a.few))
+    o : length (row_in T.leasts d n) ≡ n
+    o = length_row T.leasts d n (omega (arith, a.leasts_long, a.low, a.few))
 
     low_of : (b : Bool) (m : ℕ) → cond b 0 m ≤ m
     low_of true m = omega arith
     low_of false m = omega arith
 
-    base_low : base ≤ least_from final v (row_in leasts d n)
-    base_low = omega (arith, e, low_of (eqb d 0) (least_from final v (take n' (drop (256 * d) leasts))), ap (λ (k : ℕ). least_from final v (take k (drop (256 * d) leasts))) same)
+    base_low : base ≤ least_from final v (row_in T.leasts d n)
+    base_low = omega (arith, e, low_of (eqb d 0) (least_from final v (take n' (drop (256 * d) T.leasts))), ap (λ (k : ℕ). least_from final v (take k (drop (256 * d) T.leasts))) same)
 
-pub row_next_is : (cells d n' r : ℕ) (inputs leasts targets counts : List ℕ) (finals : List Bool) (values : List ℕ) (base : ℕ) → n' ≡ get_or counts d 0
-    → base ≡ cond (eqb d 0) 0 (least_from (get_or finals d false) (get_or values d 0) (take n' (drop (256 * d) leasts)))
-    → r ≡ 2 * (hash_of (row_node (get_or finals d false) (get_or values d 0) inputs leasts targets d (get_or counts d 0) base) % (cells / 2))
-    → r ≡ 2 * (hash_of (row_next inputs leasts targets counts finals values d) % (cells / 2))
-row_next_is cells d n' r inputs leasts targets counts finals values base same e h =
+pub row_next_is : (cells d n' r : ℕ) (T : Tables) (base : ℕ) → n' ≡ count_at T d
+    → base ≡ cond (eqb d 0) 0 (least_from (get_or T.finals d false) (get_or T.values d 0) (take n' (drop (256 * d) T.leasts)))
+    → r ≡ 2 * (hash_of (row_node (get_or T.finals d false) (get_or T.values d 0) T.inputs T.leasts T.targets d (count_at T d) base) % (cells / 2))
+    → r ≡ 2 * (hash_of (row_next T d) % (cells / 2))
+row_next_is cells d n' r T base same e h =
     h
-    ∙ ap (λ (x : ℕ). 2 * (hash_of (row_node (get_or finals d false) (get_or values d 0) inputs leasts targets d (get_or counts d 0) x) % (cells / 2)))
-    (e ∙ ap (λ (k : ℕ). cond (eqb d 0) 0 (least_from (get_or finals d false) (get_or values d 0) (take k (drop (256 * d) leasts)))) same)
+    ∙ ap (λ (x : ℕ). 2 * (hash_of (row_node (get_or T.finals d false) (get_or T.values d 0) T.inputs T.leasts T.targets d (count_at T d) x) % (cells / 2)))
+    (e ∙ ap (λ (k : ℕ). cond (eqb d 0) 0 (least_from (get_or T.finals d false) (get_or T.values d 0) (take k (drop (256 * d) T.leasts)))) same)
 
 -- the record of a node that is not the root is the definition's
 pub record_next : (T : Tables) (d : ℕ) → Sized T → d < 256 → count_at T d ≤ 256 → 0 < d
-    → row_next T.inputs T.leasts T.targets T.counts T.finals T.values d ≡ record_of (open_at T d) (least_at (open_at T d))
+    → row_next T d ≡ record_of (open_at T d) (least_at (open_at T d))
 record_next T d sized low few pos =
-    let e : base_next T.leasts T.counts T.finals T.values d ≡ least_at (open_at T d) =
+    let e : base_next T d ≡ least_at (open_at T d) =
     ap (λ (b : Bool). cond b 0 (least_from (get_or T.finals d false) (get_or T.values d 0) (row_in T.leasts d (count_at T d)))) (ne_eqb d 0 (λ z. omega arith))
     ∙ sym (open_least T sized d low few) in
     ap (row_node (get_or T.finals d false) (get_or T.values d 0) T.inputs T.leasts T.targets d (count_at T d)) e ∙ sym (record_row T sized d low few (least_at (open_at T d)))

@@ -1,11 +1,16 @@
 // Keys opened until a node has to be finished, and the row of that node. No output and no cell is touched.
+// inputs, leasts and targets are slices and no struct: the C caller lends them one by one.
+// The list and its number of keys go together with what is asked of both: a list is lent as bytes.
 #![tactic(auto)]
 
 ghost use Rattle.std.specs.Prelude.{◌≡◌, cond, List, ℕ, ◌+◌, ◌*◌, ◌/◌, ◌%◌, ◌≤◌, ◌<◌, eqb, length};
 ghost use Rattle.packing.specs.Lists.{IsList, count_in, key_at};
 ghost use Rattle.packing.specs.Registry.{hash_of};
-ghost use Rattle.packing_rows.specs.WorkTables.{tables_with, least_from};
+ghost use Rattle.packing_rows.specs.WorkTables.{least_from};
+ghost use Rattle.pack_close.specs.OpenNodes.{tables_of};
 ghost use Rattle.pack_ahead.specs.Ahead.{LeavesAt, OpensKey, Started, GoesAhead, RowAsked, row_next};
+
+use pack_close::Open;
 
 // The open nodes between two finished ones.
 #[derive(Clone, Copy)]
@@ -21,44 +26,33 @@ pub struct Way {
 // No plainer without n, here and below: it is the count that the list begins with, and no length of a slice.
 
 // The depth at which key i leaves the open nodes, the deepest of which is at depth k; 0 after the last key.
-fn leaves_at(list: &[u8], n: usize, i: usize, led: &[u8; 256], k: usize) -> usize
+fn leaves_at(list: &[u8], n: usize, i: usize, nodes: &Open, k: usize) -> usize
     requires { IsList list.now × (n ≡ count_in list.now) × (k < 256) }
-    ensures { LeavesAt list.now led.now k i result }
+    ensures { LeavesAt list.now nodes.now.led k i result }
 {
     if i < n {
         let keys = 8 + 12 * n;
         let from = keys + pack_list::begin_at(list, i);
         let to = keys + pack_list::end_at(list, i);
-        return pack_insert::common(&list[from..to], led, k);
+        return pack_insert::common(&list[from..to], nodes, k);
     }
     0
 }
 
 // Opens key i below depth m, where it leaves the open nodes.
-fn open_one(
-    list: &[u8],
-    n: usize,
-    i: usize,
-    m: usize,
-    counts: &mut [usize; 256],
-    led: &mut [u8; 256],
-    finals: &mut [bool; 256],
-    values: &mut [u64; 256],
-) -> Way
-    requires { IsList list.now × (n ≡ count_in list.now) × (i < n) × (m ≤ length (key_at list.now i))
-        × (length counts.old ≡ 256) × (length led.old ≡ 256) × (length finals.old ≡ 256) × (length values.old ≡ 256) }
+fn open_one(list: &[u8], n: usize, i: usize, m: usize, nodes: &mut Open) -> Way
+    requires { IsList list.now × (n ≡ count_in list.now) × (i < n) × (m ≤ length (key_at list.now i)) }
     ensures { (inputs leasts targets : List ℕ) → OpensKey list.now i m
-        (tables_with inputs leasts targets counts.old led.old finals.old values.old)
-        (tables_with inputs leasts targets counts.new led.new finals.new values.new) result }
+        (tables_of inputs leasts targets nodes.old) (tables_of inputs leasts targets nodes.new) result }
 {
     let keys = 8 + 12 * n;
     let from = keys + pack_list::begin_at(list, i);
     let to = keys + pack_list::end_at(list, i);
     let value = pack_list::value_at(list, n, i);
-    pack_insert::open_key(&list[from..to], m, value, counts, led, finals, values);
+    pack_insert::open_key(&list[from..to], m, value, nodes);
     let depth = to - from;
     let more = i + 1;
-    let leaves = leaves_at(list, n, more, led, depth);
+    let leaves = leaves_at(list, n, more, nodes, depth);
     Way {
         depth,
         to: leaves,
@@ -67,18 +61,9 @@ fn open_one(
 }
 
 // Opens keys as long as every node that is not on the next one is finished.
-pub fn ahead(
-    list: &[u8],
-    n: usize,
-    way: Way,
-    counts: &mut [usize; 256],
-    led: &mut [u8; 256],
-    finals: &mut [bool; 256],
-    values: &mut [u64; 256],
-) -> Way
-    requires { IsList list.now × (n ≡ count_in list.now) × Started list.now counts.old led.old finals.old values.old way }
-    ensures { GoesAhead list.now counts.old led.old finals.old values.old way
-        counts.new led.new finals.new values.new result }
+pub fn ahead(list: &[u8], n: usize, way: Way, nodes: &mut Open) -> Way
+    requires { IsList list.now × (n ≡ count_in list.now) × Started list.now nodes.old way }
+    ensures { GoesAhead list.now nodes.old way nodes.new result }
 {
     let mut depth = way.depth;
     let mut to = way.to;
@@ -87,7 +72,7 @@ pub fn ahead(
         if finishes {
             return Way { depth, to, keys: i };
         }
-        let more = open_one(list, n, i, to, counts, led, finals, values);
+        let more = open_one(list, n, i, to, nodes);
         depth = more.depth;
         to = more.to;
     }
@@ -114,17 +99,15 @@ pub fn row_next(
     inputs: &[u8],
     leasts: &[u64],
     targets: &[usize],
-    counts: &[usize; 256],
-    finals: &[bool; 256],
-    values: &[u64; 256],
+    nodes: &Open,
 ) -> usize
-    requires { RowAsked cells d inputs.now leasts.now targets.now counts.now }
-    ensures { (result ≡ 2 * (hash_of (row_next inputs.now leasts.now targets.now counts.now finals.now values.now d)
+    requires { RowAsked cells d (tables_of inputs.now leasts.now targets.now nodes.now) }
+    ensures { (result ≡ 2 * (hash_of (row_next (tables_of inputs.now leasts.now targets.now nodes.now) d)
         % (cells / 2))) × (result + 1 < cells) }
 {
-    let n = counts[d];
-    let is_final = finals[d];
-    let value = values[d];
+    let n = nodes.counts[d];
+    let is_final = nodes.finals[d];
+    let value = nodes.values[d];
     let at = 256 * d;
     let end = at + n;
     let base = base_at(d, is_final, value, &leasts[at..end]);

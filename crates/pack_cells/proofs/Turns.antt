@@ -1,9 +1,11 @@
 -- The loop of `run`: what a turn may change, what holds between two turns, and what a step asks and leaves of the cells.
 -- Assumes nothing.
 use Rattle.std.specs.Prelude.{◌≡◌, Bool, List, ℕ, ◌+◌, ◌<◌, length, set, Ok, Result}
-use Rattle.std.proofs.Common.{sym, ap, ap₂, subst, ◌∙◌, arith}
+use Rattle.std.proofs.Common.{sym, ap, subst, ◌∙◌, arith}
 use Rattle.format.specs.declared.Refusal.{Refusal}
-use Rattle.packing_rows.specs.WorkTables.{Tables, tables_with}
+use Rattle.packing_rows.specs.WorkTables.{Tables}
+use Rattle.pack_close.specs.OpenNodes.{tables_of}
+use Rattle.pack_close.specs.declared.Open.{Open}
 use Rattle.pack_blank.specs.PackBlank.{tables_test}
 use Rattle.pack_cell.specs.Cells.{at}
 use Rattle.pack_cell.specs.declared.Cell.{Cell}
@@ -23,18 +25,15 @@ pub record State : Type 0 where
   pub inputs : List ℕ
   pub leasts : List ℕ
   pub targets : List ℕ
-  pub counts : List ℕ
-  pub led : List ℕ
-  pub finals : List Bool
-  pub values : List ℕ
+  pub nodes : Open
   pub turn : Result Turn Refusal
 
-abbrev pub tables_of : State → Tables
-tables_of v = tables_with v.inputs v.leasts v.targets v.counts v.led v.finals v.values
+abbrev pub tables_in : State → Tables
+tables_in v = tables_of v.inputs v.leasts v.targets v.nodes
 
 -- i, l and t entries are lent as working tables, n cells and m bytes of output
 pub record Between (s : List ℕ) (i l t n m : ℕ) (v : State) : Type 0 where
-  pub standing : Standing s (tables_test i l t) n m v.out (pairs_is v.cells) (tables_of v) v.turn
+  pub standing : Standing s (tables_test i l t) n m v.out (pairs_is v.cells) (tables_in v) v.turn
   pub inputs_same : length v.inputs ≡ i
   pub leasts_same : length v.leasts ≡ l
   pub targets_same : length v.targets ≡ t
@@ -58,22 +57,22 @@ module _ {s : List ℕ} {i l t n m : ℕ} (v : State) (f : Between s i l t n m v
     pub within : d.row + 1 < length v.cells
     within = omega (arith, (f.standing.on d on).within, cells_same)
 
-    here : Stands (length v.cells) (length v.out) v.out (pairs_is v.cells) (tables_of v) (Ok (Next d))
+    here : Stands (length v.cells) (length v.out) v.out (pairs_is v.cells) (tables_in v) (Ok (Next d))
     here =
-        subst (λ (k : ℕ). Stands k (length v.out) v.out (pairs_is v.cells) (tables_of v) (Ok (Next d))) (sym cells_same)
-        (subst (λ (k : ℕ). Stands n k v.out (pairs_is v.cells) (tables_of v) (Ok (Next d))) (sym f.standing.long)
-        (subst (λ (x : Result Turn Refusal). Stands n m v.out (pairs_is v.cells) (tables_of v) x) on f.standing))
+        subst (λ (k : ℕ). Stands k (length v.out) v.out (pairs_is v.cells) (tables_in v) (Ok (Next d))) (sym cells_same)
+        (subst (λ (k : ℕ). Stands n k v.out (pairs_is v.cells) (tables_in v) (Ok (Next d))) (sym f.standing.long)
+        (subst (λ (x : Result Turn Refusal). Stands n m v.out (pairs_is v.cells) (tables_in v) x) on f.standing))
 
     taken : {one two : Cell} → one ≡ at v.cells d.row → two ≡ at v.cells (d.row + 1) → TakenFrom (pairs_is v.cells) d.row (pair_of one two)
     taken e₁ e₂ = rw (e₁, e₂) (pairs_taken v.cells d.row within)
 
     -- one and two are the cells of its row
     module _ {one two : Cell} (one_is : one ≡ at v.cells d.row) (two_is : two ≡ at v.cells (d.row + 1)) where
-      pub asked : StepAsked s (length v.cells) v.out one two (tables_of v) d
+      pub asked : StepAsked s (length v.cells) v.out one two (tables_in v) d
       asked = record { tables = tables; table = pairs_is v.cells; standing = here; taken = taken one_is two_is }
 
       -- v' is what a step leaves, with its two cells put back
-      module _ (v' : State) {r : Stepped} (w : Steps s (length v.cells) v.out one two (tables_of v) d v'.out (tables_of v') r) (next : r.turn ≡ v'.turn)
+      module _ (v' : State) {r : Stepped} (w : Steps s (length v.cells) v.out one two (tables_in v) d v'.out (tables_in v') r) (next : r.turn ≡ v'.turn)
           (put : v'.cells ≡ set (set v.cells d.row r.one) (d.row + 1) r.two) where
         abbrev table' : List (List ℕ)
         table' = put_pair (pairs_is v.cells) d.row (pair_of r.one r.two)
@@ -81,12 +80,12 @@ module _ {s : List ℕ} {i l t n m : ℕ} (v : State) (f : Between s i l t n m v
         table_is : pairs_is v'.cells ≡ table'
         table_is = ap pairs_is put ∙ pairs_put v.cells d.row r.one r.two
 
-        pub after : Stands n m v'.out (pairs_is v'.cells) (tables_of v') v'.turn
+        pub after : Stands n m v'.out (pairs_is v'.cells) (tables_in v') v'.turn
         after =
-            subst (λ (k : ℕ). Stands k m v'.out (pairs_is v'.cells) (tables_of v') v'.turn) cells_same
-            (subst (λ (k : ℕ). Stands (length v.cells) k v'.out (pairs_is v'.cells) (tables_of v') v'.turn) f.standing.long
-            (subst (λ (x : List (List ℕ)). Stands (length v.cells) (length v.out) v'.out x (tables_of v') v'.turn) (sym table_is)
-            (subst (λ (x : Result Turn Refusal). Stands (length v.cells) (length v.out) v'.out table' (tables_of v') x) next (w.stands tables (pairs_is v.cells) here (taken one_is two_is)))))
+            subst (λ (k : ℕ). Stands k m v'.out (pairs_is v'.cells) (tables_in v') v'.turn) cells_same
+            (subst (λ (k : ℕ). Stands (length v.cells) k v'.out (pairs_is v'.cells) (tables_in v') v'.turn) f.standing.long
+            (subst (λ (x : List (List ℕ)). Stands (length v.cells) (length v.out) v'.out x (tables_in v') v'.turn) (sym table_is)
+            (subst (λ (x : Result Turn Refusal). Stands (length v.cells) (length v.out) v'.out table' (tables_in v') x) next (w.stands tables (pairs_is v.cells) here (taken one_is two_is)))))
 
         pub between : length v'.inputs ≡ length v.inputs → length v'.leasts ≡ length v.leasts → length v'.targets ≡ length v.targets → Between s i l t n m v'
         between x y z = record { standing = after; inputs_same = x ∙ f.inputs_same; leasts_same = y ∙ f.leasts_same; targets_same = z ∙ f.targets_same }

@@ -1,4 +1,5 @@
 // The nodes of a list packed over the table of cells as a slice of structs: the two cells of a row are taken, a step is made, and two cells are stored.
+// inputs, leasts and targets are slices and no struct: the C caller lends them one by one.
 #![tactic(auto)]
 
 ghost use Rattle.std.specs.Prelude.{◌≡◌, cond, length, replicate};
@@ -9,6 +10,7 @@ ghost use Rattle.pack_cells.specs.Pairs.{pairs_is};
 
 use format::Refusal;
 use pack_cell::{Cell, empty_cells, put_row};
+use pack_close::Open;
 use pack_intern::Placed;
 use pack_step::Turn;
 
@@ -25,10 +27,7 @@ pub fn run(
     ensures { Ended list.now (tables_test (length inputs.old) (length leasts.old) (length targets.old))
         (length cells.old) (length output.old) output.new (pairs_is cells.new) result }
 {
-    let mut counts: [usize; 256] = [0; 256];
-    let mut led: [u8; 256] = [0; 256];
-    let mut finals: [bool; 256] = [false; 256];
-    let mut values: [u64; 256] = [0; 256];
+    let mut nodes = Open::new();
     let mut turn = pack_step::begin(
         list,
         output.len(),
@@ -36,10 +35,7 @@ pub fn run(
         inputs,
         leasts,
         targets,
-        &mut counts,
-        &mut led,
-        &mut finals,
-        &mut values,
+        &mut nodes,
     )?;
     loop {
         let due = match turn {
@@ -57,10 +53,7 @@ pub fn run(
             inputs,
             leasts,
             targets,
-            &mut counts,
-            &mut led,
-            &mut finals,
-            &mut values,
+            &mut nodes,
         );
         put_row(cells, i, done.one, done.two);
         turn = done.turn?;

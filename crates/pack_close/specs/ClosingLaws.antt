@@ -3,7 +3,7 @@
 --     step_at, step_full   the deepest node is finished, or has no room
 --     closing_none, -step, -full, -all     the loop that closes down to a depth
 -- Assumes nothing.
-use Rattle.std.specs.Prelude.{◌≡◌, Option, None, Some, refl, false, List, ℕ, suc, ◌+◌, ◌-◌, ◌*◌, ◌≤◌, ◌<◌, length, get_or, drop, set}
+use Rattle.std.specs.Prelude.{◌≡◌, Option, None, Some, refl, false, List, ℕ, suc, ◌+◌, ◌-◌, ◌*◌, ◌≤◌, ◌<◌, length, get_or, drop}
 use Rattle.std.proofs.Common.{sym, ◌∙◌, subst, arith, length-append, get_or-take, get_or-drop}
 use Rattle.std.proofs.Math.Path.{ap}
 use Rattle.format.specs.Packed.{BuilderNode}
@@ -170,10 +170,8 @@ module _ (out : List ℕ) (first : ℕ) (cells : List (List ℕ)) (T : Tables) (
     }
 
     -- the tables as the code has them then
-    pub step_at : (inputs'' leasts'' targets'' counts'' : List ℕ) → inputs'' ≡ set T.inputs (256 * e + count_at T e) (get_or T.led d 0)
-        → leasts'' ≡ set leasts' (256 * e + count_at T e) base → targets'' ≡ set T.targets (256 * e + count_at T e) a → counts'' ≡ set T.counts e (count_at T e + 1)
-        → StepTo B first T e out' cells' (tables_with inputs'' leasts'' targets'' counts'' T.led T.finals T.values) next
-    step_at inputs'' leasts'' targets'' counts'' p q r t = rw (p, q, r, t) step_two
+    pub step_at : (T' : Tables) → T' ≡ with_entry T₁ e (get_or T.led d 0) base a → StepTo B first T e out' cells' T' next
+    step_at T' p = rw p step_two
 
 pub step_done : {B : Build} {first : ℕ} {T : Tables} {e : ℕ} {out : List ℕ} {cells : List (List ℕ)} {T' : Tables} {next : ℕ} → StepTo B first T e out cells T' next
     → StepIs B first T e out cells T' (Some next)

@@ -1,2 +1,3 @@
+pub mod OpenNodes
 pub mod Closing
 pub mod ClosingLaws

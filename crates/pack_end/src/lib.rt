@@ -1,4 +1,5 @@
 // The end of packing, once no node is to be finished: the ends of the file are written, or it is refused and the output is zeros.
+// limit, list and output are two functions' alone: no struct is made for them.
 #![tactic(auto)]
 
 ghost use Rattle.pack_end.specs.Ending.{EndAsked, Ends, Finishes};
@@ -6,7 +7,7 @@ ghost use Rattle.pack_end.specs.Ending.{EndAsked, Ends, Finishes};
 use format::Refusal;
 use pack_intern::Placed;
 
-// Writes the ends of the file, where the root is placed, or says why there is none.
+// Writes the ends of the file, where the root is placed, and answers the length of the file, or says why there is none.
 fn ends(
     limit: usize,
     list: &[u8],
@@ -29,7 +30,7 @@ fn ends(
     Ok(next + 16)
 }
 
-// The answer, once no node is to be finished: the ends of the file are written, or the output is zeros.
+// The answer, once no node is to be finished: the ends of the file are written and its length is answered, or the output is zeros.
 pub fn finish(
     limit: usize,
     list: &[u8],

@@ -1,5 +1,6 @@
 // A row of the working tables finished: its outputs are counted from a base, and its record goes through the cells.
 // Row d of the three tables, 256 entries from 256 d on, has the finished transitions of the open node at depth d.
+// inputs, leasts and targets are slices and no struct: the C caller lends them one by one.
 #![tactic(auto)]
 
 ghost use Rattle.std.specs.Prelude.{◌≡◌, true, cond, map, ℕ, ◌-◌, ◌*◌, ◌≤◌};

@@ -1,5 +1,6 @@
 // One record interned: its address among the nodes so far, found through the cells or written after them.
 // A cell is an address and a hash, a row two cells, as in `RegistryCache` of src/raw/registry.rs.
+// inputs, outputs and targets are slices and no struct: they are rows of tables that the C caller lends one by one.
 #![tactic(auto)]
 
 ghost use Rattle.std.specs.Prelude.{◌≡◌, ◌+◌, ◌*◌, ◌/◌, ◌%◌, ◌≤◌, ◌<◌, length};

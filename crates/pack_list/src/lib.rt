@@ -1,5 +1,6 @@
 // The list that is packed, judged before anything is written, and read: the number of keys, ends, values.
 // A list is: the number of keys and the total of their bytes, an end for each key, a value for each key, the key bytes.
+// A key's place in the list is its number and the count: the list is lent as bytes.
 #![tactic(auto)]
 
 ghost use Rattle.std.specs.Prelude.{◌≡◌, ◌+◌, ◌*◌, ◌≤◌, ◌<◌, length};

@@ -17,7 +17,7 @@ use Rattle.pack_node.specs.declared.Due.{Due}
 use Rattle.pack_node.specs.declared.NodeStep.{NodeStep}
 
 abbrev pub hash_next : Tables → ℕ → ℕ
-hash_next T d = hash_of (row_next T.inputs T.leasts T.targets T.counts T.finals T.values d)
+hash_next T d = hash_of (row_next T d)
 
 pub record NodeAt (s : List ℕ) (cells : ℕ) (out : List ℕ) (table : List (List ℕ)) (T : Tables) (next : ℕ) (w : Way) (row : ℕ) : Type 0 where
   pub list : IsList s

@@ -4,17 +4,19 @@
 --     node_asked, node_full, node_started, node_next, node_at      what the code asks and leaves
 --     steps_full, steps_done   what it answers
 -- Assumes nothing.
-use Rattle.std.specs.Prelude.{◌≡◌, Option, None, Some, Bool, List, [], ℕ, ◌+◌, ◌*◌, ◌/◌, ◌%◌, ◌≤◌, ◌<◌, length, get_or, set}
+use Rattle.std.specs.Prelude.{◌≡◌, Option, None, Some, List, [], ℕ, ◌+◌, ◌*◌, ◌/◌, ◌%◌, ◌≤◌, ◌<◌, length, get_or, set}
 use Rattle.std.proofs.Common.{sym, ap, ◌∙◌, subst, ⊎_elim, arith, length-set}
 use Rattle.std.proofs.Math.Path.{ap₂}
 use Rattle.format.specs.Packed.{BuilderNode}
 use Rattle.packing.specs.Lists.{pairs_of}
 use Rattle.packing.specs.Registry.{hash_of, row_of}
 use Rattle.packing.specs.Packing.{pack_nodes, least_at, record_of}
-use Rattle.packing_rows.specs.WorkTables.{Tables, tables_with, open_at}
+use Rattle.packing_rows.specs.WorkTables.{Tables, open_at}
 use Rattle.pack_intern.specs.Interning.{cells_is}
 use Rattle.pack_intern.specs.InterningLaws.{length_cells}
 use Rattle.pack_close.specs.Closing.{Closable}
+use Rattle.pack_close.specs.OpenNodes.{tables_of}
+use Rattle.pack_close.specs.declared.Open.{Open}
 use Rattle.pack_cell.specs.declared.Cell.{Cell}
 use Rattle.pack_row.specs.Row.{put_pair, TakenFrom}
 use Rattle.pack_row.specs.RowLaws.{row_closable}
@@ -32,7 +34,7 @@ pub put_length : (table : List (List ℕ)) (i : ℕ) (row : List (List ℕ)) →
 put_length table i row = length-set (set table i (get_or row 0 [])) (i + 1) (get_or row 1 []) ∙ length-set table i (get_or row 0 [])
 
 module _ {s : List ℕ} {cells : ℕ} {out : List ℕ} {table : List (List ℕ)} {T : Tables} {next : ℕ} {w : Way} {i : ℕ} (G : NodeAt s cells out table T next w i) where
-  pub row_of_record : (b : BuilderNode) → row_next T.inputs T.leasts T.targets T.counts T.finals T.values w.depth ≡ b → i ≡ row_of (cells_is table) b
+  pub row_of_record : (b : BuilderNode) → row_next T w.depth ≡ b → i ≡ row_of (cells_is table) b
   unfolding row_of
   row_of_record b e = G.row_is ∙ ap₂ (λ (x : BuilderNode) (n : ℕ). 2 * (hash_of x % (n / 2))) e (sym (length_cells table ∙ G.count))
 
@@ -46,13 +48,16 @@ module _ {s : List ℕ} {cells : ℕ} {out : List ℕ} {table : List (List ℕ)}
     at_row : i ≡ row_of (cells_is table) (record_of (open_at T (e + 1)) (least_at (open_at T (e + 1))))
     at_row =
         row_of_record (record_of (open_at T (e + 1)) (least_at (open_at T (e + 1))))
-        (ap (row_next T.inputs T.leasts T.targets T.counts T.finals T.values) deep
+        (ap (row_next T) deep
         ∙ record_next T (e + 1) C.sized C.low (C.orderly.few (e + 1) (omega arith)) (omega arith))
 
     pub node_asked : Closable out next (pair_of one two) T (e + 1)
     node_asked = row_closable out next table T e i (pair_of one two) C taken
 
-    module _ {out' : List ℕ} {T₁ : Tables} {r : RowClosed} (c : ClosesInRow out next (pair_of one two) T e out' T₁ r) where
+    module _ {out' inputs' leasts' targets' : List ℕ} {o : Open} {r : RowClosed} (c : ClosesInRow out next (pair_of one two) T e out' (tables_of inputs' leasts' targets' o) r) where
+      abbrev T₁ : Tables
+      T₁ = tables_of inputs' leasts' targets' o
+
       abbrev table' : List (List ℕ)
       table' = put_pair table i (pair_of r.one r.two)
 
@@ -63,27 +68,26 @@ module _ {s : List ℕ} {cells : ℕ} {out : List ℕ} {table : List (List ℕ)}
         node_on : Underway s cells out' table' T₁ after (way_with e w.to w.keys)
         node_on = underway_close G.underway G.list e deep low ((node_step out next table T e i (pair_of one two) C taken at_row c).0 after d) led_same
 
-        pub node_started : Started s T₁.counts T₁.led T₁.finals T₁.values (way_with e w.to w.keys)
+        pub node_started : Started s o (way_with e w.to w.keys)
         node_started = record {
           cells = cells;
           out = out';
           table = table';
-          inputs = T₁.inputs;
-          leasts = T₁.leasts;
-          targets = T₁.targets;
+          inputs = inputs';
+          leasts = leasts';
+          targets = targets';
           next = after;
           underway = node_on;
         }
 
-        module _ {counts' led' : List ℕ} {finals' : List Bool} {values' : List ℕ} {v : Way}
-            (go : GoesAhead s T₁.counts T₁.led T₁.finals T₁.values (way_with e w.to w.keys) counts' led' finals' values' v) where
+        module _ {o' : Open} {v : Way} (go : GoesAhead s o (way_with e w.to w.keys) o' v) where
           abbrev T₂ : Tables
-          T₂ = tables_with T₁.inputs T₁.leasts T₁.targets counts' led' finals' values'
+          T₂ = tables_of inputs' leasts' targets' o'
 
           node_after : Underway s cells out' table' T₂ after v
-          node_after = go.gone.on cells out' table' T₁.inputs T₁.leasts T₁.targets after node_on
+          node_after = go.gone.on cells out' table' inputs' leasts' targets' after node_on
 
-          pub node_next : RowAsked cells v.depth T₁.inputs T₁.leasts T₁.targets counts'
+          pub node_next : RowAsked cells v.depth T₂
           node_next = row_asked node_after G.two
 
           pub node_at : {row : ℕ} → (row ≡ 2 * (hash_next T₂ v.depth % (cells / 2))) × (row + 1 < cells) → NodeAt s cells out' table' T₂ after v row

@@ -1,11 +1,13 @@
 // A node that is not the root, finished in the two cells of its row, and then keys opened until the next node has to be finished.
+// inputs, leasts and targets are slices and no struct: the C caller lends them one by one.
 #![tactic(auto)]
 
-ghost use Rattle.packing_rows.specs.WorkTables.{tables_with};
+ghost use Rattle.pack_close.specs.OpenNodes.{tables_of};
 ghost use Rattle.pack_node.specs.NodeSteps.{NodeAsked, NodeSteps};
 
 use pack_ahead::Way;
 use pack_cell::Cell;
+use pack_close::Open;
 
 // A node to be finished: the deepest of the open nodes.
 #[derive(Clone, Copy)]
@@ -40,23 +42,18 @@ pub fn node_in_row(
     inputs: &mut [u8],
     leasts: &mut [u64],
     targets: &mut [usize],
-    counts: &mut [usize; 256],
-    led: &mut [u8; 256],
-    finals: &mut [bool; 256],
-    values: &mut [u64; 256],
+    nodes: &mut Open,
 ) -> NodeStep
     requires { NodeAsked list.now cells output.old one two
-        (tables_with inputs.old leasts.old targets.old counts.old led.old finals.old values.old) first way }
+        (tables_of inputs.old leasts.old targets.old nodes.old) first way }
     ensures { NodeSteps list.now cells output.old one two
-        (tables_with inputs.old leasts.old targets.old counts.old led.old finals.old values.old)
+        (tables_of inputs.old leasts.old targets.old nodes.old)
         first way output.new
-        (tables_with inputs.new leasts.new targets.new counts.new led.new finals.new values.new)
+        (tables_of inputs.new leasts.new targets.new nodes.new)
         result }
 {
     let e = way.depth - 1;
-    let done = pack_turn::close_in_row(
-        output, one, two, first, e, inputs, leasts, targets, counts, led, finals, values,
-    );
+    let done = pack_turn::close_in_row(output, one, two, first, e, inputs, leasts, targets, nodes);
     let Some(next) = done.next else {
         return NodeStep {
             due: None,
@@ -70,9 +67,9 @@ pub fn node_in_row(
         to: way.to,
         keys: way.keys,
     };
-    let on = pack_ahead::ahead(list, n, from, counts, led, finals, values);
+    let on = pack_ahead::ahead(list, n, from, nodes);
     let d = on.depth;
-    let row = pack_ahead::row_next(cells, d, inputs, leasts, targets, counts, finals, values);
+    let row = pack_ahead::row_next(cells, d, inputs, leasts, targets, nodes);
     NodeStep {
         due: Some(Due { next, way: on, row }),
         one: done.one,

@@ -1,5 +1,6 @@
 // A node finished in its row of two cells, which are given by value: the row that is its own, found before it is finished.
 // That finishing it there alone is finishing it in the whole table is said in specs/.
+// inputs, leasts and targets are slices and no struct: the C caller lends them one by one.
 #![tactic(auto)]
 
 ghost use Rattle.std.specs.Prelude.{◌≡◌, map, ℕ, ◌+◌, ◌-◌, ◌*◌, ◌/◌, ◌%◌, ◌≤◌, ◌<◌, length, take};

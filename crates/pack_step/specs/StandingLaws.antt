@@ -16,10 +16,12 @@ use Rattle.packing.specs.Registry.{hash_of, row_of, intern}
 use Rattle.packing.specs.Packing.{pack_nodes, refused, pack_answer}
 use Rattle.packing.proofs.ListedLaws.{answer_list, answer_tables, answer_cells, answer_room}
 use Rattle.packing.proofs.TrailerLaws.{length_file}
-use Rattle.packing_rows.specs.WorkTables.{Tables, tables_with, count_at}
+use Rattle.packing_rows.specs.WorkTables.{Tables, count_at}
 use Rattle.pack_intern.specs.Interning.{cells_is, build_is, InternIs}
 use Rattle.pack_intern.specs.declared.Placed.{Placed}
 use Rattle.pack_finish.specs.FinishRow.{row_node, Finishable}
+use Rattle.pack_close.specs.OpenNodes.{tables_of, no_open}
+use Rattle.pack_close.specs.declared.Open.{Open}
 use Rattle.pack_cell.specs.declared.Cell.{Cell}
 use Rattle.pack_row.specs.Row.{put_pair, TakenFrom}
 use Rattle.pack_row.specs.RowLaws.{row_ready, row_interned}
@@ -125,21 +127,20 @@ module _ (s : List ℕ) (tables : Bool) (cells room : ℕ) where
 
 -- ---- the start
 
-module _ (s : List ℕ) (cells room : ℕ) (inputs leasts targets counts led : List ℕ) (finals : List Bool) (values : List ℕ)
-    (sound : Sound s (tables_test (length inputs) (length leasts) (length targets)) cells) (long : 32 ≤ room)
-    (c_is : counts ≡ replicate 256 0) (l_is : led ≡ replicate 256 0) (f_is : finals ≡ replicate 256 false) (v_is : values ≡ replicate 256 0) where
+module _ (s : List ℕ) (cells room : ℕ) (inputs leasts targets : List ℕ) (o : Open)
+    (sound : Sound s (tables_test (length inputs) (length leasts) (length targets)) cells) (long : 32 ≤ room) (none : o ≡ no_open) where
   at_start : (out : List ℕ) (table : List (List ℕ)) → out ≡ replicate room 0 → table ≡ replicate cells (1 ∷ 0 ∷ [])
-      → Underway s cells out table (tables_with inputs leasts targets counts led finals values) 16 (way_with 0 0 0)
+      → Underway s cells out table (tables_of inputs leasts targets o) 16 (way_with 0 0 0)
   at_start out table o_is t_is =
       let lo : length out ≡ room = ap length o_is ∙ length-replicate room 0 in
       let lt : length table ≡ cells = ap length t_is ∙ length-replicate cells (1 ∷ 0 ∷ []) in
       let b : Blank out table = blank_of out table (zeros_again 0 room o_is) (zeros_again (1 ∷ 0 ∷ []) cells t_is) (omega (arith, sound.two, lt)) (omega (arith, long, lo)) in
       let z = sizes (length inputs) (length leasts) (length targets) sound.fit in
-      rw (c_is, l_is, f_is, v_is)
-      (subst (λ (n : ℕ). Underway s n out table (tables_with inputs leasts targets (replicate 256 0) (replicate 256 0) (replicate 256 false) (replicate 256 0)) 16 (way_with 0 0 0)) lt
+      rw none
+      (subst (λ (n : ℕ). Underway s n out table (tables_of inputs leasts targets no_open) 16 (way_with 0 0 0)) lt
       (underway_none s out table b inputs leasts targets z.0 z.1 z.2))
 
-  pub begin_started : Started s counts led finals values (way_with 0 0 0)
+  pub begin_started : Started s o (way_with 0 0 0)
   begin_started = record {
     cells = cells;
     out = replicate room 0;
@@ -151,17 +152,17 @@ module _ (s : List ℕ) (cells room : ℕ) (inputs leasts targets counts led : L
     underway = at_start (replicate room 0) (replicate cells (1 ∷ 0 ∷ [])) refl refl;
   }
 
-  module _ {counts' led' : List ℕ} {finals' : List Bool} {values' : List ℕ} {w : Way} (go : GoesAhead s counts led finals values (way_with 0 0 0) counts' led' finals' values' w) where
+  module _ {o' : Open} {w : Way} (go : GoesAhead s o (way_with 0 0 0) o' w) where
     after : (out : List ℕ) (table : List (List ℕ)) → out ≡ replicate room 0 → table ≡ replicate cells (1 ∷ 0 ∷ [])
-        → Underway s cells out table (tables_with inputs leasts targets counts' led' finals' values') 16 w
+        → Underway s cells out table (tables_of inputs leasts targets o') 16 w
     after out table o_is t_is = go.gone.on cells out table inputs leasts targets 16 (at_start out table o_is t_is)
 
-    pub begin_asked : RowAsked cells w.depth inputs leasts targets counts'
+    pub begin_asked : RowAsked cells w.depth (tables_of inputs leasts targets o')
     begin_asked = row_asked (after (replicate room 0) (replicate cells (1 ∷ 0 ∷ [])) refl refl) sound.two
 
-    pub begin_stands : {row : ℕ} → (row ≡ 2 * (hash_of (row_next inputs leasts targets counts' finals' values' w.depth) % (cells / 2))) × (row + 1 < cells)
+    pub begin_stands : {row : ℕ} → (row ≡ 2 * (hash_of (row_next (tables_of inputs leasts targets o') w.depth) % (cells / 2))) × (row + 1 < cells)
         → (out : List ℕ) (table : List (List ℕ)) → out ≡ replicate room 0 → table ≡ replicate cells (1 ∷ 0 ∷ [])
-        → Standing s (tables_test (length inputs) (length leasts) (length targets)) cells room out table (tables_with inputs leasts targets counts' led' finals' values')
+        → Standing s (tables_test (length inputs) (length leasts) (length targets)) cells room out table (tables_of inputs leasts targets o')
         (Ok (Next (record { next = 16; way = w; row = row })))
     begin_stands row out table o_is t_is =
         stands_next s (tables_test (length inputs) (length leasts) (length targets)) cells room (ap length o_is ∙ length-replicate room 0) (ap length t_is ∙ length-replicate cells (1 ∷ 0 ∷ [])) _
@@ -220,7 +221,7 @@ module _ {s : List ℕ} {cells : ℕ} {out : List ℕ} {one two : Cell} {T : Tab
     }
 
     root_row : n.row ≡ row_of (cells_is table) node
-    root_row = row_of_record node_of_turn node (ap (row_next T.inputs T.leasts T.targets T.counts T.finals T.values) top)
+    root_row = row_of_record node_of_turn node (ap (row_next T) top)
 
     module _ {out' : List ℕ} {c d : Cell} {p : Option Placed} (w : InternIs (intern (build_is out n.next (pair_of one two)) node) n.next out' (pair_of c d) p) (same : length out' ≡ length out) where
       runs : Runs (pack_nodes (pairs_of s) cells) out' (put_pair table n.row (pair_of c d)) p

@@ -1,15 +1,17 @@
 // Packing that stops at each finished node: a turn says which row of cells the next node wants, and a step is given that row by value.
 // So whoever has the table of cells takes two of them, makes a step, and puts two back.
+// inputs, leasts and targets are slices and no struct: the C caller lends them one by one.
 #![tactic(auto)]
 
-ghost use Rattle.std.specs.Prelude.{◌≡◌, false, List, ◌∷◌, [], ℕ, length, replicate};
-ghost use Rattle.packing_rows.specs.WorkTables.{tables_with};
+ghost use Rattle.std.specs.Prelude.{◌≡◌, List, ◌∷◌, [], ℕ, length, replicate};
+ghost use Rattle.pack_close.specs.OpenNodes.{no_open, tables_of};
 ghost use Rattle.pack_blank.specs.PackBlank.{tables_test};
 ghost use Rattle.pack_step.specs.Standing.{Judged, Standing, RootAsked, StepAsked, Steps, TurnAfter};
 
 use format::{FIRST_NODE, Refusal};
 use pack_ahead::Way;
 use pack_cell::Cell;
+use pack_close::Open;
 use pack_intern::Placed;
 use pack_node::{Due, NodeStep};
 
@@ -22,7 +24,7 @@ pub enum Turn {
     Done(Placed),
 }
 
-// A step made: the turn after it, or LIST or SPACE, and the row as it is to be put back.
+// A step made: the turn after it, or SPACE where the output had no room, and the row as it is to be put back.
 #[derive(Clone, Copy)]
 pub struct Stepped {
     pub turn: Result<Turn, Refusal>,
@@ -66,15 +68,12 @@ pub fn begin(
     inputs: &[u8],
     leasts: &[u64],
     targets: &[usize],
-    counts: &mut [usize; 256],
-    led: &mut [u8; 256],
-    finals: &mut [bool; 256],
-    values: &mut [u64; 256],
+    nodes: &mut Open,
 ) -> Result<Turn, Refusal>
-    requires { (counts.old ≡ replicate 256 0) × (led.old ≡ replicate 256 0) × (finals.old ≡ replicate 256 false) × (values.old ≡ replicate 256 0) }
+    requires { nodes.old ≡ no_open }
     ensures { (out : List ℕ) (table : List (List ℕ)) → out ≡ replicate room 0 → table ≡ replicate cells (1 ∷ 0 ∷ []) → Standing list.now
         (tables_test (length inputs.now) (length leasts.now) (length targets.now)) cells room out table
-        (tables_with inputs.now leasts.now targets.now counts.new led.new finals.new values.new) result }
+        (tables_of inputs.now leasts.now targets.now nodes.new) result }
 {
     judged(list, room, cells, inputs.len(), leasts.len(), targets.len())?;
     let n = pack_list::key_count(list);
@@ -83,9 +82,9 @@ pub fn begin(
         to: 0,
         keys: 0,
     };
-    let way = pack_ahead::ahead(list, n, start, counts, led, finals, values);
+    let way = pack_ahead::ahead(list, n, start, nodes);
     let d = way.depth;
-    let row = pack_ahead::row_next(cells, d, inputs, leasts, targets, counts, finals, values);
+    let row = pack_ahead::row_next(cells, d, inputs, leasts, targets, nodes);
     Ok(Turn::Next(Due {
         next: FIRST_NODE,
         way,
@@ -105,22 +104,19 @@ fn step_root(
     inputs: &[u8],
     leasts: &mut [u64],
     targets: &[usize],
-    counts: &[usize; 256],
-    led: &[u8; 256],
-    finals: &[bool; 256],
-    values: &[u64; 256],
+    nodes: &Open,
 ) -> Stepped
     requires { RootAsked list.now output.old one two
-        (tables_with inputs.now leasts.old targets.now counts.now led.now finals.now values.now) due }
+        (tables_of inputs.now leasts.old targets.now nodes.now) due }
     ensures { (cells : ℕ) → Steps list.now cells output.old one two
-        (tables_with inputs.now leasts.old targets.now counts.now led.now finals.now values.now)
+        (tables_of inputs.now leasts.old targets.now nodes.now)
         due output.new
-        (tables_with inputs.now leasts.new targets.now counts.now led.now finals.now values.now)
+        (tables_of inputs.now leasts.new targets.now nodes.now)
         result }
 {
-    let n = counts[0];
-    let is_final = finals[0];
-    let value = values[0];
+    let n = nodes.counts[0];
+    let is_final = nodes.finals[0];
+    let value = nodes.values[0];
     let done = pack_turn::root_in_row(
         output, one, two, due.next, n, is_final, value, inputs, leasts, targets,
     );
@@ -159,29 +155,23 @@ pub fn step(
     inputs: &mut [u8],
     leasts: &mut [u64],
     targets: &mut [usize],
-    counts: &mut [usize; 256],
-    led: &mut [u8; 256],
-    finals: &mut [bool; 256],
-    values: &mut [u64; 256],
+    nodes: &mut Open,
 ) -> Stepped
     requires { StepAsked list.now cells output.old one two
-        (tables_with inputs.old leasts.old targets.old counts.old led.old finals.old values.old) due }
+        (tables_of inputs.old leasts.old targets.old nodes.old) due }
     ensures { Steps list.now cells output.old one two
-        (tables_with inputs.old leasts.old targets.old counts.old led.old finals.old values.old)
+        (tables_of inputs.old leasts.old targets.old nodes.old)
         due output.new
-        (tables_with inputs.new leasts.new targets.new counts.new led.new finals.new values.new)
+        (tables_of inputs.new leasts.new targets.new nodes.new)
         result }
 {
     let way = due.way;
     if way.depth == 0 {
-        return step_root(
-            list, output, one, two, due, inputs, leasts, targets, counts, led, finals, values,
-        );
+        return step_root(list, output, one, two, due, inputs, leasts, targets, nodes);
     }
     let first = due.next;
     let made = pack_node::node_in_row(
-        list, cells, output, one, two, first, way, inputs, leasts, targets, counts, led, finals,
-        values,
+        list, cells, output, one, two, first, way, inputs, leasts, targets, nodes,
     );
     after_node(made)
 }

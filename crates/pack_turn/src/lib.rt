@@ -1,15 +1,18 @@
 // The deepest open node, and at the end the root, finished in the two cells of its row, which are given and given back by value.
+// inputs, leasts and targets are slices and no struct: the C caller lends them one by one.
+// A row is two cells and no array: they are taken from the table and put back one by one, and the definitions name each.
 #![tactic(auto)]
 
 ghost use Rattle.std.specs.Prelude.{◌≡◌, ◌+◌};
-ghost use Rattle.packing_rows.specs.WorkTables.{tables_with};
 ghost use Rattle.packing.specs.Registry.{intern};
 ghost use Rattle.pack_intern.specs.Interning.{build_is, InternIs};
 ghost use Rattle.pack_finish.specs.FinishRow.{row_node, Finishable};
 ghost use Rattle.pack_close.specs.Closing.{Closable};
+ghost use Rattle.pack_close.specs.OpenNodes.{tables_of};
 ghost use Rattle.pack_turn.specs.RowClosing.{pair_of, ClosesInRow};
 
 use pack_cell::Cell;
+use pack_close::Open;
 use pack_intern::Placed;
 
 // What finishing a node leaves.
@@ -32,25 +35,22 @@ pub fn close_in_row(
     inputs: &mut [u8],
     leasts: &mut [u64],
     targets: &mut [usize],
-    counts: &mut [usize; 256],
-    led: &[u8; 256],
-    finals: &[bool; 256],
-    values: &[u64; 256],
+    nodes: &mut Open,
 ) -> RowClosed
     requires { Closable output.old first (pair_of one two)
-        (tables_with inputs.old leasts.old targets.old counts.old led.now finals.now values.now) (e + 1) }
+        (tables_of inputs.old leasts.old targets.old nodes.old) (e + 1) }
     ensures { ClosesInRow output.old first (pair_of one two)
-        (tables_with inputs.old leasts.old targets.old counts.old led.now finals.now values.now)
+        (tables_of inputs.old leasts.old targets.old nodes.old)
         e output.new
-        (tables_with inputs.new leasts.new targets.new counts.new led.now finals.now values.now)
-        result }
+        (tables_of inputs.new leasts.new targets.new nodes.new)
+        result × (nodes.new.led ≡ nodes.old.led) }
 {
     let a: [u64; 2] = [one.addr, one.hash];
     let b: [u64; 2] = [two.addr, two.hash];
     let mut row: [[u64; 2]; 2] = [a, b];
     let d = e + 1;
     let next = pack_close::close_to(
-        output, &mut row, first, d, e, inputs, leasts, targets, counts, led, finals, values,
+        output, &mut row, first, d, e, inputs, leasts, targets, nodes,
     );
     let c = row[0];
     let f = row[1];

@@ -58,7 +58,7 @@ fits_test (p ∷ ps) r (b ∷ s) = at_test p b && fits_test ps r s
 
 -- ---- the walk
 
--- a key, with its levels, its value and the total; the end, with the total; or the number of a refusal
+-- a key, with its levels, its value and the total; the end, with the total; or a refusal
 pub data WentBy : Type 0 where
   found : List Level → ℕ → ℕ → WentBy
   ended : ℕ → WentBy

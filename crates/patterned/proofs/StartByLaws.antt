@@ -1,8 +1,9 @@
 -- A start by pattern: the cases of its definition, and the contract at each.
 --     start_shut, start_many, start_few       the file does not open; over 255 positions; a start without pattern
---     refused_by, started_by                  the contract where a start is refused, and where it is that of a start without pattern
+--     refused_.., started_by                  the contract where a start is refused, and where it is that of a start without pattern
 -- Assumes nothing.
 use mathlib.Core.Path.{◌≡◌, refl, sym, ◌∙◌, ap}
+use Rattle.std.specs.Prelude.{Result, Ok, Err}
 use Rattle.format.specs.declared.Refusal.{Refusal}
 use mathlib.Core.Bool.{Bool, cond}
 use mathlib.Core.List.{List}
@@ -17,13 +18,15 @@ use Rattle.format.specs.Opening.{Meta, Opening, opened, opening}
 use Rattle.format.specs.Strings.{Bound}
 use Rattle.reading.specs.Reading as R
 use Rattle.reading.specs.Reading.{on_opened, start}
-use Rattle.stream_start.specs.Views.{began_is}
+use Rattle.stream_start.specs.declared.Reading.{Reading}
+use Rattle.stream_start.specs.Views.{started_is}
 use Rattle.pattern.specs.Pattern as P
 use Rattle.pattern.specs.Pattern.{start_by}
+use Rattle.patterned_fit.specs.declared.Pattern.{Pattern}
 use Rattle.patterned_fit.specs.Positions.{position_is}
 use Rattle.patterned_held.specs.HeldPatterns.{held_is, given_is}
-use Rattle.patterned.specs.declared.PatternedStart.{PatternedStart}
-use Rattle.patterned.specs.Patterns.{no_patterned, StartedBy}
+use Rattle.patterned.specs.declared.Patterned.{Patterned}
+use Rattle.patterned.specs.Patterns.{StartedBy}
 
 module _ (s : List ℕ) (p : P.Pattern) (lo hi : Bound) where
   start_shut : (n : Refusal) → opening s ≡ O.refused n → start_by s p lo hi ≡ R.Started.refused n
@@ -51,26 +54,32 @@ module _ (s : List ℕ) (p : P.Pattern) (lo hi : Bound) where
 
 -- ---- the contract
 
-not_started : {n : Refusal} {v : R.View} → ¬ (◌≡◌ {A = R.Started} (R.Started.refused n) (R.started v))
-not_started e = let z : ◌≡◌ {A = ℕ} 0 1 = cc in omega arith
+pattern_of : (x y : Patterned) → ◌≡◌ {A = Result Patterned Refusal} (Ok x) (Ok y) → x.pattern ≡ y.pattern
+pattern_of x y e = let z : x ≡ y = cc in ap (λ (w : Patterned). w.pattern) z
 
-refused_by : (w : R.Started) (p : P.Pattern) (n : Refusal) → w ≡ R.Started.refused n → (r : PatternedStart) → r ≡ no_patterned n → StartedBy w p r
-refused_by w p n e r q = rw q (record { answer = sym e; pattern = λ v is. absurd (not_started (sym e ∙ is)) })
+refused_by : (w : R.Started) (p : P.Pattern) (n : Refusal) → w ≡ R.Started.refused n → StartedBy w p (Err n)
+refused_by w p n e = record { answer = sym e; pattern = λ q is. absurd (let z : ◌≡◌ {A = ℕ} 0 1 = cc in omega arith) }
 
 module _ (s xs : List ℕ) (rest : Bool) (lo hi : Bound) where
-  pub refused_open : (n : Refusal) → opening s ≡ O.refused n → (r : PatternedStart) → r ≡ no_patterned n
-      → StartedBy (start_by s (given_is xs rest) lo hi) (given_is xs rest) r
-  refused_open n e r q = refused_by (start_by s (given_is xs rest) lo hi) (given_is xs rest) n (start_shut s (given_is xs rest) lo hi n e) r q
+  abbrev given : P.Pattern
+  given = given_is xs rest
 
-  pub refused_many : (m : Meta) → opening s ≡ opened m → max_path < length xs → (r : PatternedStart) → r ≡ no_patterned PATTERN
-      → StartedBy (start_by s (given_is xs rest) lo hi) (given_is xs rest) r
-  refused_many m e h r q =
-      refused_by (start_by s (given_is xs rest) lo hi) (given_is xs rest) PATTERN
-      (start_many s (given_is xs rest) lo hi m e (rw (length-map xs position_is) h)) r q
+  pub refused_open : (n : Refusal) → opening s ≡ O.refused n → StartedBy (start_by s given lo hi) given (Err n)
+  refused_open n e = refused_by (start_by s given lo hi) given n (start_shut s given lo hi n e)
 
-  pub started_by : length xs ≤ max_path → (r : PatternedStart) → began_is r.answer r.patterned.reading ≡ start s lo hi
-      → held_is r.patterned.pattern ≡ given_is xs rest → StartedBy (start_by s (given_is xs rest) lo hi) (given_is xs rest) r
-  started_by h r e held = record {
-    answer = e ∙ sym (start_few s (given_is xs rest) lo hi (rw (length-map xs position_is) h));
-    pattern = λ v is. held;
-  }
+  pub refused_many : (m : Meta) → opening s ≡ opened m → max_path < length xs → StartedBy (start_by s given lo hi) given (Err PATTERN)
+  refused_many m e h = refused_by (start_by s given lo hi) given PATTERN (start_many s given lo hi m e (rw (length-map xs position_is) h))
+
+  module _ (h : length xs ≤ max_path) (r : Result Reading Refusal) (e : started_is r ≡ start s lo hi) where
+    plain : start_by s given lo hi ≡ started_is r
+    plain = start_few s given lo hi (rw (length-map xs position_is) h) ∙ sym e
+
+    pub refused_start : (n : Refusal) → r ≡ Err n → StartedBy (start_by s given lo hi) given (Err n)
+    refused_start n q = refused_by (start_by s given lo hi) given n (plain ∙ ap started_is q)
+
+    pub started_by : (v : Reading) → r ≡ Ok v → (q : Pattern) → held_is q ≡ given
+        → StartedBy (start_by s given lo hi) given (Ok (record { reading = v; pattern = q }))
+    started_by v is q held = record {
+      answer = sym (plain ∙ ap started_is is);
+      pattern = λ y same. ap (λ (x : Pattern). held_is x) (let z : q ≡ y.pattern = pattern_of (record { reading = v; pattern = q }) y same in sym z) ∙ held;
+    }

@@ -4,10 +4,12 @@
 --     code_answers_by cs             their answers, a key as the first n bytes of its buffer afterwards
 --     last_reading_by r cs           the reading after cs, which a later call gets
 --     calls_by_is w                  the calls by definition
---     AsDefinedBy                  the start is not refused; answers and last reading are the definition's, of which demand 3 by pattern holds
+--     CallsDefinedBy               answers and last reading are the definition's, of which demand 3 by pattern holds
+--     AsDefinedBy                  the start is not refused, and CallsDefinedBy holds of all calls from its reading
 -- Assumes nothing.
 use Prim.{Unit}
-use Rattle.std.specs.Prelude.{◌≡◌, ◌⊎◌, List, [], ◌∷◌, map, ℕ, length, Ok}
+use Rattle.std.specs.Prelude.{◌≡◌, ◌⊎◌, List, [], ◌∷◌, map, ℕ, length, Ok, Result}
+use Rattle.format.specs.declared.Refusal.{Refusal}
 use Rattle.format.specs.Admitted.{Admitted}
 use Rattle.format.specs.Strings as S
 use Rattle.reading.specs.Reading as R
@@ -18,7 +20,6 @@ use Rattle.pattern.specs.PatternDemand.{DemandBy, reading_after_by, answers_by}
 use Rattle.stream_start.specs.Views.{view_is}
 use Rattle.stream_calls.specs.Calls.{in_hand}
 use Rattle.patterned.specs.declared.Patterned.{Patterned}
-use Rattle.patterned.specs.declared.PatternedStart.{PatternedStart}
 use Rattle.patterned.specs.declared.PatternedStep.{PatternedStep}
 use Rattle.patterned_held.specs.HeldPatterns.{held_is}
 use Rattle.patterned.specs.Patterns.{SteppedBy}
@@ -61,13 +62,18 @@ calls_by_is r (c ∷ cs) w = call_by_is c w.0 ∷ calls_by_is c.step.patterned c
 
 -- ---- the claim
 
--- b is what the code's start gave, cs its calls
-pub record AsDefinedBy {s : List ℕ} (A : Admitted s) (p : P.Pattern) (lo hi : S.Bound) (b : PatternedStart) (cs : List CodeCallBy)
-    (made : MadeBy s b.patterned cs) : Type 0 where
-  pub began : b.answer ≡ Ok tt
-  pub demand : DemandBy A p lo hi (calls_by_is b.patterned cs made)
-  pub first_reading : view_is b.patterned.reading ≡ demand.reading
-  pub same_answers : code_answers_by cs ≡ answers_by p demand.reading (calls_by_is b.patterned cs made)
-  pub last_reading_lem : view_is (last_reading_by b.patterned cs).reading ≡ reading_after_by p demand.reading (calls_by_is b.patterned cs made)
+-- cs are the code's calls, from the reading q that its start gave
+pub record CallsDefinedBy {s : List ℕ} (A : Admitted s) (p : P.Pattern) (lo hi : S.Bound) (q : Patterned) (cs : List CodeCallBy) (made : MadeBy s q cs)
+    : Type 0 where
+  pub demand : DemandBy A p lo hi (calls_by_is q cs made)
+  pub first_reading : view_is q.reading ≡ demand.reading
+  pub same_answers : code_answers_by cs ≡ answers_by p demand.reading (calls_by_is q cs made)
+  pub last_reading_lem : view_is (last_reading_by q cs).reading ≡ reading_after_by p demand.reading (calls_by_is q cs made)
   -- the pattern never changes
-  pub last_pattern : held_is (last_reading_by b.patterned cs).pattern ≡ p
+  pub last_pattern : held_is (last_reading_by q cs).pattern ≡ p
+
+-- b is what the code's start gave
+pub record AsDefinedBy {s : List ℕ} (A : Admitted s) (p : P.Pattern) (lo hi : S.Bound) (b : Result Patterned Refusal) : Type 0 where
+  pub reading : Patterned
+  pub began : b ≡ Ok reading
+  pub calls : (cs : List CodeCallBy) (made : MadeBy s reading cs) → CallsDefinedBy A p lo hi reading cs made

@@ -39,6 +39,25 @@ pub record At (s : List ℕ) (v root k : ℕ) (xs is ps os : List ℕ) (m : Node
   pub arrays : Arrays xs is ps os
   pub ready : Ready s v root (get_or xs k 0) (get_or ps k 0) m
 
+pub at_level : {s : List ℕ} {v root k : ℕ} {xs is ps os : List ℕ} {m : Node} → k < 255 → Arrays xs is ps os → Ready s v root (get_or xs k 0) (get_or ps k 0) m
+    → At s v root k xs is ps os m
+at_level h w r = record { room = h; arrays = w; ready = r }
+
+-- ---- the place of the transition
+
+module _ {s : List ℕ} {v root a p i : ℕ} {m : Node} (w : Ready s v root a p m) (ei : i ≡ p) where
+  ready_at : Ready s v root a i m
+  ready_at = rw ei w
+
+  pub place_low : i < m.ntrans
+  place_low = ready_at.next
+
+  pub place_fits : ((j : ℕ) → get_or s j 0 < 256) → i < 256
+  place_fits bytes = ready_place ready_at bytes
+
+  pub target_fits : {b : ℕ} → b ≡ (transition_at (transitions_in s m) i).addr → root < 4294967296 → b < 4294967296
+  target_fits eb small = omega (arith, eb, ready_target ready_at)
+
 module _ {s : List ℕ} {v root k : ℕ} {xs is ps os : List ℕ} {m : Node} (w : At s v root k xs is ps os m) where
   abbrev f : Fst
   f = fst_with s v root
@@ -49,21 +68,9 @@ module _ {s : List ℕ} {v root k : ℕ} {xs is ps os : List ℕ} {m : Node} (w 
   abbrev below : List Level
   below = stack_is k xs is ps os
 
-  -- ---- the place of the transition
+  -- ---- the transition that is taken
 
   module _ {i : ℕ} (ei : i ≡ get_or ps k 0) where
-    ready_at : Ready s v root (get_or xs k 0) i m
-    ready_at = rw ei w.ready
-
-    pub place_low : i < m.ntrans
-    place_low = ready_at.next
-
-    pub place_fits : ((j : ℕ) → get_or s j 0 < 256) → i < 256
-    place_fits bytes = ready_place ready_at bytes
-
-    pub target_fits : {a : ℕ} → a ≡ (transition_at (transitions_in s m) i).addr → root < 4294967296 → a < 4294967296
-    target_fits ea small = omega (arith, ea, ready_target ready_at)
-
     alive : (p : Pattern) → start_test p.positions p.rest (key_of (l ∷ below)) ≡ true → live_test p (meaning s m) l below ≡ true
     alive p e = live_by p (meaning s m) l below (ready_length w.ready) e
 

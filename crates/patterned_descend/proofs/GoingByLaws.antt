@@ -1,5 +1,4 @@
 -- The descent by pattern over the arrays: a turn, and each way out of it.
---     found_by, found_past            a key's value with the final output
 --     GoingBy ..                      from level k on, which can go on, the walk is the one that is wanted, with no more to do
 --     going-..                        the contract at each way out, and the next turn
 -- Assumes nothing.
@@ -34,16 +33,8 @@ use Rattle.pattern.proofs.CountLaws.{fits_by_count, tells_count, tells_last, cou
 use Rattle.pattern.proofs.TurnLaws.{live_test, turn_popped, turn_deep, turn_past, turn_on, turn_key, turn_final}
 use Rattle.patterned_descend.specs.declared.Down.{Down}
 use Rattle.patterned_descend.specs.declared.Down.TheVariants.{Found, Passed, Stuck}
-use Rattle.patterned_descend.specs.Descents.{Pushed, Follows, DescendsBy, found_at}
+use Rattle.patterned_descend.specs.Descents.{Pushed, Follows, DescendsBy}
 use Rattle.patterned_descend.proofs.FollowLaws.{live_by, room_of}
-
--- ---- a key with its final output
-
-pub found_by : (k sum end t : ℕ) → sum + end ≤ max_sum → Ok (Found k (sum + end) t) ≡ found_at k sum end t
-found_by k sum end t h = rw (le-leb (sum + end) max_sum h)
-
-pub found_past : (k sum end t : ℕ) → max_sum < sum + end → Err SUM ≡ found_at k sum end t
-found_past k sum end t h = rw (lt-leb (sum + end) max_sum h)
 
 -- ---- the loop
 
@@ -189,27 +180,25 @@ module _ {s : List ℕ} {v root : ℕ} {p : Pattern} {hi : Bound} {levels : List
             is_key : (n.is_final && fits_test p.positions p.rest (key_of to)) ≡ true
             is_key = rw fits⁺ final
 
-            pub going_key : (r : Result Down Refusal) → r ≡ found_at (k + 1) (get_or os⁺ (k + 1) 0) n.final_output u → DescendsBy f p hi levels total xs⁺ is⁺ ps⁺ os⁺ r
-            going_key r er = by (leb (get_or os⁺ (k + 1) 0 + n.final_output) max_sum) refl er
-              where
-                value_is : get_or os⁺ (k + 1) 0 + n.final_output ≡ value
-                value_is = ap (λ (x : ℕ). x + n.final_output) sum_is
+            value_is : get_or os⁺ (k + 1) 0 + n.final_output ≡ value
+            value_is = ap (λ (x : ℕ). x + n.final_output) sum_is
 
-                by : (b : Bool) → leb (get_or os⁺ (k + 1) 0 + n.final_output) max_sum ≡ b
-                    → r ≡ cond b (Ok (Found (k + 1) (get_or os⁺ (k + 1) 0 + n.final_output) u)) (Err SUM) → DescendsBy f p hi levels total xs⁺ is⁺ ps⁺ os⁺ r
-                by true eb q =
-                    let h : value ≤ max_sum = rw value_is at (leb-true (get_or os⁺ (k + 1) 0 + n.final_output) max_sum eb) in
-                    let turned = turn_key f p hi t l below (meaning s m) g.ready.node alive room w.light (meaning s n) w.node within is_key h in
-                    rw q (record {
-                      low = omega arith;
-                      arrays = w.arrays;
-                      seen = rw (levels⁺, value_is, eu) (sym turned ∙ g.same);
-                      less = λ j x q. absurd (let z : ◌≡◌ {A = ℕ} 0 1 = cc in omega arith);
-                      fits = λ j x q. absurd (let z : ◌≡◌ {A = ℕ} 0 1 = cc in omega arith);
-                    })
-                by false eb q =
-                    let h : max_sum < value = rw value_is at (leb-false (get_or os⁺ (k + 1) 0 + n.final_output) max_sum eb) in
-                    rw q (stops SUM w.arrays (turn_final f p hi t l below (meaning s m) g.ready.node alive room w.light (meaning s n) w.node within is_key h))
+            pub going_key : {x : ℕ} → x ≡ get_or os⁺ (k + 1) 0 + n.final_output → x ≤ max_sum
+                → DescendsBy f p hi levels total xs⁺ is⁺ ps⁺ os⁺ (Ok (Found (k + 1) x u))
+            going_key ex h =
+                let turned = turn_key f p hi t l below (meaning s m) g.ready.node alive room w.light (meaning s n) w.node within is_key (rw (ex, value_is) at h) in
+                record {
+                  low = omega arith;
+                  arrays = w.arrays;
+                  seen = rw (levels⁺, ex, value_is, eu) (sym turned ∙ g.same);
+                  less = λ j x q. absurd (let z : ◌≡◌ {A = ℕ} 0 1 = cc in omega arith);
+                  fits = λ j x q. absurd (let z : ◌≡◌ {A = ℕ} 0 1 = cc in omega arith);
+                }
+
+            pub going_heavy : max_sum < get_or os⁺ (k + 1) 0 + n.final_output → DescendsBy f p hi levels total xs⁺ is⁺ ps⁺ os⁺ (Err SUM)
+            going_heavy h =
+                stops SUM w.arrays
+                (turn_final f p hi t l below (meaning s m) g.ready.node alive room w.light (meaning s n) w.node within is_key (rw value_is at h))
 
           module _ (idle : (n.is_final && key_fits fit len p.rest (k + 1)) ≡ false) where
             turned : walk_by f p hi (l ∷ below) t ≡ walk_by f p hi to (counted t)

@@ -2,7 +2,6 @@
 --     Pushed, Follows       the levels after a transition is followed; what following one answers
 --     down_seen .. r         what the descent answered, read against the four arrays
 --     DescendsBy            what the descent answers: the walk from its levels, with less to do where it goes on
---     found_at ..            a key's value with the final output, or SUM
 -- Assumes nothing.
 use Rattle.std.specs.Prelude.{◌≡◌, true, cond, List, ◌∷◌, ℕ, ◌+◌, ◌-◌, ◌≤◌, ◌<◌, leb, take, drop, Ok, Err, Result}
 use Rattle.format.specs.declared.Refusal.{Refusal}
@@ -59,6 +58,3 @@ pub record DescendsBy (f : Fst) (p : Pattern) (hi : S.Bound) (levels : List Leve
   -- where it goes on there is less to do, and the bytes of the levels that are left fit the pattern's start
   pub less : (k u : ℕ) → r ≡ Ok (Stuck k u) → left f (stack_is k xs is ps os) < left f levels
   pub fits : (k u : ℕ) → r ≡ Ok (Stuck k u) → start_test p.positions p.rest (take (k - 1) (drop 1 is)) ≡ true
-
-abbrev pub found_at : ℕ → ℕ → ℕ → ℕ → Result Down Refusal
-found_at k sum end t = cond (leb (sum + end) max_sum) (Ok (Found k (sum + end) t)) (Err SUM)

@@ -4,11 +4,8 @@
 -- Assumes nothing.
 use Rattle.std.specs.Prelude.{Bool, List, map, ℕ}
 use Rattle.pattern.specs.Pattern as P
-use Rattle.patterned_fit.specs.Positions.{position_is, pattern_is}
-use Rattle.patterned_held.specs.declared.Pattern.{Pattern}
-
-abbrev pub held_is : Pattern → P.Pattern
-held_is q = pattern_is q.len q.rest q.positions
+use Rattle.patterned_fit.specs.Positions.{position_is}
+pub use Rattle.patterned_fit.specs.Positions.{held_is}
 
 abbrev pub given_is : List ℕ → Bool → P.Pattern
 given_is xs rest = record { positions = map position_is xs; rest = rest }

@@ -1,5 +1,5 @@
 -- The cases of a step by pattern, each by what leads to it: the answer, the reading and the buffer.
---     filled q ..         the reading q with other arrays
+--     filled r k t q      the reading with k levels of the stack of q, and the total t
 --     walks_is            what a walk ensures of its answer, of what that answer is
 --     after-..            what the walk leads to
 --     inputs-..           the key, out of the inputs after the first
@@ -8,7 +8,7 @@
 -- Assumes nothing.
 use mathlib.Core.Path.{◌≡◌, refl, ◌∙◌, ap}
 use mathlib.Core.Path.{subst}
-use Rattle.std.specs.Prelude.{Result, Ok, Some}
+use Rattle.std.specs.Prelude.{Result, Ok, Some, None}
 use Rattle.format.specs.declared.Refusal.{Refusal}
 use mathlib.Core.Bool.{Bool, true, false}
 use mathlib.Core.Option.{some}
@@ -20,7 +20,7 @@ use lib.Seq.{length-take-le}
 use Rattle.format.specs.Paths.{Fst}
 use Rattle.reading.specs.Reading.{Level, passes_test, moved}
 use Rattle.stream_start.specs.declared.Reading.{Reading}
-use Rattle.stream_start.specs.Views.{level_at, stack_is, view_is}
+use Rattle.stream_start.specs.Views.{level_at, stack_of, view_is}
 use Rattle.stream_start.specs.StackLaws.{stack_more, key_stack}
 use Rattle.stream_step.specs.declared.Step.{Step}
 use Rattle.stream_step.specs.Stepped.{Stepped}
@@ -34,23 +34,17 @@ use Rattle.patterned_pending.specs.PendingWalks.{walk_of}
 
 -- ---- the reading after a call
 
-abbrev filled : Reading → List ℕ → List ℕ → List ℕ → List ℕ → Reading
-filled q xs is ps os = record {
-  len = q.len;
-  kind = q.kind;
-  bound_len = q.bound_len;
-  bound = q.bound;
-  empty_output = q.empty_output;
-  total = q.total;
-  levels = q.levels;
-  addrs = xs;
-  inps = is;
-  trans = ps;
-  outs = os;
+abbrev pub filled : Reading → ℕ → ℕ → Reading → Reading
+filled r k t q = record {
+  len = r.len;
+  kind = r.kind;
+  bound_len = r.bound_len;
+  bound = r.bound;
+  empty_output = None;
+  total = t;
+  levels = k;
+  stack = q.stack;
 }
-
-filled_view : (r q : Reading) (k t : ℕ) → q ≡ placed_at r k t → (xs is ps os : List ℕ) → view_is (filled q xs is ps os) ≡ moved (view_is r) (stack_is k xs is ps os) t
-filled_view r q k t e xs is ps os = ap (λ (x : Reading). view_is (filled x xs is ps os)) e
 
 -- ---- the walk
 
@@ -61,15 +55,16 @@ module _ (r : Reading) (w : WentBy) where
   pub after_ended : (buf : List ℕ) (t : ℕ) → w ≡ ended t → (x : Step) → Stepped (ended_at (view_is r) t) buf buf x → Stepped (after_walk (view_is r) w) buf buf x
   after_ended buf t e x h = rw e h
 
-  pub after_found : (k v t : ℕ) (xs is ps os buf₀ buf : List ℕ) → w ≡ found (level_at k xs is ps os ∷ stack_is k xs is ps os) v t → k + 1 ≤ length is
-      → buf ≡ take k (drop 1 is) ++ drop k buf₀ → (q : Reading) → q ≡ placed_at r (k + 1) t
-      → Stepped (after_walk (view_is r) w) buf₀ buf (record { answer = Ok (Some (k, v)); reading = filled q xs is ps os })
-  after_found k v t xs is ps os buf₀ buf e low copy q placed =
-      let key = key_stack k xs is ps os low in
-      let len : length (take k (drop 1 is)) ≡ k = length-take-le k (drop 1 is) (simp length-drop (omega arith)) in
+  pub after_found : (k v t : ℕ) (q : Reading) (buf₀ buf : List ℕ) → q ≡ filled r (k + 1) t q
+      → w ≡ found (level_at k q.stack.addrs q.stack.inps q.stack.trans q.stack.outs ∷ stack_of k q.stack) v t → k + 1 ≤ length q.stack.inps
+      → buf ≡ take k (drop 1 q.stack.inps) ++ drop k buf₀
+      → Stepped (after_walk (view_is r) w) buf₀ buf (record { answer = Ok (Some (k, v)); reading = q })
+  after_found k v t q buf₀ buf is e low copy =
+      let key = key_stack k q.stack.addrs q.stack.inps q.stack.trans q.stack.outs low in
+      let len : length (take k (drop 1 q.stack.inps)) ≡ k = length-take-le k (drop 1 q.stack.inps) (simp length-drop (omega arith)) in
       rw e (record {
         answer = rw (key, len);
-        reading = filled_view r q (k + 1) t placed xs is ps os ∙ ap (λ (s : List Level). moved (view_is r) s t) (stack_more k xs is ps os);
+        reading = ap view_is is ∙ ap (λ (x : List Level). moved (view_is r) x t) (stack_more k q.stack.addrs q.stack.inps q.stack.trans q.stack.outs);
         buffer = rw (key, len) copy;
       })
 

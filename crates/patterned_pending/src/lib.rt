@@ -4,80 +4,53 @@
 ghost use Rattle.std.proofs.Math.Option.{some};
 ghost use Rattle.std.specs.Prelude.{◌≤◌, ◌<◌, length};
 ghost use Rattle.format.specs.Limits.{max_path, max_levels};
-ghost use Rattle.format.specs.Paths.{fst_with};
+ghost use Rattle.format.specs.View.{fst_is};
 ghost use Rattle.stream_start.specs.Views.{view_is};
 ghost use Rattle.stream_step.specs.Stepped.{Stepped};
 ghost use Rattle.pattern.specs.Pattern.{pending_by};
 ghost use Rattle.patterned_held.specs.HeldPatterns.{held_is};
 ghost use Rattle.patterned_pending.specs.PendingWalks.{walk_of};
 
+use format::FstRef;
 use patterned_held::Pattern;
 use patterned_walk::{Walked, walk_by};
 use stream_bounds::exceeded;
 use stream_start::Reading;
 use stream_step::{Step, ended, placed};
 
-// The walk, where no empty key is pending or it is dropped. The arrays are copies, so that a refusal gives the reading back as it was.
-pub fn walk(
-    file: &[u8],
-    version: u64,
-    root: usize,
-    reading: Reading,
-    pattern: Pattern,
-    key: &mut [u8],
-) -> Step
+// The walk, where no empty key is pending or it is dropped. The levels are copied, so that a refusal gives the reading back as it was.
+pub fn walk(fst: FstRef<'_>, reading: Reading, pattern: Pattern, key: &mut [u8]) -> Step
     requires { (reading.levels ≤ max_levels) × (reading.bound_len ≤ max_path)
-        × (root < 4294967296) × (max_path ≤ length key.old) × (pattern.len ≤ max_path) }
-    ensures { Stepped (walk_of (fst_with file.now version root) (held_is pattern)
+        × (fst.root < 4294967296) × (max_path ≤ length key.old) × (pattern.len ≤ max_path) }
+    ensures { Stepped (walk_of (fst_is fst.entry) (held_is pattern)
         (view_is reading)) key.old key.new result }
 {
-    let mut addrs = reading.addrs;
-    let mut inps = reading.inps;
-    let mut trans = reading.trans;
-    let mut outs = reading.outs;
-    let bound = reading.bound;
-    let kind = reading.kind;
-    let positions = pattern.positions;
-    match walk_by(
-        file,
-        version,
-        root,
+    let mut stack = reading.stack;
+    let walked = walk_by(
+        fst,
         reading.levels,
         reading.total,
-        &mut addrs,
-        &mut inps,
-        &mut trans,
-        &mut outs,
-        &bound,
-        reading.bound_len,
-        kind,
-        &positions,
-        pattern.len,
-        pattern.rest,
-    ) {
+        &mut stack,
+        reading.upper(),
+        &pattern,
+    );
+    match walked {
         Err(why) => Step {
             answer: Err(why),
             reading,
         },
         Ok(Walked::Ended(total)) => ended(reading, total),
         Ok(Walked::Found(k, value, total)) => {
-            key[..k].copy_from_slice(&inps[1..k + 1]);
-            let after = Reading {
-                len: reading.len,
-                kind,
-                bound_len: reading.bound_len,
-                bound,
-                empty_output: None,
-                total,
-                levels: k + 1,
-                addrs,
-                inps,
-                trans,
-                outs,
-            };
+            key[..k].copy_from_slice(&stack.inps[1..k + 1]);
             Step {
                 answer: Ok(Some((k, value))),
-                reading: after,
+                reading: Reading {
+                    empty_output: None,
+                    total,
+                    levels: k + 1,
+                    stack,
+                    ..reading
+                },
             }
         }
     }
@@ -85,24 +58,18 @@ pub fn walk(
 
 // The pending empty key: the end where it passes the upper bound; else it is handed out where it fits, or dropped, and the same call walks on.
 pub fn pending(
-    file: &[u8],
-    version: u64,
-    root: usize,
+    fst: FstRef<'_>,
     reading: Reading,
     value: u64,
     pattern: Pattern,
     key: &mut [u8],
 ) -> Step
     requires { (reading.levels ≤ max_levels) × (reading.bound_len ≤ max_path)
-        × (root < 4294967296) × (max_path ≤ length key.old) × (pattern.len ≤ max_path) }
-    ensures { Stepped (pending_by (fst_with file.now version root) (held_is pattern)
+        × (fst.root < 4294967296) × (max_path ≤ length key.old) × (pattern.len ≤ max_path) }
+    ensures { Stepped (pending_by (fst_is fst.entry) (held_is pattern)
         (view_is reading) (some value)) key.old key.new result }
 {
-    let inps = reading.inps;
-    let bound = reading.bound;
-    let bound_len = reading.bound_len;
-    let kind = reading.kind;
-    if exceeded(&inps, 0, &bound, bound_len, kind) {
+    if exceeded(reading.upper(), &[]) {
         return ended(reading, reading.total);
     }
     let fits = pattern.len == 0;
@@ -112,5 +79,5 @@ pub fn pending(
             reading: placed(reading, reading.levels, reading.total),
         };
     }
-    walk(file, version, root, reading, pattern, key)
+    walk(fst, reading, pattern, key)
 }

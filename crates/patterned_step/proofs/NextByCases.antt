@@ -37,7 +37,7 @@ state_facts r len e =
     (leb-true r.levels 256 p.0, leb-true r.bound_len 255 q.0)
 
 state_is_lem : (r : Reading) (len : ℕ) → state_right r.levels r.bound_len r.len len ≡ state_test (view_is r) len
-state_is_lem r len = rw (stack_length r.levels r.addrs r.inps r.trans r.outs)
+state_is_lem r len = rw (stack_length r.levels r.stack.addrs r.stack.inps r.stack.trans r.stack.outs)
 
 module _ (s : List ℕ) (p : P.Pattern) (r : Reading) (buf₀ : List ℕ) where
   refused_by : (n : Refusal) → next_by s p (view_is r) (length buf₀) ≡ refuse (view_is r) n

@@ -19,37 +19,36 @@ pub fn step(file: &[u8], reading: Reading, pattern: Pattern, key: &mut [u8]) -> 
     ensures { Stepped (next_by file.now (held_is pattern) (view_is reading)
         (length key.old)) key.old key.new result }
 {
-    let opened = fst::open(file);
-    match opened {
-        Err(why) => Step {
-            answer: Err(why),
-            reading,
-        },
-        Ok(m) => {
-            if state_right(reading.levels, reading.bound_len, reading.len, file.len()) {} else {
-                return Step {
-                    answer: Err(Refusal::State),
-                    reading,
-                };
-            }
-            let too_many = MAX_KEY < pattern.len;
-            if too_many {
-                return Step {
-                    answer: Err(Refusal::Pattern),
-                    reading,
-                };
-            }
-            if key.len() < MAX_KEY {
-                return Step {
-                    answer: Err(Refusal::Space),
-                    reading,
-                };
-            }
-            let empty = reading.empty_output;
-            match empty {
-                Some(value) => pending(file, m.version, m.root, reading, value, pattern, key),
-                None => walk(file, m.version, m.root, reading, pattern, key),
-            }
+    let m = match fst::open(file) {
+        Ok(m) => m,
+        Err(why) => {
+            return Step {
+                answer: Err(why),
+                reading,
+            };
         }
+    };
+    if !state_right(reading.levels, reading.bound_len, reading.len, file.len()) {
+        return Step {
+            answer: Err(Refusal::State),
+            reading,
+        };
+    }
+    let too_many = MAX_KEY < pattern.len;
+    if too_many {
+        return Step {
+            answer: Err(Refusal::Pattern),
+            reading,
+        };
+    }
+    if key.len() < MAX_KEY {
+        return Step {
+            answer: Err(Refusal::Space),
+            reading,
+        };
+    }
+    match reading.empty_output {
+        Some(value) => pending(m.over(file), reading, value, pattern, key),
+        None => walk(m.over(file), reading, pattern, key),
     }
 }

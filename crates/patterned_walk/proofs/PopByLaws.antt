@@ -4,6 +4,7 @@
 --     popping-..              the contract at each way out, and the next turn
 -- Assumes nothing.
 use mathlib.Core.Path.{◌≡◌, refl, sym, ◌∙◌, ap, subst}
+use Rattle.std.specs.Prelude.{Ok, Err, Some, None, Result, Option}
 use mathlib.Core.Bool.{Bool, true, false, ◌&&◌}
 use mathlib.Core.List.{List, ◌∷◌}
 use Prim.Native.Nat.{ℕ, ◌-◌, ◌<◌, ◌≤◌}
@@ -16,6 +17,7 @@ use Rattle.format.specs.Node.{sound, unsound}
 use Rattle.format.specs.Paths.{Fst, fst_with, node_in}
 use Rattle.format.specs.Strings.{Bound}
 use Rattle.node.specs.declared.Node.{Node}
+use Rattle.node.specs.declared.Unsound.{Unsound}
 use Rattle.node.specs.Read.{meaning, Readable}
 use Rattle.node.specs.ReadLaws.{length_node_transitions}
 use Rattle.reading.specs.Reading.{Level}
@@ -23,7 +25,6 @@ use Rattle.reading.specs.Visits.{left}
 use Rattle.reading.proofs.LeftLaws.{left_pop}
 use Rattle.stream_start.specs.Views.{level_at, stack_is}
 use Rattle.stream_start.specs.StackLaws.{stack_none, stack_suc, key_stack}
-use Rattle.stream_pop.specs.declared.Popped.TheVariants.{At, Empty, Bad}
 use Rattle.pattern.specs.Pattern.{Pattern, start_test, walk_by}
 use Rattle.pattern.specs.FitCount.{goes_on}
 use Rattle.pattern.proofs.TurnLaws.{live_test, turn_end, turn_bad, turn_popped}
@@ -56,11 +57,16 @@ and_parts : (a b : Bool) → (a && b) ≡ true → (a ≡ true) × (b ≡ true)
 and_parts true b e = (refl, e)
 and_parts false b e = absurd (let z : ◌≡◌ {A = ℕ} 0 1 = cc in omega arith)
 
+pair_of : {k j : ℕ} {m y : Node} → ◌≡◌ {A = Result (Option (ℕ × Node)) Unsound} (Ok (Some (k, m))) (Ok (Some (j, y))) → (k ≡ j) × (m ≡ y)
+pair_of {k} {j} {m} {y} e =
+    let both : ◌≡◌ {A = ℕ × Node} (k, m) (j, y) = cc in
+    (ap (λ (p : ℕ × Node). p.0) both, ap (λ (p : ℕ × Node). p.1) both)
+
 module _ {s : List ℕ} {v root n : ℕ} {rest : Bool} {xs ps : List ℕ} {levels fit k : ℕ} (w : PoppingBy s v root n rest xs ps levels fit k) where
   abbrev f : Fst
   f = fst_with s v root
 
-  pub popping_end : k ≤ 0 → PopsBy s v root n rest xs ps levels fit Empty
+  pub popping_end : k ≤ 0 → PopsBy s v root n rest xs ps levels fit (Ok None)
   popping_end h = record {
     seen = λ is os p told hi t.
         let e : k ≡ 0 = omega arith in
@@ -81,8 +87,8 @@ module _ {s : List ℕ} {v root n : ℕ} {rest : Bool} {xs ps : List ℕ} {level
         → walk_by f p hi (level_at (k - 1) xs is ps os ∷ stack_is (k - 1) xs is ps os) t ≡ walk_by f p hi (stack_is levels xs is ps os) t
     from_top is os p told hi t = ap (λ (x : List Level). walk_by f p hi x t) (sym (top_of is os)) ∙ w.same is os p told hi t
 
-    pub popping_bad : node_in f (get_or xs (k - 1) 0) ≡ unsound → PopsBy s v root n rest xs ps levels fit Bad
-    popping_bad e = record {
+    pub popping_bad : (u : Unsound) → node_in f (get_or xs (k - 1) 0) ≡ unsound → PopsBy s v root n rest xs ps levels fit (Err u)
+    popping_bad u e = record {
       seen = λ is os p told hi t.
           sym (turn_bad f p hi t (level_at (k - 1) xs is ps os) (stack_is (k - 1) xs is ps os) e) ∙ from_top is os p told hi t;
       low = λ j m e. absurd (let z : ◌≡◌ {A = ℕ} 0 1 = cc in omega arith);
@@ -99,17 +105,17 @@ module _ {s : List ℕ} {v root n : ℕ} {rest : Bool} {xs ps : List ℕ} {level
           let t = told_key told (k - 1) (omega (arith, w.within)) w.most in
           rw (length_node_transitions s m readable, key, t, ei)
 
-      pub popping_at : (ltb place m.ntrans && goes_on fit n rest (k - 1)) ≡ true → PopsBy s v root n rest xs ps levels fit (At (k - 1) m)
+      pub popping_at : (ltb place m.ntrans && goes_on fit n rest (k - 1)) ≡ true → PopsBy s v root n rest xs ps levels fit (Ok (Some (k - 1, m)))
       popping_at live =
           let both = and_parts (ltb place m.ntrans) (goes_on fit n rest (k - 1)) live in
           let next : get_or ps (k - 1) 0 < m.ntrans = omega (arith, ltb-true place m.ntrans both.0) in
           record {
             seen = λ is os p told hi t. from_top is os p told hi t;
-            low = λ j y q. let z : k - 1 ≡ j = cc in omega (arith, w.within);
-            ready = λ j y q. let z : k - 1 ≡ j = cc in let x : m ≡ y = cc in rw (← z, ← x) (record { node = e; readable = readable; next = next });
-            fits = λ j y q. let z : k - 1 ≡ j = cc in rw (← z) both.1;
+            low = λ j y q. let z : k - 1 ≡ j = (pair_of q).0 in omega (arith, w.within);
+            ready = λ j y q. let z : k - 1 ≡ j = (pair_of q).0 in let x : m ≡ y = (pair_of q).1 in rw (← z, ← x) (record { node = e; readable = readable; next = next });
+            fits = λ j y q. let z : k - 1 ≡ j = (pair_of q).0 in rw (← z) both.1;
             less = λ j y q is os.
-                let z : k - 1 ≡ j = cc in
+                let z : k - 1 ≡ j = (pair_of q).0 in
                 subst (λ (i : ℕ). left f (level_at i xs is ps os ∷ stack_is i xs is ps os) ≤ left f (stack_is levels xs is ps os)) z
                 (subst (λ (x : List Level). left f x ≤ left f (stack_is levels xs is ps os)) (top_of is os) (w.less is os));
           }

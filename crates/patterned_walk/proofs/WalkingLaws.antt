@@ -3,7 +3,7 @@
 --     walking-..              the contract at each way out, and the next turn
 -- Assumes nothing.
 use mathlib.Core.Path.{◌≡◌, refl, sym, ◌∙◌, ap}
-use Rattle.std.specs.Prelude.{Ok, Err, Result}
+use Rattle.std.specs.Prelude.{Ok, Err, Some, None, Result, Option}
 use Rattle.format.specs.declared.Refusal.{Refusal}
 use mathlib.Core.Bool.{Bool, true}
 use mathlib.Core.List.{List, ◌∷◌}
@@ -15,12 +15,11 @@ use Rattle.format.specs.Limits.{NODE}
 use Rattle.format.specs.Paths.{Fst, fst_with}
 use Rattle.format.specs.Strings.{Bound}
 use Rattle.node.specs.declared.Node.{Node}
+use Rattle.node.specs.declared.Unsound.{Unsound}
 use Rattle.reading.specs.Reading.{Level}
 use Rattle.reading.specs.Visits.{left}
 use Rattle.stream_start.specs.Views.{Arrays, level_at, stack_is}
 use Rattle.stream_start.specs.StackLaws.{stack_none}
-use Rattle.stream_pop.specs.declared.Popped.{Popped}
-use Rattle.stream_pop.specs.declared.Popped.TheVariants.{At, Empty, Bad}
 use Rattle.pattern.specs.Pattern.{Pattern, start_test, WentBy, walk_by}
 use Rattle.pattern.specs.FitCount.{fit_count, Tells}
 use Rattle.pattern.proofs.CountLaws.{tells_count, tells_all}
@@ -65,20 +64,20 @@ module _ {s : List ℕ} {v root : ℕ} {p : Pattern} {hi : Bound} {want : WentBy
 
   -- ---- the pops
 
-  module _ {len : ℕ} {rest : Bool} (el : length p.positions ≡ len) (er : p.rest ≡ rest) {r : Popped} (pops : PopsBy s v root len rest xs ps n fit r) where
+  module _ {len : ℕ} {rest : Bool} (el : length p.positions ≡ len) (er : p.rest ≡ rest) {r : Result (Option (ℕ × Node)) Unsound} (pops : PopsBy s v root len rest xs ps n fit r) where
     told : Told len rest n fit is p
     told = record { inps_len = w.arrays.inps_len; count = el; any_rest_lem = er; tells = w.tells }
 
-    pops_is : (r' : Popped) → r ≡ r' → pop_seen f p hi t xs is ps os r' ≡ want
+    pops_is : (r' : Result (Option (ℕ × Node)) Unsound) → r ≡ r' → pop_seen f p hi t xs is ps os r' ≡ want
     pops_is r' e = ap (pop_seen f p hi t xs is ps os) (sym e) ∙ pops.seen is os p told hi t ∙ w.same
 
-    pub walking_empty : r ≡ Empty → WalksBy want xs is ps os (Ok (Ended t))
-    walking_empty e = record { low = omega arith; inps_len = w.arrays.inps_len; seen = pops_is Empty e }
+    pub walking_empty : r ≡ Ok None → WalksBy want xs is ps os (Ok (Ended t))
+    walking_empty e = record { low = omega arith; inps_len = w.arrays.inps_len; seen = pops_is (Ok None) e }
 
-    pub walking_bad : r ≡ Bad → WalksBy want xs is ps os (Err NODE)
-    walking_bad e = record { low = omega arith; inps_len = w.arrays.inps_len; seen = pops_is Bad e }
+    pub walking_bad : (u : Unsound) → r ≡ Err u → WalksBy want xs is ps os (Err NODE)
+    walking_bad u e = record { low = omega arith; inps_len = w.arrays.inps_len; seen = pops_is (Err u) e }
 
-    module _ (k : ℕ) (m : Node) (e : r ≡ At k m) where
+    module _ (k : ℕ) (m : Node) (e : r ≡ Ok (Some (k, m))) where
       pub top_low : k < 256
       top_low = omega (arith, pops.low k m e, w.within)
 
@@ -89,7 +88,7 @@ module _ {s : List ℕ} {v root : ℕ} {p : Pattern} {hi : Bound} {want : WentBy
 
       module _ {xs' is' ps' os' : List ℕ} {d : Result Down Refusal} (down : DescendsBy f p hi (level_at k xs is ps os ∷ stack_is k xs is ps os) t xs' is' ps' os' d) where
         down_is : (d' : Result Down Refusal) → d ≡ d' → down_seen f p hi xs' is' ps' os' d' ≡ want
-        down_is d' q = ap (down_seen f p hi xs' is' ps' os') (sym q) ∙ down.seen ∙ pops_is (At k m) e
+        down_is d' q = ap (down_seen f p hi xs' is' ps' os') (sym q) ∙ down.seen ∙ pops_is (Ok (Some (k, m))) e
 
         pub walking_found : (j x u : ℕ) → d ≡ Ok (Down.Found j x u) → WalksBy want xs' is' ps' os' (Ok (Found j x u))
         walking_found j x u q = record { low = rw (ap down_at q) at down.low; inps_len = down.arrays.inps_len; seen = down_is (Ok (Down.Found j x u)) q }

@@ -3,16 +3,15 @@
 --     PopsBy                what the pops answer: the walk from the level that they find is the walk from all levels
 --     walked_seen, WalksBy   what the walk answered, read against the four arrays; its contract
 -- Assumes nothing.
-use Rattle.std.specs.Prelude.{◌≡◌, Bool, true, List, ◌∷◌, ℕ, ◌-◌, ◌≤◌, ◌<◌, length, get_or, take, drop, Ok, Err, Result}
+use Rattle.std.specs.Prelude.{◌≡◌, Bool, true, List, ◌∷◌, ℕ, ◌-◌, ◌≤◌, ◌<◌, length, get_or, take, drop, Ok, Err, Some, None, Result, Option}
 use Rattle.format.specs.declared.Refusal.{Refusal}
 use Rattle.format.specs.Limits.{max_levels, NODE}
 use Rattle.format.specs.Paths.{Fst, fst_with}
 use Rattle.format.specs.Strings as S
 use Rattle.node.specs.declared.Node.{Node}
+use Rattle.node.specs.declared.Unsound.{Unsound}
 use Rattle.reading.specs.Visits.{left}
 use Rattle.stream_start.specs.Views.{level_at, stack_is}
-use Rattle.stream_pop.specs.declared.Popped.{Popped}
-use Rattle.stream_pop.specs.declared.Popped.TheVariants.{At, Empty, Bad}
 use Rattle.stream_pop.specs.Pops.{Ready}
 use Rattle.pattern.specs.Pattern.{Pattern, WentBy, found, ended, halted, walk_by}
 use Rattle.pattern.specs.FitCount.{goes_on, Tells}
@@ -21,10 +20,10 @@ use Rattle.patterned_walk.specs.declared.Walked.TheVariants.{Found, Ended}
 
 -- ---- the pops
 
-abbrev pub pop_seen : Fst → Pattern → S.Bound → ℕ → List ℕ → List ℕ → List ℕ → List ℕ → Popped → WentBy
-pop_seen f p hi t xs is ps os (At k m) = walk_by f p hi (level_at k xs is ps os ∷ stack_is k xs is ps os) t
-pop_seen f p hi t xs is ps os Empty = ended t
-pop_seen f p hi t xs is ps os Bad = halted NODE
+abbrev pub pop_seen : Fst → Pattern → S.Bound → ℕ → List ℕ → List ℕ → List ℕ → List ℕ → Result (Option (ℕ × Node)) Unsound → WentBy
+pop_seen f p hi t xs is ps os (Ok (Some (k, m))) = walk_by f p hi (level_at k xs is ps os ∷ stack_is k xs is ps os) t
+pop_seen f p hi t xs is ps os (Ok None) = ended t
+pop_seen f p hi t xs is ps os (Err u) = halted NODE
 
 -- a pattern of so many positions; the number fit tells of each level whether its bytes fit the pattern's start
 pub record Told (n : ℕ) (rest : Bool) (levels fit : ℕ) (is : List ℕ) (p : Pattern) : Type 0 where
@@ -34,13 +33,13 @@ pub record Told (n : ℕ) (rest : Bool) (levels fit : ℕ) (is : List ℕ) (p : 
   pub tells : Tells p (take (levels - 1) (drop 1 is)) fit
 
 -- the pops see neither the inputs nor the sums
-pub record PopsBy (s : List ℕ) (v root n : ℕ) (rest : Bool) (xs ps : List ℕ) (levels fit : ℕ) (r : Popped) : Type 0 where
+pub record PopsBy (s : List ℕ) (v root n : ℕ) (rest : Bool) (xs ps : List ℕ) (levels fit : ℕ) (r : Result (Option (ℕ × Node)) Unsound) : Type 0 where
   pub seen : (is os : List ℕ) (p : Pattern) → Told n rest levels fit is p → (hi : S.Bound) (t : ℕ)
       → pop_seen (fst_with s v root) p hi t xs is ps os r ≡ walk_by (fst_with s v root) p hi (stack_is levels xs is ps os) t
-  pub low : (k : ℕ) (m : Node) → r ≡ At k m → k < levels
-  pub ready : (k : ℕ) (m : Node) → r ≡ At k m → Ready s v root (get_or xs k 0) (get_or ps k 0) m
-  pub fits : (k : ℕ) (m : Node) → r ≡ At k m → goes_on fit n rest k ≡ true
-  pub less : (k : ℕ) (m : Node) → r ≡ At k m → (is os : List ℕ)
+  pub low : (k : ℕ) (m : Node) → r ≡ Ok (Some (k, m)) → k < levels
+  pub ready : (k : ℕ) (m : Node) → r ≡ Ok (Some (k, m)) → Ready s v root (get_or xs k 0) (get_or ps k 0) m
+  pub fits : (k : ℕ) (m : Node) → r ≡ Ok (Some (k, m)) → goes_on fit n rest k ≡ true
+  pub less : (k : ℕ) (m : Node) → r ≡ Ok (Some (k, m)) → (is os : List ℕ)
       → left (fst_with s v root) (level_at k xs is ps os ∷ stack_is k xs is ps os) ≤ left (fst_with s v root) (stack_is levels xs is ps os)
 
 -- ---- the walk

@@ -1,21 +1,22 @@
 // The walk of a reading by pattern: levels are popped down to one that can go on, and transitions are followed from there, until a key fits,
 // the upper bound is passed or no level is left. A call may follow any number of transitions.
+// The number of levels stands beside the stack: a walk knows it only at its end.
 #![tactic(auto)]
 
 ghost use Rattle.std.specs.Prelude.{◌≡◌, ◌≤◌, ◌<◌, length, take};
 ghost use Rattle.format.specs.Limits.{max_path, max_levels};
-ghost use Rattle.format.specs.Paths.{fst_with};
-ghost use Rattle.stream_start.specs.Views.{Arrays, bound_is, stack_is};
+ghost use Rattle.format.specs.View.{fst_is};
+ghost use Rattle.stream_start.specs.Views.{bound_of, stack_of};
 ghost use Rattle.pattern.specs.Pattern.{walk_by};
-ghost use Rattle.patterned_fit.specs.Positions.{pattern_is};
+ghost use Rattle.patterned_fit.specs.Positions.{held_is};
 ghost use Rattle.patterned_walk.specs.Walks.{PopsBy, WalksBy};
 
-use format::{LEVELS, MAX_KEY, Refusal};
-use node::Node;
+use format::{FstRef, Refusal};
+use node::{Node, Unsound};
 use patterned_descend::{Down, descend_by};
-use patterned_fit::{fit_of, live};
-use stream_pop::Popped;
-use stream_start::Bound;
+use patterned_fit::Pattern;
+use std::ops::Bound;
+use stream_levels::Stack;
 
 // What the walk finds: the place of the level where a key ends, the key's value and the total; the total at the end.
 #[derive(Clone, Copy)]
@@ -24,96 +25,67 @@ pub enum Walked {
     Ended(u64),
 }
 
-// The highest of the first levels that can go on: it has a transition left, and its bytes fit the pattern's start. Each level that is
-// looked at is judged, as a reading can be made by hand.
+// The highest of the first levels that can go on, with its node, if one can: it has a transition left, and its bytes fit the pattern's start. Each level that
+// is looked at is judged, as a reading can be made by hand.
 fn pop_by(
-    file: &[u8],
-    version: u64,
-    root: usize,
-    addrs: &[u32; LEVELS],
-    trans: &[u16; LEVELS],
+    fst: FstRef<'_>,
+    stack: &Stack,
     levels: usize,
     fit: usize,
-    len: usize,
-    rest: bool,
-) -> Popped
+    pattern: &Pattern,
+) -> Result<Option<(usize, Node)>, Unsound>
     requires { levels ≤ max_levels }
-    ensures { PopsBy file.now version root len rest addrs.now
-        trans.now levels fit result }
+    ensures { PopsBy fst.entry.bytes.now fst.entry.version fst.entry.root pattern.now.len pattern.now.rest stack.now.addrs
+        stack.now.trans levels fit result }
 {
     for top in (0..levels).rev() {
-        let Ok(m) = node::node_at(file, version, root, addrs[top] as usize) else {
-            return Popped::Bad;
-        };
-        if live(usize::from(trans[top]), m.ntrans, top, fit, len, rest) {
-            return Popped::At(top, m);
+        let m = node::node_at(fst, stack.addrs[top] as usize)?;
+        if pattern.live(usize::from(stack.trans[top]), m.ntrans, top, fit) {
+            return Ok(Some((top, m)));
         }
     }
-    Popped::Empty
+    Ok(None)
 }
 
-// The walk from the first levels of the four arrays: NODE for each level that is looked at, and for each transition that is followed DEEP, SUM
+// The walk from the first levels of the stack: NODE for each level that is looked at, and for each transition that is followed DEEP, SUM
 // for the running sum, NODE for its target, the upper bound, and SUM with the final output where the key fits.
 pub fn walk_by(
-    file: &[u8],
-    version: u64,
-    root: usize,
+    fst: FstRef<'_>,
     levels: usize,
     total: u64,
-    addrs: &mut [u32; LEVELS],
-    inps: &mut [u8; LEVELS],
-    trans: &mut [u16; LEVELS],
-    outs: &mut [u64; LEVELS],
-    bound: &[u8; MAX_KEY],
-    bound_len: usize,
-    kind: Bound,
-    positions: &[u16; MAX_KEY],
-    len: usize,
-    rest: bool,
+    stack: &mut Stack,
+    upper: Bound<&[u8]>,
+    pattern: &Pattern,
 ) -> Result<Walked, Refusal>
-    requires arrays { Arrays addrs.old inps.old trans.old outs.old
-        × (length bound.now ≡ max_path) × (bound_len ≤ max_path)
-        × (length positions.now ≡ max_path) × (len ≤ max_path) }
-    requires levels_le_max_levels { (levels ≤ max_levels) × (root < 4294967296) }
-    ensures { WalksBy (walk_by (fst_with file.now version root)
-        (pattern_is len rest positions.now)
-        (bound_is kind (take bound_len bound.now))
-        (stack_is levels addrs.old inps.old trans.old
-        outs.old) total) addrs.new inps.new trans.new
-        outs.new result }
+    requires levels_le_max_levels { (levels ≤ max_levels) × (fst.root < 4294967296) × (pattern.now.len ≤ max_path) }
+    ensures { WalksBy (walk_by (fst_is fst.entry) (held_is pattern.now) (bound_of upper.entry)
+        (stack_of levels stack.old) total) stack.new.addrs stack.new.inps stack.new.trans
+        stack.new.outs result }
 {
+    stack.are_arrays();
     let mut n = levels;
     let mut t = total;
-    let mut fit = fit_of(inps, levels, positions, len);
+    let mut fit = pattern.fit_of(stack, levels);
     // by hand: where a descent cannot go on, the walk goes on from the levels that it left
     while 0 < n {
-        let popped = pop_by(file, version, root, addrs, trans, n, fit, len, rest);
-        match popped {
-            Popped::Empty => {
-                return Ok(Walked::Ended(t));
+        let Ok(popped) = pop_by(fst, stack, n, fit, pattern) else {
+            return Err(Refusal::Node);
+        };
+        let Some((top, m)) = popped else {
+            return Ok(Walked::Ended(t));
+        };
+        match descend_by(fst, top, m, t, stack, upper, pattern)? {
+            Down::Found(k, value, total) => {
+                return Ok(Walked::Found(k, value, total));
             }
-            Popped::Bad => {
-                return Err(Refusal::Node);
+            Down::Passed(total) => {
+                return Ok(Walked::Ended(total));
             }
-            Popped::At(top, m) => {
-                let down = descend_by(
-                    file, version, root, top, m, t, addrs, inps, trans, outs, bound, bound_len,
-                    kind, positions, len, rest,
-                )?;
-                match down {
-                    Down::Found(k, value, total) => {
-                        return Ok(Walked::Found(k, value, total));
-                    }
-                    Down::Passed(total) => {
-                        return Ok(Walked::Ended(total));
-                    }
-                    // the bytes of the levels that are left fit the pattern's start
-                    Down::Stuck(k, total) => {
-                        n = k;
-                        t = total;
-                        fit = k;
-                    }
-                }
+            // the bytes of the levels that are left fit the pattern's start
+            Down::Stuck(k, total) => {
+                n = k;
+                t = total;
+                fit = k;
             }
         }
     }

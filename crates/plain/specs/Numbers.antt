@@ -1,6 +1,6 @@
 -- The number of keys between two bounds, as a start works it out from a table of the keys from each node (document 02, N11), and which entries
 -- it reads.
---     Tally                    a number, or the number of a refusal
+--     Tally                    a number, or a refusal
 --     keys_below c b ts         those from the targets of inputs smaller than b
 --     up_to f c own a x         those from a that come before the string x, and x itself if own
 --     Crosses, crosses         the lower bound's bytes are greater than the upper's, or equal with either excluded; as a test that computes

@@ -22,7 +22,7 @@ use Rattle.format.specs.Laws.OpeningLaws.{version_blank, version_some}
 use Rattle.reading.specs.Reading as R
 use Rattle.reading.specs.Reading.{Level, got, bounds_test, bound_bytes, start, started}
 use Rattle.paging.specs.Paging.{Page, refused_page, room_test, page_from, range}
-use Rattle.stream_start.specs.Views.{Arrays, stack_is}
+use Rattle.stream_start.specs.Views.{stack_is}
 use Rattle.stream_start.specs.StackLaws.{stack_length}
 use Rattle.stream_start.specs.Starts.{BlankTold, pending_from, walk_from, reading_at, start_from}
 use Rattle.stream_start.specs.StartLaws.{start_opened, from_reading, reading_halted, reading_levels}
@@ -62,37 +62,36 @@ module _ {s : List ℕ} {version root : ℕ} (o : OpensAs s version root) where
     some = λ ne. version_some s o.meta o.opens (λ z. ne (sym o.version_is ∙ z));
   }
 
-  module _ (lo hi : Bound) (short : bounds_test lo hi ≡ true) (b : Bound) (n : ℕ) (empty : Option ℕ) (b_is : b ≡ hi) (n_is : n ≡ length (bound_bytes hi))
-      (empty_is : empty ≡ pending_from (fst_with s version root) lo) where
+  module _ (lo hi : Bound) (short : bounds_test lo hi ≡ true) (empty : Option ℕ) (empty_is : empty ≡ pending_from (fst_with s version root) lo) where
     abbrev f : Fst
     f = fst_with s version root
 
-    start_is : R.start s lo hi ≡ reading_at (length s) b n empty (walk_from f lo)
+    abbrev n : ℕ
+    n = length (bound_bytes hi)
+
+    start_is : R.start s lo hi ≡ reading_at (length s) hi n empty (walk_from f lo)
     start_is =
         start_opened s lo hi o.meta o.opens
         ∙ ap₂ (λ (v r : ℕ). start_from (fst_with s v r) lo hi) o.version_is o.root_is
-        ∙ sym (from_reading f lo hi short b n empty (walk_from f lo) b_is n_is empty_is refl)
+        ∙ sym (from_reading f lo hi short hi n empty (walk_from f lo) refl refl empty_is refl)
 
     pub start_halted : (k : Refusal) → R.Sought.halted k ≡ walk_from f lo → R.start s lo hi ≡ R.Started.refused k
-    start_halted k e = start_is ∙ sym (reading_halted (length s) b n empty k e)
+    start_halted k e = start_is ∙ sym (reading_halted (length s) hi n empty k e)
 
-    pub start_began : (levels : List Level) → got levels ≡ walk_from f lo → R.start s lo hi ≡ started (view_from (length s) b n empty levels)
-    start_began levels e = start_is ∙ sym (reading_levels (length s) b n empty levels e)
+    pub start_began : (levels : List Level) → got levels ≡ walk_from f lo → R.start s lo hi ≡ started (view_from (length s) hi n empty levels)
+    start_began levels e = start_is ∙ sym (reading_levels (length s) hi n empty levels e)
 
     -- each level is that of a node that the start judged
-    pub start_ready : (k : ℕ) (xs is ps os bound : List ℕ) → got (stack_is k xs is ps os) ≡ walk_from f lo → Arrays xs is ps os → length bound ≡ max_path
-        → Ready s version root k xs is ps os bound n
-    start_ready k xs is ps os bound e arrays held =
-        let r = view_from (length s) b n empty (stack_is k xs is ps os) in
+    pub start_ready : (k : ℕ) (xs is ps os : List ℕ) → got (stack_is k xs is ps os) ≡ walk_from f lo → Ready s version root k xs hi
+    start_ready k xs is ps os e =
+        let r = view_from (length s) hi n empty (stack_is k xs is ps os) in
         let began = start_began (stack_is k xs is ps os) e in
         record {
           opens = o;
-          arrays = arrays;
           few = rw (stack_length k xs is ps os) at (start_state s lo hi r began).few;
           sounds =
               subst (λ (v : ℕ). SoundTo (fst_with s v root) xs k) o.version_is
               (subst (λ (x : ℕ). SoundTo (fst_with s o.meta.version x) xs k) o.root_is
               (stack_sound (fst_of s o.meta) k xs is ps os (start_sound s lo hi r o.meta o.opens began)));
-          bound_held = held;
-          short = omega (arith, (short_both lo hi short).1);
+          short = (short_both lo hi short).1;
         }

@@ -1,42 +1,38 @@
 // The keys of a range after its start: a pending empty key first, then the loop.
+// rows and values are two slices and no struct: the C caller lends them one by one, and the definitions speak of each.
+// The number of levels stands beside the stack: a walk knows it only at its end.
+// How many keys are asked for is a number of its own, and no length of rows or values.
 #![tactic(auto)]
 
-ghost use Rattle.std.specs.Prelude.{◌*◌, ◌≤◌, length, take};
+ghost use Rattle.std.specs.Prelude.{◌*◌, ◌≤◌, length};
+ghost use Rattle.reading.specs.Reading as R;
 ghost use Rattle.paging.specs.Paging as P;
-ghost use Rattle.stream_start.specs.Views.{bound_is, empty_is, stack_is};
+ghost use Rattle.stream_start.specs.Views.{bound_of, empty_is, stack_of};
 ghost use Rattle.range_fill.specs.RangedRows.{Ready, view_from, RangedBy};
 
-use format::{LEVELS, MAX_KEY};
+use format::FstRef;
 use range_fill::{Ranged, Stop, fill};
 use range_rows::put_row;
+use std::ops::Bound;
 use stream_bounds::exceeded;
-use stream_start::Bound;
+use stream_levels::Stack;
 
-// The keys after the levels in the arrays, up to `most`: a pending empty key comes first, or ends the range where it passes the upper bound.
+// The keys after the levels of the stack, up to `most`: a pending empty key comes first, or ends the range where it passes the upper bound.
 pub fn fill_all(
-    file: &[u8],
-    version: u64,
-    root: usize,
+    fst: FstRef<'_>,
     levels: usize,
-    addrs: &mut [u32; LEVELS],
-    inps: &mut [u8; LEVELS],
-    trans: &mut [u16; LEVELS],
-    outs: &mut [u64; LEVELS],
-    bound: &[u8; MAX_KEY],
-    bound_len: usize,
-    kind: Bound,
+    stack: &mut Stack,
+    upper: Bound<&[u8]>,
     empty: Option<u64>,
     most: usize,
     rows: &mut [u8],
     values: &mut [u64],
 ) -> Ranged
     requires most_in_bounds { (P.row_len * most ≤ length rows.old) × (most ≤ length values.old) }
-    requires ready { Ready file.now version root levels addrs.old inps.old trans.old outs.old
-        bound.now bound_len }
-    ensures { RangedBy (P.fold file.now (view_from (length file.now)
-        (bound_is kind (take bound_len bound.now)) bound_len (empty_is empty)
-        (stack_is levels addrs.old inps.old trans.old
-        outs.old)) most) rows.old rows.new values.old
+    requires ready { Ready fst.bytes.now fst.version fst.root levels stack.old.addrs (bound_of upper) }
+    ensures { RangedBy (P.fold fst.entry.bytes.now (view_from (length fst.entry.bytes.now)
+        (bound_of upper.entry) (length (R.bound_bytes (bound_of upper.entry))) (empty_is empty)
+        (stack_of levels stack.old)) most) rows.old rows.new values.old
         values.new result }
 {
     if most == 0 {
@@ -46,23 +42,17 @@ pub fn fill_all(
         };
     }
     match empty {
-        None => fill(
-            file, version, root, levels, addrs, inps, trans, outs, bound, bound_len, kind, 0, most,
-            rows, values,
-        ),
+        None => fill(fst, levels, stack, upper, 0, most, rows, values),
         Some(value) => {
-            if exceeded(inps, 0, bound, bound_len, kind) {
+            if exceeded(upper, &[]) {
                 return Ranged {
                     count: 0,
                     stop: Ok(Stop::End),
                 };
             }
-            put_row(inps, 0, 0, rows);
+            put_row(&[], 0, 0, rows);
             values[0] = value;
-            fill(
-                file, version, root, levels, addrs, inps, trans, outs, bound, bound_len, kind, 1,
-                most, rows, values,
-            )
+            fill(fst, levels, stack, upper, 1, most, rows, values)
         }
     }
 }

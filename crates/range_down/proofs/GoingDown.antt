@@ -1,5 +1,6 @@
 -- The descent over the arrays: a turn, and each way out of it.
 --     Going ..                        from level k on, the answer is the one that is wanted
+--     found_fits, found_past          a key's value fits, or does not
 --     target_fits, place_fits         a target fits 32 bits, and a place 16
 --     going-..                        the contract at each way out, and the next turn
 -- Assumes nothing.
@@ -9,6 +10,7 @@ use mathlib.Core.Logic.{⊎_elim}
 use mathlib.Core.List.{List, ◌∷◌}
 use Prim.Native.Nat.{ℕ, ◌+◌, ◌-◌, ◌<◌, ◌≤◌}
 use native.Mathlib.Omega.{arith}
+use borrow.Author.Tests.{le-leb, lt-leb}
 use lib.Dec.{leb}
 use lib.ListN.{length, get_or, take, drop, set, length-set}
 use lib.Seq.{get_or-set_same}
@@ -61,7 +63,13 @@ going_none f hi b xs is ps os k same over l w sounds leads beside = record {
   };
 }
 
--- a key's place, where its value fits or not
+-- a key's value, where it fits or not
+pub found_fits : (k sum end s v : ℕ) → sum + end ≤ max_sum → v ≡ sum + end → Ok (Some (k, v, s)) ≡ found_at k sum end s
+found_fits k sum end s v h e = rw (le-leb (sum + end) max_sum h, e)
+
+pub found_past : (k sum end s : ℕ) → max_sum < sum + end → Err SUM ≡ found_at k sum end s
+found_past k sum end s h = rw (lt-leb (sum + end) max_sum h)
+
 found_low : (k sum end s n : ℕ) → k < n → went_at (found_at k sum end s) < n
 found_low k sum end s n h = go (leb (sum + end) max_sum)
   where

@@ -1,87 +1,72 @@
-// The descent of a range, from a level that has a transition left down to the next key, on arrays that the next descent goes on with. A node is
+// The descent of a range, from a level that has a transition left down to the next key, on a stack that the next descent goes on with. A node is
 // judged once, as it is entered, and read by its address after that.
 #![tactic(auto)]
 
-ghost use Rattle.std.specs.Prelude.{◌≡◌, ◌+◌, ◌≤◌, ◌<◌, length, take, drop, get_or};
-ghost use Rattle.format.specs.Limits.{max_path, max_levels};
-ghost use Rattle.format.specs.Paths.{fst_with};
-ghost use Rattle.stream_start.specs.Views.{Arrays, bound_is};
+ghost use Rattle.std.specs.Prelude.{◌≡◌, ◌+◌, ◌<◌, drop, get_or};
+ghost use Rattle.format.specs.Limits.{max_levels};
+ghost use Rattle.format.specs.View.{fst_is};
+ghost use Rattle.reading.specs.Reading as R;
+ghost use Rattle.stream_start.specs.Views.{bound_of};
 ghost use Rattle.range_bound.specs.Besides.{Beside};
 ghost use Rattle.range_node.specs.Entries.{Leads, SoundTo};
-ghost use Rattle.range_down.specs.Downs.{down_from, found_at, DescendsOn};
+ghost use Rattle.range_down.specs.Downs.{down_from, DescendsOn};
 
-use format::{LEVELS, MAX_KEY, Refusal};
-use range_bound::follow;
+use format::{FstRef, MAX_KEY, Refusal, are_bytes};
+use range_bound::Standing;
 use range_node::{meet, take};
-use stream_start::Bound;
-
-// The key that ends at level k, unless its value passes 2^64 - 1. No plainer as one with the descents of a reading: what they find is an enum of three.
-fn found(k: usize, sum: u64, end: u64, same: usize) -> Result<Option<(usize, u64, usize)>, Refusal>
-    ensures { result ≡ found_at k sum end same }
-{
-    let Some(value) = sum.checked_add(end) else {
-        return Err(Refusal::Sum);
-    };
-    Ok(Some((k, value, same)))
-}
+use std::ops::Bound;
+use stream_levels::Stack;
 
 // From the level at top down to the next key by each level's next transition. Every level up to top is that of a judged node, and so is every level
-// that is written here. The key up to top stands to the upper bound as agreed and over say.
+// that is written here. The key up to top stands to the upper bound as standing says. `Ok(Some((level, value, same)))`: the level where the key ends, its
+// value, and how many of its leading bytes agree with the bound. `Ok(None)`: the key that is next passes the bound.
 pub fn descend(
-    file: &[u8],
-    version: u64,
-    root: usize,
+    fst: FstRef<'_>,
     top: usize,
-    addrs: &mut [u32; LEVELS],
-    inps: &mut [u8; LEVELS],
-    trans: &mut [u16; LEVELS],
-    outs: &mut [u64; LEVELS],
-    bound: &[u8; MAX_KEY],
-    bound_len: usize,
-    kind: Bound,
-    agreed: usize,
-    over: bool,
+    stack: &mut Stack,
+    upper: Bound<&[u8]>,
+    standing: Standing,
 ) -> Result<Option<(usize, u64, usize)>, Refusal>
-    requires arrays { Arrays addrs.old inps.old trans.old outs.old
-        × (length bound.now ≡ max_path) × (bound_len ≤ max_path) }
-    requires top_lt_max_levels { (top < max_levels) × (root < 4294967296)
-        × SoundTo (fst_with file.now version root) addrs.old (top + 1)
-        × Leads (fst_with file.now version root) (get_or addrs.old top 0) (get_or trans.old top 0)
-        × Beside (bound_is kind (take bound_len bound.now)) (take bound_len bound.now)
-        (drop 1 inps.old) top agreed over }
-    ensures { DescendsOn (fst_with file.now version root)
-        (bound_is kind (take bound_len bound.now)) (take bound_len bound.now)
-        (down_from (fst_with file.now version root)
-        (bound_is kind (take bound_len bound.now)) addrs.old
-        inps.old trans.old outs.old top) addrs.new
-        inps.new trans.new outs.new result }
+    requires top_lt_max_levels { (top < max_levels) × (fst.root < 4294967296)
+        × SoundTo (fst_is fst) stack.old.addrs (top + 1)
+        × Leads (fst_is fst) (get_or stack.old.addrs top 0) (get_or stack.old.trans top 0)
+        × Beside (bound_of upper) (R.bound_bytes (bound_of upper))
+        (drop 1 stack.old.inps) top standing.same standing.over }
+    ensures { DescendsOn (fst_is fst.entry)
+        (bound_of upper.entry) (R.bound_bytes (bound_of upper.entry))
+        (down_from (fst_is fst.entry)
+        (bound_of upper.entry) stack.old.addrs
+        stack.old.inps stack.old.trans stack.old.outs top) stack.new.addrs
+        stack.new.inps stack.new.trans stack.new.outs result }
 {
-    let mut same = agreed;
+    are_bytes(fst.bytes);
+    let mut standing = standing;
     // a reading has at most 256 levels
     for k in top..MAX_KEY {
-        let addr = addrs[k] as usize;
-        let i = trans[k] as usize;
-        let edge = take(file, version, root, addr, i);
-        let Some(sum) = outs[k].checked_add(edge.out) else {
+        let addr = stack.addrs[k] as usize;
+        let i = stack.trans[k] as usize;
+        let edge = take(fst, addr, i);
+        let Some(sum) = stack.outs[k].checked_add(edge.out) else {
             return Err(Refusal::Sum);
         };
         let target = edge.addr;
-        let Ok(ending) = meet(file, version, root, target) else {
+        let Ok(ending) = meet(fst, target) else {
             return Err(Refusal::Node);
         };
         let inp = edge.inp;
-        let Some(agree) = follow(same, over, inp, k, bound, bound_len, kind) else {
+        let Some(same) = standing.follow(inp, k, upper) else {
             return Ok(None);
         };
-        same = agree;
-        trans[k] = (i + 1) as u16;
+        standing.same = same;
+        stack.trans[k] = (i + 1) as u16;
         let next = k + 1;
-        addrs[next] = target as u32;
-        inps[next] = inp;
-        trans[next] = 0;
-        outs[next] = sum;
+        stack.addrs[next] = target as u32;
+        stack.inps[next] = inp;
+        stack.trans[next] = 0;
+        stack.outs[next] = sum;
         if let Some(end) = ending {
-            return found(next, sum, end, same);
+            let value = sum.checked_add(end).ok_or(Refusal::Sum)?;
+            return Ok(Some((next, value, same)));
         }
     }
     Err(Refusal::Deep)

@@ -2,7 +2,7 @@
 --     stop_as w                  the stop that stands for one of the definition
 --     refused_range why          refused before any key
 --     OpensAs s version root    the file opens, with this version and this root
---     Ready s .. n              the levels in the arrays can be gone on from, to an upper bound of n bytes
+--     Ready s .. hi             the levels can be gone on from, to the upper bound hi
 --     view_from len hi n empty levels     the reading that a start gave
 --     RangedBy w rows₀ rows values₀ values r     the answer and the two buffers of a call whose definition answers w
 -- Assumes nothing.
@@ -13,10 +13,9 @@ use Rattle.format.specs.Limits.{max_path, max_levels}
 use Rattle.format.specs.Opening.{Meta, opened, opening}
 use Rattle.format.specs.Paths.{fst_with}
 use Rattle.format.specs.Strings as S
-use Rattle.reading.specs.Reading.{View, Level}
+use Rattle.reading.specs.Reading.{View, Level, bound_bytes}
 use Rattle.paging.specs.Paging as P
 use Rattle.paging.specs.Paging.{Page, ended, more, rows_after, values_after}
-use Rattle.stream_start.specs.Views.{Arrays}
 use Rattle.range_node.specs.Entries.{SoundTo}
 use Rattle.range_fill.specs.declared.Stop.{Stop}
 use Rattle.range_fill.specs.declared.Stop.TheVariants.{End, More}
@@ -36,14 +35,12 @@ pub record OpensAs (s : List ℕ) (version root : ℕ) : Type 0 where
   pub version_is : meta.version ≡ version
   pub root_is : meta.root ≡ root
 
--- the levels in the arrays can be gone on from, to an upper bound of n bytes
-pub record Ready (s : List ℕ) (version root levels : ℕ) (xs is ps os b : List ℕ) (n : ℕ) : Type 0 where
+-- the levels, of which xs are the addresses, can be gone on from, to the upper bound hi
+pub record Ready (s : List ℕ) (version root levels : ℕ) (xs : List ℕ) (hi : S.Bound) : Type 0 where
   pub opens : OpensAs s version root
-  pub arrays : Arrays xs is ps os
   pub few : levels ≤ max_levels
   pub sounds : SoundTo (fst_with s version root) xs levels
-  pub bound_held : length b ≡ max_path
-  pub short : n ≤ max_path
+  pub short : length (bound_bytes hi) ≤ max_path
 
 abbrev pub view_from : ℕ → S.Bound → ℕ → Option ℕ → List Level → View
 view_from len hi n empty levels = record { len = len; bound = hi; bound_len = n; empty = empty; total = 0; levels = levels }

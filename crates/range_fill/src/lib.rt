@@ -1,18 +1,23 @@
-// The loop of a range: the keys after the levels in the caller's arrays, each in a row of 256 bytes with its value beside it.
+// The loop of a range: the keys after the levels in the caller's stack, each in a row of 256 bytes with its value beside it.
+// rows and values are two slices and no struct: the C caller lends them one by one, and the definitions speak of each.
+// The number of levels stands beside the stack: a walk knows it only at its end.
+// How many keys are asked for is a number of its own, and no length of rows or values.
 #![tactic(auto)]
 
-ghost use Rattle.std.specs.Prelude.{◌≡◌, ◌-◌, ◌*◌, ◌≤◌, length, take};
+ghost use Rattle.std.specs.Prelude.{◌≡◌, ◌*◌, ◌≤◌, length};
 ghost use Rattle.std.proofs.Math.Option.{none};
 ghost use Rattle.paging.specs.Paging as P;
-ghost use Rattle.stream_start.specs.Views.{bound_is, stack_is};
+ghost use Rattle.reading.specs.Reading as R;
+ghost use Rattle.stream_start.specs.Views.{bound_of, stack_of};
 ghost use Rattle.range_fill.specs.RangedRows.{Ready, view_from, refused_range};
 ghost use Rattle.range_fill.specs.FillLaws.{FilledFrom};
 
-use format::{LEVELS, MAX_KEY, Refusal};
-use range_bound::stand;
+use format::{FstRef, Refusal};
+use range_bound::{Standing, stand};
 use range_rows::{ROW, put_row};
 use range_turn::step_on;
-use stream_start::Bound;
+use std::ops::Bound;
+use stream_levels::Stack;
 
 // How a range that is not refused stopped: no key is left; or as many were handed out as asked for.
 #[derive(Clone, Copy)]
@@ -39,43 +44,29 @@ pub fn refused(why: Refusal) -> Ranged
     }
 }
 
-// The keys after the levels in the arrays, from row `first` on up to `most`, with nothing pending. The arrays are lent on to each step, so a key costs no copy
+// The keys after the levels of the stack, from row `first` on up to `most`, with nothing pending. The stack is lent on to each step, so a key costs no copy
 // of a reading, and each level is that of a node that was judged as it was entered. A refusal stands beside the keys before it.
 pub fn fill(
-    file: &[u8],
-    version: u64,
-    root: usize,
+    fst: FstRef<'_>,
     levels: usize,
-    addrs: &mut [u32; LEVELS],
-    inps: &mut [u8; LEVELS],
-    trans: &mut [u16; LEVELS],
-    outs: &mut [u64; LEVELS],
-    bound: &[u8; MAX_KEY],
-    bound_len: usize,
-    kind: Bound,
+    stack: &mut Stack,
+    upper: Bound<&[u8]>,
     first: usize,
     most: usize,
     rows: &mut [u8],
     values: &mut [u64],
 ) -> Ranged
     requires most_in_bounds { (P.row_len * most ≤ length rows.old) × (most ≤ length values.old) }
-    requires ready { Ready file.now version root levels addrs.old inps.old trans.old outs.old
-        bound.now bound_len }
-    ensures { FilledFrom file.now (view_from (length file.now)
-        (bound_is kind (take bound_len bound.now)) bound_len none
-        (stack_is levels addrs.old inps.old trans.old
-        outs.old)) first most rows.old rows.new
+    requires ready { Ready fst.bytes.now fst.version fst.root levels stack.old.addrs (bound_of upper) }
+    ensures { FilledFrom fst.entry.bytes.now (view_from (length fst.entry.bytes.now)
+        (bound_of upper.entry) (length (R.bound_bytes (bound_of upper.entry))) none
+        (stack_of levels stack.old)) first most rows.old rows.new
         values.old values.new result }
 {
     let mut height = levels;
-    let standing = stand(inps, levels.saturating_sub(1), bound, bound_len, kind);
-    let mut same = standing.same;
-    let mut over = standing.over;
+    let mut standing = stand(stack, levels.saturating_sub(1), upper);
     for count in first..most {
-        match step_on(
-            file, version, root, height, addrs, inps, trans, outs, bound, bound_len, kind, same,
-            over,
-        ) {
+        match step_on(fst, height, stack, upper, standing) {
             Ok(None) => {
                 return Ranged {
                     count,
@@ -88,11 +79,10 @@ pub fn fill(
                     stop: Err(why),
                 };
             }
-            Ok(Some((k, value, agreed))) => {
+            Ok(Some((k, value, same))) => {
                 // a key that is handed out does not pass the bound
-                same = agreed;
-                over = false;
-                put_row(&inps[1..], k, count * ROW, rows);
+                standing = Standing { same, over: false };
+                put_row(&stack.inps[1..], k, count * ROW, rows);
                 values[count] = value;
                 height = k + 1;
             }

@@ -2,24 +2,25 @@
 #![tactic(auto)]
 
 ghost use Rattle.std.specs.Prelude.{Ok, ◌≡◌};
-ghost use Rattle.format.specs.Node.{SoundAt, node_at};
-ghost use Rattle.format.specs.Paths.{fst_with};
+ghost use Rattle.format.specs.Node.{SoundAt};
+ghost use Rattle.format.specs.Paths.{node_in};
+ghost use Rattle.format.specs.View.{fst_is};
 ghost use Rattle.range_node.specs.Entries.{met_of, Entered, Leads, CountsAt, TakesAt};
 
-use format::Transition;
+use format::{FstRef, Transition};
 use node::Unsound;
 use node_sound::is_sound;
 
 // Whether a key ends at a sound node with bytes, and then what that adds to its value. Only a node with any number of transitions can be final.
-fn ending_of(file: &[u8], version: u64, root: usize, addr: usize) -> Option<u64>
-    requires { SoundAt file.now version root addr }
-    ensures { Ok result ≡ met_of (node_at file.now version root addr) }
+fn ending_of(fst: FstRef<'_>, addr: usize) -> Option<u64>
+    requires { SoundAt fst.bytes.now fst.version fst.root addr }
+    ensures { Ok result ≡ met_of (node_in (fst_is fst.entry) addr) }
 {
-    let one_transition = 128 <= file[addr];
+    let one_transition = 128 <= fst.bytes[addr];
     if one_transition {
         return None;
     }
-    let m = node::any_node(file, version, root, addr);
+    let m = node::any_node(fst, addr);
     if m.is_final {
         return Some(m.final_output);
     }
@@ -27,57 +28,57 @@ fn ending_of(file: &[u8], version: u64, root: usize, addr: usize) -> Option<u64>
 }
 
 // Judges the node at addr, as it is entered: whether a key ends there, with what that adds to its value.
-pub fn meet(file: &[u8], version: u64, root: usize, addr: usize) -> Result<Option<u64>, Unsound>
-    ensures { result ≡ met_of (node_at file.now version root addr) }
+pub fn meet(fst: FstRef<'_>, addr: usize) -> Result<Option<u64>, Unsound>
+    ensures { result ≡ met_of (node_in (fst_is fst.entry) addr) }
 {
     if addr == 0 {
         // a file without bytes has no node
-        if 0 < file.len() {
+        if 0 < fst.bytes.len() {
             return Ok(Some(0));
         }
         return Err(Unsound);
     }
-    if is_sound(file, version, root, addr) {
-        return Ok(ending_of(file, version, root, addr));
+    if is_sound(fst, addr) {
+        return Ok(ending_of(fst, addr));
     }
     Err(Unsound)
 }
 
 // How many transitions a node has that was judged before.
-pub fn count_of(file: &[u8], version: u64, root: usize, addr: usize) -> usize
-    requires { Entered (fst_with file.now version root) addr }
-    ensures { CountsAt (fst_with file.now version root) addr result }
+pub fn count_of(fst: FstRef<'_>, addr: usize) -> usize
+    requires { Entered (fst_is fst) addr }
+    ensures { CountsAt (fst_is fst.entry) addr result }
 {
     if addr == 0 {
         return 0;
     }
-    let state = file[addr];
+    let state = fst.bytes[addr];
     if state < 128 {
-        let any = node::any_node(file, version, root, addr);
+        let any = node::any_node(fst, addr);
         return any.ntrans;
     }
     if state < 192 {
-        let one = node::one_node(file, version, root, addr);
+        let one = node::one_node(fst, addr);
         return one.ntrans;
     }
-    let next = node::next_node(file, version, root, addr);
+    let next = node::next_node(fst, addr);
     next.ntrans
 }
 
 // Transition i of a node that was judged before and has it.
-pub fn take(file: &[u8], version: u64, root: usize, addr: usize, i: usize) -> Transition
-    requires { Leads (fst_with file.now version root) addr i }
-    ensures { TakesAt (fst_with file.now version root) addr i result }
+pub fn take(fst: FstRef<'_>, addr: usize, i: usize) -> Transition
+    requires { Leads (fst_is fst) addr i }
+    ensures { TakesAt (fst_is fst.entry) addr i result }
 {
-    let state = file[addr];
+    let state = fst.bytes[addr];
     if state < 128 {
-        let any = node::any_node(file, version, root, addr);
-        return node::transition(file, any, i);
+        let any = node::any_node(fst, addr);
+        return node::transition(fst.bytes, any, i);
     }
     if state < 192 {
-        let one = node::one_node(file, version, root, addr);
-        return node::transition(file, one, i);
+        let one = node::one_node(fst, addr);
+        return node::transition(fst.bytes, one, i);
     }
-    let next = node::next_node(file, version, root, addr);
-    node::transition(file, next, i)
+    let next = node::next_node(fst, addr);
+    node::transition(fst.bytes, next, i)
 }

@@ -6,20 +6,21 @@ ghost use Rattle.buffers.specs.Put.{put};
 ghost use Rattle.format.specs.Limits.{max_path};
 ghost use Rattle.reading.specs.Reading as R;
 ghost use Rattle.paging.specs.Paging as P;
-ghost use Rattle.stream_start.specs.Views.{bound_is};
+ghost use Rattle.stream_start.specs.Views.{bound_of};
 
 use format::MAX_KEY;
-use stream_start::{Bound, len_of};
+use std::ops::Bound;
+use stream_start::len_of;
 
 // The bytes of a row: a key's length, and room for the longest key.
 pub const ROW: usize = 256;
 
 // Whether both bounds have at most 255 bytes.
-pub fn bounds_right(lower_kind: Bound, lower: &[u8], upper_kind: Bound, upper: &[u8]) -> bool
-    ensures { result ≡ R.bounds_test (bound_is lower_kind lower.now)
-        (bound_is upper_kind upper.now) }
+pub fn bounds_right(lower: Bound<&[u8]>, upper: Bound<&[u8]>) -> bool
+    ensures { result ≡ R.bounds_test (bound_of lower.entry)
+        (bound_of upper.entry) }
 {
-    len_of(lower_kind, lower) <= MAX_KEY && len_of(upper_kind, upper) <= MAX_KEY
+    len_of(lower) <= MAX_KEY && len_of(upper) <= MAX_KEY
 }
 
 // Whether rows of so many bytes, and so many values, have room for `most` keys. A quotient, since 256 times `most` may wrap.

@@ -2,7 +2,7 @@
 -- admitted or made.
 --     Level, View              a level of a reading, and what a reading says: what carries no meaning is not in it
 --     key_of levels             the bytes of the levels after the first
---     Started, start s lo hi   what a start on the bytes s answers: a reading, or the number of a refusal
+--     Started, start s lo hi   what a start on the bytes s answers: a reading, or a refusal
 --     Answer, Step             what a call of next answers, and the reading after it
 --     next s r space           a call with the reading r and a key buffer of space bytes
 --     written a buf            the key buffer afterwards

@@ -1,5 +1,7 @@
 // Equal nodes shared through a table of cells: a record's hash, and whether a stored node is the record.
 // Ports `Registry::hash` of src/raw/registry.rs and the comparison of `RegistryCache::entry`, which here reads the node back.
+// inputs, outputs and targets are slices and no struct: they are rows of tables that the C caller lends one by one, and as many as each other by what each
+// contract asks.
 #![tactic(auto)]
 
 ghost use Rattle.std.specs.Prelude.{◌≡◌, ◌-◌, ◌≤◌, length};
@@ -9,6 +11,7 @@ ghost use Rattle.node_compile.specs.Compile.{builder_with};
 ghost use Rattle.packing.specs.Registry.{fnv_step, hash_of, same_transitions, same_node};
 ghost use Rattle.registry.specs.Matching.{cell_with, matches_in, chosen};
 
+use format::FstRef;
 use node::Node;
 
 // ---- the hash
@@ -94,7 +97,14 @@ pub fn same_node(
     ensures { result ≡ same_node (node_at file.now 2 (length file.now - 1) addr)
         (builder_with is_final final_output inputs.now outputs.now targets.now) }
 {
-    let judged = node::node_at(file, 2, file.len() - 1, addr);
+    let judged = node::node_at(
+        FstRef {
+            bytes: file,
+            version: 2,
+            root: file.len() - 1,
+        },
+        addr,
+    );
     match judged {
         Ok(node) => {
             node.is_final == is_final

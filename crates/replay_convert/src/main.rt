@@ -1,10 +1,9 @@
 // Replays recorded answers of the conversion of version 1 files, with no Rust at hand. The list on standard input has files, each with conversions in
 // buffers of any length (README.md). Each is asked again, and the answer, the new file, the table of new addresses and the two work tables are held to what
 // is recorded. A difference changes a count that is written.
+// A record of the list is its entry beside the list, and no slice: a claim over it asks that it lies in the list (`Within`).
 #![tactic(auto)]
 
-ghost use Rattle.std.specs.Prelude.{◌+◌, ◌*◌, ◌≤◌, length, IfSome};
-ghost use Rattle.format.specs.Limits.{max_len};
 ghost use Rattle.replay_list.specs.Records.{Within};
 
 use format::{MAX_LEN, Refusal};
@@ -35,10 +34,7 @@ const WORK_TABLES: u64 = 4;
 
 // An answer as it is recorded: the new file's length, or a refusal.
 fn answer_number(answer: Result<usize, Refusal>) -> u64 {
-    match answer {
-        Ok(n) => n as u64,
-        Err(why) => REFUSED + u64::from(u8::from(why)),
-    }
+    answer.map_or_else(|why| REFUSED + u64::from(u8::from(why)), |n| n as u64)
 }
 
 // ---- the new file
@@ -69,39 +65,23 @@ fn writes_alike(list: &[u8], file: &[u8], entry: Entry) -> bool
 
 // ---- the table of new addresses
 
-// Whether the table has the new addresses of n rows from place at of the list: address 2, new address 4.
-fn rows_alike(list: &[u8], at: usize, n: usize, table: &[u32; CELLS]) -> bool
-    requires { at + 6 * n ≤ length list.now }
-{
-    for i in 0..n {
-        let row = at + 6 * i;
-        let addr = at_most(number(list, row, 2), CELLS - 1);
-        if u64::from(table[addr]) != number(list, row + 2, 4) {
+// Whether the table has the new addresses of these rows: address 2, new address 4.
+fn rows_alike(rows: &[u8], table: &[u32; CELLS]) -> bool {
+    for row in rows.chunks_exact(6) {
+        let addr = at_most(number(row, 0, 2), CELLS - 1);
+        if u64::from(table[addr]) != number(row, 2, 4) {
             return false;
         }
     }
     true
 }
 
-// How many new addresses an entry of the table has: 1, or 0 where it is 0 in what is written and else what it held; None for what it never is.
-fn cell(entry: u32, written: bool) -> Option<usize>
-    ensures { IfSome result (λ n. n ≤ 1) }
-{
-    match (written, entry) {
-        (true, 0) => Some(0),
-        (true, _) => Some(1),
-        (false, KEPT32) => Some(0),
-        (false, _) => None,
+// How many of the entries that are written have a new address, which is not 0; None where another entry is not what it was.
+fn entries(written: &[u32], others: &[u32]) -> Option<usize> {
+    if others.iter().any(|entry| *entry != KEPT32) {
+        return None;
     }
-}
-
-// How many entries have a new address, where the first n are written; None where an entry is what it never is.
-fn entries(table: &[u32; CELLS], n: usize) -> Option<usize> {
-    let mut there = 0;
-    for (i, entry) in table.iter().enumerate() {
-        there += cell(*entry, i < n)?;
-    }
-    Some(there)
+    Some(written.iter().filter(|entry| **entry != 0).count())
 }
 
 // Whether a conversion with a table and work tables of the recorded lengths answers as recorded, and leaves the table so.
@@ -124,12 +104,15 @@ fn addresses_alike(list: &[u8], file: &[u8], entry: Entry) -> bool
     if answer_number(answer) != entry.a {
         return false;
     }
-    let written = if entry.a < REFUSED { file.len() } else { 0 };
-    let rows = entry.len / 6;
-    if entries(&table, written) != Some(rows) {
+    let written = if entry.a < REFUSED {
+        file.len().min(CELLS)
+    } else {
+        0
+    };
+    if entries(&table[..written], &table[written..]) != Some(entry.len / 6) {
         return false;
     }
-    rows_alike(list, entry.part, rows, &table)
+    rows_alike(&list[entry.part..entry.part + entry.len], &table)
 }
 
 // ---- the work tables
@@ -171,7 +154,7 @@ fn restores_alike(file: &[u8], limit: u64, space: u64, entry: Entry) -> bool {
     tables_alike(&depths, &sums, &depths_want, &sums_want)
 }
 
-// ---- the list
+// ---- the records
 
 // Whether a record that is about this file is answered as recorded.
 fn alike(list: &[u8], file: &[u8], entry: Entry) -> bool
@@ -194,20 +177,14 @@ fn alike(list: &[u8], file: &[u8], entry: Entry) -> bool
     entry.kind == FILE
 }
 
-// Every record of the list.
-fn replay(list: &[u8], counts: &mut [u64; 16]) -> io::Result<()> {
-    replay_list::replay(list, counts, |whole, entry, file, tallies| {
-        let same = alike(whole, file, entry);
-        replay_list::tally(tallies, entry.kind, same);
-        Ok(())
-    })
-}
-
 fn main(rt: HostRuntime) -> io::Result<()> {
     let mut list = Vec::new(rt.alloc());
     rt.stdin().take(LIST).read_to_end(&mut list)?;
     let mut counts = [0u64; 16];
-    replay(&list, &mut counts)?;
+    replay_list::replay(&list, &mut counts, |whole, entry, file, tallies| {
+        replay_list::tally(tallies, entry.kind, alike(whole, file, entry));
+        Ok(())
+    })?;
     replay_list::line(&rt, &counts, 1, b"files")?;
     replay_list::line(&rt, &counts, 2, b"new files")?;
     replay_list::line(&rt, &counts, 3, b"tables of new addresses")?;

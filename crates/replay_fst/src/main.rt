@@ -2,6 +2,7 @@
 // files, each with what opening and admission answer and with lookups (README.md). Each is asked
 // again, and the answers, both tables and the key buffer are held to what is recorded. A difference
 // changes a count that is written.
+// A record of the list is its entry beside the list, and no slice: a claim over it asks that it lies in the list (`Within`).
 #![tactic(auto)]
 
 ghost use Rattle.std.specs.Prelude.{◌≡◌, ◌+◌, ◌*◌, ◌≤◌, ◌<◌, length, IfSome};
@@ -33,11 +34,6 @@ const VALUE: u64 = 5;
 
 // ---- opening
 
-// A checksum as a number, 2^32 where there is none.
-fn checksum_number(checksum: Option<u32>) -> u64 {
-    checksum.map_or(4_294_967_296, u64::from)
-}
-
 // Whether what a file says is what stands at place at of the list.
 fn meta_alike(list: &[u8], at: usize, meta: Meta) -> bool
     requires { at + 40 ≤ length list.now }
@@ -54,8 +50,8 @@ fn meta_alike(list: &[u8], at: usize, meta: Meta) -> bool
     if number(list, at + 24, 8) != meta.root as u64 {
         return false;
     }
-    let checksum = meta.checksum;
-    number(list, at + 32, 8) == checksum_number(checksum)
+    // 2^32 where there is no checksum
+    number(list, at + 32, 8) == meta.checksum.map_or(4_294_967_296, u64::from)
 }
 
 fn opens_alike(list: &[u8], file: &[u8], entry: Entry) -> bool
@@ -153,6 +149,7 @@ fn gets_alike(file: &[u8], key: &[u8], entry: Entry) -> bool {
     }
 }
 
+// The answer as the list has it: the key's length, 1000 for none, or 2000 plus the refusal. No plainer by `map_or_else`: there are three cases.
 fn key_number(answer: Result<Option<usize>, Refusal>) -> u64 {
     match answer {
         Ok(Some(n)) => n as u64,

@@ -1,6 +1,7 @@
 // A list of recorded answers, as the replay programs read it: its records, what they are about,
 // bytes that are held to a part of it, and the counts that a program writes (oracle/README.md, "The
 // replay lists").
+// A record of the list is its entry beside the list, and no slice: a claim over it asks that it lies in the list (`Within`).
 #![tactic(auto)]
 
 ghost use Rattle.std.specs.Prelude.{◌≡◌, ◌+◌, ◌*◌, ◌≤◌, ◌<◌, length, take, drop};
@@ -8,7 +9,7 @@ ghost use Rattle.buffers.specs.Decide.{Decides};
 ghost use Rattle.format.specs.Bytes.{le};
 ghost use Rattle.replay_list.specs.Records.{Within, parsed_at, asked_place};
 ghost use Rattle.replay_list.specs.Recorded.{start_number, answer_test};
-ghost use Rattle.replay_list.specs.Tallies.{wanted_at, Holds, smaller, more_at, tallied};
+ghost use Rattle.replay_list.specs.Tallies.{AllKept, Holds, smaller, more_at, tallied};
 
 use format::Refusal;
 use std::io;
@@ -101,7 +102,7 @@ pub fn place_of(list: &[u8], entry: Entry, place: Place) -> Place
 
 // ---- readings
 
-// How a start or an admission is recorded: 0 where it is not refused, else the refusal.
+// How a start or an admission is recorded: 0 where it is not refused, else the refusal. No plainer by `map_or_else`: it takes the refusal's case first.
 pub fn begins_number(answer: Result<(), Refusal>) -> u64
     ensures { result ≡ start_number answer }
 {
@@ -124,17 +125,11 @@ pub fn answer_alike(answer: Result<Option<(usize, u64)>, Refusal>, number: u64, 
 
 // ---- what a buffer holds
 
-// The byte that a buffer is to hold at place i: that of the n bytes from place at of the list, or
-// behind them what it held.
-#[tactic(auto, unfolding(crate::specs::Tallies::wanted_at))]
-fn wanted(list: &[u8], at: usize, n: usize, i: usize) -> u8
-    requires { at + n ≤ length list.now }
-    ensures { result ≡ wanted_at list.now at n i }
+// Whether each byte is what a buffer holds before it is lent.
+fn all_kept(bytes: &[u8]) -> bool
+    ensures { Decides result (AllKept bytes.now) }
 {
-    if i < n {
-        return list[at + i];
-    }
-    KEPT
+    bytes.iter().all(|x| *x == KEPT)
 }
 
 // Whether a buffer holds the n bytes from place at of the list at its front, and behind them what
@@ -146,12 +141,10 @@ pub fn same_bytes(list: &[u8], at: usize, n: usize, buffer: &[u8; 4096]) -> bool
     if 4096 < n {
         return false;
     }
-    for (i, x) in buffer.iter().enumerate() {
-        if *x != wanted(list, at, n, i) {
-            return false;
-        }
+    if buffer[..n] != list[at..at + n] {
+        return false;
     }
-    true
+    all_kept(&buffer[n..])
 }
 
 // The smaller of two numbers: how much of a buffer or an array is lent.

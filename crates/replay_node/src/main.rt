@@ -2,13 +2,14 @@
 // each with its name, what it packs to and stored nodes that are to be read as it (README.md). Each
 // is asked again. A difference changes a count that is written, and the name of its node is written
 // too.
+// A record of the list is its entry beside the list, and no slice: a claim over it asks that it lies in the list (`Within`).
 #![tactic(auto)]
 
 ghost use Rattle.std.specs.Prelude.{◌≡◌, ◌+◌, ◌*◌, ◌≤◌, ◌<◌, length, IfSome};
 ghost use Rattle.node.specs.Read.{Readable};
 ghost use Rattle.replay_list.specs.Records.{Within};
 
-use format::Refusal;
+use format::{FstRef, Refusal};
 use node::Node;
 use replay_list::{Entry, FILE, KEPT, at_most, number};
 use std::io;
@@ -63,6 +64,7 @@ fn targets_of(node: &[u8], n: usize) -> [usize; 258]
     targets
 }
 
+// The answer as the list has it: the number of bytes, or 10,000 plus the refusal. No plainer by `map_or_else`: it takes the refusal's case first.
 fn answer_number(compiled: Result<usize, Refusal>) -> u64 {
     match compiled {
         Ok(n) => n as u64,
@@ -185,27 +187,19 @@ fn numbers_alike(node: &[u8], read: Node) -> bool
 }
 
 // Whether what stands at addr is sound and the list's node, or not sound where that is recorded.
-fn node_alike(
-    node: &[u8],
-    n: usize,
-    file: &[u8],
-    version: u64,
-    root: usize,
-    addr: usize,
-    sound: u64,
-) -> bool
+fn node_alike(node: &[u8], n: usize, fst: FstRef<'_>, addr: usize, sound: u64) -> bool
     requires { 51 + 13 * n ≤ length node.now }
 {
-    let Ok(read) = node::node_at(file, version, root, addr) else {
+    let Ok(read) = node::node_at(fst, addr) else {
         return sound == 0;
     };
     if read.ntrans != n {
         return false;
     }
-    if all_found(file, read) != Some(n) {
+    if all_found(fst.bytes, read) != Some(n) {
         return false;
     }
-    numbers_alike(node, read) && transitions_alike(node, n, file, read) && sound == 1
+    numbers_alike(node, read) && transitions_alike(node, n, fst.bytes, read) && sound == 1
 }
 
 // The same in both recorded versions.
@@ -219,8 +213,27 @@ fn versions_alike(
 ) -> bool
     requires { 51 + 13 * n ≤ length node.now }
 {
-    node_alike(node, n, file, entry.a, root, addr, entry.b)
-        && node_alike(node, n, file, entry.c, root, addr, entry.b)
+    node_alike(
+        node,
+        n,
+        FstRef {
+            bytes: file,
+            version: entry.a,
+            root,
+        },
+        addr,
+        entry.b,
+    ) && node_alike(
+        node,
+        n,
+        FstRef {
+            bytes: file,
+            version: entry.c,
+            root,
+        },
+        addr,
+        entry.b,
+    )
 }
 
 // Whether recorded bytes, laid into a file of zeros that ends with them, are read as recorded in

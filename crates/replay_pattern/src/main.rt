@@ -1,6 +1,7 @@
 // Replays recorded readings by pattern, with no Rust at hand. The list on standard input has files, each with starts and the calls
 // of next after them (README.md). Each is asked again, and the answer, the total, the number of levels and the key buffer are held
 // to what is recorded. A difference changes a count that is written.
+// A record of the list is its entry beside the list, and no slice: a claim over it asks that it lies in the list (`Within`).
 #![tactic(auto)]
 
 ghost use Rattle.std.specs.Prelude.{◌+◌, ◌*◌, ◌≤◌, ◌<◌, length};
@@ -8,11 +9,11 @@ ghost use Rattle.replay_list.specs.Records.{Within};
 
 use patterned::Patterned;
 use patterned_held::Pattern;
-use replay_list::{Entry, FILE, KEPT, Place, answer_alike, at_most, begins_number, number};
+use replay_list::{Entry, FILE, KEPT, answer_alike, at_most, begins_number, number};
 use std::io;
 use std::io::Read;
-use stream_arrays::kind_of;
-use stream_start::Bound;
+use stream_arrays::bound_with;
+use stream_start::Reading;
 
 // The list's length, and one byte more by which a longer list is seen.
 const LIST: u64 = 79_790;
@@ -39,30 +40,6 @@ fn fill_positions(list: &[u8], at: usize, n: usize, positions: &mut [u16; ROOM])
     }
 }
 
-// A start with so many of these positions.
-fn start_with(
-    file: &[u8],
-    positions: [u16; ROOM],
-    n: usize,
-    rest: bool,
-    lower_kind: Bound,
-    lower: &[u8],
-    upper_kind: Bound,
-    upper: &[u8],
-) -> patterned::PatternedStart
-    requires { n ≤ 300 }
-{
-    patterned::start(
-        file,
-        &positions[..n],
-        rest,
-        lower_kind,
-        lower,
-        upper_kind,
-        upper,
-    )
-}
-
 // Starts again. The answer is the reading that it gives, or where it is refused the one before.
 fn replay_start(
     list: &[u8],
@@ -85,24 +62,23 @@ fn replay_start(
     let to = replay_list::end_of(list, entry);
     let rest = 9 <= entry.c;
     let kinds = entry.c % 9;
-    let started = start_with(
+    let started = patterned::start(
         file,
-        positions,
-        n,
+        &positions[..n],
         rest,
-        kind_of(kinds / 3),
-        &list[from..between],
-        kind_of(kinds % 3),
-        &list[between..to],
+        bound_with(kinds / 3, &list[from..between]),
+        bound_with(kinds % 3, &list[between..to]),
     );
-    let begins = started.answer;
-    let answer = begins_number(begins);
-    let begun = started.patterned;
-    replay_list::tally(counts, START, answer == entry.a);
-    if answer == 0 {
-        return begun;
+    match started {
+        Ok(begun) => {
+            replay_list::tally(counts, START, entry.a == 0);
+            begun
+        }
+        Err(why) => {
+            replay_list::tally(counts, START, begins_number(Err(why)) == entry.a);
+            here
+        }
     }
-    here
 }
 
 // ---- calls of next
@@ -136,11 +112,9 @@ fn replay_next(
     let space = at_most(entry.c, 4096);
     let mut key = [KEPT; 4096];
     let step = patterned::next(file, here, &mut key[..space]);
-    let answer = step.answer;
     let after = step.patterned;
-    let reading = after.reading;
-    let told = answer_alike(answer, entry.a, entry.b);
-    let left = left_alike(list, entry, reading.total, reading.levels, &key);
+    let told = answer_alike(step.answer, entry.a, entry.b);
+    let left = left_alike(list, entry, after.reading.total, after.reading.levels, &key);
     replay_list::tally(counts, NEXT, told & left);
     after
 }
@@ -149,22 +123,28 @@ fn replay_next(
 
 // The reading that was left, with so many levels and positions stated.
 fn stated(here: Patterned, levels: usize, len: usize) -> Patterned {
-    let mut reading = here.reading;
-    let mut pattern = here.pattern;
-    reading.levels = levels;
-    pattern.len = len;
-    Patterned { reading, pattern }
+    Patterned {
+        reading: Reading {
+            levels,
+            ..here.reading
+        },
+        pattern: Pattern {
+            len,
+            ..here.pattern
+        },
+    }
 }
 
 // A reading of nothing, by a pattern that has no position.
 fn nothing() -> Patterned {
-    let reading = stream_start::no_reading();
-    let pattern = Pattern {
-        len: 0,
-        rest: false,
-        positions: [0; 255],
-    };
-    Patterned { reading, pattern }
+    Patterned {
+        reading: stream_start::no_reading(),
+        pattern: Pattern {
+            len: 0,
+            rest: false,
+            positions: [0; 255],
+        },
+    }
 }
 
 // ---- the list
@@ -193,30 +173,26 @@ fn replay_one(
     here
 }
 
-// Every record of the list, which ends with the last of them.
-fn replay(list: &[u8], counts: &mut [u64; 16]) {
+// Every record of the list, each with the reading that the one before left.
+fn replay(list: &[u8], counts: &mut [u64; 16]) -> io::Result<()> {
     let mut here = nothing();
-    let mut place = Place { from: 0, to: 0 };
-    let mut at = 0;
-    // by place: each record says where the next begins
-    while at < list.len() {
-        let Some(entry) = replay_list::parse(list, at) else {
-            replay_list::tally(counts, 0, false);
-            return;
-        };
-        place = replay_list::place_of(list, entry, place);
-        let from = place.from;
-        let to = place.to;
-        here = replay_one(list, &list[from..to], entry, here, counts);
-        at = replay_list::end_of(list, entry);
-    }
+    replay_list::replay(
+        list,
+        counts,
+        |whole, entry, file, tallies|
+            requires { Within whole.now entry }
+        {
+            here = replay_one(whole, file, entry, here, tallies);
+            Ok(())
+        },
+    )
 }
 
 fn main(rt: HostRuntime) -> io::Result<()> {
     let mut list = Vec::new(rt.alloc());
     rt.stdin().take(LIST).read_to_end(&mut list)?;
     let mut counts = [0u64; 16];
-    replay(&list, &mut counts);
+    replay(&list, &mut counts)?;
     replay_list::line(&rt, &counts, 1, b"files")?;
     replay_list::line(&rt, &counts, 2, b"starts by pattern")?;
     replay_list::line(&rt, &counts, 3, b"calls of next by pattern")?;

@@ -2,17 +2,19 @@
 // tables of keys, starts and the calls of next after them (README.md). Each is asked again, and the
 // answer, the total, the number of keys to come and the key buffer are held to what is recorded. A
 // difference changes a count that is written.
+// A record of the list is its entry beside the list, and no slice: a claim over it asks that it lies in the list (`Within`).
 #![tactic(auto)]
 
 ghost use Rattle.std.specs.Prelude.{◌+◌, ◌*◌, ◌≤◌, ◌<◌, length};
 ghost use Rattle.replay_list.specs.Records.{Within};
 
-use replay_list::{Entry, FILE, KEPT, Place, answer_alike, at_most, begins_number, number};
+use replay_list::{Entry, FILE, KEPT, answer_alike, at_most, begins_number, number};
 use std::io;
 use std::io::Read;
-use stream::{Plain, Started};
-use stream_arrays::kind_of;
-use stream_start::{Bound, Reading};
+use stream::Plain;
+use stream_arrays::bound_with;
+use stream_levels::Stack;
+use stream_start::Reading;
 
 // The list's length, and one byte more by which a longer list is seen.
 const LIST: u64 = 255_462;
@@ -63,20 +65,6 @@ fn replay_table(list: &[u8], entry: Entry, table: &mut [u64; CELLS], counts: &mu
 
 // ---- starts
 
-// A start with so many entries of this table.
-fn start_with(
-    file: &[u8],
-    lower_kind: Bound,
-    lower: &[u8],
-    upper_kind: Bound,
-    upper: &[u8],
-    table: [u64; CELLS],
-    lent: u64,
-) -> Started {
-    let n = at_most(lent, CELLS);
-    stream::start(file, lower_kind, lower, upper_kind, upper, &table[..n])
-}
-
 // Starts again with so many entries of this table. The answer is the reading that it gives, or where it is refused the
 // one before.
 fn replay_start(
@@ -98,24 +86,21 @@ fn replay_start(
     let from = entry.part + 8;
     let between = from + at_most(entry.b, entry.len - 8);
     let to = replay_list::end_of(list, entry);
-    let started = start_with(
-        file,
-        kind_of(entry.c / 3),
-        &list[from..between],
-        kind_of(entry.c % 3),
-        &list[between..to],
-        table,
-        lent,
-    );
-    let begins = started.answer;
-    let answer = begins_number(begins);
-    let begun = started.plain;
-    let numbered = (answer != 0) | (begun.keys == keys);
-    replay_list::tally(counts, START, (answer == entry.a) & numbered);
-    if answer == 0 {
-        return begun;
+    let lower = bound_with(entry.c / 3, &list[from..between]);
+    let upper = bound_with(entry.c % 3, &list[between..to]);
+    let n = at_most(lent, CELLS);
+    let start = stream::start(file, lower, upper, &table[..n]);
+    let alike = begins_number(start.map(|_| ())) == entry.a;
+    match start {
+        Ok(begun) => {
+            replay_list::tally(counts, START, alike && begun.keys == keys);
+            begun
+        }
+        Err(_) => {
+            replay_list::tally(counts, START, alike);
+            plain
+        }
     }
-    plain
 }
 
 // ---- calls of next
@@ -172,25 +157,22 @@ fn replay_next(
 // ---- readings that no start gave
 
 // The levels, each of 15 bytes, from place at of the list.
-fn fill_levels(
-    list: &[u8],
-    at: usize,
-    n: usize,
-    addrs: &mut [u32; 256],
-    inps: &mut [u8; 256],
-    trans: &mut [u16; 256],
-    outs: &mut [u64; 256],
-)
+fn levels_at(list: &[u8], at: usize, n: usize) -> Stack
     requires { (at + 15 * n ≤ length list.now) × (n ≤ 256) }
 {
-    // by index: four arrays are written at one place
+    let mut stack = Stack::new();
+    // by index: it is the level's, and gives the place in the list
     for i in 0..n {
         let from = at + 15 * i;
-        addrs[i] = le_bytes::read_u32_le(&list[from..]);
-        inps[i] = list[from + 4];
-        trans[i] = u16::from_le_bytes([list[from + 5], list[from + 6]]);
-        outs[i] = number(list, from + 7, 8);
+        stack.put(
+            i,
+            le_bytes::read_u32_le(&list[from..]),
+            list[from + 4],
+            u16::from_le_bytes([list[from + 5], list[from + 6]]),
+            number(list, from + 7, 8),
+        );
     }
+    stack
 }
 
 // How long the part of a recorded reading is.
@@ -211,17 +193,11 @@ fn made(list: &[u8], entry: Entry) -> Reading
     let at = entry.part;
     // the value of the empty key, where that key is pending
     let empty_output = (number(list, at + 8, 1) != 0).then_some(number(list, at + 9, 8));
-    let kind = kind_of(number(list, at + 17, 1));
-    let levels_at = at + 26 + bytes;
+    let kind = bound_with(number(list, at + 17, 1), &[]).map(|_| ());
+    let behind = at + 26 + bytes;
     let mut bound = [0u8; 255];
-    bound[..bytes].copy_from_slice(&list[at + 26..levels_at]);
-    let mut addrs = [0u32; 256];
-    let mut inps = [0u8; 256];
-    let mut trans = [0u16; 256];
-    let mut outs = [0u64; 256];
-    fill_levels(
-        list, levels_at, levels, &mut addrs, &mut inps, &mut trans, &mut outs,
-    );
+    bound[..bytes].copy_from_slice(&list[at + 26..behind]);
+    let stack = levels_at(list, behind, levels);
     Reading {
         len: number(list, at, 8) as usize,
         kind,
@@ -230,10 +206,7 @@ fn made(list: &[u8], entry: Entry) -> Reading
         empty_output,
         total: entry.b,
         levels: entry.a as usize,
-        addrs,
-        inps,
-        trans,
-        outs,
+        stack,
     }
 }
 
@@ -294,35 +267,31 @@ fn replay_one(
     Left { plain, lent }
 }
 
-// Every record of the list, which ends with the last of them.
-fn replay(list: &[u8], counts: &mut [u64; 16]) {
+// Every record of the list.
+fn replay(list: &[u8], counts: &mut [u64; 16]) -> io::Result<()> {
     let mut table = [0u64; CELLS];
     let reading = stream_start::no_reading();
     let mut left = Left {
         plain: Plain { reading, keys: 0 },
         lent: 0,
     };
-    let mut place = Place { from: 0, to: 0 };
-    let mut at = 0;
-    // by place: each record says where the next begins
-    while at < list.len() {
-        let Some(entry) = replay_list::parse(list, at) else {
-            replay_list::tally(counts, 0, false);
-            return;
-        };
-        place = replay_list::place_of(list, entry, place);
-        let from = place.from;
-        let to = place.to;
-        left = replay_one(list, &list[from..to], entry, left, &mut table, counts);
-        at = replay_list::end_of(list, entry);
-    }
+    replay_list::replay(
+        list,
+        counts,
+        |whole, entry, file, tallies|
+            requires { Within whole.now entry }
+        {
+            left = replay_one(whole, file, entry, left, &mut table, tallies);
+            Ok(())
+        },
+    )
 }
 
 fn main(rt: HostRuntime) -> io::Result<()> {
     let mut list = Vec::new(rt.alloc());
     rt.stdin().take(LIST).read_to_end(&mut list)?;
     let mut counts = [0u64; 16];
-    replay(&list, &mut counts);
+    replay(&list, &mut counts)?;
     replay_list::line(&rt, &counts, 1, b"files")?;
     replay_list::line(&rt, &counts, 2, b"starts")?;
     replay_list::line(&rt, &counts, 3, b"calls of next")?;

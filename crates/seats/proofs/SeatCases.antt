@@ -161,9 +161,9 @@ module _ (file : List ℕ) (s : Seats) (eight : length s.seats ≡ 8) (i : ℕ) 
   wrote : (a : R.Answer) → given.answer ≡ a → buf ≡ written a buf₀
   wrote a e = h.buffer ∙ ap (λ (x : R.Answer). written x buf₀) e
 
-  pub serve_key : (m u : ℕ) → o.answer ≡ Ok (Some (m, u)) → r.served ≡ Ok (S.Key i m u) → seats_is r.seats ≡ T.kept (seats_is s) i (plain_is o.plain)
+  pub serve_key : (m u : ℕ) → r.served ≡ Ok (S.Key i m u) → o.answer ≡ Ok (Some (m, u)) → seats_is r.seats ≡ T.kept (seats_is s) i (plain_is o.plain)
       → DispatchTold (T.dispatch file (seats_is s) (length buf₀)) (seats_is s) buf₀ buf r
-  serve_key m u e is seats =
+  serve_key m u is e seats =
       let q = step_key (plain_told h) m u e in
       told_as (served_is (key q.0 u) q.1)
       (record {

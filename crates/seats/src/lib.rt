@@ -128,21 +128,19 @@ fn serve(file: &[u8], seats: Seats, number: usize, key: &mut [u8]) -> Dispatched
         };
     };
     let step = stream::next(file, reading, key);
-    let answer = step.answer;
-    let after = step.plain;
-    match answer {
-        Ok(Some((n, value))) => Dispatched {
-            served: Ok(Served::Key(number as u8, n, value)),
-            seats: kept(seats, number, after),
-        },
-        Ok(None) => Dispatched {
-            served: Ok(Served::End(number as u8)),
-            seats: kept(seats, number, after),
-        },
-        Err(why) => Dispatched {
-            served: Err(why),
-            seats,
-        },
+    let served = match step.answer {
+        Ok(Some((n, value))) => Served::Key(number as u8, n, value),
+        Ok(None) => Served::End(number as u8),
+        Err(why) => {
+            return Dispatched {
+                served: Err(why),
+                seats,
+            };
+        }
+    };
+    Dispatched {
+        served: Ok(served),
+        seats: kept(seats, number, step.plain),
     }
 }
 

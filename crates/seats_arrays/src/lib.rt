@@ -3,6 +3,7 @@
 //
 // The seat served last is a number. `taken` and `waiting` have a number for each seat, 0 for no and any other for yes. The arrays of stream_arrays have
 // a row for each seat. They are passed as slices here, so that their lengths are known to a caller that has them as arrays of eight.
+// Each function takes what the C caller lends, one by one: the C interface.
 #![tactic(auto)]
 
 ghost use Rattle.std.specs.Prelude.{◌≡◌, ◌<◌, length};

@@ -1,4 +1,5 @@
 // What is kept of a seat that was served, in the arrays of `seats_arrays`: the reading that its call gave back, unless it was refused.
+// What the C caller lends goes down one by one: the C interface.
 #![tactic(auto)]
 
 ghost use Rattle.std.specs.Prelude.{◌≡◌, ◌<◌};

@@ -6,13 +6,13 @@ use mathlib.Core.List.{List, Memᴰ}
 use Rattle.std.specs.Prelude.{ℕ}
 use Rattle.format.specs.Strings as S
 use Rattle.reading.specs.Reading.{end}
-use Rattle.stream.specs.declared.Started.{Started}
+use Rattle.stream.specs.declared.Plain.{Plain}
 use Rattle.stream_calls.specs.Calls.{CodeCall, Made, code_answers, last_reading, StartMade}
 
-pub record Sitting (s : List ℕ) (lo hi : S.Bound) (t : List ℕ) (b : Started) (cs : List CodeCall) : Type 0 where
+pub record Sitting (s : List ℕ) (lo hi : S.Bound) (t : List ℕ) (b : Plain) (cs : List CodeCall) : Type 0 where
   pub first : StartMade s lo hi t b
-  pub made : Made s b.plain cs
+  pub made : Made s b cs
   pub ends : Memᴰ end (code_answers cs)
 
-abbrev pub code_total : Started → List CodeCall → ℕ
-code_total b cs = (last_reading b.plain cs).reading.total
+abbrev pub code_total : Plain → List CodeCall → ℕ
+code_total b cs = (last_reading b cs).reading.total

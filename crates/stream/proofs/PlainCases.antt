@@ -1,11 +1,11 @@
 -- A call of next, and then the look at its answer: a law for each case.
 --     gave_too_many                a key where the number says that none is to come
---     gave_key, gave_end, gave_refused     the three answers, from a reading that holds n keys to come
+--     gave_key, gave_other         a key, or any other answer, from a reading that holds n keys to come
 --     key_room, room_same          a key comes only where the buffer has room for every key, and then the room does not matter
 --     some_left, none_left         a key lowers the number, which is not 0; a call where it is 0
 -- Assumes nothing.
 use mathlib.Core.Path.{◌≡◌, refl, sym, ap, ◌∙◌, subst}
-use Rattle.std.specs.Prelude.{Ok, Err, Some, None}
+use Rattle.std.specs.Prelude.{Ok, Err, Some}
 use Rattle.format.specs.declared.Refusal.{Refusal}
 use mathlib.Core.Bool.{Bool, true, false, cond}
 use mathlib.Core.Logic.{◌⊎◌, inl, inr}
@@ -25,7 +25,7 @@ use Rattle.plain.specs.Plain.{plain_with, counting, counted_step, next_plain}
 use Rattle.stream_start.specs.Views.{view_is}
 use Rattle.stream_step.specs.declared.Step as S
 use Rattle.stream_step.specs.Stepped.{answer_as, Stepped}
-use Rattle.stream_step.specs.SteppedLaws.{told, step_key, step_end, step_refused}
+use Rattle.stream_step.specs.SteppedLaws.{told, step_key}
 use Rattle.stream.specs.declared.Step.{Step}
 use Rattle.stream.specs.Plains.{plain_is, CallGave, PlainStepped}
 
@@ -54,25 +54,24 @@ module _ {w : R.Step} {buf₀ buf : List ℕ} {o : S.Step} (h : Stepped w buf₀
         buffer = h.buffer ∙ ap (λ a. written a buf₀) q.1 ∙ ap (λ (x : P.PlainStep). written x.answer buf₀) (sym c);
       }
 
-  pub gave_end : o.answer ≡ Ok None → r.answer ≡ Ok None → plain_is r.plain ≡ plain_with (view_is o.reading) n
+  -- any other answer stands, and the number with it
+  pub gave_other : ((q : ℕ × ℕ) → ¬ (o.answer ≡ Ok (Some q))) → r.answer ≡ o.answer → plain_is r.plain ≡ plain_with (view_is o.reading) n
       → PlainStepped (counted_step (plain_with v n) w) buf₀ buf r
-  gave_end e is same =
-      let q = step_end (told h) e in
-      let c = counted_as end q in
-      record {
-        gave = gave_of c is (same ∙ ap (λ (x : View). plain_with x n) h.reading);
-        buffer = h.buffer ∙ ap (λ a. written a buf₀) q ∙ ap (λ (x : P.PlainStep). written x.answer buf₀) (sym c);
-      }
+  gave_other none is same = by w.answer refl
+    where
+      stands : (a : R.Answer) → w.answer ≡ a → counting (plain_with v n) w.reading a ≡ record { answer = a; reading = plain_with w.reading n }
+          → PlainStepped (counted_step (plain_with v n) w) buf₀ buf r
+      stands a e q =
+          let c = counted_as a e ∙ q in
+          record {
+            gave = gave_of c (is ∙ h.answer ∙ ap answer_as e) (same ∙ ap (λ (x : View). plain_with x n) h.reading);
+            buffer = h.buffer ∙ ap (λ x. written x buf₀) e ∙ ap (λ (x : P.PlainStep). written x.answer buf₀) (sym c);
+          }
 
-  pub gave_refused : (m : Refusal) → o.answer ≡ Err m → r.answer ≡ Err m → plain_is r.plain ≡ plain_with (view_is o.reading) n
-      → PlainStepped (counted_step (plain_with v n) w) buf₀ buf r
-  gave_refused m e is same =
-      let q = step_refused (told h) m e in
-      let c = counted_as (R.Answer.refused m) q in
-      record {
-        gave = gave_of c is (same ∙ ap (λ (x : View). plain_with x n) h.reading);
-        buffer = h.buffer ∙ ap (λ a. written a buf₀) q ∙ ap (λ (x : P.PlainStep). written x.answer buf₀) (sym c);
-      }
+      by : (a : R.Answer) → w.answer ≡ a → PlainStepped (counted_step (plain_with v n) w) buf₀ buf r
+      by (key k u) e = absurd (none (length k, u) (h.answer ∙ ap answer_as e))
+      by end e = stands end e refl
+      by (R.Answer.refused m) e = stands (R.Answer.refused m) e refl
 
 -- ---- the room
 

@@ -4,7 +4,7 @@
 --     plain_then                                the rest
 -- Assumes nothing.
 use mathlib.Core.Path.{◌≡◌, sym, ap, ◌∙◌}
-use Rattle.std.specs.Prelude.{Ok, Err, Result, ⊤, ℕ}
+use Rattle.std.specs.Prelude.{Ok, Err, Result}
 use Rattle.format.specs.declared.Refusal.{Refusal}
 use mathlib.Core.List.{List}
 use Prim.Native.Nat.{ℕ, ◌≤◌, ◌<◌}
@@ -19,33 +19,26 @@ use Rattle.format.specs.Strings as S
 use Rattle.reading.specs.Reading as R
 use Rattle.reading.specs.Reading.{bound_bytes}
 use Rattle.reading.proofs.WholeLaws.{both_false}
-use Rattle.plain.specs.Numbers as N
-use Rattle.plain.specs.Numbers.{Tally, comes_to, number}
+use Rattle.plain.specs.Numbers.{Tally, number}
 use Rattle.plain.specs.Plain as P
 use Rattle.plain.specs.Plain.{plain_with, begun, start_plain, then_number}
-use Rattle.stream_start.specs.Views as Views
 use Rattle.stream_start.specs.Views.{view_is, started_is}
-use Rattle.stream_start.specs.declared.Started.{Started}
+use Rattle.stream_start.specs.declared.Reading.{Reading}
 use Rattle.stream_number.specs.Totals.{tally_is}
 
-module _ {w : R.Started} (o : Started) (h : started_is o ≡ w) where
-  pub then_refused : (t : Tally) (n : Refusal) → o.answer ≡ Err n → P.Begun.refused n ≡ then_number w t
-  then_refused t n e =
-      let q : R.Started.refused n ≡ w = ap (λ (b : Result ⊤ Refusal). Views.began_is b o.reading) (sym e) ∙ h in
-      ap (λ (x : R.Started). then_number x t) q
+module _ {w : R.Started} (o : Result Reading Refusal) (h : started_is o ≡ w) where
+  pub then_refused : (t : Tally) (n : Refusal) → o ≡ Err n → P.Begun.refused n ≡ then_number w t
+  then_refused t n e = ap (λ (x : R.Started). then_number x t) (ap started_is (sym e) ∙ h)
 
-  began_is_lem : o.answer ≡ Ok tt → R.started (view_is o.reading) ≡ w
-  began_is_lem e = ap (λ (b : Result ⊤ Refusal). Views.began_is b o.reading) (sym e) ∙ h
+  module _ (r : Reading) (e : o ≡ Ok r) {t : Tally} (k : Result ℕ Refusal) (g : tally_is k ≡ t) where
+    began : then_number (R.started (view_is r)) t ≡ then_number w t
+    began = ap (λ (x : R.Started). then_number x t) (ap started_is (sym e) ∙ h)
 
-  pub then_halted : {t : Tally} (r : Result ℕ Refusal) → tally_is r ≡ t → o.answer ≡ Ok tt → (n : Refusal) → r ≡ Err n → P.Begun.refused n ≡ then_number w t
-  then_halted {t} r g e n is =
-      let q : N.Tally.refused n ≡ t = ap tally_is (sym is) ∙ g in
-      ap (then_number (R.started (view_is o.reading))) q ∙ ap (λ (x : R.Started). then_number x t) (began_is_lem e)
+    pub then_halted : (n : Refusal) → k ≡ Err n → P.Begun.refused n ≡ then_number w t
+    then_halted n is = ap (then_number (R.started (view_is r))) (ap tally_is (sym is) ∙ g) ∙ began
 
-  pub then_begun : {t : Tally} (r : Result ℕ Refusal) → tally_is r ≡ t → o.answer ≡ Ok tt → (n : ℕ) → r ≡ Ok n → begun (plain_with (view_is o.reading) n) ≡ then_number w t
-  then_begun {t} r g e n is =
-      let q : comes_to n ≡ t = ap tally_is (sym is) ∙ g in
-      ap (then_number (R.started (view_is o.reading))) q ∙ ap (λ (x : R.Started). then_number x t) (began_is_lem e)
+    pub then_begun : (n : ℕ) → k ≡ Ok n → begun (plain_with (view_is r) n) ≡ then_number w t
+    then_begun n is = ap (then_number (R.started (view_is r))) (ap tally_is (sym is) ∙ g) ∙ began
 
 module _ (s : List ℕ) (lo hi : S.Bound) (c : List ℕ) where
   pub plain_refused : (n : Refusal) → opening s ≡ O.refused n → start_plain s lo hi c ≡ P.Begun.refused n

@@ -3,7 +3,7 @@
 use mathlib.Core.Path.{◌≡◌, refl}
 use Rattle.std.specs.Prelude.{Some}
 use Prim.Native.Nat.{ℕ, zero, suc}
-use Rattle.stream_start.specs.declared.Bound.TheVariants.{Unbounded}
+use Rattle.std.specs.declared.ops.Bound.TheVariants.{Unbounded}
 use Rattle.stream_arrays.specs.Arrays.{kind_is, pending_is}
 
 pub kind_other : (n : ℕ) → ¬ (n ≡ 0) → ¬ (n ≡ 1) → Unbounded ≡ kind_is n

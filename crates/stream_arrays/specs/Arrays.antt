@@ -6,25 +6,25 @@
 --     held_plain h n                 the plain reading that the arrays hold with the number of keys to come in n
 --     PlainPut p h n                the arrays hold the plain reading p
 -- Assumes nothing.
-use Rattle.std.specs.Prelude.{◌≡◌, Option, Some, None, List, [], ◌∷◌, ℕ, zero, suc, get_or}
+use Rattle.std.specs.Prelude.{◌≡◌, Option, Some, None, List, [], ◌∷◌, ℕ, zero, suc, get_or, ⊤}
 use Rattle.plain.specs.Plain as P
 use Rattle.plain.specs.Plain.{plain_with}
-use Rattle.stream_start.specs.declared.Bound.{Bound}
-use Rattle.stream_start.specs.declared.Bound.TheVariants.{Included, Excluded, Unbounded}
+use Rattle.std.specs.declared.ops.Bound.{Bound}
+use Rattle.std.specs.declared.ops.Bound.TheVariants.{Included, Excluded, Unbounded}
 use Rattle.stream_start.specs.declared.Reading.{Reading}
 use Rattle.stream_start.specs.Views.{view_is}
 use Rattle.stream.specs.declared.Plain.{Plain}
 
 -- ---- a reading in six arrays
 
-abbrev pub kind_is : ℕ → Bound
-kind_is zero = Included
-kind_is (suc zero) = Excluded
+abbrev pub kind_is : ℕ → Bound ⊤
+kind_is zero = Included tt
+kind_is (suc zero) = Excluded tt
 kind_is (suc (suc n)) = Unbounded
 
-abbrev pub kind_number : Bound → ℕ
-kind_number Included = 0
-kind_number Excluded = 1
+abbrev pub kind_number : Bound ⊤ → ℕ
+kind_number (Included u) = 0
+kind_number (Excluded u) = 1
 kind_number Unbounded = 2
 
 abbrev pub pending_is : ℕ → ℕ → Option ℕ
@@ -59,10 +59,7 @@ held_is h = record {
   empty_output = pending_is (get_or h.head 3 0) (get_or h.head 4 0);
   total = get_or h.head 5 0;
   levels = get_or h.head 6 0;
-  addrs = h.addrs;
-  inps = h.inps;
-  trans = h.trans;
-  outs = h.outs;
+  stack = record { addrs = h.addrs; inps = h.inps; trans = h.trans; outs = h.outs };
 }
 
 abbrev pub head_as : Reading → List ℕ
@@ -72,7 +69,7 @@ head_as r =
     ∷ (r.bound_len ∷ (pending_flag r.empty_output ∷ (pending_value r.empty_output ∷ (r.total ∷ (r.levels ∷ []))))))
 
 abbrev pub held_as : Reading → Held
-held_as r = held (head_as r) r.bound r.addrs r.inps r.trans r.outs
+held_as r = held (head_as r) r.bound r.stack.addrs r.stack.inps r.stack.trans r.stack.outs
 
 -- ---- with the number of keys to come
 

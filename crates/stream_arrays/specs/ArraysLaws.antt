@@ -1,14 +1,14 @@
 -- What is put into the arrays is read back, and a start or a call by numbers and arrays is one by kinds and readings.
 --     held_back, plain_back      the arrays hold the reading, and the plain reading, that was put into them
---     bounds_of, start_bounds    a start by the kinds that two numbers stand for; of plain readings
+--     bounds_of, start_bounds    a start by the bounds that two numbers with bytes stand for; of plain readings
 --     next_of                    a call on the reading that the arrays hold
 -- Assumes nothing.
-use Rattle.std.specs.Prelude.{◌≡◌, refl, Option, Some, None, List, ℕ, get_or}
+use Rattle.std.specs.Prelude.{◌≡◌, refl, Option, Some, None, List, ℕ, get_or, ⊤}
 use Rattle.std.proofs.Common.{ap, ◌∙◌, subst}
 use Rattle.format.specs.Strings as F
 use Rattle.plain.specs.Plain as P
-use Rattle.stream_start.specs.declared.Bound.{Bound}
-use Rattle.stream_start.specs.declared.Bound.TheVariants.{Included, Excluded, Unbounded}
+use Rattle.std.specs.declared.ops.Bound.{Bound}
+use Rattle.std.specs.declared.ops.Bound.TheVariants.{Included, Excluded, Unbounded}
 use Rattle.stream_start.specs.declared.Reading.{Reading}
 use Rattle.stream_start.specs.Views.{bound_is, view_is}
 use Rattle.stream.specs.declared.Plain.{Plain}
@@ -18,9 +18,9 @@ use Rattle.stream_arrays.specs.Arrays.{kind_is, kind_number, pending_is, pending
 
 -- ---- what was put is there
 
-kind_back : (k : Bound) → kind_is (kind_number k) ≡ k
-kind_back Included = refl
-kind_back Excluded = refl
+kind_back : (k : Bound ⊤) → kind_is (kind_number k) ≡ k
+kind_back (Included tt) = refl
+kind_back (Excluded tt) = refl
 kind_back Unbounded = refl
 
 pending_back : (e : Option ℕ) → pending_is (pending_flag e) (pending_value e) ≡ e
@@ -37,13 +37,12 @@ plain_back {p} {h} {n} put =
 
 -- ---- the bounds are those whose kinds the numbers stand for
 
-pub bounds_of : {A : Type 0} {w : A} (start : F.Bound → F.Bound → A) (lo hi : List ℕ) {k l : Bound} (n m : ℕ) → k ≡ kind_is n → l ≡ kind_is m
-    → w ≡ start (bound_is k lo) (bound_is l hi) → w ≡ start (bound_is (kind_is n) lo) (bound_is (kind_is m) hi)
-bounds_of start lo hi {k} {l} n m a b e =
-    e ∙ ap (λ x. start (bound_is x lo) (bound_is l hi)) a ∙ ap (λ x. start (bound_is (kind_is n) lo) (bound_is x hi)) b
+pub bounds_of : {A : Type 0} {w : A} (start : F.Bound → F.Bound → A) (lo hi : List ℕ) {x y : F.Bound} (n m : ℕ) → x ≡ bound_is (kind_is n) lo
+    → y ≡ bound_is (kind_is m) hi → w ≡ start x y → w ≡ start (bound_is (kind_is n) lo) (bound_is (kind_is m) hi)
+bounds_of start lo hi {y = y} n m a b e = e ∙ ap (λ v. start v y) a ∙ ap (λ v. start (bound_is (kind_is n) lo) v) b
 
-pub start_bounds : {w : P.Begun} (f lo hi c : List ℕ) {k l : Bound} (n m : ℕ) → k ≡ kind_is n → l ≡ kind_is m
-    → w ≡ P.start_plain f (bound_is k lo) (bound_is l hi) c → w ≡ P.start_plain f (bound_is (kind_is n) lo) (bound_is (kind_is m) hi) c
+pub start_bounds : {w : P.Begun} (f lo hi c : List ℕ) {x y : F.Bound} (n m : ℕ) → x ≡ bound_is (kind_is n) lo → y ≡ bound_is (kind_is m) hi
+    → w ≡ P.start_plain f x y c → w ≡ P.start_plain f (bound_is (kind_is n) lo) (bound_is (kind_is m) hi) c
 start_bounds f lo hi c n m a b e = bounds_of (λ x y. P.start_plain f x y c) lo hi n m a b e
 
 -- ---- the reading that is handed on is the one that the arrays hold

@@ -3,34 +3,46 @@
 // A reading stands in six arrays: head has the file's length, the upper bound's kind and length, 1 where an empty key is pending, its
 // value, the total and the number of levels; the others have the bound's bytes and the levels. Beside them stands an array of one, the
 // number of keys to come.
+// What the C caller lends goes down one by one: the C interface.
 #![tactic(auto)]
 
 ghost use Rattle.std.specs.Prelude.{◌≡◌};
+ghost use Rattle.stream_start.specs.Views.{bound_of, bound_is};
 ghost use Rattle.stream_arrays.specs.Arrays.{kind_is, kind_number, pending_is, pending_flag, pending_value, head_as, held, held_is, held_as, PlainPut};
 
+use std::ops::Bound;
 use stream::Plain;
-use stream_start::{Bound, Reading};
+use stream_levels::Stack;
+use stream_start::Reading;
 
 // ---- what stands for a kind and for a pending key
 
-// The kind of a bound: 0 included, 1 excluded, any other number unbounded.
+// The kind of a bound: 0 included, 1 excluded, any other number unbounded. No `From`: std's Bound is a type of another crate.
 #[tactic(auto, using(crate::proofs::KindNumbers::kind_other))]
-pub fn kind_of(n: u64) -> Bound
+pub fn kind_of(n: u64) -> Bound<()>
     ensures { result ≡ kind_is n }
 {
     match n {
-        0 => Bound::Included,
-        1 => Bound::Excluded,
+        0 => Bound::Included(()),
+        1 => Bound::Excluded(()),
         _ => Bound::Unbounded,
     }
 }
 
-fn kind_number(kind: Bound) -> u64
+// A bound by its kind's number and its bytes, which carry no meaning beside an unbounded one.
+pub fn bound_with<'b>(kind: u64, bytes: &'b [u8]) -> Bound<&'b [u8]>
+    ensures { bound_of result ≡ bound_is (kind_is kind) bytes.now }
+{
+    kind_of(kind).map(|_| bytes)
+}
+
+// The number that stands for a kind. No `From` here either.
+fn kind_number(kind: Bound<()>) -> u64
     ensures { result ≡ kind_number kind }
 {
     match kind {
-        Bound::Included => 0,
-        Bound::Excluded => 1,
+        Bound::Included(()) => 0,
+        Bound::Excluded(()) => 1,
         Bound::Unbounded => 2,
     }
 }
@@ -78,10 +90,12 @@ pub fn reading_of(
         empty_output,
         total: head[5],
         levels: head[6] as usize,
-        addrs,
-        inps,
-        trans,
-        outs,
+        stack: Stack {
+            addrs,
+            inps,
+            trans,
+            outs,
+        },
     }
 }
 
@@ -120,13 +134,15 @@ pub fn put(
     *head = h;
     let b = reading.bound;
     *bound = b;
-    let a = reading.addrs;
+    let Stack {
+        addrs: a,
+        inps: i,
+        trans: t,
+        outs: o,
+    } = reading.stack;
     *addrs = a;
-    let i = reading.inps;
     *inps = i;
-    let t = reading.trans;
     *trans = t;
-    let o = reading.outs;
     *outs = o;
 }
 

@@ -1,3 +1,2 @@
--- Lemmas on strings compared and on the state, for the proofs of this crate.
+-- Lemmas on strings compared, for the proofs of this crate.
 mod OrderLaws
-mod StateLaws

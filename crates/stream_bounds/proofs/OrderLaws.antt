@@ -1,26 +1,21 @@
--- A key and a bound, compared byte by byte.
---     ordered_cmp             the library's order of two lists of bytes is that of strings
---     key_between             the k bytes after the first, as a part of all
+-- The order of the library on lists of bytes, against that of strings.
+--     above_is        a list that is greater: the other comes before it
+--     from_is         one that is greater or equal does not come before the other
 -- Assumes nothing.
-use Rattle.std.proofs.Common.{◌≡◌, refl, sym, List, ℕ, ◌+◌, ◌-◌, take, drop, Ordering, arith}
-use Rattle.std.specs.List.{between}
-use Rattle.std.specs.Ordering.{nat_cmp, is_lt, is_gt}
-use Rattle.std.specs.Cmp.Lexicographic.{slice_cmp}
-use Rattle.std.proofs.lemmas.Cmp.{same_from_slice_cmp}
+use Rattle.std.proofs.Common.{◌≡◌, refl, List, ℕ, Bool, arith}
+use Rattle.std.specs.Prelude.{not, Some}
+use Rattle.std.specs.Ordering.{nat_cmp, is_gt, is_ge, is_some_and}
+use Rattle.std.specs.Cmp.Lexicographic.{slice_partial_cmp}
+use Rattle.std.proofs.lemmas.Cmp.{same_from_slice_cmp_tested}
 use Rattle.std.proofs.lemmas.Bool.Decides.{nat_tests}
 use Rattle.format.specs.Strings.{before_test}
-use Rattle.stream_bounds.specs.Order.{Ordered}
 
-less_is : (k b : List ℕ) (r : Ordering) → r ≡ slice_cmp nat_cmp k b → is_lt r ≡ before_test k b
+pub above_is : (x y : List ℕ) (r : Bool) → r ≡ is_some_and is_gt (slice_partial_cmp (λ a b. Some (nat_cmp a b)) x y) → r ≡ before_test y x
 unfolding before_test
-less_is = same_from_slice_cmp nat_cmp is_lt before_test refl (λ _ _. refl) (λ _ _. refl) (λ x y xs ys o h. grind (arith, nat_tests))
+above_is =
+    same_from_slice_cmp_tested nat_cmp is_gt (λ (x y : List ℕ). before_test y x) refl (λ _ _. refl) (λ _ _. refl) (λ a b p q o h. grind (arith, nat_tests))
 
-greater_is : (k b : List ℕ) (r : Ordering) → r ≡ slice_cmp nat_cmp k b → is_gt r ≡ before_test b k
+pub from_is : (x y : List ℕ) (r : Bool) → r ≡ is_some_and is_ge (slice_partial_cmp (λ a b. Some (nat_cmp a b)) x y) → r ≡ not (before_test x y)
 unfolding before_test
-greater_is = same_from_slice_cmp nat_cmp is_gt (λ (k b : List ℕ). before_test b k) refl (λ _ _. refl) (λ _ _. refl) (λ x y xs ys o h. grind (arith, nat_tests))
-
-pub ordered_cmp : (k b : List ℕ) (r : Ordering) → r ≡ slice_cmp nat_cmp k b → Ordered k b r
-ordered_cmp k b r e = record { less = sym (less_is k b r e); greater = sym (greater_is k b r e) }
-
-pub key_between : (is : List ℕ) (k : ℕ) → between 1 (k + 1) is ≡ take k (drop 1 is)
-key_between is k = let e : k + 1 - 1 ≡ k = omega arith in rw e
+from_is =
+    same_from_slice_cmp_tested nat_cmp is_ge (λ (x y : List ℕ). not (before_test x y)) refl (λ _ _. refl) (λ _ _. refl) (λ a b p q o h. grind (arith, nat_tests))

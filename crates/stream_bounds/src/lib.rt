@@ -1,38 +1,22 @@
 // What a call of next tests first, whether the reading can go on, and what it tests of each key, the upper bound.
 #![tactic(auto)]
 
-ghost use Rattle.std.specs.Prelude.{◌≡◌, ◌≤◌, ◌<◌, length, take, drop};
-ghost use Rattle.format.specs.Limits.{max_path, max_levels};
+ghost use Rattle.std.specs.Prelude.{◌≡◌};
 ghost use Rattle.reading.specs.Reading as R;
-ghost use Rattle.stream_start.specs.Views.{bound_is};
-ghost use Rattle.stream_bounds.specs.Order.{Ordered};
+ghost use Rattle.stream_start.specs.Views.{bound_of};
 ghost use Rattle.stream_bounds.specs.State.{state_right};
 
 use format::{LEVELS, MAX_KEY};
-use std::cmp::Ordering;
-use stream_start::Bound;
+use std::ops::Bound;
 
-// How the k inputs after the first stand to the first n bytes of a bound.
-fn compare(inps: &[u8; LEVELS], k: usize, bound: &[u8; MAX_KEY], n: usize) -> Ordering
-    requires { (length inps.now ≡ max_levels) × (length bound.now ≡ max_path) × (k < max_levels)
-        × (n ≤ max_path) }
-    ensures { Ordered (take k (drop 1 inps.now)) (take n bound.now)
-        result }
+// Whether a key passes the upper bound (`Bound::exceeded_by`).
+pub fn exceeded(upper: Bound<&[u8]>, key: &[u8]) -> bool
+    ensures { result ≡ R.passes_test (bound_of upper.entry) key.now }
 {
-    inps[1..k + 1].cmp(&bound[..n])
-}
-
-// Whether the key of the k inputs after the first passes the upper bound (`Bound::exceeded_by`).
-pub fn exceeded(inps: &[u8; LEVELS], k: usize, bound: &[u8; MAX_KEY], n: usize, kind: Bound) -> bool
-    requires { (length inps.now ≡ max_levels) × (length bound.now ≡ max_path) × (k < max_levels)
-        × (n ≤ max_path) }
-    ensures { result ≡ R.passes_test (bound_is kind (take n bound.now))
-        (take k (drop 1 inps.now)) }
-{
-    match kind {
+    match upper {
         Bound::Unbounded => false,
-        Bound::Included => compare(inps, k, bound, n).is_gt(),
-        Bound::Excluded => compare(inps, k, bound, n).is_ge(),
+        Bound::Included(bytes) => key > bytes,
+        Bound::Excluded(bytes) => key >= bytes,
     }
 }
 
@@ -40,12 +24,5 @@ pub fn exceeded(inps: &[u8; LEVELS], k: usize, bound: &[u8; MAX_KEY], n: usize, 
 pub fn state_right(levels: usize, bound_len: usize, held: usize, len: usize) -> bool
     ensures { result ≡ state_right levels bound_len held len }
 {
-    let too_many = LEVELS < levels;
-    if too_many {
-        return false;
-    }
-    if MAX_KEY < bound_len {
-        return false;
-    }
-    held == len
+    levels <= LEVELS && bound_len <= MAX_KEY && held == len
 }

@@ -4,7 +4,7 @@
 --     answered c                the answer of a call, a key as the first n bytes of the buffer afterwards
 --     last_reading r cs        the reading after cs, which a later call gets
 --     calls_is w                 the calls by definition
---     StartMade s lo hi t b     b is what the code's start gave for the file s, the bounds lo and hi and the table t, and it was not refused
+--     StartMade s lo hi t b     the code's start for the file s, the bounds lo and hi and the table t was not refused, and gave the reading b
 --     AsDefined                 the answers and the last reading are the definition's
 --     CodeAllowed s c           a call with the file and enough buffer
 --     DemandCode                demand 3 and the number of keys to come, of what the code handed out
@@ -24,7 +24,6 @@ use Rattle.reading.specs.Demand.{Within, Extra, EmptyExcluded, Call, unrefused, 
 use Rattle.plain.specs.Plain.{start_plain, next_plain, plain_after, answers_plain}
 use Rattle.plain.specs.PlainDemand.{keys_out, StillToCome, DemandPlain}
 use Rattle.stream.specs.declared.Plain.{Plain}
-use Rattle.stream.specs.declared.Started.{Started}
 use Rattle.stream.specs.declared.Step.{Step}
 use Rattle.stream.specs.Plains.{plain_is, begun_is, PlainStepped}
 
@@ -71,16 +70,15 @@ calls_is r (c ∷ cs) w = call_is c w.0 ∷ calls_is c.step.plain cs w.1
 
 -- ---- the claim
 
-pub record StartMade (s : List ℕ) (lo hi : S.Bound) (t : List ℕ) (b : Started) : Type 0 where
-  pub began : b.answer ≡ Ok tt
-  pub starts : begun_is b ≡ start_plain s lo hi t
+pub record StartMade (s : List ℕ) (lo hi : S.Bound) (t : List ℕ) (b : Plain) : Type 0 where
+  pub starts : begun_is (Ok b) ≡ start_plain s lo hi t
 
 -- the calls are the definition's calls, and demand 3 holds of those
-pub record AsDefined {s : List ℕ} (A : Admitted s) (lo hi : S.Bound) (t : List ℕ) (b : Started) (cs : List CodeCall) (made : Made s b.plain cs) : Type 0 where
-  pub demand : DemandPlain A lo hi t (calls_is b.plain cs made)
-  pub first_reading : plain_is b.plain ≡ demand.reading
-  pub same_answers : code_answers cs ≡ answers_plain demand.reading (calls_is b.plain cs made)
-  pub last_reading_lem : plain_is (last_reading b.plain cs) ≡ plain_after demand.reading (calls_is b.plain cs made)
+pub record AsDefined {s : List ℕ} (A : Admitted s) (lo hi : S.Bound) (t : List ℕ) (b : Plain) (cs : List CodeCall) (made : Made s b cs) : Type 0 where
+  pub demand : DemandPlain A lo hi t (calls_is b cs made)
+  pub first_reading : plain_is b ≡ demand.reading
+  pub same_answers : code_answers cs ≡ answers_plain demand.reading (calls_is b cs made)
+  pub last_reading_lem : plain_is (last_reading b cs) ≡ plain_after demand.reading (calls_is b cs made)
 
 -- the file, and enough buffer
 pub record CodeAllowed (s : List ℕ) (c : CodeCall) : Type 0 where
@@ -88,7 +86,7 @@ pub record CodeAllowed (s : List ℕ) (c : CodeCall) : Type 0 where
   pub room : max_path ≤ length c.before
 
 -- `Demand3` field by field, of what the code answered
-pub record DemandCode {s : List ℕ} (A : Admitted s) (lo hi : S.Bound) (b : Started) (cs : List CodeCall) : Type 0 where
+pub record DemandCode {s : List ℕ} (A : Admitted s) (lo hi : S.Bound) (b : Plain) (cs : List CodeCall) : Type 0 where
   -- the unrefused calls hand out keys, and then answer only "end"
   pub handed : List Entry
   pub ends : ℕ
@@ -104,16 +102,16 @@ pub record DemandCode {s : List ℕ} (A : Admitted s) (lo hi : S.Bound) (b : Sta
   pub refused_exactly : (cs₁ cs₂ : List CodeCall) (c : CodeCall) → cs ≡ cs₁ ++ (c ∷ cs₂)
       → (CodeAllowed s c → (n : Refusal) → ¬ (c.step.answer ≡ Err n))
       × (¬ CodeAllowed s c
-      → (n : Refusal) × (c.step.answer ≡ Err n) × (plain_is c.step.plain ≡ plain_is (last_reading b.plain cs₁)) × (c.after ≡ c.before))
+      → (n : Refusal) × (c.step.answer ≡ Err n) × (plain_is c.step.plain ≡ plain_is (last_reading b cs₁)) × (c.after ≡ c.before))
   -- the total after the list
   pub total_ended : ¬ EmptyExcluded (fst_of s A.meta) lo hi → 0 < ends
-      → (n e : ℕ) × NumberOf (Within (fst_of s A.meta) lo hi) n × Extra (fst_of s A.meta) lo hi e × ((last_reading b.plain cs).reading.total ≡ capped (n + e))
+      → (n e : ℕ) × NumberOf (Within (fst_of s A.meta) lo hi) n × Extra (fst_of s A.meta) lo hi e × ((last_reading b cs).reading.total ≡ capped (n + e))
   pub total_before : ends ≡ 0
-      → (n : ℕ) × NumberOf (λ x. Within (fst_of s A.meta) lo hi x × NotAfterLast handed x) n × ((last_reading b.plain cs).reading.total ≡ capped n)
+      → (n : ℕ) × NumberOf (λ x. Within (fst_of s A.meta) lo hi x × NotAfterLast handed x) n × ((last_reading b cs).reading.total ≡ capped n)
   -- so none is followed, as every list of calls that begins this one has the total 0 too
-  pub total_excluded : EmptyExcluded (fst_of s A.meta) lo hi → (last_reading b.plain cs).reading.total ≡ 0
+  pub total_excluded : EmptyExcluded (fst_of s A.meta) lo hi → (last_reading b cs).reading.total ≡ 0
   -- the transitions of each call
   pub limit : (cs₁ cs₂ : List CodeCall) (c : CodeCall) → cs ≡ cs₁ ++ (c ∷ cs₂) → (n : ℕ)
-      → ((k : List ℕ) (v : ℕ) → Held (fst_of s A.meta) k v → length k ≤ n) → c.step.plain.reading.total ≤ (last_reading b.plain cs₁).reading.total + n
+      → ((k : List ℕ) (v : ℕ) → Held (fst_of s A.meta) k v → length k ≤ n) → c.step.plain.reading.total ≤ (last_reading b cs₁).reading.total + n
   -- the number after the list
-  pub keys_to_come : NumberOf (StillToCome (fst_of s A.meta) lo hi (keys_out handed)) (last_reading b.plain cs).keys
+  pub keys_to_come : NumberOf (StillToCome (fst_of s A.meta) lo hi (keys_out handed)) (last_reading b cs).keys

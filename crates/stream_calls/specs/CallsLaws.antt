@@ -6,7 +6,7 @@
 --     demand_3_code                demand 3 and the number of keys to come, of what the code handed out
 -- Assumes nothing.
 use Prim.{tt}
-use Rattle.std.specs.Prelude.{◌≡◌, refl, Bool, true, false, ◌⊎◌, List, [], ◌∷◌, ◌++◌, ℕ, ◌+◌, ◌<◌, ◌≤◌, eqb, length, drop, Ok, Err, None, Result, Option, ⊤}
+use Rattle.std.specs.Prelude.{◌≡◌, refl, Bool, true, false, ◌⊎◌, List, [], ◌∷◌, ◌++◌, ℕ, ◌+◌, ◌<◌, ◌≤◌, eqb, length, drop, Ok, Err, None}
 use Rattle.std.proofs.Common.{sym, ◌∙◌, ap, ap₂, subst, ⊎_elim, inl, inr, arith}
 use Rattle.std.proofs.Math.Seq.{take-append_seam}
 use Rattle.format.specs.declared.Refusal.{Refusal}
@@ -28,8 +28,7 @@ use Rattle.plain.specs.PlainDemand.{keys_out, StillToCome, DemandPlain}
 use Rattle.plain.proofs.PlainLaws.{handed_of, plain_long_bound, plain_short, demand_3_plain}
 use Rattle.stream_step.specs.Stepped.{answer_as}
 use Rattle.stream.specs.declared.Plain.{Plain}
-use Rattle.stream.specs.declared.Started.{Started}
-use Rattle.stream.specs.Plains.{plain_is, began_is}
+use Rattle.stream.specs.Plains.{plain_is}
 use Rattle.stream_calls.specs.Calls.{CodeCall, CallMade, in_hand, answered, Made, code_answers, last_reading, call_is, calls_is, StartMade, AsDefined, CodeAllowed, DemandCode}
 
 -- ---- a call
@@ -93,9 +92,9 @@ counted_total p v (key k u) n h g = by (eqb p.keys 0) refl
 counted_total p v end n h g = h
 counted_total p v (R.Answer.refused m) n h g = h
 
-module _ {s : List ℕ} (A : Admitted s) (lo hi : S.Bound) (t : List ℕ) (fits : TableFits (fst_of s A.meta) lo hi t) (b : Started) (first : StartMade s lo hi t b) where
-  gives : begun (plain_is b.plain) ≡ start_plain s lo hi t
-  gives = ap (λ (x : Result ⊤ Refusal). began_is x b.plain) (sym first.began) ∙ first.starts
+module _ {s : List ℕ} (A : Admitted s) (lo hi : S.Bound) (t : List ℕ) (fits : TableFits (fst_of s A.meta) lo hi t) (b : Plain) (first : StartMade s lo hi t b) where
+  gives : begun (plain_is b) ≡ start_plain s lo hi t
+  gives = first.starts
 
   -- a start that is not refused was given bounds of at most 255 bytes, and a table that is long enough
   bounds_short : ¬ ((max_path < length (bound_bytes lo)) ⊎ (max_path < length (bound_bytes hi)))
@@ -113,29 +112,29 @@ module _ {s : List ℕ} (A : Admitted s) (lo hi : S.Bound) (t : List ℕ) (fits 
   demanded : (cs : List (Call s)) → DemandPlain A lo hi t cs
   demanded cs = demand_3_plain A lo hi lo_short hi_short t long fits cs
 
-  same : (cs : List (Call s)) → plain_is b.plain ≡ (demanded cs).reading
+  same : (cs : List (Call s)) → plain_is b ≡ (demanded cs).reading
   same cs = begun_same (gives ∙ (demanded cs).starts)
 
-  module _ (cs : List CodeCall) (made : Made s b.plain cs) where
+  module _ (cs : List CodeCall) (made : Made s b cs) where
     abbrev calls : List (Call s)
-    calls = calls_is b.plain cs made
+    calls = calls_is b cs made
 
     pub code_as_defined : AsDefined A lo hi t b cs made
     code_as_defined =
         record {
           demand = demanded calls;
           first_reading = same calls;
-          same_answers = answers_are s b.plain cs made ∙ ap (λ (p : P.Plain). answers_plain p calls) (same calls);
-          last_reading_lem = reading_is s b.plain cs made ∙ ap (λ (p : P.Plain). plain_after p calls) (same calls);
+          same_answers = answers_are s b cs made ∙ ap (λ (p : P.Plain). answers_plain p calls) (same calls);
+          last_reading_lem = reading_is s b cs made ∙ ap (λ (p : P.Plain). plain_after p calls) (same calls);
         }
 
   -- one call after others
-  module _ (cs : List CodeCall) (c : CodeCall) (made : Made s b.plain cs) (at : CallMade s (last_reading b.plain cs) c) where
+  module _ (cs : List CodeCall) (c : CodeCall) (made : Made s b cs) (at : CallMade s (last_reading b cs) c) where
     abbrev earlier : List (Call s)
-    earlier = calls_is b.plain cs made
+    earlier = calls_is b cs made
 
     abbrev before : Plain
-    before = last_reading b.plain cs
+    before = last_reading b cs
 
     D₁ : Demand3 A lo hi (earlier ++ (call_is c at ∷ []))
     D₁ = demand_3 A lo hi lo_short hi_short (earlier ++ (call_is c at ∷ []))
@@ -144,7 +143,7 @@ module _ {s : List ℕ} (A : Admitted s) (lo hi : S.Bound) (t : List ℕ) (fits 
     same_start = let p = (demanded earlier).demand.starts in let q = D₁.starts in cc
 
     before_is : plain_is before ≡ plain_after (demanded earlier).reading earlier
-    before_is = reading_is s b.plain cs made ∙ ap (λ (p : P.Plain). plain_after p earlier) (same earlier)
+    before_is = reading_is s b cs made ∙ ap (λ (p : P.Plain). plain_after p earlier) (same earlier)
 
     view_is_lem : (plain_is before).view ≡ reading_after D₁.reading earlier
     view_is_lem = ap (λ (p : P.Plain). p.view) before_is ∙ (demanded earlier).same_readings ∙ ap (λ (v : View). reading_after v earlier) same_start
@@ -152,7 +151,7 @@ module _ {s : List ℕ} (A : Admitted s) (lo hi : S.Bound) (t : List ℕ) (fits 
     handed_before : handed_in (code_answers cs) ≡ handed_in (answers D₁.reading earlier)
     handed_before =
         ap handed_in
-        (answers_are s b.plain cs made
+        (answers_are s b cs made
         ∙ ap (λ (p : P.Plain). answers_plain p earlier) (same earlier)
         ∙ (demanded earlier).same_answers
         ∙ ap (λ (v : View). answers v earlier) same_start)
@@ -208,13 +207,13 @@ module _ {s : List ℕ} (A : Admitted s) (lo hi : S.Bound) (t : List ℕ) (fits 
         let two = counted_total (plain_is before) o.reading o.answer (before.reading.total + n) one (omega arith) in
         omega (arith, ap (λ (p : P.Plain). p.view.total) at.stepped.gave.plain, two)
 
-  pub demand_3_code : (cs : List CodeCall) → Made s b.plain cs → DemandCode A lo hi b cs
+  pub demand_3_code : (cs : List CodeCall) → Made s b cs → DemandCode A lo hi b cs
   demand_3_code cs made =
       let W = code_as_defined cs made in
       let D = W.demand in
-      let total_is : (last_reading b.plain cs).reading.total ≡ (reading_after D.demand.reading (calls_is b.plain cs made)).total =
+      let total_is : (last_reading b cs).reading.total ≡ (reading_after D.demand.reading (calls_is b cs made)).total =
       ap (λ (p : P.Plain). p.view.total) W.last_reading_lem ∙ ap (λ (v : View). v.total) D.same_readings in
-      let handed_is : handed_in (answers_plain D.reading (calls_is b.plain cs made)) ≡ D.demand.handed = ap handed_in D.same_answers ∙ handed_of D.demand in
+      let handed_is : handed_in (answers_plain D.reading (calls_is b cs made)) ≡ D.demand.handed = ap handed_in D.same_answers ∙ handed_of D.demand in
       record {
         handed = D.demand.handed;
         ends = D.demand.ends;
@@ -223,10 +222,10 @@ module _ {s : List ℕ} (A : Admitted s) (lo hi : S.Bound) (t : List ℕ) (fits 
         ascending = D.demand.ascending;
         none_left_out = D.demand.none_left_out;
         end_exactly = λ cs₁ cs₂ c is h.
-            let w = made_apart s b.plain cs₁ c cs₂ (subst (Made s b.plain) is made) in
+            let w = made_apart s b cs₁ c cs₂ (subst (Made s b) is made) in
             (end_none cs₁ c w.0 w.1 h, none_end cs₁ c w.0 w.1 h);
         refused_exactly = λ cs₁ cs₂ c is.
-            let w = made_apart s b.plain cs₁ c cs₂ (subst (Made s b.plain) is made) in
+            let w = made_apart s b cs₁ c cs₂ (subst (Made s b) is made) in
             (taken cs₁ c w.0 w.1, not_taken cs₁ c w.0 w.1);
         total_ended = λ not_shut pos.
             let w = D.demand.total_ended not_shut pos in
@@ -234,10 +233,10 @@ module _ {s : List ℕ} (A : Admitted s) (lo hi : S.Bound) (t : List ℕ) (fits 
         total_before = λ z. let w = D.demand.total_before z in (w.0, w.1, total_is ∙ w.2);
         total_excluded = λ x. total_is ∙ D.demand.total_excluded x;
         limit = λ cs₁ cs₂ c is.
-            let w = made_apart s b.plain cs₁ c cs₂ (subst (Made s b.plain) is made) in
+            let w = made_apart s b cs₁ c cs₂ (subst (Made s b) is made) in
             at_most cs₁ c w.0 w.1;
         keys_to_come =
             let last = ap (λ (p : P.Plain). p.keys) W.last_reading_lem in
             subst (NumberOf (StillToCome (fst_of s A.meta) lo hi (keys_out D.demand.handed))) (sym last)
-            (subst (λ es. NumberOf (StillToCome (fst_of s A.meta) lo hi (keys_out es)) (plain_after D.reading (calls_is b.plain cs made)).keys) handed_is D.keys_to_come);
+            (subst (λ es. NumberOf (StillToCome (fst_of s A.meta) lo hi (keys_out es)) (plain_after D.reading (calls_is b cs made)).keys) handed_is D.keys_to_come);
       }

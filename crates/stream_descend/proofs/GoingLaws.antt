@@ -1,16 +1,19 @@
 -- The descent over the arrays: a turn, and each way out of it.
 --     Going ..                        from level k on, the answer is the one that is wanted
 --     target_fits, place_fits         a target fits 32 bits, and a place 16
+--     value_fits, value_past          a key's value, where the sum of the two fits or not
 --     going-..                        the contract at each way out, and the next turn
 -- Assumes nothing.
 use mathlib.Core.Path.{◌≡◌, refl, sym, ◌∙◌, ap}
-use Rattle.std.specs.Prelude.{Ok, Err, Result}
+use Rattle.std.specs.Prelude.{Ok, Err, Some, None, Option, Result, SomeIff}
+use Rattle.std.specs.Option.{ok_or}
 use Rattle.format.specs.declared.Refusal.{Refusal}
-use mathlib.Core.Bool.{Bool, true, false, cond, true≢false}
+use mathlib.Core.Bool.{true, false, cond, true≢false}
 use mathlib.Core.Logic.{⊎_elim}
 use mathlib.Core.List.{List, ◌∷◌}
-use Prim.Native.Nat.{ℕ, ◌+◌, ◌<◌, ◌≤◌}
+use Prim.Native.Nat.{ℕ, ◌+◌, ◌-◌, ◌^◌, ◌<◌, ◌≤◌}
 use native.Mathlib.Omega.{arith}
+use borrow.Author.Tests.{le-leb, lt-leb}
 use lib.Dec.{leb}
 use lib.ListN.{length, get_or, take, drop, set, length-set}
 use lib.Seq.{get_or-set_same}
@@ -25,14 +28,22 @@ use Rattle.node.specs.declared.Node.{Node}
 use Rattle.node.specs.Read.{meaning, Readable, transitions_in}
 use Rattle.node.specs.ReadLaws.{length_node_transitions}
 use Rattle.reading.specs.Reading.{Level, passes_test, key_of, counted, Went, found, next_trans, child, stepped}
-use Rattle.stream_descend.specs.declared.Down.{Down}
 use Rattle.stream_descend.specs.declared.Down.TheVariants.{Found, Passed}
 use Rattle.stream_start.specs.Views.{Arrays, level_at, stack_is}
 use Rattle.stream_pop.specs.Pops.{Ready}
 use Rattle.stream_pop.specs.ReadyLaws.{ready_place, ready_target}
-use Rattle.stream_descend.specs.Descent.{down_from, down_seen, down_at, Descends, found_at}
+use Rattle.stream_descend.specs.Descent.{down_from, Descends}
 use Rattle.stream_start.specs.StackLaws.{key_stack, pushed_top, pushed_below}
 use Rattle.stream_descend.proofs.DescendLaws.{down_deep, down_sum, down_bad, down_passed, down_final, down_on}
+
+module _ (a b : ℕ) {r : Result ℕ Refusal} where
+  pub value_fits : {x : ℕ} → r ≡ Ok x → (o : Option ℕ) → SomeIff o (a + b < 2 ^ 64) (a + b) → r ≡ ok_or o SUM → (a + b ≤ max_sum) × (x ≡ a + b)
+  value_fits {x} e None h is = absurd (let z : ◌≡◌ {A = ℕ} 0 1 = cc in omega arith)
+  value_fits {x} e (Some y) h is = let same : x ≡ y = cc in (omega (arith, h.0), omega (arith, h.1))
+
+  pub value_past : {n : Refusal} → r ≡ Err n → (o : Option ℕ) → SomeIff o (a + b < 2 ^ 64) (a + b) → r ≡ ok_or o SUM → (max_sum < a + b) × (n ≡ SUM)
+  value_past {n} e None h is = (omega (arith, h), cc)
+  value_past {n} e (Some y) h is = absurd (let z : ◌≡◌ {A = ℕ} 0 1 = cc in omega arith)
 
 pub record Going (s : List ℕ) (v root : ℕ) (hi : Bound) (want : Went) (xs is ps os : List ℕ) (k : ℕ) (m : Node) (t : ℕ) : Type 0 where
   pub low : k < 256
@@ -44,24 +55,6 @@ pub going_none : (s : List ℕ) (v root : ℕ) (hi : Bound) (xs is ps os : List 
     → k < 256 → Arrays xs is ps os → Ready s v root (get_or xs k 0) (get_or ps k 0) m
     → Going s v root hi (down_from s v root hi xs is ps os k m t) xs is ps os k m t
 going_none s v root hi xs is ps os k m t l w r = record { low = l; arrays = w; ready = r; same = refl }
-
--- a key's place, where its value fits or not
-found_low : (k sum end t : ℕ) → k < 256 → down_at (found_at k sum end t) < 256
-found_low k sum end t h = go (leb (sum + end) max_sum)
-  where
-    go : (b : Bool) → down_at (cond b (Ok (Found k (sum + end) t)) (Err SUM)) < 256
-    go true = h
-    go false = omega arith
-
-found_seen : (xs is ps os : List ℕ) (k sum end t : ℕ)
-    → down_seen xs is ps os (found_at k sum end t)
-    ≡ cond (leb (sum + end) max_sum) (found (level_at k xs is ps os ∷ stack_is k xs is ps os) (sum + end) t) (Went.halted SUM)
-found_seen xs is ps os k sum end t = go (leb (sum + end) max_sum)
-  where
-    go : (b : Bool) → down_seen xs is ps os (cond b (Ok (Found k (sum + end) t)) (Err SUM))
-        ≡ cond b (found (level_at k xs is ps os ∷ stack_is k xs is ps os) (sum + end) t) (Went.halted SUM)
-    go true = refl
-    go false = refl
 
 module _ {s : List ℕ} {v root : ℕ} {hi : Bound} {want : Went} {xs is ps os : List ℕ} {k : ℕ} {m : Node} {t : ℕ}
     (g : Going s v root hi want xs is ps os k m t) where
@@ -159,28 +152,41 @@ module _ {s : List ℕ} {v root : ℕ} {hi : Bound} {want : Went} {xs is ps os :
           len⁺ : length is⁺ ≡ 256
           len⁺ = length-set is (k + 1) b ∙ g.arrays.inps_len
 
-          key⁺ : key_of (child l (meaning s m) ∷ stepped l ∷ stack_is k xs is ps os) ≡ take (k + 1) (drop 1 is⁺)
+          key⁺ : key_of (child l (meaning s m) ∷ stepped l ∷ stack_is k xs is ps os) ≡ take (k + 1 + 1 - 1) (drop 1 is⁺)
           key⁺ =
+              let same : k + 1 + 1 - 1 ≡ k + 1 = omega arith in
               sym (ap (λ (c : Level). key_of (c ∷ stepped l ∷ stack_is k xs is ps os)) top⁺)
               ∙ sym (ap (λ (r : List Level). key_of (level_at (k + 1) xs⁺ is⁺ ps⁺ os⁺ ∷ r)) below⁺)
               ∙ key_stack (k + 1) xs⁺ is⁺ ps⁺ os⁺ (omega (arith, len⁺))
+              ∙ ap (λ (j : ℕ). take j (drop 1 is⁺)) (sym same)
 
-          pub going_passed : passes_test hi (take (k + 1) (drop 1 is⁺)) ≡ true → Descends want xs⁺ is⁺ ps⁺ os⁺ (Ok (Passed u))
+          pub going_passed : passes_test hi (take (k + 1 + 1 - 1) (drop 1 is⁺)) ≡ true → Descends want xs⁺ is⁺ ps⁺ os⁺ (Ok (Passed u))
           going_passed p = record {
             low = omega arith;
             len = len⁺;
             seen = sym (g.same ∙ down_passed k f hi l (meaning s m) (stack_is k xs is ps os) t hk fit (meaning s n) target⁺ (ap (passes_test hi) key⁺ ∙ p) ∙ sym (rw eu));
           }
 
-          module _ (p : passes_test hi (take (k + 1) (drop 1 is⁺)) ≡ false) where
-            pub going_final : n.is_final ≡ true → (r : Result Down Refusal) → r ≡ found_at (k + 1) (sum) n.final_output u → Descends want xs⁺ is⁺ ps⁺ os⁺ r
-            going_final e r er = record {
-              low = rw er (found_low (k + 1) (sum) n.final_output u (omega arith));
+          module _ (p : passes_test hi (take (k + 1 + 1 - 1) (drop 1 is⁺)) ≡ false) where
+            final_is : n.is_final ≡ true
+                → want
+                ≡ cond (leb (sum + n.final_output) max_sum)
+                (found (level_at (k + 1) xs⁺ is⁺ ps⁺ os⁺ ∷ stack_is (k + 1) xs⁺ is⁺ ps⁺ os⁺) (sum + n.final_output) u)
+                (Went.halted SUM)
+            final_is e =
+                g.same ∙ down_final k f hi l (meaning s m) (stack_is k xs is ps os) t hk fit (meaning s n) target⁺ (ap (passes_test hi) key⁺ ∙ p) e
+                ∙ sym (rw (top⁺, below⁺, eu, sum_is))
+
+            pub going_final : n.is_final ≡ true → sum + n.final_output ≤ max_sum → {x : ℕ} → x ≡ sum + n.final_output
+                → Descends want xs⁺ is⁺ ps⁺ os⁺ (Ok (Found (k + 1) x u))
+            going_final e h {x} ex = record {
+              low = omega arith;
               len = len⁺;
-              seen =
-                  ap (down_seen xs⁺ is⁺ ps⁺ os⁺) er ∙ found_seen xs⁺ is⁺ ps⁺ os⁺ (k + 1) (sum) n.final_output u
-                  ∙ sym (g.same ∙ down_final k f hi l (meaning s m) (stack_is k xs is ps os) t hk fit (meaning s n) target⁺ (ap (passes_test hi) key⁺ ∙ p) e ∙ sym (rw (top⁺, below⁺, eu, sum_is)));
+              seen = sym (final_is e ∙ rw (le-leb (sum + n.final_output) max_sum h, ex));
             }
+
+            pub going_final_past : n.is_final ≡ true → max_sum < sum + n.final_output → Descends want xs⁺ is⁺ ps⁺ os⁺ (Err SUM)
+            going_final_past e h = record { low = omega arith; len = len⁺; seen = sym (final_is e ∙ rw (lt-leb (sum + n.final_output) max_sum h)) }
 
             live : n.is_final ≡ false → 0 < length (transitions_in s n)
             live e = ⊎_elim (λ y. absurd (true≢false (sym y ∙ e))) (λ y. y) (live_below_root f a (meaning s n) en not_zero (λ z. omega (arith, ea, target_low)))

@@ -3,11 +3,10 @@
 --     down_at r              the level where a key was found; 0 where none was
 --     down_from              the descent by definition, over arrays
 --     Descends ..           the descent's contract
---     found_at ..            a key's value with the final output, or SUM
 -- Assumes nothing.
-use Rattle.std.specs.Prelude.{◌≡◌, cond, List, ◌∷◌, ℕ, ◌+◌, ◌-◌, ◌<◌, leb, length, Ok, Err, Result}
+use Rattle.std.specs.Prelude.{◌≡◌, List, ◌∷◌, ℕ, ◌-◌, ◌<◌, length, Ok, Err, Result}
 use Rattle.format.specs.declared.Refusal.{Refusal}
-use Rattle.format.specs.Limits.{max_path, max_levels, max_sum, SUM}
+use Rattle.format.specs.Limits.{max_path, max_levels}
 use Rattle.format.specs.Paths.{fst_with}
 use Rattle.format.specs.Strings as S
 use Rattle.node.specs.declared.Node.{Node}
@@ -35,6 +34,3 @@ pub record Descends (want : Went) (xs is ps os : List ℕ) (r : Result Down Refu
   pub low : down_at r < max_levels
   pub len : length is ≡ max_levels
   pub seen : down_seen xs is ps os r ≡ want
-
-abbrev pub found_at : ℕ → ℕ → ℕ → ℕ → Result Down Refusal
-found_at k sum end t = cond (leb (sum + end) max_sum) (Ok (Found k (sum + end) t)) (Err SUM)

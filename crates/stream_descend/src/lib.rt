@@ -1,17 +1,19 @@
 // The descent of a reading: from a level that has a transition left down to the next key.
+// The total goes down beside the stack, which holds levels alone.
 #![tactic(auto)]
 
-ghost use Rattle.std.specs.Prelude.{◌≡◌, ◌≤◌, ◌<◌, length, take, get_or};
-ghost use Rattle.format.specs.Limits.{max_path, max_levels};
+ghost use Rattle.std.specs.Prelude.{◌≡◌, ◌<◌, get_or};
+ghost use Rattle.format.specs.Limits.{max_levels};
 ghost use Rattle.reading.specs.Reading as R;
-ghost use Rattle.stream_start.specs.Views.{Arrays, bound_is};
+ghost use Rattle.stream_start.specs.Views.{bound_of};
 ghost use Rattle.stream_pop.specs.Pops.{Ready};
-ghost use Rattle.stream_descend.specs.Descent.{Descends, down_from, found_at};
+ghost use Rattle.stream_descend.specs.Descent.{Descends, down_from};
 
-use format::{LEVELS, MAX_KEY, Refusal};
+use format::{FstRef, MAX_KEY, Refusal, are_bytes};
 use node::Node;
+use std::ops::Bound;
 use stream_bounds::exceeded;
-use stream_start::Bound;
+use stream_levels::Stack;
 
 // What the descent finds: the place of the level where a key ends, the key's value and the total; or the total where the upper bound
 // is passed.
@@ -28,68 +30,51 @@ pub fn counted(total: u64) -> u64
     total.saturating_add(1)
 }
 
-// The key that ends at level k, unless its value passes 2^64 - 1.
-fn found(k: usize, sum: u64, end: u64, total: u64) -> Result<Down, Refusal>
-    ensures { result ≡ found_at k sum end total }
-{
-    let Some(value) = sum.checked_add(end) else {
-        return Err(Refusal::Sum);
-    };
-    Ok(Down::Found(k, value, total))
-}
-
 // From the level at top, whose node is judged, down to the next key by each level's next transition. A node is judged once: as it is
 // entered.
 pub fn descend(
-    file: &[u8],
-    version: u64,
-    root: usize,
+    fst: FstRef<'_>,
     top: usize,
     node: Node,
     total: u64,
-    addrs: &mut [u32; LEVELS],
-    inps: &mut [u8; LEVELS],
-    trans: &mut [u16; LEVELS],
-    outs: &mut [u64; LEVELS],
-    bound: &[u8; MAX_KEY],
-    bound_len: usize,
-    kind: Bound,
+    stack: &mut Stack,
+    upper: Bound<&[u8]>,
 ) -> Result<Down, Refusal>
-    requires arrays { Arrays addrs.old inps.old trans.old outs.old
-        × (length bound.now ≡ max_path) × (bound_len ≤ max_path) }
-    requires top_lt_max_levels { (top < max_levels) × (root < 4294967296) × Ready file.now version root
-        (get_or addrs.old top 0) (get_or trans.old top 0) node }
-    ensures { Descends (down_from file.now version root
-        (bound_is kind (take bound_len bound.now)) addrs.old
-        inps.old trans.old outs.old top node total)
-        addrs.new inps.new trans.new outs.new result }
+    requires top_lt_max_levels { (top < max_levels) × (fst.root < 4294967296) × Ready fst.bytes.now fst.version fst.root
+        (get_or stack.old.addrs top 0) (get_or stack.old.trans top 0) node }
+    ensures { Descends (down_from fst.entry.bytes.now fst.entry.version fst.entry.root
+        (bound_of upper.entry) stack.old.addrs
+        stack.old.inps stack.old.trans stack.old.outs top node total)
+        stack.new.addrs stack.new.inps stack.new.trans stack.new.outs result }
 {
+    are_bytes(fst.bytes);
     let mut m = node;
     let mut t = total;
     // a reading has at most 256 levels
     for k in top..MAX_KEY {
-        let i = usize::from(trans[k]);
-        let out = node::output(file, m, i);
-        let Some(sum) = outs[k].checked_add(out) else {
+        let i = usize::from(stack.trans[k]);
+        let out = node::output(fst.bytes, m, i);
+        let Some(sum) = stack.outs[k].checked_add(out) else {
             return Err(Refusal::Sum);
         };
-        let target = node::transition_addr(file, m, i);
-        let Ok(n) = node::node_at(file, version, root, target) else {
+        let target = node::transition_addr(fst.bytes, m, i);
+        let Ok(n) = node::node_at(fst, target) else {
             return Err(Refusal::Node);
         };
-        let inp = node::input(file, m, i);
-        trans[k] = (i + 1) as u16;
+        let inp = node::input(fst.bytes, m, i);
+        stack.trans[k] = (i + 1) as u16;
         let next = k + 1;
-        addrs[next] = target as u32;
-        inps[next] = inp;
-        trans[next] = 0;
-        outs[next] = sum;
+        stack.addrs[next] = target as u32;
+        stack.inps[next] = inp;
+        stack.trans[next] = 0;
+        stack.outs[next] = sum;
         t = counted(t);
-        if exceeded(inps, next, bound, bound_len, kind) {
+        if exceeded(upper, &stack.inps[1..=next]) {
             return Ok(Down::Passed(t));
         }
         if n.is_final {
-            return found(next, sum, n.final_output, t);
+            let value = sum.checked_add(n.final_output).ok_or(Refusal::Sum)?;
+            return Ok(Down::Found(next, value, t));
         }
         m = n;
     }

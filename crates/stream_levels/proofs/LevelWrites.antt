@@ -4,15 +4,15 @@
 --     level_over     the level of the bound's own node stands over the others
 -- Assumes nothing.
 use Prim.{absurd}
-use mathlib.Core.Path.{◌≡◌, refl, sym, ◌∙◌, ap}
+use mathlib.Core.Path.{◌≡◌, refl, sym, ◌∙◌}
 use mathlib.Core.Bool.{Bool, true, false}
-use mathlib.Core.List.{List, [], ◌∷◌}
-use Prim.Native.Nat.{ℕ, zero, suc, ◌+◌, ◌-◌, ◌<◌, ◌≤◌}
+use mathlib.Core.List.{List, ◌∷◌}
+use Prim.Native.Nat.{ℕ, zero, suc, ◌-◌, ◌<◌, ◌≤◌}
 use native.Mathlib.Omega.{arith}
 use lib.ListN.{length, get_or, set, length-set}
 use lib.Seq.{get_or-set_same, get_or-set_other}
 use Rattle.reading.specs.Reading.{Level, level_with, last_levels}
-use Rattle.stream_levels.specs.Stacks.{Arrays, level_at, stack_is, LevelPut, LevelsEnd}
+use Rattle.stream_levels.specs.Stacks.{Arrays, stack_is, LevelPut}
 use Rattle.stream_levels.specs.StackLaws.{stack_more, stack_suc, stack_ext}
 
 module _ (k : ℕ) (xs is ps os : List ℕ) (fits : k < 256) (h : Arrays xs is ps os) (a i p o : ℕ) where

@@ -4,10 +4,10 @@
 --     key_stack                               the key of the levels up to k stands in the bytes after the first
 --     pushed_top, pushed_below                the levels after the stores that push one
 -- Assumes nothing.
-use Rattle.std.specs.Prelude.{◌≡◌, refl, List, [], ◌∷◌, ◌++◌, ℕ, zero, suc, ◌+◌, ◌-◌, ◌<◌, ◌≤◌, length, get_or, set, take, drop}
+use Rattle.std.specs.Prelude.{◌≡◌, refl, List, [], ◌∷◌, ℕ, zero, suc, ◌+◌, ◌-◌, ◌<◌, ◌≤◌, length, get_or, set, take, drop}
 use Rattle.std.proofs.Common.{sym, ◌∙◌, ap, arith, add-one, length-set, take-suc, get_or-set_same, get_or-set_other}
 use Rattle.std.proofs.Math.Seq.{take-nil}
-use Rattle.reading.specs.Reading.{Level, level_with, path_of, key_of}
+use Rattle.reading.specs.Reading.{level_with, path_of, key_of}
 use Rattle.stream_levels.specs.Stacks.{level_at, stack_is}
 
 pub stack_length : (k : ℕ) (xs is ps os : List ℕ) → length (stack_is k xs is ps os) ≡ k

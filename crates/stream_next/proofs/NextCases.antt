@@ -7,7 +7,7 @@
 use mathlib.Core.Path.{◌≡◌, refl, sym, ◌∙◌, ap, subst}
 use mathlib.Core.Bool.{Bool, true, false, ◌&&◌}
 use mathlib.Core.Option.{Option, some}
-use Rattle.std.specs.Prelude.{None, Ok, Err, Some, Result}
+use Rattle.std.specs.Prelude.{None, Ok, Err, Some, Result, Option as Maybe}
 use Rattle.format.specs.declared.Refusal.{Refusal}
 use mathlib.Core.List.{List, []}
 use Prim.Native.Nat.{ℕ, ◌+◌, ◌<◌, ◌≤◌}
@@ -25,7 +25,9 @@ use Rattle.stream_start.specs.declared.Reading.{Reading}
 use Rattle.stream_start.specs.Views.{stack_is, view_is, empty_is}
 use Rattle.stream_start.specs.StackLaws.{stack_length}
 use Rattle.stream_bounds.specs.State.{state_right}
-use Rattle.stream_pop.specs.declared.Popped.{Popped}
+use Rattle.node.specs.declared.Node.{Node}
+use Rattle.node.specs.declared.Unsound.{Unsound}
+use Rattle.stream_levels.specs.declared.Stack.{Stack}
 use Rattle.stream_pop.specs.Pops.{pop_seen, Pops}
 use Rattle.stream_step.specs.declared.Step.{Step}
 use Rattle.stream_step.specs.Stepped.{Stepped}
@@ -47,15 +49,15 @@ module _ (f : Fst) (r : Reading) (v : ℕ) (buf : List ℕ) where
 
 -- ---- the pops
 
-pub pops_is : {s : List ℕ} {v root : ℕ} {xs ps : List ℕ} {levels : ℕ} {p p' : Popped} → Pops s v root xs ps levels p → p ≡ p' → (is os : List ℕ)
+pub pops_is : {s : List ℕ} {v root : ℕ} {xs ps : List ℕ} {levels : ℕ} {p p' : Result (Maybe (ℕ × Node)) Unsound} → Pops s v root xs ps levels p → p ≡ p' → (is os : List ℕ)
     → pop (fst_with s v root) (stack_is levels xs is ps os) ≡ pop_seen s xs is ps os p'
 pops_is {s} {xs = xs} {ps = ps} h e is os = sym (h.seen is os) ∙ ap (pop_seen s xs is ps os) e
 
 -- ---- what the walk comes to, as the reading that is handed back
 
--- the reading behind a key, its levels in these arrays
-abbrev pub behind : Reading → ℕ → ℕ → List ℕ → List ℕ → List ℕ → List ℕ → Reading
-behind r k t xs is ps os = record {
+-- the reading behind a key, its levels in this stack
+abbrev pub behind : Reading → ℕ → ℕ → Stack → Reading
+behind r k t stack = record {
   len = r.len;
   kind = r.kind;
   bound_len = r.bound_len;
@@ -63,15 +65,13 @@ behind r k t xs is ps os = record {
   empty_output = None;
   total = t;
   levels = k + 1;
-  addrs = xs;
-  inps = is;
-  trans = ps;
-  outs = os;
+  stack = stack;
 }
 
-module _ {w : R.Step} (r : Reading) {buf₀ buf xs is ps os : List ℕ} {g : Result Gone Refusal} (h : GoneBy w (view_is r) buf₀ buf xs is ps os g) where
-  as_gone : {d : Result Gone Refusal} → g ≡ d → GoneBy w (view_is r) buf₀ buf xs is ps os d
-  as_gone e = subst (GoneBy w (view_is r) buf₀ buf xs is ps os) e h
+module _ {w : R.Step} (r : Reading) (stack : Stack) {buf₀ buf : List ℕ} {g : Result Gone Refusal}
+    (h : GoneBy w (view_is r) buf₀ buf stack.addrs stack.inps stack.trans stack.outs g) where
+  as_gone : {d : Result Gone Refusal} → g ≡ d → GoneBy w (view_is r) buf₀ buf stack.addrs stack.inps stack.trans stack.outs d
+  as_gone e = subst (GoneBy w (view_is r) buf₀ buf stack.addrs stack.inps stack.trans stack.outs) e h
 
   pub gone_low : (k v t : ℕ) → g ≡ Ok (G.Key k v t) → k < 256
   gone_low k v t e = (as_gone e).low
@@ -82,7 +82,7 @@ module _ {w : R.Step} (r : Reading) {buf₀ buf xs is ps os : List ℕ} {g : Res
   pub walk_ended : (t : ℕ) → g ≡ Ok (G.End t) → {b : List ℕ} (x : Step) → Stepped (ended_at (view_is r) t) b b x → Stepped w buf₀ buf x
   walk_ended t e x o = let q = as_gone e in record { answer = o.answer ∙ q.answer; reading = o.reading ∙ q.reading; buffer = q.buffer }
 
-  pub walk_key : (k v t : ℕ) → g ≡ Ok (G.Key k v t) → Stepped w buf₀ buf (record { answer = Ok (Some (k, v)); reading = behind r k t xs is ps os })
+  pub walk_key : (k v t : ℕ) → g ≡ Ok (G.Key k v t) → Stepped w buf₀ buf (record { answer = Ok (Some (k, v)); reading = behind r k t stack })
   walk_key k v t e = let q = as_gone e in record { answer = q.answer; reading = q.reading; buffer = q.buffer }
 
 -- ---- what comes before the walk
@@ -99,7 +99,7 @@ state_facts r len e =
     (leb-true r.levels 256 p.0, leb-true r.bound_len 255 q.0)
 
 state_is_lem : (r : Reading) (len : ℕ) → state_right r.levels r.bound_len r.len len ≡ state_test (view_is r) len
-state_is_lem r len = rw (stack_length r.levels r.addrs r.inps r.trans r.outs)
+state_is_lem r len = rw (stack_length r.levels r.stack.addrs r.stack.inps r.stack.trans r.stack.outs)
 
 module _ (s : List ℕ) (r : Reading) (buf₀ : List ℕ) where
   refused_by : (n : Refusal) → R.next s (view_is r) (length buf₀) ≡ refuse (view_is r) n

@@ -8,7 +8,7 @@ use Rattle.std.specs.Prelude.{Ok, Err, Result}
 use Rattle.format.specs.declared.Refusal.{Refusal}
 use mathlib.Core.Option.{Option, none}
 use mathlib.Core.List.{List, ◌∷◌, ◌++◌}
-use Prim.Native.Nat.{ℕ, ◌-◌, ◌<◌, ◌≤◌}
+use Prim.Native.Nat.{ℕ, ◌<◌, ◌≤◌}
 use native.Mathlib.Omega.{arith}
 use lib.ListN.{length, take, drop, length-drop}
 use lib.Seq.{length-take-le, take-take}
@@ -84,8 +84,8 @@ module _ (s : List ℕ) (version root len : ℕ) (hi : S.Bound) (n : ℕ) (e : O
 -- ---- the key goes to the buffer, out of the inputs after the first
 
 module _ {want : Went} {xs is ps os : List ℕ} {r : Result Down Refusal} (h : Descends want xs is ps os r) (k : ℕ) (low : k < max_levels) where
-  pub inputs_hold : k ≤ length (take (length is - 1) (drop 1 is))
-  inputs_hold = rw (length-take-le (length is - 1) (drop 1 is) (simp length-drop (omega arith))) (omega (arith, h.len))
+  pub inputs_hold : k ≤ length (take 255 (drop 1 is))
+  inputs_hold = rw (length-take-le 255 (drop 1 is) (simp length-drop (omega (arith, h.len)))) (omega arith)
 
-  pub inputs_copied : (buf₀ buf : List ℕ) → buf ≡ take k (take (length is - 1) (drop 1 is)) ++ drop k buf₀ → buf ≡ take k (drop 1 is) ++ drop k buf₀
-  inputs_copied buf₀ buf copy = copy ∙ ap (λ (l : List ℕ). l ++ drop k buf₀) (take-take k (length is - 1) (drop 1 is) (omega (arith, h.len)))
+  pub inputs_copied : (buf₀ buf : List ℕ) → buf ≡ take k (take 255 (drop 1 is)) ++ drop k buf₀ → buf ≡ take k (drop 1 is) ++ drop k buf₀
+  inputs_copied buf₀ buf copy = copy ∙ ap (λ (l : List ℕ). l ++ drop k buf₀) (take-take k 255 (drop 1 is) (omega arith))

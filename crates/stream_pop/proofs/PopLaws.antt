@@ -15,7 +15,8 @@ use Rattle.node.specs.declared.Node.{Node}
 use Rattle.node.specs.Read.{meaning, Readable}
 use Rattle.node.specs.ReadLaws.{length_node_transitions}
 use Rattle.reading.specs.Reading.{top, used_up, bad, pop}
-use Rattle.stream_pop.specs.declared.Popped.TheVariants.{At, Empty, Bad}
+use Rattle.node.specs.declared.Unsound.{Unsound}
+use Rattle.std.specs.Prelude.{Ok, Err, Some, None}
 use Rattle.stream_start.specs.Views.{level_at, stack_is}
 use Rattle.stream_pop.specs.Pops.{Pops}
 use Rattle.stream_start.specs.StackLaws.{stack_suc}
@@ -53,27 +54,31 @@ pub popping_none : (s : List ℕ) (v root : ℕ) (xs ps : List ℕ) (levels : �
 popping_none s v root xs ps levels h = record { within = h; same = λ is os. refl }
 
 module _ {s : List ℕ} {v root : ℕ} {xs ps : List ℕ} {levels k : ℕ} (p : Popping s v root xs ps levels k) where
-  pub popping_end : k ≤ 0 → Pops s v root xs ps levels Empty
+  pub popping_end : k ≤ 0 → Pops s v root xs ps levels (Ok None)
   popping_end h = record {
     seen = λ is os. sym (p.same is os ∙ pop_end (fst_with s v root) k xs is ps os h);
     low = λ j m e. absurd (let z : ◌≡◌ {A = ℕ} 0 1 = cc in omega arith);
     ready = λ j m e. absurd (let z : ◌≡◌ {A = ℕ} 0 1 = cc in omega arith);
   }
 
-  pub popping_bad : 0 < k → node_in (fst_with s v root) (get_or xs (k - 1) 0) ≡ unsound → Pops s v root xs ps levels Bad
-  popping_bad pos e = record {
+  pub popping_bad : 0 < k → node_in (fst_with s v root) (get_or xs (k - 1) 0) ≡ unsound → (u : Unsound) → Pops s v root xs ps levels (Err u)
+  popping_bad pos e u = record {
     seen = λ is os. sym (p.same is os ∙ pop_bad (fst_with s v root) k xs is ps os pos e);
     low = λ j m e. absurd (let z : ◌≡◌ {A = ℕ} 0 1 = cc in omega arith);
     ready = λ j m e. absurd (let z : ◌≡◌ {A = ℕ} 0 1 = cc in omega arith);
   }
 
   module _ (pos : 0 < k) (m : Node) (e : node_in (fst_with s v root) (get_or xs (k - 1) 0) ≡ sound (meaning s m)) (readable : Readable s m) where
-    pub popping_at : get_or ps (k - 1) 0 < m.ntrans → Pops s v root xs ps levels (At (k - 1) m)
+    pub popping_at : get_or ps (k - 1) 0 < m.ntrans → Pops s v root xs ps levels (Ok (Some (k - 1, m)))
     popping_at t = record {
       seen = λ is os.
           sym (p.same is os ∙ pop_at (fst_with s v root) k xs is ps os pos (meaning s m) e (omega (arith, length_node_transitions s m readable)));
-      low = λ j n q. let z : k - 1 ≡ j = cc in omega (arith, p.within);
-      ready = λ j n q. let z : k - 1 ≡ j = cc in let y : m ≡ n = cc in rw (← z, ← y) (record { node = e; readable = readable; next = t });
+      low = λ j n q.
+          let both : ◌≡◌ {A = ℕ × Node} (k - 1, m) (j, n) = cc in
+          omega (arith, ap (λ (x : ℕ × Node). x.0) both, p.within);
+      ready = λ j n q.
+          let both : ◌≡◌ {A = ℕ × Node} (k - 1, m) (j, n) = cc in
+          rw (← ap (λ (x : ℕ × Node). x.0) both, ← ap (λ (x : ℕ × Node). x.1) both) (record { node = e; readable = readable; next = t });
     }
 
     pub popping_on : m.ntrans ≤ get_or ps (k - 1) 0 → Popping s v root xs ps levels (k - 1)

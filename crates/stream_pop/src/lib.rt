@@ -1,42 +1,31 @@
 // The levels of a reading popped: the highest that has a transition left.
+// The number of levels stands beside the stack: a walk knows it only at its end.
 #![tactic(auto)]
 
-ghost use Rattle.std.specs.Prelude.{◌≡◌, ◌≤◌};
+ghost use Rattle.std.specs.Prelude.{◌≤◌};
 ghost use Rattle.format.specs.Limits.{max_levels};
 ghost use Rattle.stream_pop.specs.Pops.{Pops};
 
-use format::LEVELS;
-use node::Node;
+use format::FstRef;
+use node::{Node, Unsound};
+use stream_levels::Stack;
 
-// What the pops find: the place of the highest level that has a transition left, with its node; no such level; or a node that is not
-// sound.
-#[derive(Clone, Copy)]
-pub enum Popped {
-    At(usize, Node),
-    Empty,
-    Bad,
-}
-
-// The highest of the first levels that has a transition left. Each level that is looked at is judged, as a reading can be made by hand.
+// The place of the highest of the first levels that has a transition left, with its node, if one has. Each level that is looked at is judged, as a reading
+// can be made by hand.
 pub fn highest(
-    file: &[u8],
-    version: u64,
-    root: usize,
-    addrs: &[u32; LEVELS],
-    trans: &[u16; LEVELS],
+    fst: FstRef<'_>,
+    stack: &Stack,
     levels: usize,
-) -> Popped
+) -> Result<Option<(usize, Node)>, Unsound>
     requires { levels ≤ max_levels }
-    ensures { Pops file.now version root addrs.now trans.now
+    ensures { Pops fst.entry.bytes.now fst.entry.version fst.entry.root stack.now.addrs stack.now.trans
         levels result }
 {
     for top in (0..levels).rev() {
-        let Ok(m) = node::node_at(file, version, root, addrs[top] as usize) else {
-            return Popped::Bad;
-        };
-        if usize::from(trans[top]) < m.ntrans {
-            return Popped::At(top, m);
+        let m = node::node_at(fst, stack.addrs[top] as usize)?;
+        if usize::from(stack.trans[top]) < m.ntrans {
+            return Ok(Some((top, m)));
         }
     }
-    Popped::Empty
+    Ok(None)
 }

@@ -1,17 +1,15 @@
--- Laws of a start around its walk: the bounds, the pending empty key, and each answer by what leads to it.
---     taken-.., inclusive-.., meets-..       what each kind of bound says
---     bound_is_lem                               the reading holds the upper bound
+-- Laws of a start around its walk: the pending empty key, and each answer by what leads to it.
+--     meets_empty-..                         whether the empty key meets a bound with bytes
 --     pending-.., walk-.., same_walk         the pending empty key and the walk, on a file that opens
 --     reading-.., from-..                    the answers on a file that opens
 --     start_opened, start_refused            and on any file
 -- Assumes nothing.
-use Rattle.std.specs.Prelude.{◌≡◌, Bool, not, ◌&&◌, List, [], ◌∷◌, ◌++◌, ℕ, zero, suc, ◌+◌, ◌-◌, ◌<◌, ◌≤◌, eqb, leb, length, get_or, set, take, drop}
+use Rattle.std.specs.Prelude.{◌≡◌, Bool, ◌&&◌, List, [], ◌∷◌, ℕ, ◌<◌, ◌≤◌, eqb, leb, length}
 use Rattle.std.proofs.Math.Path.{refl}
-use Rattle.std.proofs.Common.{sym, ◌∙◌, ap, ap₂, zero-add, add-one, arith, le-leb, eq-eqb, ne_eqb, length-set, take_at, length-take-le}
+use Rattle.std.proofs.Common.{sym, ◌∙◌, ap, ap₂, arith, le-leb, eq-eqb, ne_eqb}
 use Rattle.std.proofs.Math.Bool.{true, false, cond}
 use Rattle.std.proofs.Math.Option.{Option, none, some}
 use Rattle.std.proofs.lemmas.Bool.{lt-leb}
-use Rattle.std.proofs.Math.Seq.{take-length, paste-suc}
 use Rattle.format.specs.declared.Refusal.{Refusal}
 use Rattle.format.specs.Limits.{max_path, BOUND}
 use Rattle.format.specs.Node.{Node, Judgement, sound, unsound}
@@ -22,62 +20,19 @@ use Rattle.format.specs.Strings as S
 use Rattle.format.specs.Strings.{unbounded, included, excluded, before_test}
 use Rattle.reading.specs.Reading as R
 use Rattle.reading.specs.Reading.{Level, got, meets_test, is_inclusive, bound_bytes, bounds_test, pending_at}
-use Rattle.stream_start.specs.declared.Bound.{Bound}
-use Rattle.stream_start.specs.declared.Bound.TheVariants.{Included, Excluded, Unbounded}
-use Rattle.stream_start.specs.Views.{bound_is}
-use Rattle.stream_start.specs.Starts.{BoundTaken, pending_if, pending_from, walk_from, reading_at, start_from}
+use Rattle.stream_start.specs.Starts.{pending_if, pending_from, walk_from, reading_at, start_from}
 
--- ---- a bound, by its kind
+-- ---- a lower bound and the empty key
 
-module _ (kind : Bound) (bs : List ℕ) where
-  pub taken_included : kind ≡ Included → BoundTaken kind bs (length bs)
-  taken_included e = rw e (record { inside = omega arith; count = refl; bytes = take-length bs })
-
-  pub taken_excluded : kind ≡ Excluded → BoundTaken kind bs (length bs)
-  taken_excluded e = rw e (record { inside = omega arith; count = refl; bytes = take-length bs })
-
-  pub taken_unbounded : kind ≡ Unbounded → BoundTaken kind bs 0
-  taken_unbounded e = rw e (record { inside = omega arith; count = refl; bytes = refl })
-
-  pub inclusive_included : kind ≡ Included → true ≡ is_inclusive (bound_is kind bs)
-  inclusive_included e = rw e
-
-  pub inclusive_excluded : kind ≡ Excluded → false ≡ is_inclusive (bound_is kind bs)
-  inclusive_excluded e = rw e
-
-  pub inclusive_unbounded : kind ≡ Unbounded → true ≡ is_inclusive (bound_is kind bs)
-  inclusive_unbounded e = rw e
-
-meets_count : (bs : List ℕ) (n : ℕ) → n ≡ length bs → eqb n 0 ≡ not (before_test [] bs)
+pub meets_empty_included : (bs : List ℕ) → eqb (length bs) 0 ≡ meets_test (included bs) []
 unfolding before_test
-meets_count [] n e = eq-eqb n 0 e
-meets_count (b ∷ bs) n e = ne_eqb n 0 (λ z. omega arith)
+meets_empty_included [] = refl
+meets_empty_included (b ∷ bs) = ne_eqb (length (b ∷ bs)) 0 (λ z. omega arith)
 
-before_nothing : (bs : List ℕ) → false ≡ before_test bs []
+pub meets_empty_excluded : (bs : List ℕ) → false ≡ meets_test (excluded bs) []
 unfolding before_test
-before_nothing [] = refl
-before_nothing (b ∷ bs) = refl
-
-module _ (kind : Bound) (bs : List ℕ) where
-  pub meets_included : kind ≡ Included → (n : ℕ) → BoundTaken kind bs n → eqb n 0 ≡ meets_test (bound_is kind bs) []
-  meets_included e n h = rw e (meets_count bs n (rw e at h.count))
-
-  pub meets_excluded : kind ≡ Excluded → false ≡ meets_test (bound_is kind bs) []
-  meets_excluded e = rw e (before_nothing bs)
-
-  pub meets_unbounded : kind ≡ Unbounded → true ≡ meets_test (bound_is kind bs) []
-  meets_unbounded e = rw e
-
--- ---- the upper bound's bytes
-
-of_kind : (kind : Bound) (bs cs : List ℕ) → cs ≡ bound_bytes (bound_is kind bs) → bound_is kind cs ≡ bound_is kind bs
-of_kind Included bs cs e = ap included e
-of_kind Excluded bs cs e = ap excluded e
-of_kind Unbounded bs cs e = refl
-
-pub bound_is_lem : (kind : Bound) (bs : List ℕ) (n : ℕ) → BoundTaken kind bs n → (to₀ to : List ℕ) → to ≡ take n bs ++ drop n to₀ → bound_is kind (take n to) ≡ bound_is kind bs
-bound_is_lem kind bs n h to₀ to e =
-    of_kind kind bs (take n to) (ap (take n) e ∙ take_at (take n bs) (drop n to₀) n (length-take-le n bs h.inside) ∙ h.bytes)
+meets_empty_excluded [] = refl
+meets_empty_excluded (b ∷ bs) = refl
 
 -- ---- the pending empty key
 

@@ -1,5 +1,4 @@
 -- What the parts of a start answer around its walk, against `R.start` (document 01, "A reading").
---     BoundTaken kind bs n         a bound has n bytes, the first of bs
 --     pending_if c j                the pending empty key of a file whose root is judged j, where the bound lets it by
 --     pending_from f lo             the same of a start on a file that opens
 --     walk_from f lo                what its walk along the lower bound finds
@@ -7,7 +6,7 @@
 --     start_from f lo hi            a start on a file that opens
 --     BlankTold s version          version 0 stands for no bytes
 -- Assumes nothing.
-use Rattle.std.specs.Prelude.{◌≡◌, Bool, cond, List, [], ℕ, ◌≤◌, ◌<◌, eqb, length, take}
+use Rattle.std.specs.Prelude.{◌≡◌, Bool, cond, List, [], ℕ, ◌<◌, eqb, length}
 use Rattle.std.proofs.Math.Option.{Option, none, some}
 use Rattle.format.specs.Limits.{BOUND}
 use Rattle.format.specs.Node.{Judgement}
@@ -15,13 +14,6 @@ use Rattle.format.specs.Paths.{Fst, node_in}
 use Rattle.format.specs.Strings as S
 use Rattle.reading.specs.Reading as R
 use Rattle.reading.specs.Reading.{on_node, got, bounds_test, started_at, pending_at, is_inclusive, bound_bytes}
-use Rattle.stream_start.specs.declared.Bound.{Bound}
-use Rattle.stream_start.specs.Views.{bound_is}
-
-pub record BoundTaken (kind : Bound) (bs : List ℕ) (n : ℕ) : Type 0 where
-  pub inside : n ≤ length bs
-  pub count : n ≡ length (bound_bytes (bound_is kind bs))
-  pub bytes : take n bs ≡ bound_bytes (bound_is kind bs)
 
 abbrev pub pending_if : Bool → Judgement → Option ℕ
 pending_if c j = cond c (on_node j (λ m. cond m.final (some m.final_output) none) none) none

@@ -15,10 +15,7 @@ placed_at r k t = record {
   empty_output = None;
   total = t;
   levels = k;
-  addrs = r.addrs;
-  inps = r.inps;
-  trans = r.trans;
-  outs = r.outs;
+  stack = r.stack;
 }
 
 -- the end, with this total

@@ -20,24 +20,11 @@ pub struct Step {
 pub fn placed(reading: Reading, levels: usize, total: u64) -> Reading
     ensures { result ≡ placed_at reading levels total }
 {
-    let kind = reading.kind;
-    let bound = reading.bound;
-    let addrs = reading.addrs;
-    let inps = reading.inps;
-    let trans = reading.trans;
-    let outs = reading.outs;
     Reading {
-        len: reading.len,
-        kind,
-        bound_len: reading.bound_len,
-        bound,
         empty_output: None,
         total,
         levels,
-        addrs,
-        inps,
-        trans,
-        outs,
+        ..reading
     }
 }
 

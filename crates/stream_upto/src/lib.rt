@@ -1,17 +1,18 @@
 // The keys that come before a string, by a table of the keys from each node (document 02, N11): the walk along the string adds up those from the
 // smaller inputs at each node. On any file, admitted or not, and with any table. The Rust has nothing of it.
+// A byte is looked for at an address of the file, which is no node before it is judged.
 #![tactic(auto)]
 
 ghost use Rattle.std.specs.Prelude.{◌≡◌, ◌&&◌, List, [], ℕ, ◌+◌, ◌≤◌, length, take};
 ghost use Rattle.format.specs.declared.Transition.{Transition};
-ghost use Rattle.format.specs.Paths.{fst_with};
 ghost use Rattle.format.specs.Tables.{one, sum_of, keys_at};
+ghost use Rattle.format.specs.View.{fst_is};
 ghost use Rattle.node.specs.Read.{transitions_in, Readable};
 ghost use Rattle.plain.specs.Numbers as N;
 ghost use Rattle.plain.specs.Numbers.{up_to};
 ghost use Rattle.stream_upto.specs.Counts.{HasEntry, HasEntries, total_as, added_to, turn_of, walked_as};
 
-use format::Refusal;
+use format::{FstRef, Refusal};
 use node::Node;
 
 // A total is a number of keys, or None where it passes 2^64 - 1. None is kept and not answered: a node further on is refused before it.
@@ -64,30 +65,22 @@ fn below(file: &[u8], node: Node, p: usize, counts: &[u64], total: Option<u64>) 
 }
 
 // The byte b looked for at the node at addr, which is judged first. The place of b, found or not, is the number of smaller inputs.
-fn turn(
-    file: &[u8],
-    version: u64,
-    root: usize,
-    addr: usize,
-    b: u8,
-    counts: &[u64],
-    total: Option<u64>,
-) -> Turned
-    requires { length file.now ≤ length counts.now }
+fn turn(fst: FstRef<'_>, addr: usize, b: u8, counts: &[u64], total: Option<u64>) -> Turned
+    requires { length fst.bytes.now ≤ length counts.now }
     ensures { (n : ℕ) → total ≡ total_as n
-        → result ≡ turn_of (fst_with file.now version root) counts.now addr b n }
+        → result ≡ turn_of (fst_is fst.entry) counts.now addr b n }
 {
-    let Ok(m) = node::node_at(file, version, root, addr) else {
+    let Ok(m) = node::node_at(fst, addr) else {
         return Turned::Unsound;
     };
     // a key that begins the string and ends here comes before it
     let kept = added(total, own_key(true, m.is_final));
-    let found = node::find_input(file, m, b);
+    let found = node::find_input(fst.bytes, m, b);
     match found {
-        Err(p) => Turned::Gone(below(file, m, p, counts, kept)),
+        Err(p) => Turned::Gone(below(fst.bytes, m, p, counts, kept)),
         Ok(p) => {
-            let target = node::transition_addr(file, m, p);
-            let sum = below(file, m, p, counts, kept);
+            let target = node::transition_addr(fst.bytes, m, p);
+            let sum = below(fst.bytes, m, p, counts, kept);
             Turned::On(target, sum)
         }
     }
@@ -95,18 +88,16 @@ fn turn(
 
 // Where the string ends: its last node is judged too, and its own key counts where own says so.
 fn at_end(
-    file: &[u8],
-    version: u64,
-    root: usize,
+    fst: FstRef<'_>,
     addr: usize,
     own: bool,
     total: Option<u64>,
 ) -> Result<Option<u64>, Refusal>
     ensures { (c : List ℕ) (n : ℕ) → total ≡ total_as n
         → result ≡ walked_as (N.plus n
-        (up_to (fst_with file.now version root) c own addr [])) }
+        (up_to (fst_is fst.entry) c own addr [])) }
 {
-    let Ok(m) = node::node_at(file, version, root, addr) else {
+    let Ok(m) = node::node_at(fst, addr) else {
         return Err(Refusal::Node);
     };
     let k = own_key(own, m.is_final);
@@ -114,22 +105,15 @@ fn at_end(
 }
 
 // The keys that come before the string x, and x itself if own; NODE for the first node on its way that is not sound, the last included.
-pub fn up_to(
-    file: &[u8],
-    version: u64,
-    root: usize,
-    own: bool,
-    x: &[u8],
-    counts: &[u64],
-) -> Result<Option<u64>, Refusal>
-    requires { length file.now ≤ length counts.now }
-    ensures { result ≡ walked_as (up_to (fst_with file.now version root)
-        counts.now own root x.now) }
+pub fn up_to(fst: FstRef<'_>, own: bool, x: &[u8], counts: &[u64]) -> Result<Option<u64>, Refusal>
+    requires { length fst.bytes.now ≤ length counts.now }
+    ensures { result ≡ walked_as (up_to (fst_is fst.entry)
+        counts.now own fst.entry.root x.now) }
 {
-    let mut addr = root;
+    let mut addr = fst.root;
     let mut total = Some(0);
     for b in x {
-        let turned = turn(file, version, root, addr, *b, counts, total);
+        let turned = turn(fst, addr, *b, counts, total);
         match turned {
             Turned::Unsound => return Err(Refusal::Node),
             Turned::Gone(sum) => return Ok(sum),
@@ -139,5 +123,5 @@ pub fn up_to(
             }
         }
     }
-    at_end(file, version, root, addr, own, total)
+    at_end(fst, addr, own, total)
 }

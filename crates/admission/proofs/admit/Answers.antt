@@ -7,7 +7,7 @@ use Rattle.admission.proofs.admit.Goals as goal
 
 -- the file opens
 pub admit_opened-requires : goal.admit_opened-requires
-admit_opened-requires c = opening_opens c.open.ensures c.in_ok-m.m c.in_ok-m.was
+admit_opened-requires c = rw c.over.ensures (opening_opens c.open.ensures c.in_ok-m.m c.in_ok-m.was)
 
 -- refused by opening
 pub returns-in_err-m : goal.returns-in_err-m

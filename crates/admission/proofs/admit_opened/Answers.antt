@@ -7,8 +7,8 @@ use Rattle.admission.proofs.admit_opened.Goals.{After-judge-v}
 
 -- ---- the nodes judged
 
-judging : (c : After-judge-v) → AllJudged c.args.file.now c.args.version c.args.root c.args.depths.now c.args.sums.now
-    (c.fill.new.self ++ drop (length c.args.file.now) c.args.depths.now) (c.fill-2.new.self ++ drop (length c.args.file.now) c.args.sums.now)
+judging : (c : After-judge-v) → AllJudged c.args.fst.bytes.now c.args.fst.version c.args.fst.root c.args.depths.now c.args.sums.now
+    (c.fill.new.self ++ drop (length c.args.fst.bytes.now) c.args.depths.now) (c.fill-2.new.self ++ drop (length c.args.fst.bytes.now) c.args.sums.now)
     c.judge-v.new.depths c.judge-v.new.sums c.judge-v.result
 judging c =
     record {

@@ -10,7 +10,7 @@ pub survey_at-s-requires : goal.survey_at-s-requires
 survey_at-s-requires c =
     let h = c.loop-a.invariant in
     let inside = c.loop-a-test.true in
-    surveyable_at h c.requires inside c.if-lost.false (λ i. (c.type_inv.file i).fits)
+    surveyable_at h c.requires inside c.if-lost.false (λ i. c.are_bytes.ensures i)
     (kept_lt h.depths_kept c.requires.room_depths inside) (kept_lt h.sums_kept c.requires.room_sums inside)
 
 -- an address of the chain with its entries stored, or an address with no mark

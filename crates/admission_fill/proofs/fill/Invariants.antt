@@ -4,4 +4,4 @@ use Rattle.admission_fill.proofs.Filling.{Filling}
 use Rattle.admission_fill.proofs.fill.Given as goal
 
 abbrev pub invariant-loop-a : goal.invariant-loop-a
-invariant-loop-a l = Filling (fst_with l.file l.version l.root) l.initial.depths l.initial.sums l.depths l.sums l.deep l.heavy l.a
+invariant-loop-a l = Filling (fst_with l.fst.bytes.now l.fst.version l.fst.root) l.initial.depths l.initial.sums l.depths l.sums l.deep l.heavy l.a

@@ -9,7 +9,6 @@ pub returns : goal.returns
 returns c =
     let x = c.args in
     items_leaves
-    (items_asked (x.a.now ∷ x.b.now ∷ x.c.now ∷ x.d.now ∷ x.e.now ∷ x.f.now ∷ x.g.now ∷ x.h.now ∷ []) x.lower.now x.upper.now x.op
-    x.lower_kind x.upper_kind x.count x.most (length x.rows.now) (length x.counts.now) (length x.numbers.now) (length x.values.now)
-    c.op_of-operation.ensures c.kind_of-from.ensures c.kind_of-to.ensures c.items-paged.ensures)
+    (items_asked (x.a.now ∷ x.b.now ∷ x.c.now ∷ x.d.now ∷ x.e.now ∷ x.f.now ∷ x.g.now ∷ x.h.now ∷ []) x.count x.most (length x.rows.now) (length x.counts.now)
+    (length x.numbers.now) (length x.values.now) c.op_of-operation.ensures c.bound_with-from.ensures c.bound_with-to.ensures c.items-paged.ensures)
     _ _ (result_back c.stopped.result c.stopped.type_inv) c.stopped.ensures

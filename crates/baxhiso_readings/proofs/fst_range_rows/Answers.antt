@@ -11,6 +11,6 @@ pub returns : goal.returns
 returns c =
     let x = c.args in
     range_leaves
-    (range_bounds x.file.now x.lower.now x.upper.now x.lower_kind x.upper_kind x.most (length x.rows.now) (length x.values.now) c.kind_of-from.ensures
-    c.kind_of-to.ensures c.range-ranged.ensures)
+    (range_bounds x.file.now x.lower.now x.upper.now x.lower_kind x.upper_kind x.most (length x.rows.now) (length x.values.now) c.bound_with-from.ensures
+    c.bound_with-to.ensures c.range-ranged.ensures)
     _ _ (result_back c.stopped.result c.stopped.type_inv) c.stopped.ensures

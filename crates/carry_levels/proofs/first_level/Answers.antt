@@ -8,5 +8,5 @@ pub returns : goal.returns
 returns c =
     let a = c.args in
     let m = c.in-Ok.m in
-    first_settles a.old.now a.old_version a.old_root a.new.now a.version a.root a.addr a.out m (answer_sound c.node_at.ensures m c.in-Ok.is)
+    first_settles a.old.bytes.now a.old.version a.old.root a.new.bytes.now a.new.version a.new.root a.addr a.out m (answer_sound c.node_at.ensures m c.in-Ok.is)
     (c.node_at.ensures.readable m c.in-Ok.is) c.settle.ensures

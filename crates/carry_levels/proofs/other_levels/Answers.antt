@@ -12,7 +12,7 @@ returns-in_err-to c =
     let l = c.loop-k in
     let told : c.from_residual.result ≡ Err c.in_err-to.field-0.0 = grind arith in
     rw told
-    (walked_halted (fst_with a.old.now a.old_version a.old_root) a.new.now a.version a.root a.addrs.now a.inps.now a.outs.now l.k a.levels l.moved l.below
+    (walked_halted (fst_with a.old.bytes.now a.old.version a.old.root) a.new.bytes.now a.new.version a.new.root a.stack.now.addrs a.stack.now.inps a.stack.now.outs l.k a.levels l.moved l.below
     c.loop-k-test.true l.invariant c.next_level.ensures _ c.in_err-to.was)
 
 pub loop-k-preserved : goal.loop-k-preserved
@@ -20,14 +20,14 @@ loop-k-preserved c =
     let a = c.args in
     let l = c.loop-k in
     let room : length l.moved ≡ 256 = search rules in
-    walked_step (fst_with a.old.now a.old_version a.old_root) a.new.now a.version a.root a.addrs.now a.inps.now a.outs.now l.k l.moved l.below
+    walked_step (fst_with a.old.bytes.now a.old.version a.old.root) a.new.bytes.now a.new.version a.new.root a.stack.now.addrs a.stack.now.inps a.stack.now.outs l.k l.moved l.below
     (omega arith) (omega arith) l.invariant c.next_level.ensures _ _ c.in_ok-to.was
 
 pub returns : goal.returns
 returns c =
     let a = c.args in
     let l = c.loop-k in
-    let old = fst_with a.old.now a.old_version a.old_root in
+    let old = fst_with a.old.bytes.now a.old.version a.old.root in
     let all : l.k ≡ a.levels = omega arith in
-    walked_all old a.new.now a.version a.root a.addrs.now a.inps.now a.outs.now a.levels l.moved l.below
-    (omega arith) (subst (λ (j : ℕ). WalkedTo old a.new.now a.version a.root j a.addrs.now a.inps.now a.outs.now l.moved l.below) all l.invariant)
+    walked_all old a.new.bytes.now a.new.version a.new.root a.stack.now.addrs a.stack.now.inps a.stack.now.outs a.levels l.moved l.below
+    (omega arith) (subst (λ (j : ℕ). WalkedTo old a.new.bytes.now a.new.version a.new.root j a.stack.now.addrs a.stack.now.inps a.stack.now.outs l.moved l.below) all l.invariant)

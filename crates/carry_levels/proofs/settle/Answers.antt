@@ -18,23 +18,23 @@ overflow_cast-to c =
     let m = c.in-Ok.m in
     elim (ℕ_discrete a.addr 0) [
       | yes z ↦ omega arith
-      | no ne ↦ omega (arith, node_below (fst_with a.new.now a.version a.root) a.addr (meaning a.new.now m) (answer_sound c.node_at.ensures m c.in-Ok.is) ne)
+      | no ne ↦ omega (arith, node_below (fst_with a.new.bytes.now a.new.version a.new.root) a.addr (meaning a.new.bytes.now m) (answer_sound c.node_at.ensures m c.in-Ok.is) ne)
     ]
 
 pub returns-then-same : goal.returns-then-same
 returns-then-same c =
     let a = c.args in
     let m = c.in-Ok.m in
-    settle_stands a.new.now a.version a.root a.addr a.ntrans a.same m (answer_sound c.node_at.ensures m c.in-Ok.is) (c.node_at.ensures.readable m c.in-Ok.is)
+    settle_stands a.new.bytes.now a.new.version a.new.root a.addr a.ntrans a.same m (answer_sound c.node_at.ensures m c.in-Ok.is) (c.node_at.ensures.readable m c.in-Ok.is)
     c.if-as_many.true c.if-same.true
 
 pub returns : goal.returns
 returns c =
     let a = c.args in
     let m = c.in-Ok.m in
-    let is : node_at a.new.now a.version a.root a.addr ≡ sound (meaning a.new.now m) = answer_sound c.node_at.ensures m c.in-Ok.is in
+    let is : node_at a.new.bytes.now a.new.version a.new.root a.addr ≡ sound (meaning a.new.bytes.now m) = answer_sound c.node_at.ensures m c.in-Ok.is in
     let readable = c.node_at.ensures.readable m c.in-Ok.is in
     elim c.else-as_many.branch [
-      | else-as_many-via-then-as_many+else-same w ↦ settle_value a.new.now a.version a.root a.addr a.ntrans a.same m is readable w.if-as_many.true w.if-same.false
-      | else-as_many-via-else-as_many w ↦ settle_count a.new.now a.version a.root a.addr a.ntrans a.same m is readable w.if-as_many.false
+      | else-as_many-via-then-as_many+else-same w ↦ settle_value a.new.bytes.now a.new.version a.new.root a.addr a.ntrans a.same m is readable w.if-as_many.true w.if-same.false
+      | else-as_many-via-else-as_many w ↦ settle_count a.new.bytes.now a.new.version a.new.root a.addr a.ntrans a.same m is readable w.if-as_many.false
     ]

@@ -7,7 +7,7 @@
 -- Assumes nothing.
 use Rattle.std.specs.Prelude.{◌≡◌, Bool, true, false, get_or, take, drop}
 use Rattle.std.proofs.Math.Path.{refl, sym, ap, subst}
-use Rattle.std.proofs.Common.{ap₂, ◌∙◌, inr, lt_of_lt_of_le, arith, le-leb, eq-eqb, length-drop, take_at, drop_at, get_or-take}
+use Rattle.std.proofs.Common.{ap₂, ◌∙◌, lt_of_lt_of_le, arith, le-leb, eq-eqb, length-drop, take_at, drop_at, get_or-take}
 use Rattle.std.proofs.Math.Logic.{⊎_elim}
 use mathlib.Core.List.Memᴰ
 use mathlib.Core.List.{List, [], ◌∷◌, ◌++◌, append_assoc, append-nil, Memᴰ}

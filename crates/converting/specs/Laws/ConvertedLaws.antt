@@ -5,7 +5,7 @@
 --     mirrors_kept          where it does not: each address of the chain, and 0
 --     held_both             the same keys with the same values, both ways
 -- Assumes nothing.
-use Rattle.std.specs.Prelude.{◌≡◌, refl, Bool, true, false, ◌&&◌, ◌⊎◌, ℕ, ◌+◌, ◌≤◌, ◌<◌, eqb, length, get_or, take, drop}
+use Rattle.std.specs.Prelude.{◌≡◌, refl, Bool, true, false, ◌&&◌, ℕ, ◌+◌, ◌≤◌, ◌<◌, eqb, length, get_or, take, drop}
 use Rattle.std.proofs.Math.Path.{sym, ap}
 use Rattle.std.proofs.Common.{◌∙◌, subst, inl, inr, ⊎_elim, arith, length-append, length-take, length-drop}
 use mathlib.Core.List.Memᴰ
@@ -21,7 +21,7 @@ use Rattle.format.specs.Laws.NodeLaws.{node_at_zero}
 use Rattle.format.specs.Laws.NodeFacts.{node_zero_none}
 use Rattle.format.specs.Packed.{packed, packs_to_nothing}
 use Rattle.format.specs.Laws.OpeningLaws.{opened_facts, version_some}
-use Rattle.format.specs.Paths.{Fst, fst_with, fst_of, node_in, Held}
+use Rattle.format.specs.Paths.{Fst, fst_with, node_in, Held}
 use Rattle.format.specs.Admitted.{Chain, Admitted}
 use Rattle.format.specs.Laws.ChainLaws.{chain_cases, root_chain_cases, root_chain_low, root_chain_root}
 use Rattle.converting.specs.Converting.{vanishes, new_addr, record_of, Laid, lay_node, lay_out, laid, moved_to, converted}

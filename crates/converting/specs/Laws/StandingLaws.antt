@@ -17,9 +17,9 @@ use Rattle.format.specs.RoundTrip.RoundTrip.{round_trip}
 use Rattle.format.specs.Paths.{Fst, fst_with, node_in}
 use Rattle.format.specs.Admitted.{Chain, last, next}
 use Rattle.format.specs.Laws.ChainLaws.{chain_not_zero, chain_start_low, chain_le}
-use Rattle.converting.specs.Converting.{Moved, new_addr, record_of, Laid, lay_node, lay_out}
+use Rattle.converting.specs.Converting.{Moved, new_addr, record_of, Laid, lay_out}
 use Rattle.converting.specs.Mirror.{Image}
-use Rattle.converting.specs.Laws.LayLaws.{laid_next, lay_node_is, lay_out_is, packed_pos, new_addr_here, new_addr_other, AllOk, new_ok, record_mirrored, mirrored_same, ranges_of, record_ok_of}
+use Rattle.converting.specs.Laws.LayLaws.{laid_next, lay_out_is, packed_pos, new_addr_here, new_addr_other, AllOk, new_ok, record_mirrored, mirrored_same, ranges_of, record_ok_of}
 use Rattle.converting.specs.Standing.{new_nodes, Chained, Standing}
 
 -- ---- one node more

@@ -7,7 +7,7 @@ use Rattle.counting.proofs.count_keys.Goals as goal
 
 -- the file opens
 pub count_opened-requires : goal.count_opened-requires
-count_opened-requires c = opening_opens c.open.ensures c.in_ok-m.m c.in_ok-m.was
+count_opened-requires c = rw c.over.ensures (opening_opens c.open.ensures c.in_ok-m.m c.in_ok-m.was)
 
 -- refused by opening
 pub returns-in_err-m : goal.returns-in_err-m

@@ -7,7 +7,7 @@ use Rattle.counting.proofs.Passing.{AtNode}
 use Rattle.counting.proofs.fill.Given as goal
 
 abbrev pub invariant-loop-a : goal.invariant-loop-a
-invariant-loop-a l = Kept (length l.file) l.fn.counts l.counts × AtNode (fst_with l.file l.version l.root) l.depths l.counts l.a
+invariant-loop-a l = Kept (length l.fst.bytes.now) l.fn.counts l.counts × AtNode (fst_with l.fst.bytes.now l.fst.version l.fst.root) l.depths l.counts l.a
 
 abbrev pub decreases-loop-a : goal.decreases-loop-a
-decreases-loop-a l = length l.file - l.a
+decreases-loop-a l = length l.fst.bytes.now - l.a

@@ -5,7 +5,7 @@ use Rattle.buffers.specs.DecideLaws.{decides_and, decides_le}
 use Rattle.format.specs.Limits.{max_path}
 use Rattle.fst.specs.Open.{meta_is, opening_is}
 use Rattle.paging.specs.Paging.{row_len}
-use Rattle.stream_start.specs.Views.{bound_is}
+use Rattle.stream_start.specs.Views.{bound_of}
 use Rattle.patterned_fit.specs.Positions.{position_is}
 use Rattle.patterned_held.specs.HeldPatterns.{given_is}
 use Rattle.range_fill.specs.FillLaws.{ranged_as, refused_by}
@@ -17,8 +17,8 @@ pub returns-in-Err : goal.returns-in-Err
 returns-in-Err c =
     let a = c.args in
     refused_by _ a.rows.now a.values.now
-    (find_unopened a.file.now (given_is a.positions.now a.rest) (bound_is a.lower_kind a.lower.now) (bound_is a.upper_kind a.upper.now) a.most
-    (length a.rows.now) (length a.values.now) _ (sym c.open-opened.ensures ∙ ap opening_is c.in-Err.is))
+    (find_unopened a.file.now (given_is a.positions.now a.rest) (bound_of a.lower) (bound_of a.upper) a.most
+    (length a.rows.now) (length a.values.now) _ (sym c.open.ensures ∙ ap opening_is c.in-Err.is))
     c.refused.ensures
 
 -- over 255 positions: the pattern has as many as were given
@@ -26,8 +26,8 @@ pub returns-then-positions-gt-MAX_KEY : goal.returns-then-positions-gt-MAX_KEY
 returns-then-positions-gt-MAX_KEY c =
     let a = c.args in
     refused_by _ a.rows.now a.values.now
-    (find_pattern a.file.now (given_is a.positions.now a.rest) (bound_is a.lower_kind a.lower.now) (bound_is a.upper_kind a.upper.now) a.most
-    (length a.rows.now) (length a.values.now) (meta_is c.in-Ok.field-0) (sym c.open-opened.ensures ∙ ap opening_is c.in-Ok.is)
+    (find_pattern a.file.now (given_is a.positions.now a.rest) (bound_of a.lower) (bound_of a.upper) a.most
+    (length a.rows.now) (length a.values.now) (meta_is c.in_default.field-0) (sym c.open.ensures ∙ ap opening_is c.in_default.is)
     (omega (arith, c.if-positions-gt-MAX_KEY.true, length-map a.positions.now position_is)))
     c.refused-then-positions-gt-MAX_KEY.ensures
 
@@ -38,8 +38,8 @@ returns-then-not-bounds_right c =
     let p = given_is a.positions.now a.rest in
     let few : length p.positions ≤ max_path = omega (arith, c.if-positions-gt-MAX_KEY.false, length-map a.positions.now position_is) in
     refused_by _ a.rows.now a.values.now
-    (find_bound a.file.now p (bound_is a.lower_kind a.lower.now) (bound_is a.upper_kind a.upper.now) a.most (length a.rows.now) (length a.values.now)
-    (meta_is c.in-Ok.field-0) (sym c.open-opened.ensures ∙ ap opening_is c.in-Ok.is) few
+    (find_bound a.file.now p (bound_of a.lower) (bound_of a.upper) a.most (length a.rows.now) (length a.values.now)
+    (meta_is c.in_default.field-0) (sym c.open.ensures ∙ ap opening_is c.in_default.is) few
     (sym c.bounds_right.ensures ∙ c.if-not-bounds_right.true))
     c.refused-then-not-bounds_right.ensures
 
@@ -50,8 +50,8 @@ returns-then-not-has_room c =
     let p = given_is a.positions.now a.rest in
     let few : length p.positions ≤ max_path = omega (arith, c.if-positions-gt-MAX_KEY.false, length-map a.positions.now position_is) in
     refused_by _ a.rows.now a.values.now
-    (find_space a.file.now p (bound_is a.lower_kind a.lower.now) (bound_is a.upper_kind a.upper.now) a.most (length a.rows.now) (length a.values.now)
-    (meta_is c.in-Ok.field-0) (sym c.open-opened.ensures ∙ ap opening_is c.in-Ok.is) few
+    (find_space a.file.now p (bound_of a.lower) (bound_of a.upper) a.most (length a.rows.now) (length a.values.now)
+    (meta_is c.in_default.field-0) (sym c.open.ensures ∙ ap opening_is c.in_default.is) few
     (sym c.bounds_right.ensures ∙ c.if-not-bounds_right.false) (sym c.has_room.ensures ∙ c.if-not-has_room.true))
     c.refused-then-not-has_room.ensures
 
@@ -63,13 +63,13 @@ find_from-requires c =
     (decides_le a.most (length a.values.now))).yes (sym c.has_room.ensures ∙ c.if-not-has_room.false)
 
 -- the walk
-pub returns-else-not-has_room : goal.returns-else-not-has_room
-returns-else-not-has_room c =
+pub returns : goal.returns
+returns c =
     let a = c.args in
     let p = given_is a.positions.now a.rest in
     let few : length p.positions ≤ max_path = omega (arith, c.if-positions-gt-MAX_KEY.false, length-map a.positions.now position_is) in
     ranged_as
-    (sym (find_walk a.file.now p (bound_is a.lower_kind a.lower.now) (bound_is a.upper_kind a.upper.now) a.most (length a.rows.now)
-    (length a.values.now) (meta_is c.in-Ok.field-0) (sym c.open-opened.ensures ∙ ap opening_is c.in-Ok.is) few
+    (sym (find_walk a.file.now p (bound_of a.lower) (bound_of a.upper) a.most (length a.rows.now)
+    (length a.values.now) (meta_is c.in_default.field-0) (sym c.open.ensures ∙ ap opening_is c.in_default.is) few
     (sym c.bounds_right.ensures ∙ c.if-not-bounds_right.false) (sym c.has_room.ensures ∙ c.if-not-has_room.false)))
     c.find_from.ensures

@@ -1,6 +1,6 @@
 -- `listing_lines::key_line` meets its contract: its parts are written one after the other.
 -- Assumes nothing.
-use Rattle.std.proofs.Common.{◌≡◌, refl, List, [], ◌∷◌, ◌++◌, ℕ, ◌≤◌, length, arith}
+use Rattle.std.proofs.Common.{refl, List, [], ◌∷◌, ◌++◌, ℕ, ◌≤◌, length, arith}
 use Rattle.buffers.specs.Put.{PutAt}
 use Rattle.buffers.specs.WritingLaws.{Writing, writing_none, part_room, part_written}
 use Rattle.listing_lines.specs.Lines.{key_text, decimal, key_line}

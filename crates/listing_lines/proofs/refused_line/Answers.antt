@@ -1,6 +1,6 @@
 -- `listing_lines::refused_line` meets its contract: its parts are written one after the other.
 -- Assumes nothing.
-use Rattle.std.proofs.Common.{◌≡◌, refl, List, [], ◌∷◌, ◌++◌, ℕ, ◌≤◌, length, ap, ◌∙◌, arith}
+use Rattle.std.proofs.Common.{◌≡◌, List, [], ◌∷◌, ◌++◌, ℕ, ◌≤◌, length, ap, ◌∙◌, arith}
 use Rattle.format.specs.declared.Refusal.{Refusal}
 use Rattle.format.specs.Limits.{number}
 use Rattle.buffers.specs.Put.{PutAt}

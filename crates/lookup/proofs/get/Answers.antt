@@ -1,6 +1,6 @@
 -- What opening answered leads to an equation of `get`.
 -- Assumes nothing.
-use Rattle.std.proofs.Common.{◌≡◌, arith, sym, ap, ◌∙◌}
+use Rattle.std.proofs.Common.{◌≡◌, arith, sym, ◌∙◌}
 use Rattle.std.specs.Prelude.{Err}
 use Rattle.format.specs.Laws.LookupLaws.{get_opened, get_blank, get_refused}
 use Rattle.format.specs.Laws.OpeningLaws.{version_blank, version_some}
@@ -28,4 +28,4 @@ returns c =
     let a = c.args in
     let m = meta_is c.in_ok-m.m in
     let opens : O.opening a.file.now ≡ O.opened m = sym c.in_ok-m.ensures in
-    c.get_from.ensures ∙ sym (get_opened a.file.now a.key.now m opens (version_some a.file.now m opens c.if-m-eq0.false))
+    (rw c.over.ensures at c.get_from.ensures) ∙ sym (get_opened a.file.now a.key.now m opens (version_some a.file.now m opens c.if-m-eq0.false))

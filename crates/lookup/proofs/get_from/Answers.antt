@@ -4,7 +4,8 @@ use Rattle.std.proofs.Common.{◌≡◌, ◌+◌, ◌≤◌, ◌<◌, ℕ, List,
 use Rattle.format.specs.Limits.{max_sum}
 use Rattle.format.specs.Node as F
 use Rattle.format.specs.Node.{sound, Search, find_input, transition_at}
-use Rattle.format.specs.Paths.{Fst, fst_with, node_in}
+use Rattle.format.specs.Paths.{Fst, node_in}
+use Rattle.format.specs.View.{fst_is}
 use Rattle.format.specs.Laws.LookupLaws.{get_from_past}
 use Rattle.std.specs.Prelude.{Ok}
 use Rattle.node_way.specs.Ways.{way_in}
@@ -30,7 +31,7 @@ returns-in_default c =
     let a = c.args in
     let at = c.loop-b in
     sym (looking_unsound at.invariant.1
-    (step_stuck (node_in (fst_with a.file.now a.version a.root) at.addr) (get_or a.key.now at.b-index 0) (sym c.in_default.is ∙ c.step_at.ensures)))
+    (step_stuck (node_in (fst_is a.fst) at.addr) (get_or a.key.now at.b-index 0) (sym c.in_default.is ∙ c.step_at.ensures)))
 
 -- no transition has the byte
 pub returns-in_default-way : goal.returns-in_default-way
@@ -38,7 +39,7 @@ returns-in_default-way c =
     let a = c.args in
     let at = c.loop-b in
     let b = get_or a.key.now at.b-index 0 in
-    let n = step_sound (node_in (fst_with a.file.now a.version a.root) at.addr) b c.in-Ok.way (sym c.in-Ok.is ∙ c.step_at.ensures) in
+    let n = step_sound (node_in (fst_is a.fst) at.addr) b c.in-Ok.way (sym c.in-Ok.is ∙ c.step_at.ensures) in
     sym (looking_absent at.invariant.1 n.0 n.1.0 at.invariant.0 c.loop-b-test.true
     (way_none n.0.transitions b c.in_default-way.field-0 (sym c.in_default-way.is ∙ n.1.1)))
 
@@ -47,7 +48,7 @@ pub returns-in_default-checked_add : goal.returns-in_default-checked_add
 returns-in_default-checked_add c =
     let a = c.args in
     let at = c.loop-b in
-    let f = fst_with a.file.now a.version a.root in
+    let f = fst_is a.fst in
     let b = get_or a.key.now at.b-index 0 in
     let w = c.in-Ok-way in
     let n = step_sound (node_in f at.addr) b c.in-Ok.way (sym c.in-Ok.is ∙ c.step_at.ensures) in
@@ -60,7 +61,7 @@ pub loop-b-preserved : goal.loop-b-preserved
 loop-b-preserved c =
     let a = c.args in
     let at = c.loop-b in
-    let f = fst_with a.file.now a.version a.root in
+    let f = fst_is a.fst in
     let b = get_or a.key.now at.b-index 0 in
     let w = c.in-Ok-way in
     let n = step_sound (node_in f at.addr) b c.in-Ok.way (sym c.in-Ok.is ∙ c.step_at.ensures) in

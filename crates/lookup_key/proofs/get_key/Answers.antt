@@ -49,7 +49,8 @@ returns-in_err-found c =
     let told : c.from_residual-in_err-found.result ≡ Err c.in_err-found.field-0.0 = grind arith in
     rw told
     (written_refused _ a.key.now _
-    (searched a.file.now a.value (length a.key.now) (meta_is c.in_ok-m.m) c.in_ok-m.ensures c.if-short.false c.if-m-eq0.false c.in_err-found.ensures.path_after))
+    (searched a.file.now a.value (length a.key.now) (meta_is c.in_ok-m.m) c.in_ok-m.ensures c.if-short.false c.if-m-eq0.false
+    (rw c.over.ensures at c.in_err-found.ensures.path_after)))
 
 -- a key is found
 pub returns-in-Some : goal.returns-in-Some
@@ -57,7 +58,7 @@ returns-in-Some c =
     let a = c.args in
     let path = c.find_key.new.path in
     let is : key_is (Ok (Some c.in-Some.n)) path ≡ get_key_from max_path (fst_of a.file.now (meta_is c.in_ok-m.m)) c.in_ok-m.m.root a.value
-    = rw c.in-Some.is at c.in_ok-found.ensures.path_after in
+    = rw (c.over.ensures, c.in-Some.is) at c.in_ok-found.ensures.path_after in
     let fits : KeyFits (Ok (Some c.in-Some.n)) path = rw c.in-Some.is at c.in_ok-found.ensures.key_fits in
     written_key _ path a.key.now _ _
     (searched a.file.now a.value (length a.key.now) (meta_is c.in_ok-m.m) c.in_ok-m.ensures c.if-short.false c.if-m-eq0.false is)
@@ -68,7 +69,7 @@ pub returns-in_default : goal.returns-in_default
 returns-in_default c =
     let a = c.args in
     let is : key_is (Ok None) c.find_key.new.path ≡ get_key_from max_path (fst_of a.file.now (meta_is c.in_ok-m.m)) c.in_ok-m.m.root a.value
-    = rw c.in_default.is at c.in_ok-found.ensures.path_after in
+    = rw (c.over.ensures, c.in_default.is) at c.in_ok-found.ensures.path_after in
     rw c.in_default.is
     (written_none _ a.key.now
     (searched a.file.now a.value (length a.key.now) (meta_is c.in_ok-m.m) c.in_ok-m.ensures c.if-short.false c.if-m-eq0.false is))

@@ -12,12 +12,12 @@ use Rattle.marks_by.proofs.back_by.Goals as goal
 pub returns-then-not-state_right : goal.returns-then-not-state_right
 returns-then-not-state_right c =
     let a = c.args in
-    back_by_ways a.file.now (held_is a.pattern) (marks_is a.marks) _ (sym c.open-opened.ensures ∙ ap opening_is c.in-Ok.is) (plain_is a.plain) a.name.now false _ (sym c.state_right.ensures ∙ c.if-not-state_right.true) refl c.stay-then-not-state_right.ensures
+    back_by_ways a.file.now (held_is a.pattern) (marks_is a.marks) _ (sym c.open.ensures ∙ ap opening_is c.in-Ok.is) (plain_is a.plain) a.name.now false _ (sym c.state_right.ensures ∙ c.if-not-state_right.true) refl c.stay-then-not-state_right.ensures
 
 pub returns-then-pattern-gt-MAX_KEY : goal.returns-then-pattern-gt-MAX_KEY
 returns-then-pattern-gt-MAX_KEY c =
     let a = c.args in
-    back_by_ways a.file.now (held_is a.pattern) (marks_is a.marks) _ (sym c.open-opened.ensures ∙ ap opening_is c.in-Ok.is) (plain_is a.plain) a.name.now true false (sym c.state_right.ensures ∙ c.if-not-state_right.false) (pattern_wrong a.pattern c.if-pattern-gt-MAX_KEY.true) c.stay-then-pattern-gt-MAX_KEY.ensures
+    back_by_ways a.file.now (held_is a.pattern) (marks_is a.marks) _ (sym c.open.ensures ∙ ap opening_is c.in-Ok.is) (plain_is a.plain) a.name.now true false (sym c.state_right.ensures ∙ c.if-not-state_right.false) (pattern_wrong a.pattern c.if-pattern-gt-MAX_KEY.true) c.stay-then-pattern-gt-MAX_KEY.ensures
 
 pub take_back-requires : goal.take_back-requires
 take_back-requires c =
@@ -27,9 +27,9 @@ take_back-requires c =
 pub returns-in-Err : goal.returns-in-Err
 returns-in-Err c =
     let a = c.args in
-    back_by_ways a.file.now (held_is a.pattern) (marks_is a.marks) _ (sym c.open-opened.ensures ∙ ap opening_is c.in-Err.is) (plain_is a.plain) a.name.now _ _ refl refl c.stay.ensures
+    back_by_ways a.file.now (held_is a.pattern) (marks_is a.marks) _ (sym c.open.ensures ∙ ap opening_is c.in-Err.is) (plain_is a.plain) a.name.now _ _ refl refl c.stay.ensures
 
 pub returns-else-pattern-gt-MAX_KEY : goal.returns-else-pattern-gt-MAX_KEY
 returns-else-pattern-gt-MAX_KEY c =
     let a = c.args in
-    back_by_ways a.file.now (held_is a.pattern) (marks_is a.marks) _ (sym c.open-opened.ensures ∙ ap opening_is c.in-Ok.is) (plain_is a.plain) a.name.now true true (sym c.state_right.ensures ∙ c.if-not-state_right.false) (pattern_right a.pattern c.if-pattern-gt-MAX_KEY.false) c.take_back.ensures
+    back_by_ways a.file.now (held_is a.pattern) (marks_is a.marks) _ (sym c.open.ensures ∙ ap opening_is c.in-Ok.is) (plain_is a.plain) a.name.now true true (sym c.state_right.ensures ∙ c.if-not-state_right.false) (pattern_right a.pattern c.if-pattern-gt-MAX_KEY.false) c.take_back.ensures

@@ -13,12 +13,12 @@ use Rattle.marks_by.proofs.mark_by.Goals as goal
 pub returns-then-not-state_right : goal.returns-then-not-state_right
 returns-then-not-state_right c =
     let a = c.args in
-    mark_by_ways a.file.now (held_is a.patterned.pattern) (marks_is a.marks) _ (sym c.open-opened.ensures ∙ ap opening_is c.in-Ok.is) (view_is a.patterned.reading) a.name.now false _ (sym c.state_right.ensures ∙ c.if-not-state_right.true) refl c.refused-then-not-state_right.ensures
+    mark_by_ways a.file.now (held_is a.patterned.pattern) (marks_is a.marks) _ (sym c.open.ensures ∙ ap opening_is c.in-Ok.is) (view_is a.patterned.reading) a.name.now false _ (sym c.state_right.ensures ∙ c.if-not-state_right.true) refl c.refused-then-not-state_right.ensures
 
-pub returns-then-pattern-gt-MAX_KEY : goal.returns-then-pattern-gt-MAX_KEY
-returns-then-pattern-gt-MAX_KEY c =
+pub returns-then-patterned-gt-MAX_KEY : goal.returns-then-patterned-gt-MAX_KEY
+returns-then-patterned-gt-MAX_KEY c =
     let a = c.args in
-    mark_by_ways a.file.now (held_is a.patterned.pattern) (marks_is a.marks) _ (sym c.open-opened.ensures ∙ ap opening_is c.in-Ok.is) (view_is a.patterned.reading) a.name.now true false (sym c.state_right.ensures ∙ c.if-not-state_right.false) (pattern_wrong a.patterned.pattern c.if-pattern-gt-MAX_KEY.true) c.refused-then-pattern-gt-MAX_KEY.ensures
+    mark_by_ways a.file.now (held_is a.patterned.pattern) (marks_is a.marks) _ (sym c.open.ensures ∙ ap opening_is c.in-Ok.is) (view_is a.patterned.reading) a.name.now true false (sym c.state_right.ensures ∙ c.if-not-state_right.false) (pattern_wrong a.patterned.pattern c.if-patterned-gt-MAX_KEY.true) c.refused-then-patterned-gt-MAX_KEY.ensures
 
 pub set_mark-requires : goal.set_mark-requires
 set_mark-requires c =
@@ -28,9 +28,9 @@ set_mark-requires c =
 pub returns-in-Err : goal.returns-in-Err
 returns-in-Err c =
     let a = c.args in
-    mark_by_ways a.file.now (held_is a.patterned.pattern) (marks_is a.marks) _ (sym c.open-opened.ensures ∙ ap opening_is c.in-Err.is) (view_is a.patterned.reading) a.name.now _ _ refl refl c.refused.ensures
+    mark_by_ways a.file.now (held_is a.patterned.pattern) (marks_is a.marks) _ (sym c.open.ensures ∙ ap opening_is c.in-Err.is) (view_is a.patterned.reading) a.name.now _ _ refl refl c.refused.ensures
 
-pub returns-else-pattern-gt-MAX_KEY : goal.returns-else-pattern-gt-MAX_KEY
-returns-else-pattern-gt-MAX_KEY c =
+pub returns-else-patterned-gt-MAX_KEY : goal.returns-else-patterned-gt-MAX_KEY
+returns-else-patterned-gt-MAX_KEY c =
     let a = c.args in
-    mark_by_ways a.file.now (held_is a.patterned.pattern) (marks_is a.marks) _ (sym c.open-opened.ensures ∙ ap opening_is c.in-Ok.is) (view_is a.patterned.reading) a.name.now true true (sym c.state_right.ensures ∙ c.if-not-state_right.false) (pattern_right a.patterned.pattern c.if-pattern-gt-MAX_KEY.false) c.set_mark.ensures
+    mark_by_ways a.file.now (held_is a.patterned.pattern) (marks_is a.marks) _ (sym c.open.ensures ∙ ap opening_is c.in-Ok.is) (view_is a.patterned.reading) a.name.now true true (sym c.state_right.ensures ∙ c.if-not-state_right.false) (pattern_right a.patterned.pattern c.if-patterned-gt-MAX_KEY.false) c.set_mark.ensures

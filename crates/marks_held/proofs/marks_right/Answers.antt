@@ -27,8 +27,7 @@ returns-then-not-name_right c =
     let len = c.args.len in
     let i = c.loop-i.i in
     let state = state_at m (search rules) c.if-marks-gt-MARKS.false i _ (omega arith) len true (sym c.state_right.ensures ∙ c.if-not-state_right.false) in
-    let name = c.name_right.ensures (marks_is m) (long m) c.names_of-names.ensures in
-    each_wrong len (marks_is m) i (omega (arith, long m)) (omega (arith, long m)) (sym c.if-not-name_right.true ∙ name ∙ head_name len (marks_is m) i state) c.loop-i.invariant
+    each_wrong len (marks_is m) i (omega (arith, long m)) (omega (arith, long m)) (sym c.if-not-name_right.true ∙ c.name_right.ensures ∙ head_name len (marks_is m) i state) c.loop-i.invariant
 
 pub loop-i-preserved : goal.loop-i-preserved
 loop-i-preserved c =
@@ -36,8 +35,7 @@ loop-i-preserved c =
     let len = c.args.len in
     let i = c.loop-i.i in
     let state = state_at m (search rules) c.if-marks-gt-MARKS.false i _ (omega arith) len true (sym c.state_right.ensures ∙ c.if-not-state_right.false) in
-    let name = c.name_right.ensures (marks_is m) (long m) c.names_of-names.ensures in
-    each_on len (marks_is m) i (omega (arith, long m)) (sym c.if-not-name_right.false ∙ name ∙ head_name len (marks_is m) i state) c.loop-i.invariant
+    each_on len (marks_is m) i (omega (arith, long m)) (sym c.if-not-name_right.false ∙ c.name_right.ensures ∙ head_name len (marks_is m) i state) c.loop-i.invariant
 
 pub returns : goal.returns
 returns c =

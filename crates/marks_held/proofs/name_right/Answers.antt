@@ -1,48 +1,35 @@
 -- A name of no byte or of too many; one that a later mark has; and a right one.
 -- Assumes nothing.
-use Rattle.std.proofs.Common.{arith, ◌+◌, ◌<◌, length, sym, ◌∙◌}
-use Rattle.marks_held.specs.MarkViews.{mark_at, at_place, nowhere}
-use Rattle.marks_held.specs.MarkViewsLaws.{there_place, marked_nowhere}
-use Rattle.marks_held.proofs.MarkScans.{once_on, name_none, name_over, name_again, name_once, name_long, pair_is}
+use Rattle.std.proofs.Common.{rules, arith, length, ◌≡◌, ◌+◌, ◌≤◌, ◌∙◌, ap, sym, subst}
+use Rattle.marks_held.specs.MarkViews.{marks_is, SeekTold}
+use Rattle.marks_held.proofs.MarkScans.{name_none, name_over, name_told, name_at, long_at}
 use Rattle.marks_held.proofs.name_right.Goals as goal
 
-pub returns-then-held-eq0 : goal.returns-then-held-eq0
-returns-then-held-eq0 c =
-    let a = c.args in
-    λ ms e are. name_none ms a.i _ (name_long ms a.names are a.i _ (rw e c.requires.1)) c.if-held-eq0.true
+pub returns-then-n-eq0 : goal.returns-then-n-eq0
+returns-then-n-eq0 c =
+    let m = c.args.marks.now in
+    let i = c.args.i in
+    name_none (marks_is m) i _ (long_at m (search rules) c.requires.0 i _ c.requires.1) c.if-n-eq0.true
 
 pub returns-then-too_long : goal.returns-then-too_long
 returns-then-too_long c =
-    let a = c.args in
-    λ ms e are. name_over ms a.i _ (name_long ms a.names are a.i _ (rw e c.requires.1)) c.if-too_long.true
+    let m = c.args.marks.now in
+    let i = c.args.i in
+    name_over (marks_is m) i _ (long_at m (search rules) c.requires.0 i _ c.requires.1) c.if-too_long.true
 
-pub loop-j-init : goal.loop-j-init
-loop-j-init c = λ ms e are k le lt. absurd (omega arith)
-
-pub returns-then-same_names : goal.returns-then-same_names
-returns-then-same_names c =
-    let a = c.args in
-    let j = c.loop-j.j in
-    λ ms e are.
-    let within : a.i < length ms = rw e c.requires.1 in
-    let below : j < length ms = omega arith in
-    name_again ms a.i _ (name_long ms a.names are a.i _ within) c.if-held-eq0.false c.if-too_long.false
-    (there_place (mark_at ms a.i).name ms (a.i + 1) j
-    (at_place j (omega arith) below (pair_is ms a.names are a.i _ within j _ below ∙ sym c.same_names.ensures ∙ c.if-same_names.true) (c.loop-j.invariant ms e are)))
-
-pub loop-j-preserved : goal.loop-j-preserved
-loop-j-preserved c =
-    let a = c.args in
-    let j = c.loop-j.j in
-    λ ms e are.
-    let within : a.i < length ms = rw e c.requires.1 in
-    let below : j < length ms = omega arith in
-    once_on ms a.i j (c.loop-j.invariant ms e are) (pair_is ms a.names are a.i _ within j _ below ∙ sym c.same_names.ensures ∙ c.if-same_names.false)
+-- the name is as long as the mark states
+pub place_from-requires : goal.place_from-requires
+place_from-requires c =
+    let m = c.args.marks.now in
+    let i = c.args.i in
+    let name = c.stated.ensures ∙ sym (name_at m (search rules) c.requires.0 i _ c.requires.1) in
+    let long : length c.stated.result.now ≡ _ = ap length name ∙ long_at m (search rules) c.requires.0 i _ c.requires.1 in
+    (c.requires.0, subst (λ n. n ≤ 8) (sym long) c.if-too_long.false, omega (arith, c.requires.1))
 
 pub returns : goal.returns
 returns c =
-    let a = c.args in
-    λ ms e are.
-    let within : a.i < length ms = rw e c.requires.1 in
-    name_once ms a.i _ (name_long ms a.names are a.i _ within) c.if-held-eq0.false c.if-too_long.false
-    (marked_nowhere (mark_at ms a.i).name ms (a.i + 1) (nowhere (λ k le lt. c.loop-j.invariant ms e are k le (omega arith))))
+    let m = c.args.marks.now in
+    let i = c.args.i in
+    let name = c.stated.ensures ∙ sym (name_at m (search rules) c.requires.0 i _ c.requires.1) in
+    name_told (marks_is m) i _ (long_at m (search rules) c.requires.0 i _ c.requires.1) c.is_none.result c.if-n-eq0.false c.if-too_long.false
+    (subst (λ n. SeekTold n (marks_is m) (i + 1) c.place_from.result) name c.place_from.ensures) c.is_none.ensures

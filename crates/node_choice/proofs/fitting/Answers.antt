@@ -1,5 +1,4 @@
--- `node_choice::fitting` meets its contract.
--- Assumes nothing.
+-- One number more is not above; and where none is, all of them lead.
 use Rattle.std.proofs.Common.{arith}
 use Rattle.format.specs.Laws.StoredLaws.{length_numbers_down}
 use Rattle.node_choice.specs.FitOfLaws.{passed_step, leading_all}
@@ -13,7 +12,7 @@ loop-i-preserved c =
     c.if-left-number_of.false c.loop-i.invariant
 
 -- no number is above what is left
-pub returns : goal.returns
-returns c =
+pub returns-clause-leading : goal.returns-clause-leading
+returns-clause-leading c =
     let a = c.args in
     leading_all a.n (length_numbers_down a.file.now a.at a.size a.n) c.loop-i-test.false c.loop-i.invariant

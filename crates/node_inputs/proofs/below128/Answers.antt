@@ -1,13 +1,8 @@
 -- An entry below m is one more, and after the last turn every entry has been looked at.
-use Rattle.std.proofs.Common.{◌≡◌, ◌+◌, ◌-◌, arith, rules, take_all}
-use Rattle.node_inputs.specs.Inputs.{below}
+use Rattle.std.proofs.Common.{◌≡◌, ◌+◌, ◌-◌, arith, take_all}
 use Rattle.node_inputs.proofs.Index.{below_take, below_skip}
 use Rattle.node_inputs.proofs.below128.Goals as goal
 use Rattle.node_inputs.proofs.below128.Goals.{then-entry-m, else-entry-m}
-
-pub loop-entry-init : goal.loop-entry-init
-unfolding below
-loop-entry-init c = search rules
 
 pub loop-entry-preserved : goal.loop-entry-preserved
 loop-entry-preserved c = elim c.if-entry-m.branch [

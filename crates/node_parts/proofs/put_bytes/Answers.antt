@@ -1,5 +1,5 @@
 -- One byte more is written, from the last on back.
-use Rattle.std.proofs.Common.{refl, length, arith}
+use Rattle.std.proofs.Common.{arith}
 use Rattle.node_parts.proofs.Storing.{bytes_none, bytes_room, bytes_step, bytes_all}
 use Rattle.node_parts.proofs.put_bytes.Goals as goal
 

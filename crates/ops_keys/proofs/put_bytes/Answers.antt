@@ -9,7 +9,7 @@ pub returns : goal.returns
 returns c =
     let a = c.args in
     let pre = c.requires in
-    let inps = a.plain.reading.inps in
+    let inps = a.plain.reading.stack.inps in
     let long : length inps ≡ 256 = search rules in
     putting_all a.plain a.i a.keys.now _ pre.1 long pre.0
     (putting_mid inps (a.i * 256) a.keys.now _ long pre.0 (omega (arith, pre.1))

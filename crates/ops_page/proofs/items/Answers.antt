@@ -1,41 +1,41 @@
 -- `ops_page::items` meets its contract: one law for each refusal before the starts, and one for the calls. Assumes nothing.
-use Rattle.std.proofs.Common.{map, sym, ◌∙◌, length, inl, inr, arith}
+use Rattle.std.proofs.Common.{◌≡◌, ◌⊎◌, ◌<◌, map, sym, ◌∙◌, length, inl, inr, arith}
 use Rattle.ops_paging.proofs.ItemsLaws.{items_no_cards, items_no_room, items_from}
-use Rattle.stream_start.specs.Views.{bound_is}
+use Rattle.stream_start.specs.Views.{bound_of}
 use Rattle.ops_decide.specs.Verdicts.{op_is}
 use Rattle.ops_page.specs.PageLaws.{paged_as, refused_by, room_of}
 use Rattle.ops_page.proofs.items.Goals as goal
+use Rattle.ops_page.proofs.items.Goals.{then-count-eq0-via-then-count-eq0, then-count-eq0-via-else-count-eq0+then-too_many}
 
 pub returns-then-count-eq0 : goal.returns-then-count-eq0
 returns-then-count-eq0 c =
     let a = c.args in
-    refused_by _ a.rows.now a.counts.now a.numbers.now a.values.now (items_no_cards (op_is a.op) a.count (map (λ f. f.now) a.files) (bound_is a.lower_kind a.lower.now) (bound_is a.upper_kind a.upper.now) a.most
-    (length a.rows.now) (length a.counts.now) (length a.numbers.now) (length a.values.now) (inl c.if-count-eq0.true)) c.refused.ensures
+    let none_or_many : (a.count ≡ 0) ⊎ (8 < a.count) =
+    elim c.then-count-eq0.branch [
+      | then-count-eq0-via-then-count-eq0 w ↦ inl w.if-count-eq0.true
+      | then-count-eq0-via-else-count-eq0+then-too_many w ↦ inr w.if-too_many.true
+    ] in
+    refused_by _ a.rows.now a.counts.now a.numbers.now a.values.now (items_no_cards (op_is a.op) a.count (map (λ f. f.now) a.files) (bound_of a.lower) (bound_of a.upper) a.most
+    (length a.rows.now) (length a.counts.now) (length a.numbers.now) (length a.values.now) none_or_many) c.refused.ensures
 
-pub returns-then-too_many : goal.returns-then-too_many
-returns-then-too_many c =
+pub returns-then-not-has_room : goal.returns-then-not-has_room
+returns-then-not-has_room c =
     let a = c.args in
-    refused_by _ a.rows.now a.counts.now a.numbers.now a.values.now (items_no_cards (op_is a.op) a.count (map (λ f. f.now) a.files) (bound_is a.lower_kind a.lower.now) (bound_is a.upper_kind a.upper.now) a.most
-    (length a.rows.now) (length a.counts.now) (length a.numbers.now) (length a.values.now) (inr c.if-too_many.true)) c.refused-then-too_many.ensures
-
-pub returns-else-has_room : goal.returns-else-has_room
-returns-else-has_room c =
-    let a = c.args in
-    refused_by _ a.rows.now a.counts.now a.numbers.now a.values.now (items_no_room (op_is a.op) a.count (map (λ f. f.now) a.files) (bound_is a.lower_kind a.lower.now) (bound_is a.upper_kind a.upper.now) a.most
+    refused_by _ a.rows.now a.counts.now a.numbers.now a.values.now (items_no_room (op_is a.op) a.count (map (λ f. f.now) a.files) (bound_of a.lower) (bound_of a.upper) a.most
     (length a.rows.now) (length a.counts.now) (length a.numbers.now) (length a.values.now) (omega (arith, c.if-count-eq0.false)) c.if-too_many.false
-    (sym c.has_room.ensures ∙ c.if-has_room.false)) c.refused-else-has_room.ensures
+    (sym c.has_room.ensures ∙ c.if-not-has_room.true)) c.refused-then-not-has_room.ensures
 
 pub items_from-requires : goal.items_from-requires
 items_from-requires c =
     let a = c.args in
     record {
       count_nonzero = (omega (arith, c.if-count-eq0.false), c.if-too_many.false);
-      has_room = room_of a.most a.rows.now a.counts.now a.numbers.now a.values.now (sym c.has_room.ensures ∙ c.if-has_room.true);
+      has_room = room_of a.most a.rows.now a.counts.now a.numbers.now a.values.now (sym c.has_room.ensures ∙ c.if-not-has_room.false);
     }
 
 pub returns : goal.returns
 returns c =
     let a = c.args in
-    paged_as (sym (items_from (op_is a.op) a.count (map (λ f. f.now) a.files) (bound_is a.lower_kind a.lower.now) (bound_is a.upper_kind a.upper.now) a.most
+    paged_as (sym (items_from (op_is a.op) a.count (map (λ f. f.now) a.files) (bound_of a.lower) (bound_of a.upper) a.most
     (length a.rows.now) (length a.counts.now) (length a.numbers.now) (length a.values.now) (omega (arith, c.if-count-eq0.false)) c.if-too_many.false
-    (sym c.has_room.ensures ∙ c.if-has_room.true))) c.items_from.ensures
+    (sym c.has_room.ensures ∙ c.if-not-has_room.false))) c.items_from.ensures

@@ -1,8 +1,8 @@
 -- The first i files are started, and the rest decides.
 use Rattle.std.proofs.Common.{map}
-use Rattle.stream_start.specs.Views.{bound_is}
+use Rattle.stream_start.specs.Views.{bound_of}
 use Rattle.ops_starts.proofs.StartLoop.{Starting}
 use Rattle.ops_starts.proofs.starts.Given as goal
 
 abbrev pub invariant-loop-i : goal.invariant-loop-i
-invariant-loop-i l = Starting (map (λ f. f.now) l.files) l.count (bound_is l.lower_kind l.lower) (bound_is l.upper_kind l.upper) l.cards l.i
+invariant-loop-i l = Starting (map (λ f. f.now) l.files) l.count (bound_of l.lower) (bound_of l.upper) l.cards l.i

@@ -9,12 +9,12 @@ pub returns-in-Err : goal.returns-in-Err
 returns-in-Err c =
     let x = c.args in
     rw (c.from-in-Err.ensures, c.from.ensures)
-    (start_refused c.start-started.result (start_bounds x.file.now x.lower.now x.upper.now x.counts.now x.lower_kind x.upper_kind c.kind_of-lower_bound.ensures c.kind_of-upper_bound.ensures c.start-started.ensures)
+    (start_refused c.start.result (start_bounds x.file.now x.lower.now x.upper.now x.counts.now x.lower_kind x.upper_kind c.bound_with-from.ensures c.bound_with-to.ensures c.start.ensures)
     _ _ _ c.in-Err.is)
 
 -- a reading begins, and the arrays hold it
 pub returns-in-Ok : goal.returns-in-Ok
 returns-in-Ok c =
     let x = c.args in
-    start_told c.start-started.result (start_bounds x.file.now x.lower.now x.upper.now x.counts.now x.lower_kind x.upper_kind c.kind_of-lower_bound.ensures c.kind_of-upper_bound.ensures c.start-started.ensures)
-    _ _ _ _ c.in-Ok.is c.put_plain.ensures
+    start_told c.start.result (start_bounds x.file.now x.lower.now x.upper.now x.counts.now x.lower_kind x.upper_kind c.bound_with-from.ensures c.bound_with-to.ensures c.start.ensures)
+    _ _ _ _ _ c.in-Ok.is c.put_plain.ensures

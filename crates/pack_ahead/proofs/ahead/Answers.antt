@@ -7,7 +7,7 @@ use Rattle.pack_ahead.specs.AheadLaws.{gone_none, gone_from, key_goes, gone_open
 use Rattle.pack_ahead.proofs.ahead.Goals as goal
 
 pub loop-i-init : goal.loop-i-init
-loop-i-init c = gone_none _ _ _ _ _ _
+loop-i-init c = gone_none _ _ _
 
 pub returns-then-finishes : goal.returns-then-finishes
 returns-then-finishes c = record { gone = gone_from c.requires.0 c.loop-i.invariant; stops = inl c.if-finishes.true }
@@ -16,7 +16,7 @@ pub open_one-more-requires : goal.open_one-more-requires
 open_one-more-requires c =
     let l : c.loop-i.i < count_in c.args.list.now = omega (arith, c.requires.1) in
     let k = key_goes (gone_from {w = c.args.way} c.requires.0 c.loop-i.invariant) c.requires.0 l c.if-finishes.false c.requires.2 in
-    (c.requires.0, c.requires.1, omega arith, k.0, k.1, k.2, k.3, k.4)
+    (c.requires.0, c.requires.1, omega arith, k.0)
 
 pub loop-i-preserved : goal.loop-i-preserved
 loop-i-preserved c =
@@ -32,6 +32,6 @@ returns c =
     record {
       gone = gone_from c.requires.0
           (subst
-          (λ (k : ℕ). GoneTo a.list.now a.counts.now a.led.now a.finals.now a.values.now (way_with a.way.depth a.way.to a.way.keys) l.counts l.led l.finals l.values (way_with l.depth l.to k)) e l.invariant);
+          (λ (k : ℕ). GoneTo a.list.now a.nodes.now (way_with a.way.depth a.way.to a.way.keys) l.nodes (way_with l.depth l.to k)) e l.invariant);
       stops = inr (omega (arith, c.requires.1));
     }

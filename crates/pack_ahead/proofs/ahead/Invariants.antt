@@ -5,5 +5,4 @@ use Rattle.pack_ahead.proofs.ahead.Given as goal
 
 abbrev pub invariant-loop-i : goal.invariant-loop-i
 invariant-loop-i l =
-    GoneTo l.list l.initial.counts l.initial.led l.initial.finals l.initial.values (way_with l.initial.depth l.initial.to l.initial.i) l.counts l.led l.finals l.values
-    (way_with l.depth l.to l.i)
+    GoneTo l.list l.initial.nodes (way_with l.initial.depth l.initial.to l.initial.i) l.nodes (way_with l.depth l.to l.i)

@@ -4,11 +4,9 @@ use Rattle.std.proofs.Common.{rules, ◌≡◌, refl, ap, ◌∙◌, ◌+◌, �
 use Rattle.std.specs.Prelude.{Ok, Err, Result}
 use Rattle.std.proofs.lemmas.List.{get_or_default}
 use Rattle.std.proofs.lemmas.Result.{err_from_is_err_and}
-use Rattle.format.specs.declared.Refusal.{Refusal}
 use Rattle.pack_cells.specs.Pairs.{pairs_is}
 use Rattle.pack_cells.specs.PairsLaws.{pairs_empty}
 use Rattle.pack_step.specs.declared.Turn.{Turn}
-use Rattle.pack_step.specs.declared.Turn.TheVariants.{Next}
 use Rattle.pack_cells.proofs.Turns.{State, standing_as, within, asked, after, between}
 use Rattle.pack_cells.proofs.run.Goals as goal
 
@@ -71,10 +69,7 @@ returns-in_err-turn-2 c =
       inputs = c.step-done.new.inputs;
       leasts = c.step-done.new.leasts;
       targets = c.step-done.new.targets;
-      counts = c.step-done.new.counts;
-      led = c.step-done.new.led;
-      finals = c.step-done.new.finals;
-      values = c.step-done.new.values;
+      nodes = c.step-done.new.nodes;
       turn = c.step-done.result.turn;
     } in
     let st = after _ c.loop-turn.invariant d (ap Ok c.in-Next.is) (get_or_default c.loop-turn.cells d.row _ _ (omega (arith, w))) (get_or_default c.loop-turn.cells (d.row + 1) _ _ w)

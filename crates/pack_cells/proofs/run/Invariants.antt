@@ -14,10 +14,7 @@ invariant-loop-turn l =
       inputs = l.inputs;
       leasts = l.leasts;
       targets = l.targets;
-      counts = l.counts;
-      led = l.led;
-      finals = l.finals;
-      values = l.values;
+      nodes = l.nodes;
       turn = Ok l.turn;
     })
 

@@ -1,7 +1,8 @@
 -- The deepest node is finished, and becomes a transition of the node above it; or there is no room for it.
 -- Assumes nothing.
-use Rattle.std.proofs.Common.{◌≡◌, ℕ, ◌+◌, ◌-◌, ◌*◌, ◌<◌, false, get_or, ap, ◌∙◌, rules, arith}
-use Rattle.packing_rows.specs.WorkTables.{Tables, tables_with, row_in, count_at, least_from}
+use Rattle.std.proofs.Common.{◌≡◌, ℕ, ◌+◌, ◌-◌, ◌*◌, ◌<◌, refl, false, get_or, ap, ◌∙◌, rules, arith}
+use Rattle.packing_rows.specs.WorkTables.{Tables, row_in, count_at, least_from}
+use Rattle.pack_close.specs.OpenNodes.{tables_of}
 use Rattle.pack_close.specs.ClosingLaws.{finishable, room, step_full, step_at, step_done, step_no_room}
 use Rattle.pack_close.proofs.close_one.Goals as goal
 
@@ -17,14 +18,14 @@ pub finish_row-requires : goal.finish_row-requires
 finish_row-requires c =
     let a = c.args in
     let bytes : (i : ℕ) → get_or a.inputs.now i 0 < 256 = λ i. search rules in
-    let T : Tables = tables_with a.inputs.now a.leasts.now a.targets.now a.counts.now a.led.now a.finals.now a.values.now in
+    let T : Tables = tables_of a.inputs.now a.leasts.now a.targets.now a.nodes.now in
     finishable a.output.now a.first a.cells.now T a.e c.requires bytes c.least_in-base.result (least_row T _ _ c.least_in-base.ensures)
 
 pub add_arc-requires : goal.add_arc-requires
 add_arc-requires c =
     let a = c.args in
     let bytes : (i : ℕ) → get_or a.inputs.now i 0 < 256 = λ i. search rules in
-    let T : Tables = tables_with a.inputs.now a.leasts.now a.targets.now a.counts.now a.led.now a.finals.now a.values.now in
+    let T : Tables = tables_of a.inputs.now a.leasts.now a.targets.now a.nodes.now in
     let z = c.requires.sized in (
       omega (arith, c.requires.low),
       room a.output.now a.first a.cells.now T a.e c.requires bytes c.least_in-base.result (least_row T _ _ c.least_in-base.ensures),
@@ -37,17 +38,20 @@ pub returns : goal.returns
 returns c =
     let a = c.args in
     let bytes : (i : ℕ) → get_or a.inputs.now i 0 < 256 = λ i. search rules in
-    let T : Tables = tables_with a.inputs.now a.leasts.now a.targets.now a.counts.now a.led.now a.finals.now a.values.now in
-    let added = c.add_arc.ensures in
-    step_done (step_at a.output.now a.first a.cells.now T a.e c.requires bytes c.least_in-base.result (least_row T _ _ c.least_in-base.ensures)
-    c.finish_row.new.output c.finish_row.new.cells _ c.finish_row.ensures.less c.in_ok-placed.placed.addr c.in_ok-placed.placed.next
-    (c.finish_row.ensures.interned.at c.in_ok-placed.placed c.in_ok-placed.was) _ _ _ _ added.0 added.1 added.2 added.3)
+    let T : Tables = tables_of a.inputs.now a.leasts.now a.targets.now a.nodes.now in (
+      step_done (step_at a.output.now a.first a.cells.now T a.e c.requires bytes c.least_in-base.result (least_row T _ _ c.least_in-base.ensures)
+          c.finish_row.new.output c.finish_row.new.cells _ c.finish_row.ensures.less c.in_ok-placed.placed.addr c.in_ok-placed.placed.next
+          (c.finish_row.ensures.interned.at c.in_ok-placed.placed c.in_ok-placed.was) _ c.add_arc.ensures),
+      ap (λ (T : Tables). T.led) c.add_arc.ensures,
+    )
 
 pub returns-in_err-placed : goal.returns-in_err-placed
 returns-in_err-placed c =
     let a = c.args in
     let bytes : (i : ℕ) → get_or a.inputs.now i 0 < 256 = λ i. search rules in
-    let T : Tables = tables_with a.inputs.now a.leasts.now a.targets.now a.counts.now a.led.now a.finals.now a.values.now in
-    rw c.from_residual.ensures
-    (step_no_room (step_full a.output.now a.first a.cells.now T a.e c.requires bytes c.least_in-base.result (least_row T _ _ c.least_in-base.ensures)
-    c.finish_row.new.output (c.finish_row.ensures.interned.full c.in_err-placed.was)))
+    let T : Tables = tables_of a.inputs.now a.leasts.now a.targets.now a.nodes.now in
+    rw c.from_residual.ensures (
+      step_no_room (step_full a.output.now a.first a.cells.now T a.e c.requires bytes c.least_in-base.result (least_row T _ _ c.least_in-base.ensures)
+          c.finish_row.new.output (c.finish_row.ensures.interned.full c.in_err-placed.was)),
+      refl,
+    )

@@ -1,13 +1,15 @@
--- The nodes below depth e are finished.
+-- The nodes below depth e are finished; the bytes that led to the open nodes stay.
 -- Assumes nothing.
-use Rattle.packing_rows.specs.WorkTables.{tables_with}
+use Rattle.std.specs.Prelude.{◌≡◌}
 use Rattle.pack_intern.specs.Interning.{build_is}
 use Rattle.pack_close.specs.Closing.{closed_to, ClosingTo}
+use Rattle.pack_close.specs.OpenNodes.{tables_of}
 use Rattle.pack_close.proofs.close_to.Given as goal
 
 abbrev pub invariant-loop-e : goal.invariant-loop-e
 invariant-loop-e l =
     ClosingTo (closed_to (build_is l.initial.output l.first l.initial.cells)
-    (tables_with l.initial.inputs l.initial.leasts l.initial.targets l.initial.counts l.led l.finals l.values) l.m l.k)
-    (tables_with l.initial.inputs l.initial.leasts l.initial.targets l.initial.counts l.led l.finals l.values) l.m l.output l.cells
-    (tables_with l.inputs l.leasts l.targets l.counts l.led l.finals l.values) l.next l.e
+    (tables_of l.initial.inputs l.initial.leasts l.initial.targets l.initial.nodes) l.m l.k)
+    (tables_of l.initial.inputs l.initial.leasts l.initial.targets l.initial.nodes) l.m l.output l.cells
+    (tables_of l.inputs l.leasts l.targets l.nodes) l.next l.e
+    × (l.nodes.led ≡ l.initial.nodes.led)

@@ -10,11 +10,11 @@ loop-m-init c = along_none _ _ _
 pub returns-then-m-k : goal.returns-then-m-k
 returns-then-m-k c = rw c.if-m-k.true at (along_common c.loop-m.invariant (inl c.if-m-k.true))
 
-pub returns-then-input-led : goal.returns-then-input-led
-returns-then-input-led c = along_common c.loop-m.invariant (inr (inr (λ z. c.if-input-led.true (sym z))))
+pub returns-then-input-nodes : goal.returns-then-input-nodes
+returns-then-input-nodes c = along_common c.loop-m.invariant (inr (inr (λ z. c.if-input-nodes.true (sym z))))
 
 pub loop-m-preserved : goal.loop-m-preserved
-loop-m-preserved c = along_step c.loop-m.invariant (omega (arith, c.loop-m.invariant.low)) (omega arith) c.if-input-led.false
+loop-m-preserved c = along_step c.loop-m.invariant (omega (arith, c.loop-m.invariant.low)) (omega arith) c.if-input-nodes.false
 
 pub returns : goal.returns
 returns c =

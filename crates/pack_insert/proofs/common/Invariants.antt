@@ -4,4 +4,4 @@ use Rattle.pack_insert.specs.OpenKeyLaws.{Along}
 use Rattle.pack_insert.proofs.common.Given as goal
 
 abbrev pub invariant-loop-m : goal.invariant-loop-m
-invariant-loop-m l = Along l.key l.led l.k l.m
+invariant-loop-m l = Along l.key l.nodes.led l.k l.m

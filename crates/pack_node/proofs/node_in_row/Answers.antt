@@ -13,7 +13,7 @@ close_in_row-done-requires c = node_asked c.requires.at c.requires.taken (c.args
 pub returns-in_default : goal.returns-in_default
 returns-in_default c =
     let deep : c.args.way.depth ≡ c.args.way.depth - 1 + 1 = omega (arith, c.requires.low) in
-    steps_full refl (λ table row at taken. node_full at taken (c.args.way.depth - 1) deep c.close_in_row-done.ensures c.in_default.is)
+    steps_full refl (λ table row at taken. node_full at taken (c.args.way.depth - 1) deep c.close_in_row-done.ensures.0 c.in_default.is)
 
 pub key_count-n-requires : goal.key_count-n-requires
 key_count-n-requires c = c.requires.at.list.long
@@ -21,17 +21,17 @@ key_count-n-requires c = c.requires.at.list.long
 pub ahead-on-requires : goal.ahead-on-requires
 ahead-on-requires c =
     let deep : c.args.way.depth ≡ c.args.way.depth - 1 + 1 = omega (arith, c.requires.low) in
-    (c.requires.at.list, c.key_count-n.ensures.0, node_started c.requires.at c.requires.taken (c.args.way.depth - 1) deep c.close_in_row-done.ensures c.in-Some.next c.in-Some.is refl)
+    (c.requires.at.list, c.key_count-n.ensures.0, node_started c.requires.at c.requires.taken (c.args.way.depth - 1) deep c.close_in_row-done.ensures.0 c.in-Some.next c.in-Some.is c.close_in_row-done.ensures.1)
 
 pub row_next-row-requires : goal.row_next-row-requires
 row_next-row-requires c =
     let deep : c.args.way.depth ≡ c.args.way.depth - 1 + 1 = omega (arith, c.requires.low) in
-    node_next c.requires.at c.requires.taken (c.args.way.depth - 1) deep c.close_in_row-done.ensures c.in-Some.next c.in-Some.is refl c.ahead-on.ensures
+    node_next c.requires.at c.requires.taken (c.args.way.depth - 1) deep c.close_in_row-done.ensures.0 c.in-Some.next c.in-Some.is c.close_in_row-done.ensures.1 c.ahead-on.ensures
 
 pub returns : goal.returns
 returns c =
     let deep : c.args.way.depth ≡ c.args.way.depth - 1 + 1 = omega (arith, c.requires.low) in
     let g = c.ahead-on.ensures in
     steps_done _ refl
-    (λ table row at taken. node_at at taken (c.args.way.depth - 1) deep c.close_in_row-done.ensures c.in-Some.next c.in-Some.is refl g c.row_next-row.ensures)
+    (λ table row at taken. node_at at taken (c.args.way.depth - 1) deep c.close_in_row-done.ensures.0 c.in-Some.next c.in-Some.is c.close_in_row-done.ensures.1 g c.row_next-row.ensures)
     (omega (arith, g.gone.less))

@@ -16,19 +16,16 @@ pub ahead-way-requires : goal.ahead-way-requires
 ahead-way-requires c =
     let a = c.args in
     let z = c.judged.ensures.sound c.in_ok-judged.was in
-    let t = c.requires in
-    (z.0.list, c.key_count-n.ensures.0, begin_started a.list.now a.cells a.room a.inputs.now a.leasts.now a.targets.now a.counts.now a.led.now a.finals.now a.values.now z.0 z.1 t.0 t.1 t.2 t.3)
+    (z.0.list, c.key_count-n.ensures.0, begin_started a.list.now a.cells a.room a.inputs.now a.leasts.now a.targets.now a.nodes.now z.0 z.1 c.requires)
 
 pub row_next-row-requires : goal.row_next-row-requires
 row_next-row-requires c =
     let a = c.args in
     let z = c.judged.ensures.sound c.in_ok-judged.was in
-    let t = c.requires in
-    begin_asked a.list.now a.cells a.room a.inputs.now a.leasts.now a.targets.now a.counts.now a.led.now a.finals.now a.values.now z.0 z.1 t.0 t.1 t.2 t.3 c.ahead-way.ensures
+    begin_asked a.list.now a.cells a.room a.inputs.now a.leasts.now a.targets.now a.nodes.now z.0 z.1 c.requires c.ahead-way.ensures
 
 pub returns : goal.returns
 returns c =
     let a = c.args in
     let z = c.judged.ensures.sound c.in_ok-judged.was in
-    let t = c.requires in
-    begin_stands a.list.now a.cells a.room a.inputs.now a.leasts.now a.targets.now a.counts.now a.led.now a.finals.now a.values.now z.0 z.1 t.0 t.1 t.2 t.3 c.ahead-way.ensures c.row_next-row.ensures
+    begin_stands a.list.now a.cells a.room a.inputs.now a.leasts.now a.targets.now a.nodes.now z.0 z.1 c.requires c.ahead-way.ensures c.row_next-row.ensures

@@ -4,4 +4,4 @@ use Rattle.patterned_walk.proofs.PopByLaws.{PoppingBy}
 use Rattle.patterned_walk.proofs.pop_by.Given as goal
 
 abbrev pub invariant-loop-top : goal.invariant-loop-top
-invariant-loop-top l = PoppingBy l.file l.version l.root l.len l.rest l.addrs l.trans l.levels l.fit l.top
+invariant-loop-top l = PoppingBy l.fst.bytes.now l.fst.version l.fst.root l.pattern.len l.pattern.rest l.stack.addrs l.stack.trans l.levels l.fit l.top

@@ -3,7 +3,7 @@ use Rattle.std.proofs.Common.{refl, sym, ap, ◌∙◌, ◌*◌, leb, length}
 use Rattle.buffers.specs.DecideLaws.{decides_and, decides_le}
 use Rattle.fst.specs.Open.{meta_is, opening_is}
 use Rattle.paging.specs.Paging.{row_len}
-use Rattle.stream_start.specs.Views.{bound_is}
+use Rattle.stream_start.specs.Views.{bound_of}
 use Rattle.range_fill.specs.FillLaws.{ranged_as, refused_by}
 use Rattle.range.proofs.RangeCases.{range_unopened, range_bound, range_space, range_walk}
 use Rattle.range.proofs.range.Goals as goal
@@ -13,8 +13,8 @@ pub returns-in-Err : goal.returns-in-Err
 returns-in-Err c =
     let a = c.args in
     refused_by _ a.rows.now a.values.now
-    (range_unopened a.file.now (bound_is a.lower_kind a.lower.now) (bound_is a.upper_kind a.upper.now) a.most (length a.rows.now)
-    (length a.values.now) _ (sym c.open-opened.ensures ∙ ap opening_is c.in-Err.is))
+    (range_unopened a.file.now (bound_of a.lower) (bound_of a.upper) a.most (length a.rows.now)
+    (length a.values.now) _ (sym c.open.ensures ∙ ap opening_is c.in-Err.is))
     c.refused.ensures
 
 -- a bound over 255 bytes
@@ -22,8 +22,8 @@ pub returns-then-not-bounds_right : goal.returns-then-not-bounds_right
 returns-then-not-bounds_right c =
     let a = c.args in
     refused_by _ a.rows.now a.values.now
-    (range_bound a.file.now (bound_is a.lower_kind a.lower.now) (bound_is a.upper_kind a.upper.now) a.most (length a.rows.now) (length a.values.now)
-    (meta_is c.in-Ok.m) (sym c.open-opened.ensures ∙ ap opening_is c.in-Ok.is) (sym c.bounds_right.ensures ∙ c.if-not-bounds_right.true))
+    (range_bound a.file.now (bound_of a.lower) (bound_of a.upper) a.most (length a.rows.now) (length a.values.now)
+    (meta_is c.in-Ok.m) (sym c.open.ensures ∙ ap opening_is c.in-Ok.is) (sym c.bounds_right.ensures ∙ c.if-not-bounds_right.true))
     c.refused-then-not-bounds_right.ensures
 
 -- no room for `most` keys
@@ -31,8 +31,8 @@ pub returns-then-not-has_room : goal.returns-then-not-has_room
 returns-then-not-has_room c =
     let a = c.args in
     refused_by _ a.rows.now a.values.now
-    (range_space a.file.now (bound_is a.lower_kind a.lower.now) (bound_is a.upper_kind a.upper.now) a.most (length a.rows.now) (length a.values.now)
-    (meta_is c.in-Ok.m) (sym c.open-opened.ensures ∙ ap opening_is c.in-Ok.is) (sym c.bounds_right.ensures ∙ c.if-not-bounds_right.false)
+    (range_space a.file.now (bound_of a.lower) (bound_of a.upper) a.most (length a.rows.now) (length a.values.now)
+    (meta_is c.in-Ok.m) (sym c.open.ensures ∙ ap opening_is c.in-Ok.is) (sym c.bounds_right.ensures ∙ c.if-not-bounds_right.false)
     (sym c.has_room.ensures ∙ c.if-not-has_room.true))
     c.refused-then-not-has_room.ensures
 
@@ -44,8 +44,8 @@ range_from-requires-clause-most_in_bounds c =
     (decides_le a.most (length a.values.now))).yes (sym c.has_room.ensures ∙ c.if-not-has_room.false)
 
 pub range_from-requires-clause-opens_as : goal.range_from-requires-clause-opens_as
-range_from-requires-clause-opens_as c = (
-  record { meta = meta_is c.in-Ok.m; opens = sym c.open-opened.ensures ∙ ap opening_is c.in-Ok.is; version_is = refl; root_is = refl },
+range_from-requires-clause-opens_as c = rw c.over.ensures (
+  record { meta = meta_is c.in-Ok.m; opens = sym c.open.ensures ∙ ap opening_is c.in-Ok.is; version_is = refl; root_is = refl },
   sym c.bounds_right.ensures ∙ c.if-not-bounds_right.false,
 )
 
@@ -54,7 +54,7 @@ pub returns-else-not-has_room : goal.returns-else-not-has_room
 returns-else-not-has_room c =
     let a = c.args in
     ranged_as
-    (sym (range_walk a.file.now (bound_is a.lower_kind a.lower.now) (bound_is a.upper_kind a.upper.now) a.most (length a.rows.now)
-    (length a.values.now) (meta_is c.in-Ok.m) (sym c.open-opened.ensures ∙ ap opening_is c.in-Ok.is)
+    (sym (range_walk a.file.now (bound_of a.lower) (bound_of a.upper) a.most (length a.rows.now)
+    (length a.values.now) (meta_is c.in-Ok.m) (sym c.open.ensures ∙ ap opening_is c.in-Ok.is)
     (sym c.bounds_right.ensures ∙ c.if-not-bounds_right.false) (sym c.has_room.ensures ∙ c.if-not-has_room.false)))
-    c.range_from.ensures
+    (rw c.over.ensures at c.range_from.ensures)

@@ -1,10 +1,11 @@
 -- `range_all::fill_all` meets its contract: no key is asked for; nothing is pending; the empty key is pending, and comes first or ends the range.
 -- Assumes nothing.
-use Rattle.std.proofs.Common.{◌≡◌, refl, sym, ap, subst, ◌∙◌, [], ℕ, ◌≤◌, length, take, length-set, arith}
+use Rattle.std.proofs.Common.{◌≡◌, refl, sym, ap, subst, ◌∙◌, [], ℕ, ◌≤◌, length, length-set, arith}
 use Rattle.std.proofs.Math.Option.{Option, none, some}
 use Rattle.format.specs.Limits.{max_levels}
 use Rattle.paging.specs.Paging.{fold}
-use Rattle.stream_start.specs.Views.{bound_is, empty_is, stack_is}
+use Rattle.reading.specs.Reading.{bound_bytes}
+use Rattle.stream_start.specs.Views.{bound_of, empty_is, stack_of}
 use Rattle.stream_start.specs.StackLaws.{stack_length}
 use Rattle.range_fill.specs.RangedRows.{view_from}
 use Rattle.range_fill.specs.FillLaws.{Filling, filling_none, filling_key, filled_more, filled_end}
@@ -15,34 +16,34 @@ use Rattle.range_all.proofs.fill_all.Goals as goal
 pub returns-then-most-eq0 : goal.returns-then-most-eq0
 returns-then-most-eq0 c =
     let a = c.args in
-    let hi = bound_is a.kind (take a.bound_len a.bound.now) in
-    let levels = stack_is a.levels a.addrs.now a.inps.now a.trans.now a.outs.now in
-    filled_more (filling_none a.file.now (view_from (length a.file.now) hi a.bound_len (empty_is a.empty) levels) a.most a.rows.now a.values.now)
+    let hi = bound_of a.upper in
+    let levels = stack_of a.levels a.stack.now in
+    filled_more (filling_none a.fst.bytes.now (view_from (length a.fst.bytes.now) hi (length (bound_bytes hi)) (empty_is a.empty) levels) a.most a.rows.now a.values.now)
     (omega (arith, c.if-most-eq0.true))
 
 -- nothing is pending
 pub returns-in-None : goal.returns-in-None
 returns-in-None c =
     let a = c.args in
-    let hi = bound_is a.kind (take a.bound_len a.bound.now) in
-    let levels = stack_is a.levels a.addrs.now a.inps.now a.trans.now a.outs.now in
-    let page = fold a.file.now (view_from (length a.file.now) hi a.bound_len (empty_is a.empty) levels) a.most in
+    let hi = bound_of a.upper in
+    let levels = stack_of a.levels a.stack.now in
+    let page = fold a.fst.bytes.now (view_from (length a.fst.bytes.now) hi (length (bound_bytes hi)) (empty_is a.empty) levels) a.most in
     c.fill.ensures page a.rows.now a.values.now
     (subst
-    (λ (e : Option ℕ). Filling page a.file.now (view_from (length a.file.now) hi a.bound_len e levels) a.most a.rows.now a.values.now a.rows.now a.values.now 0)
-    (ap empty_is c.in-None.is) (filling_none a.file.now (view_from (length a.file.now) hi a.bound_len (empty_is a.empty) levels) a.most a.rows.now a.values.now))
+    (λ (e : Option ℕ). Filling page a.fst.bytes.now (view_from (length a.fst.bytes.now) hi (length (bound_bytes hi)) e levels) a.most a.rows.now a.values.now a.rows.now a.values.now 0)
+    (ap empty_is c.in-None.is) (filling_none a.fst.bytes.now (view_from (length a.fst.bytes.now) hi (length (bound_bytes hi)) (empty_is a.empty) levels) a.most a.rows.now a.values.now))
 
 -- the empty key passes the upper bound
 pub returns-then-exceeded : goal.returns-then-exceeded
 returns-then-exceeded c =
     let a = c.args in
     let h = c.requires.ready in
-    let hi = bound_is a.kind (take a.bound_len a.bound.now) in
-    let levels = stack_is a.levels a.addrs.now a.inps.now a.trans.now a.outs.now in
-    let few : length levels ≤ max_levels = rw (stack_length a.levels a.addrs.now a.inps.now a.trans.now a.outs.now) h.few in
-    filled_end (filling_none a.file.now (view_from (length a.file.now) hi a.bound_len (empty_is a.empty) levels) a.most a.rows.now a.values.now)
+    let hi = bound_of a.upper in
+    let levels = stack_of a.levels a.stack.now in
+    let few : length levels ≤ max_levels = rw (stack_length a.levels a.stack.now.addrs a.stack.now.inps a.stack.now.trans a.stack.now.outs) h.few in
+    filled_end (filling_none a.fst.bytes.now (view_from (length a.fst.bytes.now) hi (length (bound_bytes hi)) (empty_is a.empty) levels) a.most a.rows.now a.values.now)
     (omega (arith, c.if-most-eq0.false))
-    (pending_ends h.opens hi a.bound_len (empty_is a.empty) levels h.short few c.in-Some.value (ap empty_is c.in-Some.is)
+    (pending_ends h.opens hi (length (bound_bytes hi)) (empty_is a.empty) levels h.short few c.in-Some.value (ap empty_is c.in-Some.is)
     (sym c.exceeded.ensures ∙ c.if-exceeded.true))
 
 -- its row is written, and the rows are as long as they were
@@ -59,14 +60,14 @@ returns-else-exceeded c =
     let a = c.args in
     let h = c.requires.ready in
     let r = c.requires.most_in_bounds in
-    let hi = bound_is a.kind (take a.bound_len a.bound.now) in
-    let levels = stack_is a.levels a.addrs.now a.inps.now a.trans.now a.outs.now in
-    let few : length levels ≤ max_levels = rw (stack_length a.levels a.addrs.now a.inps.now a.trans.now a.outs.now) h.few in
-    let page = fold a.file.now (view_from (length a.file.now) hi a.bound_len (empty_is a.empty) levels) a.most in
+    let hi = bound_of a.upper in
+    let levels = stack_of a.levels a.stack.now in
+    let few : length levels ≤ max_levels = rw (stack_length a.levels a.stack.now.addrs a.stack.now.inps a.stack.now.trans a.stack.now.outs) h.few in
+    let page = fold a.fst.bytes.now (view_from (length a.fst.bytes.now) hi (length (bound_bytes hi)) (empty_is a.empty) levels) a.most in
     let there : empty_is a.empty ≡ some c.in-Some.value = ap empty_is c.in-Some.is in
     let open_yet = sym c.exceeded.ensures ∙ c.if-exceeded.false in
     c.fill-in-Some.ensures page a.rows.now a.values.now
-    (filling_key (filling_none a.file.now (view_from (length a.file.now) hi a.bound_len (empty_is a.empty) levels) a.most a.rows.now a.values.now) r.0 r.1
-    (omega (arith, c.if-most-eq0.false)) [] c.in-Some.value 0 (view_from (length a.file.now) hi a.bound_len none levels)
-    (pending_key h.opens hi a.bound_len (empty_is a.empty) levels h.short few c.in-Some.value there open_yet)
-    (pending_reading h.opens hi a.bound_len (empty_is a.empty) levels h.short few c.in-Some.value there open_yet) refl (omega arith) c.put_row.ensures)
+    (filling_key (filling_none a.fst.bytes.now (view_from (length a.fst.bytes.now) hi (length (bound_bytes hi)) (empty_is a.empty) levels) a.most a.rows.now a.values.now) r.0 r.1
+    (omega (arith, c.if-most-eq0.false)) [] c.in-Some.value 0 (view_from (length a.fst.bytes.now) hi (length (bound_bytes hi)) none levels)
+    (pending_key h.opens hi (length (bound_bytes hi)) (empty_is a.empty) levels h.short few c.in-Some.value there open_yet)
+    (pending_reading h.opens hi (length (bound_bytes hi)) (empty_is a.empty) levels h.short few c.in-Some.value there open_yet) refl (omega arith) c.put_row.ensures)

@@ -1,9 +1,9 @@
 -- `range_bound::stand`: the first i bytes agree.
 -- Assumes nothing.
-use Rattle.std.proofs.Common.{take}
-use Rattle.stream_start.specs.Views.{bound_is}
+use Rattle.reading.specs.Reading.{bound_bytes}
+use Rattle.stream_start.specs.Views.{bound_of}
 use Rattle.range_bound.proofs.Standings.{Agreeing}
 use Rattle.range_bound.proofs.stand.Given as goal
 
 abbrev pub invariant-loop-i : goal.invariant-loop-i
-invariant-loop-i l = Agreeing (bound_is l.kind (take l.n l.bound)) (take l.n l.bound) l.inps l.k l.i
+invariant-loop-i l = Agreeing (bound_of l.upper) (bound_bytes (bound_of l.upper)) l.stack.inps l.k l.i

@@ -1,29 +1,32 @@
 -- `range_down::descend` meets its contract: nothing is followed yet; each way out of a turn; a level more.
 -- Assumes nothing.
-use Rattle.std.proofs.Common.{rules, ◌≡◌, refl, sym, ◌∙◌, arith, ◌+◌, ◌<◌, ◌≤◌, get_or}
+use Rattle.std.proofs.Common.{rules, Err, ◌≡◌, refl, sym, ◌∙◌, arith, ◌+◌, ◌<◌, ◌≤◌, get_or}
 use Rattle.format.specs.Limits.{max_sum}
+use Rattle.format.specs.declared.Refusal.TheVariants.{Sum}
 use Rattle.range_node.specs.EntriesLaws.{met_sound, met_unsound, ending_final, ending_inner}
-use Rattle.range_down.proofs.GoingDown.{going_none, going_deep, place_fits, target_fits, going_sum, going_bad, further, going_passed, going_final, going_on}
+use Rattle.range_down.proofs.GoingDown.{going_none, going_deep, place_fits, target_fits, going_sum, going_bad, further, going_passed, going_final, going_on, found_fits, found_past}
 use Rattle.range_down.proofs.descend.Goals as goal
 
 -- nothing is followed yet, and every level up to top is that of a judged node
 pub loop-k-init : goal.loop-k-init
 loop-k-init c =
     let r = c.requires.top_lt_max_levels in
-    going_none _ _ _ c.args.addrs.now c.args.inps.now c.args.trans.now c.args.outs.now c.args.top c.args.agreed c.args.over r.0 c.requires.arrays.0 r.2 r.3 r.4
+    let k = c.args.stack.now in
+    going_none _ _ _ k.addrs k.inps k.trans k.outs c.args.top c.args.standing.same c.args.standing.over r.0
+    (record { addrs_len = omega arith; inps_len = omega arith; trans_len = omega arith; outs_len = omega arith }) r.2 r.3 r.4
 
 -- the sum up to the target does not fit
 pub returns-in_default : goal.returns-in_default
 returns-in_default c =
     let g = c.loop-k.invariant in
-    let past : max_sum < get_or c.loop-k.outs c.loop-k.k 0 + c.take-edge.result.out = omega (arith, c.in_default.ensures) in
+    let past : max_sum < get_or c.loop-k.stack.outs c.loop-k.k 0 + c.take-edge.result.out = omega (arith, c.in_default.ensures) in
     going_sum g refl (c.take-edge.ensures g.leads.node g.leads.is) c.loop-k-test.true past
 
 -- the target is not sound
 pub returns-in_default-meet : goal.returns-in_default-meet
 returns-in_default-meet c =
     let g = c.loop-k.invariant in
-    let fits : get_or c.loop-k.outs c.loop-k.k 0 + c.take-edge.result.out ≤ max_sum = omega (arith, c.in-Some.ensures) in
+    let fits : get_or c.loop-k.stack.outs c.loop-k.k 0 + c.take-edge.result.out ≤ max_sum = omega (arith, c.in-Some.ensures) in
     going_bad g refl (c.take-edge.ensures g.leads.node g.leads.is) c.loop-k-test.true fits (met_unsound _ c.in_default-meet.ensures)
 
 -- the key of the new level passes the upper bound
@@ -31,43 +34,59 @@ pub returns-in_default-follow : goal.returns-in_default-follow
 returns-in_default-follow c =
     let g = c.loop-k.invariant in
     let e = c.take-edge.ensures g.leads.node g.leads.is in
-    let fits : get_or c.loop-k.outs c.loop-k.k 0 + c.take-edge.result.out ≤ max_sum = omega (arith, c.in-Some.ensures) in
-    let is : c.in-Some.sum ≡ get_or c.loop-k.outs c.loop-k.k 0 + c.take-edge.result.out = omega (arith, c.in-Some.ensures) in
+    let fits : get_or c.loop-k.stack.outs c.loop-k.k 0 + c.take-edge.result.out ≤ max_sum = omega (arith, c.in-Some.ensures) in
+    let is : c.in-Some.sum ≡ get_or c.loop-k.stack.outs c.loop-k.k 0 + c.take-edge.result.out = omega (arith, c.in-Some.ensures) in
     let met = met_sound _ c.in-Ok.ending c.in-Ok.ensures in
     going_passed g refl e c.loop-k-test.true fits met.node met.is is
     ((further g refl e c.loop-k-test.true fits met.node met.is is c.follow.ensures).past c.in_default-follow.is)
 
-pub overflow_cast-trans : goal.overflow_cast-trans
-overflow_cast-trans c = search (rules, place_fits c.loop-k.invariant refl (λ i. (c.type_inv.file i).fits))
+pub overflow_cast-stack : goal.overflow_cast-stack
+overflow_cast-stack c = search (rules, place_fits c.loop-k.invariant refl (λ i. c.are_bytes.ensures i))
 
-pub overflow_cast-addrs : goal.overflow_cast-addrs
-overflow_cast-addrs c =
+pub overflow_cast-stack-in-loop-k : goal.overflow_cast-stack-in-loop-k
+overflow_cast-stack-in-loop-k c =
     let g = c.loop-k.invariant in
     search (rules, target_fits g refl (c.take-edge.ensures g.leads.node g.leads.is) c.requires.top_lt_max_levels.1)
 
--- the new level's node is final: a key ends here
+-- the new level's node is final: a key ends here, or its value does not fit
 pub returns-in-Some-ending : goal.returns-in-Some-ending
 returns-in-Some-ending c =
     let g = c.loop-k.invariant in
     let e = c.take-edge.ensures g.leads.node g.leads.is in
-    let fits : get_or c.loop-k.outs c.loop-k.k 0 + c.take-edge.result.out ≤ max_sum = omega (arith, c.in-Some.ensures) in
-    let is : c.in-Some.sum ≡ get_or c.loop-k.outs c.loop-k.k 0 + c.take-edge.result.out = omega (arith, c.in-Some.ensures) in
+    let fits : get_or c.loop-k.stack.outs c.loop-k.k 0 + c.take-edge.result.out ≤ max_sum = omega (arith, c.in-Some.ensures) in
+    let is : c.in-Some.sum ≡ get_or c.loop-k.stack.outs c.loop-k.k 0 + c.take-edge.result.out = omega (arith, c.in-Some.ensures) in
     let met = met_sound _ c.in-Ok.ending c.in-Ok.ensures in
     let within =
-    (further g refl e c.loop-k-test.true fits met.node met.is is c.follow.ensures).within c.in-Some-follow.agree c.in-Some-follow.is in
+    (further g refl e c.loop-k-test.true fits met.node met.is is c.follow.ensures).within c.in-Some-follow.same c.in-Some-follow.is in
     going_final g refl e c.loop-k-test.true fits met.node met.is is within c.in-Some-ending.end
-    (ending_final met.node c.in-Some-ending.end (sym c.in-Some-ending.is ∙ met.ending)) c.found.result c.found.ensures
+    (ending_final met.node c.in-Some-ending.end (sym c.in-Some-ending.is ∙ met.ending)) _
+    (let room : c.in-Some.sum + c.in-Some-ending.end ≤ max_sum = grind arith in let told : c.in_ok-value.value ≡ c.in-Some.sum + c.in-Some-ending.end = grind arith in
+    found_fits _ _ _ _ _ room told)
+
+pub returns-in_err-value : goal.returns-in_err-value
+returns-in_err-value c =
+    let g = c.loop-k.invariant in
+    let e = c.take-edge.ensures g.leads.node g.leads.is in
+    let fits : get_or c.loop-k.stack.outs c.loop-k.k 0 + c.take-edge.result.out ≤ max_sum = omega (arith, c.in-Some.ensures) in
+    let is : c.in-Some.sum ≡ get_or c.loop-k.stack.outs c.loop-k.k 0 + c.take-edge.result.out = omega (arith, c.in-Some.ensures) in
+    let met = met_sound _ c.in-Ok.ending c.in-Ok.ensures in
+    let within =
+    (further g refl e c.loop-k-test.true fits met.node met.is is c.follow.ensures).within c.in-Some-follow.same c.in-Some-follow.is in
+    going_final g refl e c.loop-k-test.true fits met.node met.is is within c.in-Some-ending.end
+    (ending_final met.node c.in-Some-ending.end (sym c.in-Some-ending.is ∙ met.ending)) _
+    (let past : max_sum < c.in-Some.sum + c.in-Some-ending.end = grind arith in let told : c.from_residual.result ≡ Err Sum = grind arith in
+    told ∙ found_past _ _ _ _ past)
 
 -- one transition more is followed, and its target is judged
 pub loop-k-preserved : goal.loop-k-preserved
 loop-k-preserved c =
     let g = c.loop-k.invariant in
     let e = c.take-edge.ensures g.leads.node g.leads.is in
-    let fits : get_or c.loop-k.outs c.loop-k.k 0 + c.take-edge.result.out ≤ max_sum = omega (arith, c.in-Some.ensures) in
-    let is : c.in-Some.sum ≡ get_or c.loop-k.outs c.loop-k.k 0 + c.take-edge.result.out = omega (arith, c.in-Some.ensures) in
+    let fits : get_or c.loop-k.stack.outs c.loop-k.k 0 + c.take-edge.result.out ≤ max_sum = omega (arith, c.in-Some.ensures) in
+    let is : c.in-Some.sum ≡ get_or c.loop-k.stack.outs c.loop-k.k 0 + c.take-edge.result.out = omega (arith, c.in-Some.ensures) in
     let met = met_sound _ c.in-Ok.ending c.in-Ok.ensures in
     let within =
-    (further g refl e c.loop-k-test.true fits met.node met.is is c.follow.ensures).within c.in-Some-follow.agree c.in-Some-follow.is in
+    (further g refl e c.loop-k-test.true fits met.node met.is is c.follow.ensures).within c.in-Some-follow.same c.in-Some-follow.is in
     going_on g refl e c.loop-k-test.true fits met.node met.is is within (ending_inner met.node (sym c.in_default-ending.is ∙ met.ending))
 
 -- no room for another level: DEEP

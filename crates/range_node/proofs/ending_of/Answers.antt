@@ -6,4 +6,4 @@ use Rattle.range_node.proofs.ending_of.Goals as goal
 
 -- one transition: not final
 pub returns-then-one_transition : goal.returns-then-one_transition
-returns-then-one_transition c = met_inner c.args.file.now c.args.version c.args.root c.args.addr c.requires (omega arith)
+returns-then-one_transition c = met_inner c.args.fst.bytes.now c.args.fst.version c.args.fst.root c.args.addr c.requires (omega arith)

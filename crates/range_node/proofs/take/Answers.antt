@@ -3,8 +3,8 @@
 use Rattle.range_node.proofs.Reread.{leads_sound, leads_reads}
 use Rattle.range_node.proofs.take.Goals as goal
 
-pub bounds-file-addr : goal.bounds-file-addr
-bounds-file-addr c = (leads_sound c.requires).inside
+pub bounds-fst-addr : goal.bounds-fst-addr
+bounds-fst-addr c = (leads_sound c.requires).inside
 
 pub any_node-any-requires : goal.any_node-any-requires
 any_node-any-requires c = (leads_sound c.requires, c.if-state-lt128.true)

@@ -5,12 +5,12 @@ use Rattle.range_turn.proofs.TopLaws.{topping_end, topping_at, topping_on}
 use Rattle.range_turn.proofs.highest.Goals as goal
 
 -- the highest level has a transition left
-pub returns-then-trans-top : goal.returns-then-trans-top
-returns-then-trans-top c = topping_at c.loop-top.invariant c.loop-top-test.true refl c.count_of-count.ensures c.if-trans-top.true
+pub returns-then-stack-top : goal.returns-then-stack-top
+returns-then-stack-top c = topping_at c.loop-top.invariant c.loop-top-test.true refl c.count_of-count.ensures c.if-stack-top.true
 
 -- the highest level has no transition left: it is popped
 pub loop-top-preserved : goal.loop-top-preserved
-loop-top-preserved c = topping_on c.loop-top.invariant c.loop-top-test.true refl c.count_of-count.ensures c.if-trans-top.false
+loop-top-preserved c = topping_on c.loop-top.invariant c.loop-top-test.true refl c.count_of-count.ensures c.if-stack-top.false
 
 -- every level is popped
 pub returns : goal.returns

@@ -1,10 +1,8 @@
 -- `seats::serve` meets its contract: a law of SeatCases for each answer of the reading served. Assumes nothing.
-use mathlib.Core.Path.{◌≡◌, refl}
-use Rattle.std.specs.Prelude.{Ok, Some, None}
+use Rattle.std.proofs.Common.{◌≡◌, Ok, Some, None, refl, ap, rules, arith}
 use Rattle.seats_turn.specs.SeatViews.{seats_is}
 use Rattle.seats.proofs.SeatCases.{turn_number, serve_key, serve_end, serve_refused, turn_empty}
-use borrow.Author.Rules.{rules}
-use native.Mathlib.Omega.{arith}
+use Rattle.seats.proofs.serve.Goals.{in-Ok-Some, in-Ok-None}
 use Rattle.seats.proofs.serve.Goals as goal
 
 pub offset_bounds-seats-number : goal.offset_bounds-seats-number
@@ -13,29 +11,20 @@ offset_bounds-seats-number c = let le = turn_number (seats_is c.args.seats) c.ar
 pub bounds : goal.bounds
 bounds c = let le = turn_number (seats_is c.args.seats) c.args.number c.requires.1 in omega arith
 
-pub overflow_cast-result : goal.overflow_cast-result
-overflow_cast-result c = let le = turn_number (seats_is c.args.seats) c.args.number c.requires.1 in omega arith
-
 pub kept-requires : goal.kept-requires
 kept-requires c = turn_number (seats_is c.args.seats) c.args.number c.requires.1
 
-pub overflow_cast-result-in-Ok-None : goal.overflow_cast-result-in-Ok-None
-overflow_cast-result-in-Ok-None c = let le = turn_number (seats_is c.args.seats) c.args.number c.requires.1 in omega arith
-
-pub kept-requires-in-Ok-None : goal.kept-requires-in-Ok-None
-kept-requires-in-Ok-None c = turn_number (seats_is c.args.seats) c.args.number c.requires.1
-
-pub returns-in-Ok-Some : goal.returns-in-Ok-Some
-returns-in-Ok-Some c =
+-- a key, or the end
+pub returns : goal.returns
+returns c =
     let a = c.args in
-    let e : c.next-step.result.answer ≡ Ok (Some (c.in-Ok-Some.n, c.in-Ok-Some.value)) = grind arith in
-    serve_key a.file.now a.seats (search rules) a.number _ c.requires.0 c.requires.1 _ c.in-Some.is a.key.now _ _ c.next-step.ensures _ _ _ e refl c.kept.ensures
-
-pub returns-in-Ok-None : goal.returns-in-Ok-None
-returns-in-Ok-None c =
-    let a = c.args in
-    let e : c.next-step.result.answer ≡ Ok None = grind arith in
-    serve_end a.file.now a.seats (search rules) a.number _ c.requires.0 c.requires.1 _ c.in-Some.is a.key.now _ _ c.next-step.ensures _ e refl c.kept-in-Ok-None.ensures
+    elim c.match-step-2.branch [
+      | in-Ok-Some w ↦
+          serve_key a.file.now a.seats (search rules) a.number _ c.requires.0 c.requires.1 _ c.in-Some.is a.key.now _ _ c.next-step.ensures _ _ _ (ap Ok w.served-is) (grind arith) c.kept.ensures
+      | in-Ok-None w ↦
+          let e : c.next-step.result.answer ≡ Ok None = grind arith in
+          serve_end a.file.now a.seats (search rules) a.number _ c.requires.0 c.requires.1 _ c.in-Some.is a.key.now _ _ c.next-step.ensures _ e (ap Ok w.served-is) c.kept.ensures
+    ]
 
 pub returns-in-Err : goal.returns-in-Err
 returns-in-Err c =

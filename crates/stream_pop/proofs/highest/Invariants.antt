@@ -4,4 +4,4 @@ use Rattle.stream_pop.proofs.PopLaws.{Popping}
 use Rattle.stream_pop.proofs.highest.Given as goal
 
 abbrev pub invariant-loop-top : goal.invariant-loop-top
-invariant-loop-top l = Popping l.file l.version l.root l.addrs l.trans l.levels l.top
+invariant-loop-top l = Popping l.fst.bytes.now l.fst.version l.fst.root l.stack.addrs l.stack.trans l.levels l.top

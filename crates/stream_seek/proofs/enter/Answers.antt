@@ -13,7 +13,7 @@ use Rattle.stream_seek.proofs.enter.Goals as goal
 pub returns-in_default : goal.returns-in_default
 returns-in_default c =
     let a = c.args in (
-      sym (enter_unsound (fst_with a.file.now a.version a.root) a.addr a.b (answer_unsound c.node_at.ensures c.in_default.field-0 c.in_default.is)),
+      sym (enter_unsound (fst_with a.fst.bytes.now a.fst.version a.fst.root) a.addr a.b (answer_unsound c.node_at.ensures c.in_default.field-0 c.in_default.is)),
       omega arith,
     )
 
@@ -25,8 +25,8 @@ overflow_cast-result c =
     let gone = search_gone _ c.find_input-found.result c.find_input-found.ensures c.in-Err.p c.in-Err.is in
     omega (
       arith,
-      gone_fits (fst_with a.file.now a.version a.root) a.addr (meaning a.file.now m) (answer_sound c.node_at.ensures m c.in-Ok.is) a.b c.in-Err.p gone
-          (λ j. omega (arith, c.type_inv.file j)),
+      gone_fits (fst_with a.fst.bytes.now a.fst.version a.fst.root) a.addr (meaning a.fst.bytes.now m) (answer_sound c.node_at.ensures m c.in-Ok.is) a.b c.in-Err.p gone
+          (λ j. omega (arith, c.are_bytes.ensures j)),
     )
 
 -- the judged node can be read, and it has the transition
@@ -35,7 +35,7 @@ transition_addr-target-requires c =
     let m = c.in-Ok.m in
     let r = c.node_at.ensures.readable m c.in-Ok.is in
     let found = search_is_lem _ c.find_input-found.result c.find_input-found.ensures c.in-Ok-found.p c.in-Ok-found.is in
-    (r, place_lt c.args.file.now m r c.args.b c.in-Ok-found.p found)
+    (r, place_lt c.args.fst.bytes.now m r c.args.b c.in-Ok-found.p found)
 
 -- the same of its output
 pub output-out-requires : goal.output-out-requires
@@ -43,7 +43,7 @@ output-out-requires c =
     let m = c.in-Ok.m in
     let r = c.node_at.ensures.readable m c.in-Ok.is in
     let found = search_is_lem _ c.find_input-found.result c.find_input-found.ensures c.in-Ok-found.p c.in-Ok-found.is in
-    (r, place_lt c.args.file.now m r c.args.b c.in-Ok-found.p found)
+    (r, place_lt c.args.fst.bytes.now m r c.args.b c.in-Ok-found.p found)
 
 -- the place of a byte fits in 16 bits
 pub overflow_cast-place : goal.overflow_cast-place
@@ -53,8 +53,8 @@ overflow_cast-place c =
     let found = search_is_lem _ c.find_input-found.result c.find_input-found.ensures c.in-Ok-found.p c.in-Ok-found.is in
     omega (
       arith,
-      place_fits (fst_with a.file.now a.version a.root) a.addr (meaning a.file.now m) (answer_sound c.node_at.ensures m c.in-Ok.is) a.b c.in-Ok-found.p found
-          (λ j. omega (arith, c.type_inv.file j)),
+      place_fits (fst_with a.fst.bytes.now a.fst.version a.fst.root) a.addr (meaning a.fst.bytes.now m) (answer_sound c.node_at.ensures m c.in-Ok.is) a.b c.in-Ok-found.p found
+          (λ j. omega (arith, c.are_bytes.ensures j)),
     )
 
 -- the target is below the root, so it fits in 32 bits
@@ -65,7 +65,7 @@ overflow_cast-to c =
     let found = search_is_lem _ c.find_input-found.result c.find_input-found.ensures c.in-Ok-found.p c.in-Ok-found.is in
     omega (
       arith,
-      target_fits (fst_with a.file.now a.version a.root) a.addr (meaning a.file.now m) (answer_sound c.node_at.ensures m c.in-Ok.is) a.b c.in-Ok-found.p found,
+      target_fits (fst_with a.fst.bytes.now a.fst.version a.fst.root) a.addr (meaning a.fst.bytes.now m) (answer_sound c.node_at.ensures m c.in-Ok.is) a.b c.in-Ok-found.p found,
       c.transition_addr-target.ensures,
     )
 
@@ -73,22 +73,22 @@ overflow_cast-to c =
 pub returns-in-Err : goal.returns-in-Err
 returns-in-Err c =
     let a = c.args in
-    let f = fst_with a.file.now a.version a.root in
+    let f = fst_with a.fst.bytes.now a.fst.version a.fst.root in
     let m = c.in-Ok.m in
     let is = answer_sound c.node_at.ensures m c.in-Ok.is in
     let gone = search_gone _ c.find_input-found.result c.find_input-found.ensures c.in-Err.p c.in-Err.is in (
-      sym (enter_miss f a.addr a.b (meaning a.file.now m) is c.in-Err.p gone),
-      omega (arith, gone_fits f a.addr (meaning a.file.now m) is a.b c.in-Err.p gone (λ j. omega (arith, c.type_inv.file j))),
+      sym (enter_miss f a.addr a.b (meaning a.fst.bytes.now m) is c.in-Err.p gone),
+      omega (arith, gone_fits f a.addr (meaning a.fst.bytes.now m) is a.b c.in-Err.p gone (λ j. omega (arith, c.are_bytes.ensures j))),
     )
 
 -- the byte is found
 pub returns-in-Ok-found : goal.returns-in-Ok-found
 returns-in-Ok-found c =
     let a = c.args in
-    let f = fst_with a.file.now a.version a.root in
+    let f = fst_with a.fst.bytes.now a.fst.version a.fst.root in
     let m = c.in-Ok.m in
     let is = answer_sound c.node_at.ensures m c.in-Ok.is in
     let found = search_is_lem _ c.find_input-found.result c.find_input-found.ensures c.in-Ok-found.p c.in-Ok-found.is in (
-      rw (c.transition_addr-target.ensures, c.output-out.ensures) (sym (enter_hit f a.addr a.b (meaning a.file.now m) is c.in-Ok-found.p found)),
-      omega (arith, place_fits f a.addr (meaning a.file.now m) is a.b c.in-Ok-found.p found (λ j. omega (arith, c.type_inv.file j))),
+      rw (c.transition_addr-target.ensures, c.output-out.ensures) (sym (enter_hit f a.addr a.b (meaning a.fst.bytes.now m) is c.in-Ok-found.p found)),
+      omega (arith, place_fits f a.addr (meaning a.fst.bytes.now m) is a.b c.in-Ok-found.p found (λ j. omega (arith, c.are_bytes.ensures j))),
     )

@@ -7,7 +7,7 @@ use Rattle.stream_seek.proofs.seek.Goals as goal
 
 -- no byte of the bound is followed yet
 pub loop-k-init : goal.loop-k-init
-loop-k-init c = (omega arith, seeking_none _ _ _ _ _ _ _ c.requires.2)
+loop-k-init c = (omega arith, seeking_none _ _ _ _ _ _ _ c.are_arrays.ensures)
 
 -- the node is not sound
 pub returns-in-Unsound : goal.returns-in-Unsound
@@ -20,8 +20,8 @@ pub returns-in-Miss : goal.returns-in-Miss
 returns-in-Miss c =
     let h = c.loop-k.invariant.1 in
     record {
-      arrays = c.put_level.ensures.arrays;
-      found = seeking_miss h (omega arith) c.in-Miss.p (sym c.enter-entered.ensures.0 ∙ c.in-Miss.is) c.put_level.ensures;
+      arrays = c.put.ensures.arrays;
+      found = seeking_miss h (omega arith) c.in-Miss.p (sym c.enter-entered.ensures.0 ∙ c.in-Miss.is) c.put.ensures;
     }
 
 -- the sum up to the target does not fit
@@ -43,7 +43,7 @@ loop-k-preserved c =
     let more : l.k < length c.args.lower.now = omega arith in
     let fits = c.in-Some.ensures in (
       omega arith,
-      rw fits.1 (seeking_step l.invariant.1 more w.p w.target w.out (sym c.enter-entered.ensures.0 ∙ w.is) (omega (arith, fits.0)) c.put_level-in-Hit.ensures),
+      rw fits.1 (seeking_step l.invariant.1 more w.p w.target w.out (sym c.enter-entered.ensures.0 ∙ w.is) (omega (arith, fits.0)) c.put-in-Hit.ensures),
     )
 
 -- the last node is not sound
@@ -59,5 +59,5 @@ returns c =
     record {
       arrays = c.last_levels.ensures.arrays;
       found =
-          seeking_done c.loop-k.invariant.1 (omega arith) (meaning c.args.file.now m) (answer_sound c.node_at.ensures m c.in-Ok.is) c.last_levels.ensures;
+          seeking_done c.loop-k.invariant.1 (omega arith) (meaning c.args.fst.bytes.now m) (answer_sound c.node_at.ensures m c.in-Ok.is) c.last_levels.ensures;
     }

@@ -10,7 +10,7 @@ use Rattle.stream_upto.proofs.at_end.Goals as goal
 pub returns-in_default : goal.returns-in_default
 returns-in_default c =
     let a = c.args in
-    λ d n e. end_unsound (fst_with a.file.now a.version a.root) a.own a.addr (answer_unsound c.node_at.ensures c.in_default.field-0 c.in_default.is) d n
+    λ d n e. end_unsound (fst_with a.fst.bytes.now a.fst.version a.fst.root) a.own a.addr (answer_unsound c.node_at.ensures c.in_default.field-0 c.in_default.is) d n
 
 -- it is sound
 pub returns : goal.returns
@@ -18,5 +18,5 @@ returns c =
     let a = c.args in
     let m = c.in-Ok.m in
     λ d n e.
-    end_sound (fst_with a.file.now a.version a.root) a.own a.addr (meaning a.file.now m) (answer_sound c.node_at.ensures m c.in-Ok.is)
+    end_sound (fst_with a.fst.bytes.now a.fst.version a.fst.root) a.own a.addr (meaning a.fst.bytes.now m) (answer_sound c.node_at.ensures m c.in-Ok.is)
     _ c.own_key-k.ensures a.total _ c.added.ensures d n e

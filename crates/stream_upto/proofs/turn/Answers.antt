@@ -17,7 +17,7 @@ pub returns-in_default : goal.returns-in_default
 returns-in_default c =
     let a = c.args in
     λ n e.
-    turn_unsound (fst_with a.file.now a.version a.root) a.counts.now a.addr a.b n (answer_unsound c.node_at.ensures c.in_default.field-0 c.in_default.is)
+    turn_unsound (fst_with a.fst.bytes.now a.fst.version a.fst.root) a.counts.now a.addr a.b n (answer_unsound c.node_at.ensures c.in_default.field-0 c.in_default.is)
 
 -- the judged node can be read
 pub find_input-found-requires : goal.find_input-found-requires
@@ -26,19 +26,19 @@ find_input-found-requires c = c.node_at.ensures.readable c.in-Ok.m c.in-Ok.is
 -- as many transitions as the place of the absent byte says
 pub below-requires : goal.below-requires
 below-requires c =
-    let s = c.args.file.now in
+    let s = c.args.fst.bytes.now in
     let m = c.in-Ok.m in
     let r = c.node_at.ensures.readable m c.in-Ok.is in
     let gone = search_gone _ c.find_input-found.result c.find_input-found.ensures c.in-Err.p c.in-Err.is in (
       r,
       gone_le s m r c.args.b c.in-Err.p gone,
-      has_entries (fst_with s c.args.version c.args.root) c.args.addr (meaning s m) (answer_sound c.node_at.ensures m c.in-Ok.is) c.args.counts.now c.requires,
+      has_entries (fst_with s c.args.fst.version c.args.fst.root) c.args.addr (meaning s m) (answer_sound c.node_at.ensures m c.in-Ok.is) c.args.counts.now c.requires,
     )
 
 -- the node has the transition
 pub transition_addr-target-requires : goal.transition_addr-target-requires
 transition_addr-target-requires c =
-    let s = c.args.file.now in
+    let s = c.args.fst.bytes.now in
     let m = c.in-Ok.m in
     let r = c.node_at.ensures.readable m c.in-Ok.is in
     let found = search_is_lem _ c.find_input-found.result c.find_input-found.ensures c.in-Ok-found.p c.in-Ok-found.is in
@@ -47,13 +47,13 @@ transition_addr-target-requires c =
 -- as many transitions as the place of the byte says
 pub below-sum-requires : goal.below-sum-requires
 below-sum-requires c =
-    let s = c.args.file.now in
+    let s = c.args.fst.bytes.now in
     let m = c.in-Ok.m in
     let r = c.node_at.ensures.readable m c.in-Ok.is in
     let found = search_is_lem _ c.find_input-found.result c.find_input-found.ensures c.in-Ok-found.p c.in-Ok-found.is in (
       r,
       omega (arith, place_lt s m r c.args.b c.in-Ok-found.p found),
-      has_entries (fst_with s c.args.version c.args.root) c.args.addr (meaning s m) (answer_sound c.node_at.ensures m c.in-Ok.is) c.args.counts.now c.requires,
+      has_entries (fst_with s c.args.fst.version c.args.fst.root) c.args.addr (meaning s m) (answer_sound c.node_at.ensures m c.in-Ok.is) c.args.counts.now c.requires,
     )
 
 -- the byte is absent
@@ -65,7 +65,7 @@ returns-in-Err c =
     λ n e.
     let kept : c.added-kept.result ≡ total_as (n + one m.is_final) =
     c.added-kept.ensures ∙ ap (λ t. added_to t c.own_key.result) e ∙ added_total n c.own_key.result ∙ ap (λ k. total_as (n + k)) c.own_key.ensures in
-    turn_gone (fst_with a.file.now a.version a.root) a.counts.now a.addr a.b n (meaning a.file.now m) (answer_sound c.node_at.ensures m c.in-Ok.is) c.in-Err.p _
+    turn_gone (fst_with a.fst.bytes.now a.fst.version a.fst.root) a.counts.now a.addr a.b n (meaning a.fst.bytes.now m) (answer_sound c.node_at.ensures m c.in-Ok.is) c.in-Err.p _
     (c.below.ensures (n + one m.is_final) kept) gone
 
 -- the byte is found
@@ -77,5 +77,5 @@ returns-in-Ok-found c =
     λ n e.
     let kept : c.added-kept.result ≡ total_as (n + one m.is_final) =
     c.added-kept.ensures ∙ ap (λ t. added_to t c.own_key.result) e ∙ added_total n c.own_key.result ∙ ap (λ k. total_as (n + k)) c.own_key.ensures in
-    turn_on (fst_with a.file.now a.version a.root) a.counts.now a.addr a.b n (meaning a.file.now m) (answer_sound c.node_at.ensures m c.in-Ok.is) c.in-Ok-found.p _
+    turn_on (fst_with a.fst.bytes.now a.fst.version a.fst.root) a.counts.now a.addr a.b n (meaning a.fst.bytes.now m) (answer_sound c.node_at.ensures m c.in-Ok.is) c.in-Ok-found.p _
     (c.below-sum.ensures (n + one m.is_final) kept) _ c.transition_addr-target.ensures found

@@ -1,2 +1,0 @@
--- What a result is read back as, for the proofs of this crate.
-mod FileResults

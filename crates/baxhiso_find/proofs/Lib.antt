@@ -1,2 +1,0 @@
--- Lemmas for the proofs of this crate.
-mod FindResults

@@ -1,0 +1,16 @@
+-- Names of one length are compared byte by byte; names of two lengths differ.
+-- Assumes nothing.
+use Rattle.std.proofs.Common.{rules, length, ◌∙◌}
+use borrow.Author.Tests.{ne_eqb}
+use Rattle.marks_held.proofs.MarkScans.{names_differ, names_compared}
+use Rattle.marks_held.proofs.Mark.is_named.Goals as goal
+
+pub returns-then-self-name : goal.returns-then-self-name
+returns-then-self-name c =
+    let a = c.args in
+    c.eq.ensures ∙ names_compared a.self.now.name a.name.now a.self.now.name_len (search rules) c.requires c.if-self-name.true
+
+pub returns-else-self-name : goal.returns-else-self-name
+returns-else-self-name c =
+    let a = c.args in
+    ne_eqb a.self.now.name_len (length a.name.now) c.if-self-name.false ∙ names_differ a.self.now.name a.name.now a.self.now.name_len c.if-self-name.false

@@ -1,0 +1,16 @@
+-- The index says the place, or the inputs are searched.
+use Rattle.std.proofs.Common.{◌+◌, take, drop}
+use Rattle.format.specs.Node.{bytes_down}
+use Rattle.format.specs.Laws.StoredLaws.{length_bytes_down}
+use Rattle.node.specs.ReadLaws.{entry_finds}
+use Rattle.node.proofs.InputSearch.{entry_is_lem}
+use Rattle.node.proofs.find_in.Goals as goal
+
+-- by the index
+pub returns-then-is_place : goal.returns-then-is_place
+returns-then-is_place c =
+    let a = c.args in
+    let s = a.file.now in
+    entry_finds (bytes_down s a.at a.n) (take 256 (drop (a.at + a.n) s)) a.b c.from-e.result (c.requires.index c.if-index_len-ne0.true) c.ranges.b.fits
+    (rw (length_bytes_down s a.at a.n) c.if-is_place.true)
+    (entry_is_lem s (a.at + a.n) a.b c.from-e.result c.ranges.b.fits c.from-e.ensures)

@@ -1,2 +1,0 @@
--- Lemmas on plain lists and numbers, for the proofs of this crate.
-mod FstTold

@@ -1,0 +1,2 @@
+-- Lemmas on plain lists and numbers, for the proofs of this crate.
+mod Held

@@ -1,0 +1,20 @@
+-- A key would be too many, and any other answer stands.
+use Rattle.std.proofs.Common.{◌≡◌, Ok, Some, refl, arith}
+use Rattle.stream.proofs.PlainCases.{gave_too_many, gave_other}
+use Rattle.stream.proofs.next_of_none.Goals.{in_default-via-in-Ok+in-None-1, in_default-via-in-Err-1}
+use Rattle.stream.proofs.next_of_none.Goals as goal
+
+pub returns-in-Ok-Some : goal.returns-in-Ok-Some
+returns-in-Ok-Some c =
+    let e : c.next-step.result.answer ≡ Ok (Some c.in-Ok-Some.field-0-0) = grind arith in
+    gave_too_many c.next-step.ensures _ _ _ _ _ e refl refl refl
+
+pub returns-in_default : goal.returns-in_default
+returns-in_default c =
+    (gave_other c.next-step.ensures _ _ _
+    (λ q e.
+    elim c.in_default-1.branch [
+      | in_default-via-in-Ok+in-None-1 w ↦ grind arith
+      | in_default-via-in-Err-1 w ↦ grind arith
+    ])
+    refl refl).gave

@@ -1,2 +1,0 @@
--- Lemmas on a step, for the proofs of this crate.
-mod StepCases
