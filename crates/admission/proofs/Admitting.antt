@@ -11,17 +11,15 @@ use Prim.Native.Nat.{ℕ, ◌≤◌, ◌<◌}
 use native.Mathlib.Decide.{ℕ_discrete}
 use native.Mathlib.Omega.{arith}
 use lib.ListN.{length}
-use Rattle.format.specs.Limits.{NODE, DEEP, SUM, SPACE}
+use Rattle.format.specs.Limits.{SPACE}
 use Rattle.format.specs.Opening.{opening}
 use Rattle.format.specs.Laws.OpeningLaws.{blank_root, root_inside}
 use Rattle.format.specs.Paths.{Fst, fst_of}
 use Rattle.fst.specs.declared.Meta.{Meta}
 use Rattle.fst.specs.Open.{meta_is, opening_is}
-use Rattle.admission_fill.specs.declared.Verdict.{Verdict}
-use Rattle.admission_fill.specs.declared.Verdict.TheVariants.{Good, Lost, Deep, Heavy}
 use Rattle.admission_node.specs.Entries.{Kept}
 use Rattle.format.specs.Paths.{fst_with}
-use Rattle.admission.specs.Outcome.{Holds, Wiped, RefusedFor, not_opened, no_space, no_nodes, too_deep, too_heavy, Admits, Outcome, Opens, Cleared, JudgeCase, Judges}
+use Rattle.admission.specs.Outcome.{Holds, Wiped, RefusedFor, not_opened, no_space, no_nodes, too_deep, too_heavy, Admits, Outcome, Opens, Cleared, JudgeRefused, JudgeCase, Judges}
 use Rattle.admission_node.specs.KeptLaws.{kept_then}
 use Rattle.admission.specs.WipingLaws.{length_wiped, wiped_kept, wiped_at, wiped_after}
 
@@ -54,7 +52,7 @@ wiped_cleared {s} {d} {t} d₀ s₀ o rd rs wd ws =
       sums = wiped_at (length s) s₀ t ws;
     }
 
-pub record AllJudged (s : List ℕ) (version root : ℕ) (d₀ s₀ d₁ s₁ d t : List ℕ) (v : Verdict) : Type 0 where
+pub record AllJudged (s : List ℕ) (version root : ℕ) (d₀ s₀ d₁ s₁ d t : List ℕ) (v : Result ⊤ Refusal) : Type 0 where
   pub open_file : Opens s version root
   pub room_depths : length s ≤ length d₀
   pub room_sums : length s ≤ length s₀
@@ -71,7 +69,7 @@ holds_after k h = record { on = h.on; off = h.off; kept = kept_then k h.kept }
 abbrev Wipes : List ℕ → List ℕ → List ℕ → List ℕ → List ℕ → Result ⊤ Refusal → Refusal → Type 0
 Wipes s d d' t t' r n = (r ≡ Err n) × Wiped (length s) d d' × Wiped (length s) t t'
 
-module _ {s : List ℕ} {version root : ℕ} {d₀ s₀ d₁ s₁ d t : List ℕ} {v : Verdict} (j : AllJudged s version root d₀ s₀ d₁ s₁ d t v) where
+module _ {s : List ℕ} {version root : ℕ} {d₀ s₀ d₁ s₁ d t : List ℕ} {v : Result ⊤ Refusal} (j : AllJudged s version root d₀ s₀ d₁ s₁ d t v) where
   depths_cleared : Kept (length s) d₀ d₁
   depths_cleared = wiped_kept (length s) d₀ d₁ j.room_depths j.depths_wiped
 
@@ -85,14 +83,14 @@ module _ {s : List ℕ} {version root : ℕ} {d₀ s₀ d₁ s₁ d t : List ℕ
   sums_kept = kept_then sums_cleared j.judged.sums_kept
 
   -- what was found, of the file as it opens
-  case : (w : Verdict) → v ≡ w → JudgeCase (fst_of s j.open_file.meta) d₁ s₁ d t w
+  case : (w : Result ⊤ Refusal) → v ≡ w → JudgeCase (fst_of s j.open_file.meta) d₁ s₁ d t w
   case w e =
       subst (λ x. JudgeCase (fst_of s j.open_file.meta) d₁ s₁ d t x) e
       (subst (λ (f : Fst). JudgeCase f d₁ s₁ d t v) (opens_fst j.open_file) j.judged.found)
 
-  pub good_admits : v ≡ Good → Admits s d₀ s₀ d t
+  pub good_admits : v ≡ Ok tt → Admits s d₀ s₀ d t
   good_admits e =
-      let g = case Good e in
+      let g = case (Ok tt) e in
       record {
         admitted =
             record {
@@ -109,20 +107,18 @@ module _ {s : List ℕ} {version root : ℕ} {d₀ s₀ d₁ s₁ d t : List ℕ
         sums = holds_after sums_cleared g.sums;
       }
 
-  module _ {d' t' : List ℕ} {r : Result ⊤ Refusal} where
-    wiped_refused : {n : Refusal} → Wipes s d d' t t' r n → (Wiped (length s) d₀ d' → Wiped (length s) s₀ t' → RefusedFor s d₀ s₀ d' t' n) → Outcome s d₀ s₀ d' t' r
-    wiped_refused w why = subst (λ x. Outcome s d₀ s₀ d' t' x) (sym w.0) (why (wiped_after depths_kept w.1) (wiped_after sums_kept w.2))
+  -- a file with a wrong node, and both tables wiped
+  pub wrong_refused : {d' t' : List ℕ} {r : Result ⊤ Refusal} (n : Refusal) → Wipes s d d' t t' r n → v ≡ Err n → Outcome s d₀ s₀ d' t' r
+  wrong_refused {d'} {t'} n w e = subst (λ x. Outcome s d₀ s₀ d' t' x) (sym w.0) (by (case (Err n) e))
+    where
+      wd : Wiped (length s) d₀ d'
+      wd = wiped_after depths_kept w.1
 
-    pub lost_refused : Wipes s d d' t t' r NODE → v ≡ Lost → Outcome s d₀ s₀ d' t' r
-    lost_refused w e =
-        wiped_refused w (no_nodes j.open_file.meta j.open_file.opens j.room_depths j.room_sums refl (case Lost e))
+      ws : Wiped (length s) s₀ t'
+      ws = wiped_after sums_kept w.2
 
-    pub deep_refused : Wipes s d d' t t' r DEEP → v ≡ Deep → Outcome s d₀ s₀ d' t' r
-    deep_refused w e =
-        let g = case Deep e in
-        wiped_refused w (too_deep j.open_file.meta g.0 j.open_file.opens j.room_depths j.room_sums refl g.1 g.2)
-
-    pub heavy_refused : Wipes s d d' t t' r SUM → v ≡ Heavy → Outcome s d₀ s₀ d' t' r
-    heavy_refused w e =
-        let g = case Heavy e in
-        wiped_refused w (too_heavy j.open_file.meta g.0 j.open_file.opens j.room_depths j.room_sums refl g.1 g.2 g.3)
+      by : JudgeRefused (fst_of s j.open_file.meta) n → RefusedFor s d₀ s₀ d' t' n
+      by (JudgeRefused.lost is none) = no_nodes j.open_file.meta j.open_file.opens j.room_depths j.room_sums is none wd ws
+      by (JudgeRefused.deep is l nodes long) = too_deep j.open_file.meta l j.open_file.opens j.room_depths j.room_sums is nodes long wd ws
+      by (JudgeRefused.heavy is l nodes shallow large) =
+          too_heavy j.open_file.meta l j.open_file.opens j.room_depths j.room_sums is nodes shallow large wd ws

@@ -3,6 +3,8 @@
 --     reached_live        where all that is led to is passed, the mark 4 stands at the reached nodes and at no other
 --     filled_judges       what the pass up the file found, over the chain and over paths
 -- Assumes nothing.
+use Rattle.std.specs.Prelude.{Ok, Err, Result, ⊤}
+use Rattle.format.specs.declared.Refusal.{Refusal}
 use mathlib.Core.Path.{◌≡◌, sym, ap, ◌∙◌, subst}
 use mathlib.Core.Logic.{◌⊎◌, inl, inr, ⊎_elim}
 use mathlib.Core.List.{List, [], Memᴰ}
@@ -21,12 +23,10 @@ use Rattle.format.specs.Admitted.{Chain, empty, rooted, Nodes, Shallow, Light}
 use Rattle.format.specs.Laws.ChainLaws.{chain_sound, chain_low, chain_head, root_chain_unique, dec_mem}
 use Rattle.format.specs.Tables.{longest, largest_sum, InTable}
 use Rattle.format.specs.Laws.TableLaws.{longest_zero, largest_zero, longest_bound, largest_bound, longest_attained, largest_attained}
-use Rattle.admission_fill.specs.declared.Verdict.{Verdict}
-use Rattle.admission_fill.specs.declared.Verdict.TheVariants.{Good, Lost, Deep, Heavy}
 use Rattle.admission_node.specs.Entries.{Kept}
 use Rattle.admission_walk.specs.Walks.{Hit, Live, Source, ChainMarked}
-use Rattle.admission_fill.specs.Fills.{AllPassed, Fillable, LostOne, DeepOne, HeavyOne, GoodAll, FillCase, Filled}
-use Rattle.admission.specs.Outcome.{Holds, LongPath, LargeSum, Cleared, GoodNodes, JudgeCase, Judges}
+use Rattle.admission_fill.specs.Fills.{AllPassed, Fillable, LostOne, DeepOne, HeavyOne, GoodAll, FillRefused, FillCase, Filled}
+use Rattle.admission.specs.Outcome.{Holds, LongPath, LargeSum, Cleared, GoodNodes, JudgeRefused, JudgeCase, Judges}
 use Rattle.admission_node.specs.KeptLaws.{at_set, kept_none, kept_then}
 
 -- ---- root 0 has no chain
@@ -58,7 +58,7 @@ module _ {f : Fst} {d t : List ℕ} (z : f.root ≡ 0) (c : Cleared f.bytes d t 
         sums = holds_none z c.sums;
       }
 
-  pub root_zero_judges : Judges f d t d t Good
+  pub root_zero_judges : Judges f d t d t (Ok tt)
   root_zero_judges =
       record { depths_kept = kept_none (length f.bytes) d; sums_kept = kept_none (length f.bytes) t; found = root_zero_good }
 
@@ -245,13 +245,14 @@ module _ {f : Fst} {d l : List ℕ} (m : Marks f d l) where
         sums = holds_marks g.passed ks (λ j h. (g.sums j h).off) (λ j h. (g.sums j h).on);
       }
 
-  judge_case : {d₀ s₀ e s : List ℕ} → Kept (length f.bytes) d₀ e → Kept (length f.bytes) s₀ s → (v : Verdict) → FillCase f d e s v → JudgeCase f d₀ s₀ e s v
-  judge_case kd ks Good g = good_nodes kd ks g
-  judge_case kd ks Lost o = lost_nodes o
-  judge_case kd ks Deep o = (l, chain_nodes o.0, long_path o.0 o.1)
-  judge_case kd ks Heavy o = (l, chain_nodes o.passed, low_shallow o.passed o.low, large_sum o.passed o.one)
+  judge_case : {d₀ s₀ e s : List ℕ} → Kept (length f.bytes) d₀ e → Kept (length f.bytes) s₀ s → (v : Result ⊤ Refusal) → FillCase f d e s v → JudgeCase f d₀ s₀ e s v
+  judge_case kd ks (Ok tt) g = good_nodes kd ks g
+  judge_case kd ks (Err r) (FillRefused.lost is one) = JudgeRefused.lost is (lost_nodes one)
+  judge_case kd ks (Err r) (FillRefused.deep is passed one) = JudgeRefused.deep is l (chain_nodes passed) (long_path passed one)
+  judge_case kd ks (Err r) (FillRefused.heavy is o) =
+      JudgeRefused.heavy is l (chain_nodes o.passed) (low_shallow o.passed o.low) (large_sum o.passed o.one)
 
-  pub filled_judges : {d₀ s₀ e s : List ℕ} {v : Verdict} → Kept (length f.bytes) d₀ d → Filled f d s₀ e s v → Judges f d₀ s₀ e s v
+  pub filled_judges : {d₀ s₀ e s : List ℕ} {v : Result ⊤ Refusal} → Kept (length f.bytes) d₀ d → Filled f d s₀ e s v → Judges f d₀ s₀ e s v
   filled_judges {v = v} k r =
       let kd = kept_then k r.depths_kept in
       record { depths_kept = kd; sums_kept = r.sums_kept; found = judge_case kd r.sums_kept v r.found }

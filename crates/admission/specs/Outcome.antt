@@ -14,8 +14,6 @@ use Rattle.format.specs.Paths.{Fst, fst_of, node_in, Path, Reached}
 use Rattle.format.specs.Admitted.{Nodes, Shallow, Light, Admitted}
 use Rattle.format.specs.Tables.{longest, largest_sum, InTable}
 use Rattle.admission_node.specs.Entries.{Kept}
-use Rattle.admission_fill.specs.declared.Verdict.{Verdict}
-use Rattle.admission_fill.specs.declared.Verdict.TheVariants.{Good, Lost, Deep, Heavy}
 
 -- ---- the tables
 
@@ -98,13 +96,16 @@ pub record GoodNodes (f : Fst) (d₀ s₀ d t : List ℕ) : Type 0 where
   pub depths : Holds (λ a. longest f a + 1) (InTable f) (length f.bytes) d₀ d
   pub sums : Holds (largest_sum f) (InTable f) (length f.bytes) s₀ t
 
-abbrev pub JudgeCase : Fst → List ℕ → List ℕ → List ℕ → List ℕ → Verdict → Type 0
-JudgeCase f d₀ s₀ d t Good = GoodNodes f d₀ s₀ d t
-JudgeCase f d₀ s₀ d t Lost = (l : List ℕ) → ¬ Nodes f l
-JudgeCase f d₀ s₀ d t Deep = (l : List ℕ) × Nodes f l × LongPath f
-JudgeCase f d₀ s₀ d t Heavy = (l : List ℕ) × Nodes f l × Shallow f × LargeSum f
+pub data JudgeRefused (f : Fst) (r : Refusal) : Type 0 where
+  lost : r ≡ NODE → ((l : List ℕ) → ¬ Nodes f l) → JudgeRefused f r
+  deep : r ≡ DEEP → (l : List ℕ) → Nodes f l → LongPath f → JudgeRefused f r
+  heavy : r ≡ SUM → (l : List ℕ) → Nodes f l → Shallow f → LargeSum f → JudgeRefused f r
 
-pub record Judges (f : Fst) (d₀ s₀ d t : List ℕ) (v : Verdict) : Type 0 where
+abbrev pub JudgeCase : Fst → List ℕ → List ℕ → List ℕ → List ℕ → Result ⊤ Refusal → Type 0
+JudgeCase f d₀ s₀ d t (Ok tt) = GoodNodes f d₀ s₀ d t
+JudgeCase f d₀ s₀ d t (Err r) = JudgeRefused f r
+
+pub record Judges (f : Fst) (d₀ s₀ d t : List ℕ) (v : Result ⊤ Refusal) : Type 0 where
   pub depths_kept : Kept (length f.bytes) d₀ d
   pub sums_kept : Kept (length f.bytes) s₀ t
   pub found : JudgeCase f d₀ s₀ d t v

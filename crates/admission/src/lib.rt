@@ -2,28 +2,28 @@
 // A pass from the root down judges each node of the chain, once, and marks what it leads to (`admission_walk`). Then a pass in ascending
 // order of addresses works out the longest path and the largest sum of each reached node from those of its targets (`admission_fill`).
 // There is no recursion, and no memory but the two lent tables.
-// depths and sums are two slices and no struct: the C caller lends them one by one, and the definitions speak of each.
+// depths and sums are two slices and no struct, as admission_node says: the pass down takes the depths alone.
 #![tactic(auto)]
 
 ghost use Rattle.std.specs.Prelude.{◌≡◌, ◌++◌, ◌≤◌, length, drop, replicate};
 ghost use Rattle.format.specs.View.{fst_is};
 ghost use Rattle.admission.specs.Outcome.{Cleared, Judges, Opens, Outcome};
 
-use admission_fill::{Verdict, fill};
+use admission_fill::fill;
 use admission_walk::walk;
 use format::{FstRef, Refusal};
 
 // Judges all nodes, with both tables at zero over the file; root 0 has no chain.
-fn judge(fst: FstRef<'_>, depths: &mut [u16], sums: &mut [u64]) -> Verdict
+fn judge(fst: FstRef<'_>, depths: &mut [u16], sums: &mut [u64]) -> Result<(), Refusal>
     requires { Cleared fst.bytes.now depths.old sums.old fst.root }
     ensures { Judges (fst_is fst.entry) depths.old
         sums.old depths.new sums.new result }
 {
     if fst.root == 0 {
-        return Verdict::Good;
+        return Ok(());
     }
     if !walk(fst, depths) {
-        return Verdict::Lost;
+        return Err(Refusal::Node);
     }
     // address 0 may have a mark, and is no node of the chain
     depths[0] = 0;
@@ -50,20 +50,14 @@ fn admit_opened(fst: FstRef<'_>, depths: &mut [u16], sums: &mut [u64]) -> Result
         depths.new sums.new result }
 {
     let n = fst.bytes.len();
-    if depths.len() < n {
-        return Err(Refusal::Space);
-    }
-    if sums.len() < n {
+    if depths.len() < n || sums.len() < n {
         return Err(Refusal::Space);
     }
     depths[..n].fill(0);
     sums[..n].fill(0);
-    let v = judge(fst, depths, sums);
-    match v {
-        Verdict::Good => Ok(()),
-        Verdict::Lost => refused(depths, sums, n, Refusal::Node),
-        Verdict::Deep => refused(depths, sums, n, Refusal::Deep),
-        Verdict::Heavy => refused(depths, sums, n, Refusal::Sum),
+    match judge(fst, depths, sums) {
+        Ok(()) => Ok(()),
+        Err(found) => refused(depths, sums, n, found),
     }
 }
 

@@ -3,34 +3,32 @@
 --     DepthE, SumE          the entries for an address that is passed
 --     Filling f ..          all of this, with the flags
 -- Assumes nothing.
-use Rattle.std.specs.Prelude.{Option, Some}
+use Rattle.std.specs.Prelude.{Option, Some, Ok, Err, Result, ⊤}
 use mathlib.Core.Path.{◌≡◌, refl, sym, ap, ◌∙◌}
 use mathlib.Core.Bool.{Bool, true, false, cond}
 use mathlib.Core.List.{List, Memᴰ}
 use Prim.Native.Nat.{ℕ, ◌+◌, ◌≤◌, ◌<◌, min}
 use native.Mathlib.Omega.{arith}
 use native.Mathlib.Decide.{ℕ_discrete}
-use native.Mathlib.Nat.{not-suc-le-zero}
 use borrow.Author.Count.{below_more}
 use borrow.Author.Tests.{ltb-true, ltb-false}
 use lib.Dec.{ltb}
 use lib.ListN.{length, get_or, set}
 use Rattle.format.specs.declared.Transition.{Transition}
-use Rattle.format.specs.Limits.{max_path, max_sum}
+use Rattle.format.specs.declared.Refusal.{Refusal}
+use Rattle.format.specs.Limits.{max_path, max_sum, DEEP, SUM}
 use Rattle.format.specs.Node.{Node, sound}
 use Rattle.format.specs.Paths.{Fst, node_in}
 use Rattle.format.specs.Laws.NodeFacts.{node_target_lt, node_final_lt}
 use Rattle.format.specs.Tables.{longest, largest_sum}
 use Rattle.admission_node.specs.declared.Survey.{Survey}
-use Rattle.admission_fill.specs.declared.Verdict.{Verdict}
-use Rattle.admission_fill.specs.declared.Verdict.TheVariants.{Deep, Good, Heavy}
 use Rattle.admission_node.specs.Entries.{Kept, deepest, heaviest, total_as, entry_is, or_over, Surveyable, SurveyableAt, SurveyedAt}
 use Rattle.admission_walk.specs.Walks.{Live}
-use Rattle.admission_fill.specs.Fills.{AllPassed, Fillable, LostOne, DeepOne, HeavyOne, GoodAll, HeavyCase, FillCase, Filled}
-use Rattle.admission_node.specs.KeptLaws.{kept_none, kept_set}
+use Rattle.admission_fill.specs.Fills.{AllPassed, Fillable, DeepOne, HeavyOne, GoodAll, HeavyCase, FillRefused, FillCase, Filled}
+use Rattle.admission_node.specs.KeptLaws.{kept_set}
 use Rattle.admission_node.specs.TotalLaws.{total_cases}
 use Rattle.admission_walk.specs.SoundNodeLaws.{sound_node}
-use Rattle.admission_fill.proofs.HalfFilled.{Half, half_none, half_skip, half_store, half_map}
+use Rattle.admission_fill.proofs.HalfFilled.{Half, half_skip, half_store, half_map}
 use Rattle.admission_node.specs.ChildLaws.{child_depth_le, deepest_is, heaviest_is}
 
 pub record DepthE (f : Fst) (d₀ : List ℕ) (deep : Bool) (j x : ℕ) : Type 0 where
@@ -55,9 +53,6 @@ pub record Filling (f : Fst) (d₀ s₀ d s : List ℕ) (deep heavy : Bool) (a :
 
 -- ---- the addresses that are passed
 
-passed_none : (d : List ℕ) → AllPassed d 0
-passed_none d = record { each = λ j h. absurd (not-suc-le-zero h) }
-
 passed_step : {d : List ℕ} {a : ℕ} → AllPassed d a → (1 ≤ get_or d a 0 → 3 ≤ get_or d a 0) → AllPassed d (a + 1)
 passed_step {d} {a} before this = record { each = below_more (λ j. 1 ≤ get_or d j 0 → 3 ≤ get_or d j 0) a before.each this }
 
@@ -76,18 +71,6 @@ deep_up true false f g e = g refl refl
 deep_up false false f g e = no_flag e
 
 -- ---- the pass
-
-pub filling_none : (f : Fst) (d s : List ℕ) → Filling f d s d s false false 0
-filling_none f d s =
-    record {
-      depths_kept = kept_none (length f.bytes) d;
-      sums_kept = kept_none (length f.bytes) s;
-      depths = half_none (DepthE f d false) d;
-      sums = half_none (SumE f d false) s;
-      passed = passed_none d;
-      one_deep = no_flag;
-      one_heavy = no_flag;
-    }
 
 module _ {f : Fst} {d₀ s₀ d s : List ℕ} {deep heavy : Bool} {a : ℕ} (h : Filling f d₀ s₀ d s deep heavy a) where
   -- the mark of a is as it was
@@ -108,10 +91,6 @@ module _ {f : Fst} {d₀ s₀ d s : List ℕ} {deep heavy : Bool} {a : ℕ} (h :
         one_deep = h.one_deep;
         one_heavy = h.one_heavy;
       }
-
-  -- an address that a node leads to, and that is not passed
-  pub filling_lost : a < length f.bytes → ¬ (get_or d a 0 ≡ 0) → get_or d a 0 < 3 → LostOne f d₀
-  filling_lost inside some small = record { at = a; inside = inside; led = omega (arith, mark_was); lost = omega (arith, mark_was) }
 
   module _ (ok : Fillable f d₀ s₀) (inside : a < length f.bytes) (chain : 3 ≤ get_or d a 0) where
     live_here : ¬ (get_or d a 0 ≡ 3) → Live d₀ a
@@ -242,7 +221,7 @@ pub filling_as : {f : Fst} {d₀ s₀ d d' s s' : List ℕ} {deep deep' heavy he
 filling_as p q r k h = rw (p, q, r, k) h
 
 -- a way out of the pass, with what was found
-pub filling_ends : {f : Fst} {d₀ s₀ d s : List ℕ} {deep heavy : Bool} {a : ℕ} → Filling f d₀ s₀ d s deep heavy a → (v : Verdict) → FillCase f d₀ d s v
+pub filling_ends : {f : Fst} {d₀ s₀ d s : List ℕ} {deep heavy : Bool} {a : ℕ} → Filling f d₀ s₀ d s deep heavy a → (v : Result ⊤ Refusal) → FillCase f d₀ d s v
     → Filled f d₀ s₀ d s v
 filling_ends h v found = record { depths_kept = h.depths_kept; sums_kept = h.sums_kept; found = found }
 
@@ -268,11 +247,11 @@ module _ {f : Fst} {d₀ s₀ d s : List ℕ} {deep heavy : Bool} {a : ℕ} (h :
             record { off = e.off; on = e.on no_heavy; low = e.fine no_heavy };
       }
 
-  verdict_case : (x y : Bool) → deep ≡ x → heavy ≡ y → FillCase f d₀ d s (cond x Deep (cond y Heavy Good))
-  verdict_case true y is _ = (passed_all, h.one_deep is)
-  verdict_case false true low is = filled_heavy low is
+  verdict_case : (x y : Bool) → deep ≡ x → heavy ≡ y → FillCase f d₀ d s (cond x (Err DEEP) (cond y (Err SUM) (Ok tt)))
+  verdict_case true y is _ = FillRefused.deep refl passed_all (h.one_deep is)
+  verdict_case false true low is = FillRefused.heavy refl (filled_heavy low is)
   verdict_case false false low light = filled_good low light
 
   -- the two flags tell
-  pub filling_told : (v : Verdict) → v ≡ cond deep Deep (cond heavy Heavy Good) → Filled f d₀ s₀ d s v
+  pub filling_told : (v : Result ⊤ Refusal) → v ≡ cond deep (Err DEEP) (cond heavy (Err SUM) (Ok tt)) → Filled f d₀ s₀ d s v
   filling_told v e = filling_ends h v (rw e (verdict_case deep heavy refl refl))

@@ -1,10 +1,9 @@
 -- A table that is filled in ascending order: the entries below a are as E wants them, the others as they were.
 -- Assumes nothing.
-use mathlib.Core.Path.{◌≡◌, refl}
+use mathlib.Core.Path.{◌≡◌}
 use mathlib.Core.List.{List}
 use Prim.Native.Nat.{ℕ, ◌+◌, ◌≤◌, ◌<◌}
 use native.Mathlib.Omega.{arith}
-use native.Mathlib.Nat.{not-suc-le-zero}
 use borrow.Author.Count.{below_more}
 use lib.ListN.{length, get_or, set}
 use Rattle.admission_node.specs.KeptLaws.{at_set}
@@ -12,9 +11,6 @@ use Rattle.admission_node.specs.KeptLaws.{at_set}
 pub record Half (E : ℕ → ℕ → Type 0) (d₀ d : List ℕ) (a : ℕ) : Type 0 where
   pub below : (j : ℕ) → j < a → E j (get_or d j 0)
   pub above : (j : ℕ) → a ≤ j → get_or d j 0 ≡ get_or d₀ j 0
-
-pub half_none : (E : ℕ → ℕ → Type 0) (d : List ℕ) → Half E d d 0
-half_none E d = record { below = λ j h. absurd (not-suc-le-zero h); above = λ j h. refl }
 
 -- an entry that is right as it stands
 pub half_skip : {E : ℕ → ℕ → Type 0} {d₀ d : List ℕ} {a : ℕ} → Half E d₀ d a → E a (get_or d a 0) → Half E d₀ d (a + 1)

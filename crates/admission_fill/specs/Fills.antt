@@ -2,17 +2,16 @@
 -- (admission_walk `Walks`).
 --     Filled                  the pass's answer
 -- Assumes nothing.
-use Rattle.std.specs.Prelude.{◌≡◌, ℕ, ◌+◌, ◌≤◌, ◌<◌, length, get_or}
+use Rattle.std.specs.Prelude.{◌≡◌, ℕ, ◌+◌, ◌≤◌, ◌<◌, length, get_or, Ok, Err, Result, ⊤}
 use mathlib.Core.List.{List, Memᴰ}
 use Rattle.format.specs.declared.Transition.{Transition}
-use Rattle.format.specs.Limits.{max_path, max_sum}
+use Rattle.format.specs.declared.Refusal.{Refusal}
+use Rattle.format.specs.Limits.{max_path, max_sum, NODE, DEEP, SUM}
 use Rattle.format.specs.Node.{Node, sound, SoundAt}
 use Rattle.format.specs.Paths.{Fst, node_in}
 use Rattle.format.specs.Tables.{longest, largest_sum}
 use Rattle.admission_node.specs.Entries.{Kept}
 use Rattle.admission_walk.specs.Walks.{Hit, Live}
-use Rattle.admission_fill.specs.declared.Verdict.{Verdict}
-use Rattle.admission_fill.specs.declared.Verdict.TheVariants.{Good, Lost, Deep, Heavy}
 
 -- no mark 1 or 2 stands below a: every address that a node leads to is passed
 pub record AllPassed (d : List ℕ) (a : ℕ) : Type 0 where
@@ -68,13 +67,17 @@ pub record HeavyCase (f : Fst) (d₀ : List ℕ) : Type 0 where
   pub low : (j : ℕ) → j < length f.bytes → Live d₀ j → longest f j ≤ max_path
   pub one : HeavyOne f d₀
 
-abbrev pub FillCase : Fst → List ℕ → List ℕ → List ℕ → Verdict → Type 0
-FillCase f d₀ d s Good = GoodAll f d₀ d s
-FillCase f d₀ d s Lost = LostOne f d₀
-FillCase f d₀ d s Deep = AllPassed d₀ (length f.bytes) × DeepOne f d₀
-FillCase f d₀ d s Heavy = HeavyCase f d₀
+-- NODE at a target that is no node of the chain, then DEEP and SUM, each decided over the whole file
+pub data FillRefused (f : Fst) (d₀ : List ℕ) (r : Refusal) : Type 0 where
+  lost : r ≡ NODE → LostOne f d₀ → FillRefused f d₀ r
+  deep : r ≡ DEEP → AllPassed d₀ (length f.bytes) → DeepOne f d₀ → FillRefused f d₀ r
+  heavy : r ≡ SUM → HeavyCase f d₀ → FillRefused f d₀ r
 
-pub record Filled (f : Fst) (d₀ s₀ d s : List ℕ) (v : Verdict) : Type 0 where
+abbrev pub FillCase : Fst → List ℕ → List ℕ → List ℕ → Result ⊤ Refusal → Type 0
+FillCase f d₀ d s (Ok tt) = GoodAll f d₀ d s
+FillCase f d₀ d s (Err r) = FillRefused f d₀ r
+
+pub record Filled (f : Fst) (d₀ s₀ d s : List ℕ) (v : Result ⊤ Refusal) : Type 0 where
   pub depths_kept : Kept (length f.bytes) d₀ d
   pub sums_kept : Kept (length f.bytes) s₀ s
   pub found : FillCase f d₀ d s v

@@ -1,43 +1,32 @@
 // The pass of admission in ascending order of addresses: it works out the longest path and the largest sum of each reached node from those of
 // its targets, which lie below it.
-// depths and sums are two slices and no struct: the C caller lends them one by one, and the definitions speak of each.
+// depths and sums are two slices and no struct, as admission_node says: the pass before this one takes the depths alone.
 #![tactic(auto)]
 
 ghost use Rattle.std.specs.Prelude.{◌≡◌, cond};
 ghost use Rattle.format.specs.View.{fst_is};
 ghost use Rattle.admission_fill.specs.Fills.{Fillable, Filled};
-ghost use Rattle.admission_fill.specs.declared.Verdict.TheVariants.{Deep, Good, Heavy};
+ghost use Rattle.format.specs.Limits.{DEEP, SUM};
 
 use admission_node::{UNUSED, clamped, entry_of, or_deep, or_over, survey_at};
-use format::{FstRef, are_bytes};
-
-// What judging the nodes found: nothing wrong, or the first of document 01's refusals that holds over the whole file.
-#[derive(Clone, Copy)]
-pub enum Verdict {
-    Good,
-    // an unsound node, a broken chain, or a target that is no chain address
-    Lost,
-    // a path over 255 from a reached node
-    Deep,
-    // a sum past 2^64 - 1 from a reached node
-    Heavy,
-}
+use format::{FstRef, Refusal, are_bytes};
 
 // What the two flags say once all nodes are passed: DEEP is decided over all reached nodes, and SUM after it.
-fn verdict_of(deep: bool, heavy: bool) -> Verdict
-    ensures { result ≡ cond deep Deep (cond heavy Heavy Good) }
+fn told_by(deep: bool, heavy: bool) -> Result<(), Refusal>
+    ensures { result ≡ cond deep (Err DEEP) (cond heavy (Err SUM) (Ok tt)) }
 {
     if deep {
-        Verdict::Deep
+        Err(Refusal::Deep)
     } else if heavy {
-        Verdict::Heavy
+        Err(Refusal::Sum)
     } else {
-        Verdict::Good
+        Ok(())
     }
 }
 
-// Fills both tables at the marks, in ascending order of addresses. The sums' entries are zeros at entry.
-pub fn fill(fst: FstRef<'_>, depths: &mut [u16], sums: &mut [u64]) -> Verdict
+// Fills both tables at the marks, in ascending order of addresses, or says the first of document 01's refusals that holds over the whole
+// file. The sums' entries are zeros at entry.
+pub fn fill(fst: FstRef<'_>, depths: &mut [u16], sums: &mut [u64]) -> Result<(), Refusal>
     requires { Fillable (fst_is fst) depths.old sums.old }
     ensures { Filled (fst_is fst.entry) depths.old
         sums.old depths.new sums.new result }
@@ -51,7 +40,7 @@ pub fn fill(fst: FstRef<'_>, depths: &mut [u16], sums: &mut [u64]) -> Verdict
             // a node leads here, and here is none of the chain
             let lost = mark < UNUSED;
             if lost {
-                return Verdict::Lost;
+                return Err(Refusal::Node);
             }
             let s = survey_at(fst, a, mark, depths, sums);
             let d = s.depth;
@@ -62,5 +51,5 @@ pub fn fill(fst: FstRef<'_>, depths: &mut [u16], sums: &mut [u64]) -> Verdict
             sums[a] = entry_of(t);
         }
     }
-    verdict_of(deep, heavy)
+    told_by(deep, heavy)
 }

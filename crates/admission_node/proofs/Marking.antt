@@ -1,7 +1,7 @@
 -- The marks that one node gives to its targets: what is known after the first i of its transitions.
 --     MarkedTo ..       their targets have at least the mark, and no entry is lowered or raised otherwise
 -- Assumes nothing.
-use mathlib.Core.Path.{◌≡◌, refl, sym, ap, subst}
+use mathlib.Core.Path.{◌≡◌, refl, sym, subst}
 use mathlib.Core.Logic.{◌⊎◌, inl, inr}
 use mathlib.Core.List.Memᴰ
 use mathlib.Core.List.{List, Memᴰ}
@@ -14,11 +14,8 @@ use Rattle.format.specs.Node.{Node, sound, SoundAt, transition_at}
 use Rattle.format.specs.Paths.{Fst, node_in}
 use Rattle.format.specs.Laws.NodeFacts.{node_target_lt}
 use Rattle.format.specs.Laws.TransitionLaws.{at_member}
-use Rattle.admission_node.specs.Entries.{Kept, TargetIn, Markable, MarksTargets, MarksAt}
+use Rattle.admission_node.specs.Entries.{Kept, TargetIn, Markable, MarksTargets}
 use Rattle.admission_node.specs.KeptLaws.{at_set, kept_none, kept_set}
-use Rattle.node.specs.declared.Node as Node
-use Rattle.node.specs.Read.{transitions_in}
-use Rattle.admission_node.proofs.JudgedNodes.{Single}
 use Rattle.admission_node.proofs.Surveying.{each_more}
 
 pub record MarkedTo (n mark : ℕ) (ts : List Transition) (d₀ d : List ℕ) (i : ℕ) : Type 0 where
@@ -77,24 +74,12 @@ pub markable_node : (f : Fst) (a : ℕ) (m : Node) (d : List ℕ) → node_in f 
     → Markable (length f.bytes) d m.transitions
 markable_node f a m d e h room = record { room = room; inside = λ t mem. omega (arith, node_target_lt f a m e t mem, h.inside) }
 
-pub marks_at : {f : Fst} {a mark : ℕ} {d₀ d : List ℕ} (m : Node) → node_in f a ≡ sound m → MarksTargets (length f.bytes) mark m.transitions d₀ d
-    → MarksAt f a mark d₀ d m.first
-marks_at {f} {a} {mark} {d₀} {d} m e h =
-    record {
-      marks = λ n e'.
-          let same : m ≡ n = cc in
-          subst (λ (x : Node). MarksTargets (length f.bytes) mark x.transitions d₀ d) same h;
-      first_is = λ n e'. let same : m ≡ n = cc in ap (λ (x : Node). x.first) same;
-    }
-
 -- ---- a node with one transition
 
-module _ {f : Fst} {a : ℕ} {m : Node.Node} {d : List ℕ} (able : Markable (length f.bytes) d (transitions_in f.bytes m)) (one : Single f a m)
-    (t : ℕ) (t_is : t ≡ (transition_at (transitions_in f.bytes m) 0).addr) where
-  pub single_inside : t < length d
-  single_inside = mark_room able 0 (omega (arith, one.listed)) t t_is (marked_none _ 0 _ _)
+module _ {n : ℕ} {ts : List Transition} {d : List ℕ} (ok : Markable n d ts) (one : length ts ≡ 1) (a : ℕ) (a_is : a ≡ (transition_at ts 0).addr) where
+  pub single_inside : a < length d
+  single_inside = mark_room ok 0 (omega (arith, one)) a a_is (marked_none _ 0 _ _)
 
-  pub single_marked : (mark x : ℕ) → x ≡ max (get_or d t 0) mark → MarksAt f a mark d (set d t x) m.first
+  pub single_marked : (mark x : ℕ) → x ≡ max (get_or d a 0) mark → MarksTargets n mark ts d (set d a x)
   single_marked mark x x_is =
-      marks_at _ one.node_is
-      (marked_all (marked_step able 0 (omega (arith, one.listed)) t t_is (marked_none _ mark _ _) x x_is) (omega (arith, one.listed)))
+      marked_all (marked_step ok 0 (omega (arith, one)) a a_is (marked_none _ mark _ _) x x_is) (omega (arith, one))

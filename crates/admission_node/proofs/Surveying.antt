@@ -13,15 +13,10 @@ use lib.ListN.{length, take}
 use lib.Seq.{take-suc, take_all}
 use Rattle.format.specs.declared.Transition.{Transition}
 use Rattle.format.specs.Limits.{max_path}
-use Rattle.format.specs.Node.{Node, sound, transition_at}
-use Rattle.format.specs.Paths.{Fst, node_in}
+use Rattle.format.specs.Node.{transition_at}
 use Rattle.format.specs.Laws.TransitionLaws.{at_member}
 use Rattle.format.specs.Tables.{max_of}
-use Rattle.admission_node.specs.declared.Survey.{Survey}
-use Rattle.admission_node.specs.Entries.{child_depth, child_sum, deepest, heaviest, total_as, raised_by, Surveyable, Surveyed, SurveyReady, SurveyedNode, SurveyedAt}
-use Rattle.node.specs.declared.Node as Node
-use Rattle.node.specs.Read.{transitions_in}
-use Rattle.admission_node.proofs.JudgedNodes.{Single}
+use Rattle.admission_node.specs.Entries.{child_depth, child_sum, deepest, heaviest, total_as, raised_by, Surveyable, Surveyed}
 use Rattle.admission_node.specs.TotalLaws.{total_of_le, raised_total}
 
 -- ---- the largest over one transition more
@@ -111,42 +106,12 @@ surveyed_all {d} {s} {out} {ts} {i} {best} {total} h l =
       total = h.total_is ∙ ap (λ u. total_as (heaviest s out u)) all;
     }
 
--- ---- the node at an address
-
-pub surveyed_node : {f : Fst} {d s : List ℕ} {a : ℕ} {r : Survey} (m : Node) → node_in f a ≡ sound m → Surveyed d s m.final_output m.transitions r
-    → SurveyedNode f d s a r
-surveyed_node {f} {d} {s} {r = r} m e h =
-    record { each = λ n e'. let same : m ≡ n = cc in subst (λ (x : Node). Surveyed d s x.final_output x.transitions r) same h }
-
 -- ---- a node with one transition
 
-module _ {f : Fst} {a : ℕ} {m : Node.Node} {d s : List ℕ} (one : Single f a m) (ready : SurveyReady f d s a) (t : ℕ)
-    (t_is : t ≡ (transition_at (transitions_in f.bytes m) 0).addr) where
-  able : Surveyable d s m.final_output (transitions_in f.bytes m)
-  able = ready.each _ one.node_is
-
-  pub single_in_depths : t < length d
-  single_in_depths = target_in_depths able 0 (omega (arith, one.listed)) t t_is
-
-  pub single_in_sums : t < length s
-  single_in_sums = target_in_sums able 0 (omega (arith, one.listed)) t t_is
-
-  module _ (c : ℕ) (c_is : c ≡ child_depth d t) where
-    pub single_small : c ≤ max_path + 2
-    single_small = target_small able 0 (omega (arith, one.listed)) t t_is c c_is
-
-    pub single_surveyed : (w x : ℕ) (total : Option ℕ) → x ≡ child_sum s t → w ≡ (transition_at (transitions_in f.bytes m) 0).out
-        → total ≡ raised_by (Some m.final_output) (w + x) → SurveyedNode f d s a (record { depth = c + 1; total = total })
-    single_surveyed w x total x_is w_is total_is =
-        surveyed_node _ one.node_is
-        (surveyed_all
-        (surveyed_step able 0 (omega (arith, one.listed)) t t_is c c_is w x c total (surveyed_none able) x_is w_is (omega arith) total_is)
-        (omega (arith, one.listed)))
-
--- ---- by the mark
-
-pub unused_surveyed : {f : Fst} {d s : List ℕ} {a mark : ℕ} → mark ≡ 3 → SurveyedAt f d s a mark (record { depth = 0; total = Some 0 })
-unused_surveyed is = record { no_depth = λ _. refl; no_total = λ _. refl; found = λ ne. absurd (ne is) }
-
-pub surveyed_at : {f : Fst} {d s : List ℕ} {a mark : ℕ} {r : Survey} → ¬ (mark ≡ 3) → SurveyedNode f d s a r → SurveyedAt f d s a mark r
-surveyed_at ne h = record { no_depth = λ is. absurd (ne is); no_total = λ is. absurd (ne is); found = λ _. h }
+pub surveyed_single : {d s : List ℕ} {out : ℕ} {ts : List Transition} → Surveyable d s out ts → length ts ≡ 1 → (a : ℕ) → a ≡ (transition_at ts 0).addr
+    → (c : ℕ) → c ≡ child_depth d a → (w x : ℕ) (total : Option ℕ) → x ≡ child_sum s a → w ≡ (transition_at ts 0).out
+    → total ≡ raised_by (Some out) (w + x) → Surveyed d s out ts (record { depth = c + 1; total = total })
+surveyed_single ok one a a_is c c_is w x total x_is w_is total_is =
+    surveyed_all
+    (surveyed_step ok 0 (omega (arith, one)) a a_is c c_is w x c total (surveyed_none ok) x_is w_is (omega arith) total_is)
+    (omega (arith, one))

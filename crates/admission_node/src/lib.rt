@@ -1,15 +1,16 @@
 // What admission does at one node: on the way down the node marks what it leads to, on the way up it is surveyed, that is, its longest path and
 // its largest sum come from the entries of its targets.
-// depths and sums are two slices and no struct: the C caller lends them one by one, and the definitions speak of each.
-// What is asked of the address and of the tables stands in each contract: no type has the file, the address and the tables that they speak of.
+// depths and sums are two slices and no struct: `mark_at` and admission_walk's `walk` take the depths alone, `survey_at` reads both, and
+// admission_fill's `fill` writes both. One value of both, made of the two that the C caller lends, would be taken apart for the first two.
+// What is asked of an address or a node, and of the tables, stands in the contract of each function that takes them: no type has all of these.
 #![tactic(auto)]
 
-ghost use Rattle.std.specs.Prelude.{◌≡◌, true, cond, min, ◌+◌, ◌≤◌, ◌<◌, ltb, length, get_or};
+ghost use Rattle.std.specs.Prelude.{◌≡◌, true, cond, min, ◌+◌, ◌≤◌, ◌<◌, ltb, length};
 ghost use Rattle.format.specs.Limits.{max_levels};
 ghost use Rattle.format.specs.Node.{SoundAt};
 ghost use Rattle.format.specs.View.{fst_is};
 ghost use Rattle.node.specs.Read.{transitions_in, Readable};
-ghost use Rattle.admission_node.specs.Entries.{Markable, MarksTargets, MarksAt, child_depth, child_sum, raised_by, Surveyable, Surveyed, SurveyReady, SurveyedNode, SurveyableAt, SurveyedAt, entry_is, or_over};
+ghost use Rattle.admission_node.specs.Entries.{Markable, MarksTargets, MarksAt, child_depth, child_sum, raised_by, Surveyable, Surveyed, SurveyableAt, SurveyedAt, entry_is, or_over};
 
 use format::{FstRef, LEVELS};
 use node::Node;
@@ -18,12 +19,15 @@ use node::Node;
 const DEEPEST: u16 = LEVELS as u16;
 
 // The marks of the pass down, until the pass up comes to their place: where a node leads that is not reached, where a reached one
-// does, and a node passed that is not reached; 4 is a node passed that is.
+// does, a node passed that is not reached, and a node passed that is. They are numbers, since they stand in the depths' table, which the
+// caller lends as u16.
 const LED: u16 = 1;
 
 pub const HIT: u16 = 2;
 
 pub const UNUSED: u16 = 3;
+
+pub const USED: u16 = 4;
 
 // What the entries of a node's targets say: 1 plus the longest path, and the largest sum, or None where one passes 2^64 - 1.
 #[derive(Clone, Copy)]
@@ -83,40 +87,19 @@ fn survey_node(file: &[u8], node: Node, depths: &[u16], sums: &[u64]) -> Survey
     }
 }
 
-// The same of a sound node with one transition: its form is known, so no node is made.
-// `survey_next` is a function of its own: one for both would ask for either range of the state byte by a case, and choose the one call
-// in which they differ.
-fn survey_one(fst: FstRef<'_>, a: usize, depths: &[u16], sums: &[u64]) -> Survey
-    requires { SoundAt fst.bytes.now fst.version fst.root a × (128 ≤ get_or fst.bytes.now a 0) × (get_or fst.bytes.now a 0 < 192)
-        × SurveyReady (fst_is fst) depths.now sums.now a }
-    ensures { SurveyedNode (fst_is fst.entry) depths.now
-        sums.now a result }
+// The same of a node with one transition. Tried, unproved: where `survey_node` and `mark_targets` take these too, an admission of words takes
+// 7 percent more instructions and 10 percent more time, and words miss docs/PERFORMANCE.md's aim for admission, 0.6 of the earlier time, by more.
+fn survey_one(file: &[u8], node: Node, depths: &[u16], sums: &[u64]) -> Survey
+    requires { Readable file.now node × (node.ntrans ≡ 1) × Surveyable depths.now sums.now
+        node.final_output (transitions_in file.now node) }
+    ensures { Surveyed depths.now sums.now node.final_output
+        (transitions_in file.now node) result }
 {
-    let m = node::one_node(fst, a);
-    let t = node::transition_addr(fst.bytes, m, 0);
+    let t = node::transition_addr(file, node, 0);
     let d = child_depth(depths, t);
     let s = child_sum(sums, t);
-    let w = node::output(fst.bytes, m, 0);
-    let total = raised(Some(m.final_output), w, s);
-    Survey {
-        depth: d + 1,
-        total,
-    }
-}
-
-// The same of a sound node with one transition to the node just below it: its form is known, so no node is made.
-fn survey_next(fst: FstRef<'_>, a: usize, depths: &[u16], sums: &[u64]) -> Survey
-    requires { SoundAt fst.bytes.now fst.version fst.root a × (192 ≤ get_or fst.bytes.now a 0)
-        × SurveyReady (fst_is fst) depths.now sums.now a }
-    ensures { SurveyedNode (fst_is fst.entry) depths.now
-        sums.now a result }
-{
-    let m = node::next_node(fst, a);
-    let t = node::transition_addr(fst.bytes, m, 0);
-    let d = child_depth(depths, t);
-    let s = child_sum(sums, t);
-    let w = node::output(fst.bytes, m, 0);
-    let total = raised(Some(m.final_output), w, s);
+    let w = node::output(file, node, 0);
+    let total = raised(Some(node.final_output), w, s);
     Survey {
         depth: d + 1,
         total,
@@ -124,6 +107,8 @@ fn survey_next(fst: FstRef<'_>, a: usize, depths: &[u16], sums: &[u64]) -> Surve
 }
 
 // The same for the address a of the chain, which has this mark. A node that is not reached is not read: its entries are 0.
+// The node's form is asked here. Tried, unproved: with the node made by `node_of` an admission of words takes 16 to 18 percent longer, and 12
+// percent where `node_of` stands inline, and words miss the same aim by more.
 pub fn survey_at(fst: FstRef<'_>, a: usize, mark: u16, depths: &[u16], sums: &[u64]) -> Survey
     requires { SurveyableAt (fst_is fst) depths.now sums.now a mark }
     ensures { SurveyedAt (fst_is fst.entry) depths.now
@@ -135,15 +120,11 @@ pub fn survey_at(fst: FstRef<'_>, a: usize, mark: u16, depths: &[u16], sums: &[u
             total: Some(0),
         };
     }
-    let state = fst.bytes[a];
-    if state < 128 {
-        let m = node::any_node(fst, a);
-        return survey_node(fst.bytes, m, depths, sums);
+    match fst.bytes[a] {
+        0..=127 => survey_node(fst.bytes, node::any_node(fst, a), depths, sums),
+        128..=191 => survey_one(fst.bytes, node::one_node(fst, a), depths, sums),
+        _ => survey_one(fst.bytes, node::next_node(fst, a), depths, sums),
     }
-    if state < 192 {
-        return survey_one(fst, a, depths, sums);
-    }
-    survey_next(fst, a, depths, sums)
 }
 
 // ---- the flags
@@ -186,62 +167,43 @@ pub fn mark_of(x: u16) -> u16
     if x == HIT { HIT } else { LED }
 }
 
-// Raises the entries of a node's targets to the mark, address 0 included.
-fn mark_targets(file: &[u8], node: Node, mark: u16, depths: &mut [u16])
+// Raises the entries of a node's targets to the mark, address 0 included; answers the node's first byte.
+fn mark_targets(file: &[u8], node: Node, mark: u16, depths: &mut [u16]) -> usize
     requires { Readable file.now node × Markable (length file.now) depths.old
         (transitions_in file.now node) }
     ensures { MarksTargets (length file.now) mark
-        (transitions_in file.now node) depths.old depths.new }
+        (transitions_in file.now node) depths.old depths.new × (result ≡ node.first) }
 {
     let n = node.ntrans;
     for i in 0..n {
         let to = node::transition_addr(file, node, i);
         depths[to] = depths[to].max(mark);
     }
+    node.first
 }
 
-// The same of a sound node with one transition; answers its first byte.
-// `mark_next` is a function of its own, as `survey_next` is.
-fn mark_one(fst: FstRef<'_>, a: usize, mark: u16, depths: &mut [u16]) -> usize
-    requires { SoundAt fst.bytes.now fst.version fst.root a × (128 ≤ get_or fst.bytes.now a 0) × (get_or fst.bytes.now a 0 < 192)
-        × (length fst.bytes.now ≤ length depths.old) }
-    ensures { MarksAt (fst_is fst.entry) a mark
-        depths.old depths.new result }
+// The same of a node with one transition, which has a function of its own for the reason that `survey_one` has.
+fn mark_one(file: &[u8], node: Node, mark: u16, depths: &mut [u16]) -> usize
+    requires { Readable file.now node × (node.ntrans ≡ 1) × Markable (length file.now) depths.old
+        (transitions_in file.now node) }
+    ensures { MarksTargets (length file.now) mark
+        (transitions_in file.now node) depths.old depths.new × (result ≡ node.first) }
 {
-    let m = node::one_node(fst, a);
-    let t = node::transition_addr(fst.bytes, m, 0);
+    let t = node::transition_addr(file, node, 0);
     depths[t] = depths[t].max(mark);
-    m.first
+    node.first
 }
 
-// The same of a sound node with one transition to the node just below it; answers its first byte.
-fn mark_next(fst: FstRef<'_>, a: usize, mark: u16, depths: &mut [u16]) -> usize
-    requires { SoundAt fst.bytes.now fst.version fst.root a × (192 ≤ get_or fst.bytes.now a 0)
-        × (length fst.bytes.now ≤ length depths.old) }
-    ensures { MarksAt (fst_is fst.entry) a mark
-        depths.old depths.new result }
-{
-    let m = node::next_node(fst, a);
-    let t = node::transition_addr(fst.bytes, m, 0);
-    depths[t] = depths[t].max(mark);
-    m.first
-}
-
-// The same of any sound node.
+// The same of the sound node at a, whose form is asked here and not by `node_of`, as in `survey_at`.
 pub fn mark_at(fst: FstRef<'_>, a: usize, mark: u16, depths: &mut [u16]) -> usize
     requires { SoundAt fst.bytes.now fst.version fst.root a
         × (length fst.bytes.now ≤ length depths.old) }
     ensures { MarksAt (fst_is fst.entry) a mark
         depths.old depths.new result }
 {
-    let state = fst.bytes[a];
-    if state < 128 {
-        let m = node::any_node(fst, a);
-        mark_targets(fst.bytes, m, mark, depths);
-        return m.first;
+    match fst.bytes[a] {
+        0..=127 => mark_targets(fst.bytes, node::any_node(fst, a), mark, depths),
+        128..=191 => mark_one(fst.bytes, node::one_node(fst, a), mark, depths),
+        _ => mark_one(fst.bytes, node::next_node(fst, a), mark, depths),
     }
-    if state < 192 {
-        return mark_one(fst, a, mark, depths);
-    }
-    mark_next(fst, a, mark, depths)
 }

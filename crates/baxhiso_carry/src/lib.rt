@@ -44,11 +44,9 @@ pub fn fst_carry_arrays(
     let reading = reading_of(h, b, a, i, t, o);
     let plain = Plain { reading, keys };
     let carried = carry::carry(old, new, plain);
-    let answer = carried.answer;
-    match answer {
+    match carried {
         Err(why) => code(why),
-        Ok(()) => {
-            let after = carried.plain;
+        Ok(after) => {
             let reading = after.reading;
             put(reading, head, bound, addrs, inps, trans, outs);
             OK

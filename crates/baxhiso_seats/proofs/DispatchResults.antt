@@ -1,7 +1,7 @@
 -- From what one call of a seat's reading did to what a dispatch for C leaves.
 -- Assumes nothing.
 use mathlib.Core.Path.{◌≡◌, refl, sym, ap, ◌∙◌, subst}
-use Rattle.std.specs.Prelude.{Result, Option}
+use Rattle.std.specs.Prelude.{Result, Option, is_err}
 use Rattle.format.specs.declared.Refusal.{Refusal}
 use mathlib.Core.Bool.{Bool, true, false}
 use mathlib.Core.Option.{some, none}
@@ -26,16 +26,16 @@ use Rattle.seats_arrays.specs.SeatArrays.{flag, held_if, seat_of, Rows, rows_set
 use Rattle.seats_arrays.specs.SeatArraysLaws.{table_set, seat_in}
 use Rattle.baxhiso.specs.Exports.{NONE, code}
 use Rattle.baxhiso_readings.specs.Readings.{result_of, len_of, value_of, AnswerLeaves}
-use Rattle.seats_keep.specs.Keeps.{is_refused, KeptIn}
+use Rattle.seats_keep.specs.Keeps.{KeptIn}
 use Rattle.baxhiso_seats.specs.Seats.{Kept, ServeLeaves, DispatchLeaves}
 
 -- ---- one call of a seat's reading
 
 module _ (i last₀ : ℕ) (w₀ : List ℕ) (r₀ : Rows) (k₀ k : List ℕ) (seat₀ len₀ len v₀ v : ℕ) (z : ℤ) (o : Step) (l : AnswerLeaves o.answer len₀ len v₀ v z) where
-  refused_by : (a : R.Answer) (q : P.Plain) → PlainStepped (record { answer = a; reading = q }) k₀ k o → is_refused o.answer ≡ true
+  refused_by : (a : R.Answer) (q : P.Plain) → PlainStepped (record { answer = a; reading = q }) k₀ k o → is_err o.answer ≡ true
       → ServeLeaves (record { answer = a; reading = q }) i last₀ w₀ r₀ last₀ w₀ r₀ k₀ k seat₀ seat₀ len₀ len v₀ v z
-  refused_by (key x y) q h e = absurd (let a = sym (ap is_refused h.gave.answer) ∙ e in let z : ◌≡◌ {A = ℕ} 0 1 = cc in omega arith)
-  refused_by end q h e = absurd (let a = sym (ap is_refused h.gave.answer) ∙ e in let z : ◌≡◌ {A = ℕ} 0 1 = cc in omega arith)
+  refused_by (key x y) q h e = absurd (let a = sym (ap is_err h.gave.answer) ∙ e in let z : ◌≡◌ {A = ℕ} 0 1 = cc in omega arith)
+  refused_by end q h e = absurd (let a = sym (ap is_err h.gave.answer) ∙ e in let z : ◌≡◌ {A = ℕ} 0 1 = cc in omega arith)
   refused_by (R.Answer.refused n) q h e =
       let a = h.gave.answer in
       record {
@@ -47,7 +47,7 @@ module _ (i last₀ : ℕ) (w₀ : List ℕ) (r₀ : Rows) (k₀ k : List ℕ) (
       }
 
   module _ (last : ℕ) (w : List ℕ) (r : Rows) (seat : ℕ) (kept : KeptIn o.plain i w₀ r₀ last w r seat) where
-    kept_by : (a : R.Answer) (q : P.Plain) → PlainStepped (record { answer = a; reading = q }) k₀ k o → is_refused o.answer ≡ false
+    kept_by : (a : R.Answer) (q : P.Plain) → PlainStepped (record { answer = a; reading = q }) k₀ k o → is_err o.answer ≡ false
         → ServeLeaves (record { answer = a; reading = q }) i last₀ w₀ r₀ last w r k₀ k seat₀ seat len₀ len v₀ v z
     kept_by (key x y) q h e =
         let a = h.gave.answer in
@@ -67,7 +67,7 @@ module _ (i last₀ : ℕ) (w₀ : List ℕ) (r₀ : Rows) (k₀ k : List ℕ) (
           len_is = l.len_is ∙ ap (λ (b : Result (Option (ℕ × ℕ)) Refusal). len_of b len₀) a;
           value_is = l.value_is ∙ ap (λ (b : Result (Option (ℕ × ℕ)) Refusal). value_of b v₀) a;
         }
-    kept_by (R.Answer.refused n) q h e = absurd (let a = sym (ap is_refused h.gave.answer) ∙ e in let z : ◌≡◌ {A = ℕ} 0 1 = cc in omega arith)
+    kept_by (R.Answer.refused n) q h e = absurd (let a = sym (ap is_err h.gave.answer) ∙ e in let z : ◌≡◌ {A = ℕ} 0 1 = cc in omega arith)
 
 -- the reading that is handed on is the one in the rows
 module _ (file : List ℕ) (i : ℕ) (r₀ : Rows) (k₀ k : List ℕ) (p : Plain) (given : p ≡ plain_of r₀ i) (o : Step)
@@ -78,12 +78,12 @@ module _ (file : List ℕ) (i : ℕ) (r₀ : Rows) (k₀ k : List ℕ) (p : Plai
   stepped : PlainStepped called k₀ k o
   stepped = subst (λ (x : Plain). PlainStepped (next_plain file (plain_is x) (length k₀)) k₀ k o) given h
 
-  pub serve_refused : (last₀ : ℕ) (w₀ : List ℕ) (seat₀ len₀ len v₀ v : ℕ) (y z : ℤ) → y ≡ z → AnswerLeaves o.answer len₀ len v₀ v z → (b : Bool) → b ≡ is_refused o.answer
+  pub serve_refused : (last₀ : ℕ) (w₀ : List ℕ) (seat₀ len₀ len v₀ v : ℕ) (y z : ℤ) → y ≡ z → AnswerLeaves o.answer len₀ len v₀ v z → (b : Bool) → b ≡ is_err o.answer
       → b ≡ true → ServeLeaves called i last₀ w₀ r₀ last₀ w₀ r₀ k₀ k seat₀ seat₀ len₀ len v₀ v y
   serve_refused last₀ w₀ seat₀ len₀ len v₀ v y z same l b is e =
       rw same (refused_by i last₀ w₀ r₀ k₀ k seat₀ len₀ len v₀ v z o l called.answer called.reading stepped (sym is ∙ e))
 
-  pub serve_kept : (last₀ : ℕ) (w₀ : List ℕ) (seat₀ len₀ len v₀ v : ℕ) (y z : ℤ) → y ≡ z → AnswerLeaves o.answer len₀ len v₀ v z → (b : Bool) → b ≡ is_refused o.answer
+  pub serve_kept : (last₀ : ℕ) (w₀ : List ℕ) (seat₀ len₀ len v₀ v : ℕ) (y z : ℤ) → y ≡ z → AnswerLeaves o.answer len₀ len v₀ v z → (b : Bool) → b ≡ is_err o.answer
       → b ≡ false → (last : ℕ) (w : List ℕ) (r : Rows) (seat : ℕ) → KeptIn o.plain i w₀ r₀ last w r seat
       → ServeLeaves called i last₀ w₀ r₀ last w r k₀ k seat₀ seat len₀ len v₀ v y
   serve_kept last₀ w₀ seat₀ len₀ len v₀ v y z same l b is e last w r seat kept =

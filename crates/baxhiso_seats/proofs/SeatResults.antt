@@ -1,8 +1,6 @@
 -- From what raising and seating did to the arrays to what the functions for C leave.
 -- Assumes nothing.
 use mathlib.Core.Path.{◌≡◌, refl, ap, ap₂, ◌∙◌}
-use Rattle.std.specs.Prelude.{Ok, Err, Some, None, Result, Option}
-use Rattle.format.specs.declared.Refusal.{Refusal}
 use mathlib.Core.Bool.{Bool, true, false}
 use mathlib.Core.Option.{some}
 use mathlib.Core.List.{List}
@@ -19,7 +17,6 @@ use Rattle.stream_arrays.specs.Arrays.{Held, held_plain}
 use Rattle.seats_arrays.specs.SeatArrays.{FlagPut, flag, held_if, seat_of, Rows, plain_at, RowSet, Flat, flat, flat_is}
 use Rattle.seats_arrays.specs.SeatArraysLaws.{flag_yes, flag_no, table_set, seat_in}
 use Rattle.baxhiso.specs.Exports.{OK, code}
-use Rattle.baxhiso_readings.specs.Readings.{END, AnswerLeaves}
 use Rattle.baxhiso_seats.specs.Seats.{RaiseLeaves, SeatLeaves}
 
 -- ---- the definitions, by cases

@@ -16,7 +16,7 @@ use baxhiso_results::answered;
 use format::Refusal;
 use seats_arrays::{plain_at, put_flag, put_rows};
 use seats_flags::{seats_right, turn_of};
-use seats_keep::{is_refused, keep};
+use seats_keep::keep;
 use seats_turn::LAST_SEAT;
 
 const OK: i32 = 0;
@@ -139,7 +139,8 @@ fn serve(
     let plain = plain_at(number, heads, bounds, addrs, inps, trans, outs, keys);
     let step = stream::next(file, plain, key);
     let answer = step.answer;
-    if is_refused(answer) {
+    let refused = answer.is_err();
+    if refused {
         return answered(answer, len, value);
     }
     keep(

@@ -5,8 +5,8 @@
 ghost use Rattle.std.specs.Prelude.{◌≡◌, ◌++◌, ◌≤◌, length, take, drop};
 
 // Copies the first n bytes of bytes to the front of out; the rest of out stays as given.
-// n is less than either length where a part of a larger buffer is copied. It stays beside std's `copy_from_slice`, which says what that part
-// is then, because this contract says what the whole of out is, and the callers' proofs cite that.
+// n is less than either length where a part of a larger buffer is copied. std's `copy_from_slice` at each caller would be as plain and no
+// plainer: `out[..n].copy_from_slice(&bytes[..n])` would stand there, which names n twice.
 // Between two lent buffers it is compiled to a call of `memmove`, which the library for C must not have: where the library calls this, one of
 // the two is an array of its own.
 pub fn copy_front(bytes: &[u8], n: usize, out: &mut [u8])

@@ -1,6 +1,6 @@
 -- The cases of carrying a reading: each refusal, the reading at its new addresses, and the plain reading and the pattern around it.
 -- Assumes nothing.
-use mathlib.Core.Path.{◌≡◌, refl, sym, ap, ap₂, ◌∙◌, subst}
+use mathlib.Core.Path.{◌≡◌, refl, sym, ap, ◌∙◌}
 use Rattle.std.specs.Prelude.{Ok, Err, Result, ⊤}
 use Rattle.format.specs.declared.Refusal.{Refusal}
 use mathlib.Core.Bool.{Bool, true, false, ◌&&◌}
@@ -14,23 +14,17 @@ use Rattle.format.specs.Limits.{max_path, max_levels, STATE, PATTERN}
 use Rattle.format.specs.Opening as Opening
 use Rattle.format.specs.Opening.{Meta, opened, opening}
 use Rattle.format.specs.Paths.{Fst, fst_of}
-use Rattle.reading.specs.Reading.{View, state_test}
-use Rattle.plain.specs.Plain as P
-use Rattle.plain.specs.Plain.{plain_with}
+use Rattle.reading.specs.Reading.{state_test}
 use Rattle.stream_start.specs.declared.Reading.{Reading}
 use Rattle.stream_start.specs.Views.{view_is, stack_is, stack_of}
 use Rattle.stream_start.specs.StackLaws.{stack_length}
 use Rattle.stream_bounds.specs.State.{state_right}
 use Rattle.stream.specs.declared.Plain.{Plain}
-use Rattle.stream.specs.Plains.{plain_is}
-use Rattle.patterned_fit.specs.declared.Pattern.{Pattern}
 use Rattle.patterned.specs.declared.Patterned.{Patterned}
 use Rattle.carrying.specs.Carry as C
 use Rattle.carrying.specs.Carry.{carry_levels, after_levels, carried_to, carry_with, with_keys}
 use Rattle.carry_levels.specs.Settling.{carried_as, LevelsCarried}
-use Rattle.carry.specs.declared.Carried.{Carried}
-use Rattle.carry.specs.declared.CarriedBy.{CarriedBy}
-use Rattle.carry.specs.Carries.{carried_is, PlainCarried, PatternedCarried}
+use Rattle.carry.specs.Carries.{carried_is, carried_plain_is, PatternedCarried}
 
 -- ---- the levels
 
@@ -90,35 +84,21 @@ module _ (fits : Bool) (old new : List ℕ) (r : Reading) where
 -- ---- around the reading
 
 module _ (given : Plain) {q : C.Carried} {r : Result Reading Refusal} (w : carried_is r ≡ q) where
-  pub plain_refused : (n : Refusal) → r ≡ Err n → PlainCarried (with_keys given.keys q) given (record { answer = Err n; plain = given })
-  plain_refused n e = rw (sym w ∙ ap carried_is e) (record {
-    answer = refl;
-    carried = λ p is. absurd (let z : ◌≡◌ {A = ℕ} 0 1 = cc in omega arith);
-    kept = λ k is. refl;
-  })
+  pub plain_refused : (n : Refusal) → r ≡ Err n → carried_plain_is (Err n) ≡ with_keys given.keys q
+  plain_refused n e = ap (with_keys given.keys) (sym (ap carried_is e) ∙ w)
 
-  pub plain_carried : (after : Reading) → r ≡ Ok after
-      → PlainCarried (with_keys given.keys q) given (record { answer = Ok tt; plain = record { reading = after; keys = given.keys } })
-  plain_carried after e = rw (sym w ∙ ap carried_is e) (record {
-    answer = refl;
-    carried = λ p is. let same : plain_with (view_is after) given.keys ≡ p = cc in same;
-    kept = λ n is. absurd (let z : ◌≡◌ {A = ℕ} 0 1 = cc in omega arith);
-  })
+  pub plain_carried : (after : Reading) → r ≡ Ok after → carried_plain_is (Ok (record { reading = after; keys = given.keys })) ≡ with_keys given.keys q
+  plain_carried after e = ap (with_keys given.keys) (sym (ap carried_is e) ∙ w)
+
+pattern_of : {x y : Patterned} → ◌≡◌ {A = Result Patterned Refusal} (Ok x) (Ok y) → x.pattern ≡ y.pattern
+pattern_of {x} {y} e = let z : x ≡ y = cc in ap (λ (w : Patterned). w.pattern) z
 
 module _ (given : Patterned) {q : C.Carried} {r : Result Reading Refusal} (w : carried_is r ≡ q) where
-  pub patterned_refused : (n : Refusal) → r ≡ Err n → PatternedCarried q given (record { answer = Err n; patterned = given })
-  patterned_refused n e = rw (sym w ∙ ap carried_is e) (record {
-    answer = refl;
-    carried = λ v is. absurd (let z : ◌≡◌ {A = ℕ} 0 1 = cc in omega arith);
-    pattern = refl;
-    kept = λ k is. refl;
-  })
+  pub patterned_refused : (n : Refusal) → r ≡ Err n → PatternedCarried q given (Err n)
+  patterned_refused n e = record {
+    answer = sym (ap carried_is e) ∙ w;
+    pattern = λ x is. absurd (let z : ◌≡◌ {A = ℕ} 0 1 = cc in omega arith);
+  }
 
-  pub patterned_carried : (after : Reading) → r ≡ Ok after
-      → PatternedCarried q given (record { answer = Ok tt; patterned = record { reading = after; pattern = given.pattern } })
-  patterned_carried after e = rw (sym w ∙ ap carried_is e) (record {
-    answer = refl;
-    carried = λ v is. let same : view_is after ≡ v = cc in same;
-    pattern = refl;
-    kept = λ n is. absurd (let z : ◌≡◌ {A = ℕ} 0 1 = cc in omega arith);
-  })
+  pub patterned_carried : (after : Reading) → r ≡ Ok after → PatternedCarried q given (Ok (record { reading = after; pattern = given.pattern }))
+  patterned_carried after e = record { answer = sym (ap carried_is e) ∙ w; pattern = λ x is. sym (pattern_of is) }

@@ -9,7 +9,7 @@ ghost use Rattle.stream_start.specs.Views.{view_is, stack_of};
 ghost use Rattle.stream.specs.Plains.{plain_is};
 ghost use Rattle.patterned_held.specs.HeldPatterns.{held_is};
 ghost use Rattle.carrying.specs.Carry as C;
-ghost use Rattle.carry.specs.Carries.{carried_is, PlainCarried, PatternedCarried};
+ghost use Rattle.carry.specs.Carries.{carried_is, carried_plain_is, PatternedCarried};
 
 use carry_levels::carry_levels;
 use format::{FstRef, LEVELS, MAX_KEY, Refusal};
@@ -18,20 +18,6 @@ use stream::Plain;
 use stream_bounds::state_right;
 use stream_levels::Stack;
 use stream_start::Reading;
-
-// What carrying a plain reading gives back: after a refusal the reading that was given.
-#[derive(Clone, Copy)]
-pub struct Carried {
-    pub answer: Result<(), Refusal>,
-    pub plain: Plain,
-}
-
-// What carrying a reading by pattern gives back: after a refusal the reading that was given.
-#[derive(Clone, Copy)]
-pub struct CarriedBy {
-    pub answer: Result<(), Refusal>,
-    pub patterned: Patterned,
-}
 
 // Between two files that open, a reading that a next on the old one takes: at its new addresses, with the new file's length; all else is copied.
 fn carry_opened(old: FstRef<'_>, new: FstRef<'_>, reading: Reading) -> Result<Reading, Refusal>
@@ -69,40 +55,24 @@ fn carry_reading(old: &[u8], new: &[u8], reading: Reading, fits: bool) -> Result
 // A plain reading of the old file as a reading of the new one, at the same place. Opening's refusals of the old file, then of the new one, then STATE
 // by the old file, then level by level, from the first: NODE in the old file, CARRY where the new file lacks the byte that led to the level, NODE in
 // the new file, CARRY for another transition count or another running value. Neither bound is walked again. The number of keys to come, the total,
-// the next places, the upper bound and the pending empty key are copied. After a refusal the reading is the one given.
-pub fn carry(old: &[u8], new: &[u8], plain: Plain) -> Carried
-    ensures { PlainCarried (C.carry_plain old.now new.now
-        (plain_is plain)) plain result }
+// the next places, the upper bound and the pending empty key are copied.
+pub fn carry(old: &[u8], new: &[u8], plain: Plain) -> Result<Plain, Refusal>
+    ensures { carried_plain_is result ≡ C.carry_plain old.now new.now
+        (plain_is plain) }
 {
-    match carry_reading(old, new, plain.reading, true) {
-        Err(why) => Carried {
-            answer: Err(why),
-            plain,
-        },
-        Ok(reading) => Carried {
-            answer: Ok(()),
-            plain: Plain { reading, ..plain },
-        },
-    }
+    let reading = carry_reading(old, new, plain.reading, true)?;
+    Ok(Plain { reading, ..plain })
 }
 
 // The same of a reading by pattern, with PATTERN, after STATE, for over 255 held positions. The pattern stays as it is.
-pub fn carry_by(old: &[u8], new: &[u8], patterned: Patterned) -> CarriedBy
+pub fn carry_by(old: &[u8], new: &[u8], patterned: Patterned) -> Result<Patterned, Refusal>
     ensures { PatternedCarried (C.carry_by old.now new.now
         (held_is patterned.pattern) (view_is patterned.reading)) patterned result }
 {
     let fits = patterned.pattern.len <= MAX_KEY;
-    match carry_reading(old, new, patterned.reading, fits) {
-        Err(why) => CarriedBy {
-            answer: Err(why),
-            patterned,
-        },
-        Ok(reading) => CarriedBy {
-            answer: Ok(()),
-            patterned: Patterned {
-                reading,
-                ..patterned
-            },
-        },
-    }
+    let reading = carry_reading(old, new, patterned.reading, fits)?;
+    Ok(Patterned {
+        reading,
+        ..patterned
+    })
 }

@@ -1,10 +1,10 @@
 // The levels of a reading in another file (document 02, N8): each level's node is judged in both files and compared, and its new address is found.
 // No bound is walked again: the levels' own bytes say the path.
 // The number of levels stands beside the stack, which does not say how many are in use.
-// That the root is below 2^32 is asked in each contract: opening says it, and a view that is made by hand need not have it.
+// That the root is below 2^32 is asked in each contract and is no fact of a type: a type that said it would ask more of who makes an FstRef by hand.
 #![tactic(auto)]
 
-ghost use Rattle.std.specs.Prelude.{◌≡◌, List, [], ℕ, ◌≤◌, ◌<◌, ◌+◌, eqb, length};
+ghost use Rattle.std.specs.Prelude.{◌≡◌, ◌≤◌, ◌<◌, ◌+◌, eqb, length};
 ghost use Rattle.format.specs.Limits.{max_levels};
 ghost use Rattle.format.specs.View.{fst_is};
 ghost use Rattle.node.specs.Read.{Readable};
@@ -20,9 +20,7 @@ fn settle(new: FstRef<'_>, addr: usize, ntrans: usize, same: bool) -> Result<(u3
     requires { new.root < 4294967296 }
     ensures { Settles new.entry.bytes.now new.entry.version new.entry.root addr ntrans same result }
 {
-    let Ok(m) = node::node_at(new, addr) else {
-        return Err(Refusal::Node);
-    };
+    let m = node::node_at(new, addr)?;
     let as_many = m.ntrans == ntrans;
     if as_many && same {
         let to = addr as u32;
@@ -49,9 +47,7 @@ fn first_level(
     ensures { FirstCarried (fst_is old.entry)
         new.entry.bytes.now new.entry.version new.entry.root addr out result }
 {
-    let Ok(m) = node::node_at(old, addr) else {
-        return Err(Refusal::Node);
-    };
+    let m = node::node_at(old, addr)?;
     settle(new, new.root, m.ntrans, 0 == out)
 }
 
@@ -70,9 +66,7 @@ fn next_level(
     ensures { LevelCarried (fst_is old.entry)
         new.entry.bytes.now new.entry.version new.entry.root addr inp out below sum result }
 {
-    let Ok(m) = node::node_at(old, addr) else {
-        return Err(Refusal::Node);
-    };
+    let m = node::node_at(old, addr)?;
     let Ok(p) = node::find_input(new.bytes, below, inp) else {
         return Err(Refusal::Carry);
     };

@@ -5,12 +5,10 @@ use Rattle.std.specs.Prelude.{Ok, Err, Result, ⊤, ℕ}
 use Rattle.format.specs.declared.Refusal.{Refusal}
 use mathlib.Core.Logic.{inl}
 use mathlib.Core.List.{List}
-use Prim.Native.Nat.{ℕ}
 use native.Mathlib.Omega.{arith}
 use lib.ListN.{length}
 use Rattle.format.specs.Limits.{EDITION}
 use Rattle.format.specs.Opening as O
-use Rattle.format.specs.Opening.{opened, opening}
 use Rattle.format.specs.Paths.{fst_with}
 use Rattle.format.specs.Admitted.{Admitted}
 use Rattle.admission.specs.Outcome.{Outcome}

@@ -59,6 +59,10 @@ module _ {f : Fst} {d t : List ℕ} {next : ℕ} (ok : Finishable f d t next) (c
   pub finish_short_out : {o b : List ℕ} {r : Result ℕ Refusal} → length o₀ < next + 16 → (r ≡ Err SPACE) × (o ≡ o₀) × (b ≡ b₀) → Finished f count d t o₀ b₀ o b r
   finish_short_out l h = refused_by (rw (lt-leb (length F) (length o₀) (omega (arith, file_len)))) h
 
+  pub finish_short_table : {o b : List ℕ} {r : Result ℕ Refusal} → next + 16 ≤ length o₀ → length b₀ < n → (r ≡ Err SPACE) × (o ≡ o₀) × (b ≡ b₀)
+      → Finished f count d t o₀ b₀ o b r
+  finish_short_table room l h = refused_by (rw (le-leb (length F) (length o₀) (omega (arith, file_len)), lt-leb n (length b₀) l)) h
+
   -- new addresses have 32 bits
   pub finish_narrow : n ≤ length b₀ → Narrow (length (take n t)) (take n t) b₀
   unfolding TargetOk

@@ -1,7 +1,8 @@
 -- What the marks and the layout of an admitted version 1 file are: those of the definition.
 -- Assumes nothing.
 use mathlib.Core.Path.{◌≡◌, refl, sym, ap, ap₂, ◌∙◌, subst}
-use Rattle.std.specs.Prelude.{Err, Result, ℕ}
+use Rattle.std.specs.Prelude.{Ok, Err, Result, ℕ, Option, Some, None}
+use Rattle.std.specs.Option.{ok_or}
 use Rattle.format.specs.declared.Refusal.{Refusal}
 use mathlib.Core.Bool.{Bool, true, false, cond}
 use mathlib.Core.List.Memᴰ
@@ -21,7 +22,7 @@ use Rattle.converting.specs.Converting.{vanishes, new_addr, Laid, lay_out, chain
 use Rattle.converting.specs.Laws.ConvertedLaws.{old_has_bytes, old_low, converted_is, length_converted}
 use Rattle.convert_marks.specs.Marks.{Markable, MarksNodes}
 use Rattle.convert_marks.specs.MarkLaws.{marked_member}
-use Rattle.convert_layout.specs.Layout.{laid_to, MarkedSound, Layable, LaidOut}
+use Rattle.convert_layout.specs.Layout.{laid_to, MarkedSound, Layable, Lays, LaidOut}
 use Rattle.convert_write.specs.Written.{file_of}
 use Rattle.convert.specs.Convert.{OldFile, OldConverted, Finishable, Finished}
 use Rattle.convert.specs.ConvertLaws.{conversion_large, conversion_placing, conversion_same}
@@ -39,6 +40,20 @@ table_at {s} A j l = get_d_up_from (moved_to A) 0 (length s) j l ∙ ap (moved_t
 on_chain : (t : Bool) (l : List ℕ) (j : ℕ) → Memᴰ j (cond t [] l) → Memᴰ j l
 on_chain true l j mem = absurd (Memᴰ.not-nil mem)
 on_chain false l j mem = mem
+
+-- ---- the place past the nodes, or LARGE
+
+module _ (f : Fst) (d t : List ℕ) {limit : ℕ} {r : Result ℕ Refusal} where
+  pub lays_some : (o : Option ℕ) {next : ℕ} → r ≡ ok_or o LARGE → r ≡ Ok next → Lays f d t limit o → LaidOut f d t limit next
+  lays_some None is ok l = let z : ◌≡◌ {A = ℕ} 0 1 = cc in absurd (omega arith)
+  lays_some (Some x) {next} is ok l = let same : x ≡ next = cc in subst (LaidOut f d t limit) same l
+
+  pub lays_none : (o : Option ℕ) {n : Refusal} → r ≡ ok_or o LARGE → r ≡ Err n → Lays f d t limit o
+      → (limit < 32 + length (laid_to f d (length f.bytes)).nodes) × (n ≡ LARGE)
+  lays_none None {n} is err l = let same : n ≡ LARGE = cc in (l, same)
+  lays_none (Some x) is err l = let z : ◌≡◌ {A = ℕ} 0 1 = cc in absurd (omega arith)
+
+-- ---- an admitted version 1 file
 
 module _ {f : Fst} {count : ℕ} {d₀ t₀ : List ℕ} (old : OldFile f count d₀ t₀) where
   abbrev s : List ℕ

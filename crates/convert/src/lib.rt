@@ -1,13 +1,12 @@
 // Old cards brought to version 2 (document 02, N7). The file is admitted first. Nothing may be written before the length of the new file is
 // known, which depends on every new address; these are worked out in the sums' table, over the nodes that are marked in the depths' table,
-// and a second admission restores both: admission leaves the same tables every time. The two tables, the output and the table of new
-// addresses go down one by one: a caller lends them so, in C too.
-// depths, sums, out and table are slices and no struct: the C caller lends them one by one, and the definitions speak of each.
-// The limit is a length, and so a usize, which may be larger than a file's: what it may be is asked where it is used.
+// and a second admission restores both: admission leaves the same tables every time.
+// depths, sums, out and table are slices and no struct: `mark` takes depths, `lay_out` depths and sums, `write_file` depths, sums and out, and
+// `put_table` sums and table. One value of the four, made of those that the C caller lends, would be taken apart at each of these calls.
+// The limit has 32 bits, so that no file is let past the largest length; `convert_within` takes a usize, as its callers have it.
 #![tactic(auto)]
 
-ghost use Rattle.std.specs.Prelude.{◌≡◌, ◌≤◌};
-ghost use Rattle.format.specs.Limits as L;
+ghost use Rattle.std.specs.Prelude.{◌≤◌};
 ghost use Rattle.format.specs.Limits.{max_len};
 ghost use Rattle.format.specs.View.{fst_is};
 ghost use Rattle.admission.specs.Outcome.{Outcome};
@@ -18,14 +17,6 @@ use convert_layout::{TRAILER, lay_out, put_table};
 use convert_marks::mark;
 use convert_write::write_file;
 use format::{FstRef, MAX_LEN, Refusal};
-
-// SPACE, which leaves output and table as they are.
-fn no_space(out: &mut [u8], table: &mut [u32]) -> Result<usize, Refusal>
-    ensures { (result ≡ Err L.SPACE) × (out.new ≡ out.old)
-        × (table.new ≡ table.old) }
-{
-    Err(Refusal::Space)
-}
 
 // Writes the new file, whose nodes end before next, and the table, where both have room.
 fn finish(
@@ -44,11 +35,8 @@ fn finish(
 {
     let len = next + TRAILER;
     let entries = fst.bytes.len();
-    if out.len() < len {
-        return no_space(out, table);
-    }
-    if table.len() < entries {
-        return no_space(out, table);
+    if out.len() < len || table.len() < entries {
+        return Err(Refusal::Space);
     }
     write_file(fst, count, depths, sums, out);
     put_table(&sums[..entries], table);
@@ -59,22 +47,20 @@ fn finish(
 fn convert_old(
     fst: FstRef<'_>,
     count: u64,
-    limit: usize,
+    limit: u32,
     depths: &mut [u16],
     sums: &mut [u64],
     out: &mut [u8],
     table: &mut [u32],
 ) -> Result<usize, Refusal>
-    requires { OldFile (fst_is fst) count depths.old sums.old × (limit ≤ max_len) }
+    requires { OldFile (fst_is fst) count depths.old sums.old }
     ensures { OldConverted limit fst.entry.bytes.now depths.old
         sums.old out.old table.old depths.new
         sums.new out.new table.new result }
 {
     mark(fst, depths);
-    match lay_out(fst, limit, depths, sums) {
-        None => Err(Refusal::Large),
-        Some(next) => finish(fst, count, next, depths, sums, out, table),
-    }
+    let next = lay_out(fst, limit as usize, depths, sums).ok_or(Refusal::Large)?;
+    finish(fst, count, next, depths, sums, out, table)
 }
 
 // Restores both work tables: admission fills them as it did before.
@@ -89,14 +75,13 @@ fn restore(file: &[u8], depths: &mut [u16], sums: &mut [u64]) -> Result<(), Refu
 fn convert_opened(
     fst: FstRef<'_>,
     count: u64,
-    limit: usize,
+    limit: u32,
     depths: &mut [u16],
     sums: &mut [u64],
     out: &mut [u8],
     table: &mut [u32],
 ) -> Result<usize, Refusal>
-    requires { Marked fst.bytes.now depths.old sums.old × Says fst.bytes.now fst.version count fst.root
-        × (limit ≤ max_len) }
+    requires { Marked fst.bytes.now depths.old sums.old × Says fst.bytes.now fst.version count fst.root }
     ensures { AgainConverted limit fst.entry.bytes.now depths.old
         sums.old out.old table.old depths.new
         sums.new out.new table.new result }
@@ -106,6 +91,7 @@ fn convert_opened(
         return Err(Refusal::Edition);
     }
     let done = convert_old(fst, count, limit, depths, sums, out, table);
+    // it was admitted before, so it is again
     let _ = restore(fst.bytes, depths, sums);
     done
 }
@@ -113,13 +99,13 @@ fn convert_opened(
 // The same of an admitted file.
 fn convert_admitted(
     file: &[u8],
-    limit: usize,
+    limit: u32,
     depths: &mut [u16],
     sums: &mut [u64],
     out: &mut [u8],
     table: &mut [u32],
 ) -> Result<usize, Refusal>
-    requires { Marked file.now depths.old sums.old × (limit ≤ max_len) }
+    requires { Marked file.now depths.old sums.old }
     ensures { AgainConverted limit file.now depths.old
         sums.old out.old table.old depths.new
         sums.new out.new table.new result }
@@ -144,7 +130,7 @@ pub fn convert_within(
         out.new table.new result }
 {
     admit(file, depths, sums)?;
-    convert_admitted(file, limit, depths, sums, out, table)
+    convert_admitted(file, limit as u32, depths, sums, out, table)
 }
 
 // Converts a version 1 file to version 2: admission's refusals, then EDITION, LARGE, SPACE. Depths and sums are admission's, and are left

@@ -1,6 +1,7 @@
 // The two passes of a conversion over the marked nodes, in ascending order of addresses. The sizes of a node's deltas depend on where its
 // targets went, which lie below it: so the first pass works out each new address, and nothing is written before all are known.
-// depths, sums, out and table are slices and no struct: the C caller lends them one by one, and the definitions speak of each.
+// depths, sums, out and table are slices and no struct, as convert says: `lay_out` takes depths and sums, `write_out` those and out, and
+// `put_table` sums and table.
 #![tactic(auto)]
 
 ghost use Rattle.std.specs.Prelude.{◌≡◌, ◌++◌, ◌+◌, ◌≤◌, length, drop};
@@ -10,14 +11,14 @@ ghost use Rattle.buffers.specs.Put.{PutAt};
 ghost use Rattle.admission_node.specs.Entries.{Kept};
 ghost use Rattle.convert_layout.specs.Layout.{laid_to, addr_of, Zeros, Layable, Lays, Writable, Narrow};
 
-use convert_node::pack_at;
+use convert_node::{Buffers, pack_at};
 use convert_size::len_at;
 use format::{FIRST_NODE, FstRef, are_bytes};
 
 // Key count and root, after the nodes.
 pub const TRAILER: usize = 16;
 
-// The address of a node of len bytes from next on; a node of no bytes is address 0.
+// The address of a node of len bytes from next on; a node of no bytes is address 0. 4619 is the largest length of a packed node.
 fn addr_of(next: usize, len: usize) -> u64
     requires { next + len ≤ max_len + 4619 }
     ensures { result ≡ addr_of next len }
@@ -78,9 +79,7 @@ pub fn write_out(fst: FstRef<'_>, depths: &[u16], sums: &[u64], out: &mut [u8]) 
         out.new result }
 {
     are_bytes(fst.bytes);
-    let mut inputs: [u8; 256] = [0; 256];
-    let mut outputs: [u64; 256] = [0; 256];
-    let mut targets: [usize; 256] = [0; 256];
+    let mut buffers = Buffers::new();
     let mut next = FIRST_NODE;
     let mut a = 0;
     // not by `for`: a step is one address, or as many as the mark says
@@ -90,16 +89,7 @@ pub fn write_out(fst: FstRef<'_>, depths: &[u16], sums: &[u64], out: &mut [u8]) 
             a += 1;
             continue;
         }
-        next += pack_at(
-            fst,
-            a,
-            next,
-            sums,
-            &mut inputs,
-            &mut outputs,
-            &mut targets,
-            &mut out[next..],
-        );
+        next += pack_at(fst, a, next, sums, &mut buffers, &mut out[next..]);
         a += hop as usize;
     }
     next

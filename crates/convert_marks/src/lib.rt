@@ -11,27 +11,24 @@ ghost use Rattle.converting.specs.Converting.{vanishes};
 ghost use Rattle.convert_marks.specs.Marks.{FirstIs, Markable, ChainMarkable, MarksChain, MarksNodes};
 
 use format::{FIRST_NODE, FstRef};
+use node_compile::packs_to_nothing;
 
 // Whether the node at a becomes address 0: it is final, has no transition, and adds nothing.
 fn becomes_zero(fst: FstRef<'_>, a: usize) -> bool
     ensures { result ≡ vanishes (node_in (fst_is fst.entry) a) }
 {
     match node::node_at(fst, a) {
-        Ok(m) => m.is_final && (m.ntrans == 0 && m.final_output == 0),
+        Ok(m) => packs_to_nothing(m.is_final, m.ntrans, m.final_output),
         Err(_) => false,
     }
 }
 
-// The first byte of the sound node at a, by its form.
+// The first byte of the sound node at a.
 fn first_of(fst: FstRef<'_>, a: usize) -> usize
     requires { SoundAt fst.bytes.now fst.version fst.root a }
     ensures { FirstIs (fst_is fst.entry) a result }
 {
-    match fst.bytes[a] {
-        0..=127 => node::any_node(fst, a).first,
-        128..=191 => node::one_node(fst, a).first,
-        192..=255 => node::next_node(fst, a).first,
-    }
+    node::node_of(fst, a).first
 }
 
 // A distance that fits an entry, or 1.
@@ -59,6 +56,7 @@ fn mark_chain(fst: FstRef<'_>, depths: &mut [u16])
 {
     let mut a = fst.root;
     let mut up = 1;
+    // not by `for`: it follows the chain from node to node, and counts nothing
     loop {
         depths[a] = mark_of(depths[a], up);
         let first = first_of(fst, a);

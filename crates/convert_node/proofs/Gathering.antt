@@ -13,7 +13,7 @@ use Rattle.format.specs.Node.{transition_at}
 use Rattle.buffers.specs.CopyLaws.{Copied, copied_none, copied_step, copied_all}
 use Rattle.converting.specs.Laws.LayLaws.{get_d_map_lt}
 use Rattle.convert_size.specs.Sizes.{entry_in}
-use Rattle.convert_node.specs.Packs.{Gatherable, Gathered}
+use Rattle.convert_node.specs.Packs.{Gathered}
 
 pub record Gathering (ts : List Transition) (moved inputs₀ outputs₀ targets₀ inputs outputs targets : List ℕ) (i : ℕ) : Type 0 where
   pub ins : Copied (map (λ (t : Transition). t.inp) ts) (length ts) inputs₀ inputs i
@@ -30,14 +30,14 @@ one h ts {i = i} x l room is c =
     rw (is ∙ sym (get_d_map_lt h ts i (omega arith))) (copied_step l (omega arith) (omega arith) c)
 
 pub gathering_step : {ts : List Transition} {moved inputs₀ outputs₀ targets₀ inputs outputs targets : List ℕ} {i : ℕ}
-    → Gatherable ts (length moved) (length inputs₀) (length outputs₀) (length targets₀) → i < length ts → (t : Transition) → t ≡ transition_at ts i → {x : ℕ} → x ≡ entry_in moved t.addr
+    → length ts ≤ length inputs₀ → length ts ≤ length outputs₀ → length ts ≤ length targets₀ → i < length ts → (t : Transition) → t ≡ transition_at ts i → {x : ℕ} → x ≡ entry_in moved t.addr
     → Gathering ts moved inputs₀ outputs₀ targets₀ inputs outputs targets i
     → Gathering ts moved inputs₀ outputs₀ targets₀ (set inputs i t.inp) (set outputs i t.out) (set targets i x) (i + 1)
-gathering_step {ts} {moved} room l t is {x} to g =
+gathering_step {ts} {moved} in_inputs in_outputs in_targets l t is {x} to g =
     record {
-      ins = one (λ (u : Transition). u.inp) ts t.inp l room.in_inputs (ap (λ (u : Transition). u.inp) is) g.ins;
-      outs = one (λ (u : Transition). u.out) ts t.out l room.in_outputs (ap (λ (u : Transition). u.out) is) g.outs;
-      tos = one (λ (u : Transition). entry_in moved u.addr) ts x l room.in_targets
+      ins = one (λ (u : Transition). u.inp) ts t.inp l in_inputs (ap (λ (u : Transition). u.inp) is) g.ins;
+      outs = one (λ (u : Transition). u.out) ts t.out l in_outputs (ap (λ (u : Transition). u.out) is) g.outs;
+      tos = one (λ (u : Transition). entry_in moved u.addr) ts x l in_targets
           (to ∙ ap (λ (u : Transition). entry_in moved u.addr) is) g.tos;
     }
 

@@ -7,7 +7,7 @@ use mathlib.Core.List.{List}
 use Prim.Native.Nat.{ℕ, ◌≤◌}
 use native.Mathlib.Omega.{arith}
 use borrow.Author.Tests.{le-leb}
-use lib.ListN.{length, take, length-take, length-map}
+use lib.ListN.{length, take, length-map}
 use Rattle.buffers.specs.Put.{PutAt}
 use Rattle.buffers.specs.PutLaws.{put_zero}
 use Rattle.format.specs.declared.Transition.{Transition}
@@ -23,10 +23,6 @@ use Rattle.converting.specs.Converting.{record_by}
 use Rattle.convert_size.specs.Sizes.{entry_in}
 use Rattle.convert_size.specs.SingleLaws.{judged_at}
 use Rattle.convert_node.specs.Packs.{Gathered, Packable, PackedFront, PackableAt}
-
--- the first n of a list that has as many
-pub prefix_count : (n : ℕ) (l : List ℕ) → n ≤ length l → n ≡ length (take n l)
-prefix_count n l h = omega (arith, length-take n l)
 
 -- a node that is packed has at most 256 transitions
 pub few : {s : List ℕ} {n : N.Node} {first room : ℕ} {moved : List ℕ} → Readable s n → Packable (meaning s n) first moved room → n.ntrans ≤ 256

@@ -1,6 +1,6 @@
 -- What the old state byte says of the one that is packed.
 -- Assumes nothing.
-use mathlib.Core.Path.{◌≡◌, sym, ap, ◌∙◌}
+use mathlib.Core.Path.{◌≡◌, sym, ap, ◌∙◌, subst}
 use mathlib.Core.List.{List}
 use Prim.Native.Nat.{ℕ, ◌-◌, ◌≤◌, ◌<◌}
 use native.Mathlib.Omega.{arith}
@@ -10,8 +10,7 @@ use Rattle.format.specs.CommonInputs.{common_inputs, common_inputs_inv, common_i
 use Rattle.format.specs.Laws.CommonInputsLaws.{undone}
 use Rattle.format.specs.Node.{low_bits, input_of}
 use Rattle.format.specs.Laws.HeadLaws.{input_of_byte, input_of_common}
-use Rattle.common_inputs.specs.Idx.{Idx}
-use Rattle.convert_one.specs.One.{Code}
+use Rattle.node_compile.specs.Parts.{Code}
 
 -- what stands for an input is what is kept of it
 pub common_idx_input : (c : ℕ) → 1 ≤ c → c < 64 → common_idx (common_input c) ≡ c
@@ -22,10 +21,8 @@ common_idx_input c low high =
 
 module _ (s : List ℕ) (a : ℕ) where
   -- the input has a byte of its own
-  pub code_byte : {r : ℕ} → low_bits s a ≡ 0 → Idx (get_or s (a - 1) 0) r → Code (input_of s a) r (get_or s (a - 1) 0)
-  code_byte z i =
-      let is = input_of_byte s a z in
-      record { is = i.is ∙ ap common_idx (sym is); lt = i.lt; rare_is = λ _. sym is }
+  pub code_byte : {r x : ℕ} → low_bits s a ≡ 0 → Code (get_or s (a - 1) 0) r x → Code (input_of s a) r x
+  code_byte {r} {x} z code = subst (λ (i : ℕ). Code i r x) (sym (input_of_byte s a z)) code
 
   -- the state byte keeps it
   pub code_low : ¬ (low_bits s a ≡ 0) → low_bits s a < 64 → Code (input_of s a) (low_bits s a) (get_or s (a - 1) 0)

@@ -1,5 +1,2 @@
 -- Lemmas on plain lists and numbers, for the proofs of this crate.
 mod Codes
-mod Numbers
-mod Ones
-mod States

@@ -1,5 +1,4 @@
 -- The length of a node with any number of transitions, from the sizes of its parts.
---     any_bounds                bounds, by which it fits a usize
 --     any_sized                 it is that of the packed node
 --     nothing_is, one_is        which form the node packs to, by what the code tests
 --     Seen, seen-..             what a turn of the loop over the transitions knows
@@ -8,18 +7,17 @@ use mathlib.Core.Path.{◌≡◌, refl, sym, ap, ◌∙◌}
 use mathlib.Core.Bool.{Bool, true, false, cond, not, ◌&&◌, false≢true}
 use mathlib.Core.List.{List, [], ◌∷◌, map}
 use Prim.Native.Nat.{ℕ, ◌+◌, ◌-◌, ◌*◌, ◌≤◌, ◌<◌}
-use native.Mathlib.Nat.{le_trans, mul-le-mul_right, mul-le-mul_left}
 use native.Mathlib.Omega.{arith}
 use borrow.Author.Tests.{eqb-true}
-use lib.Dec.{ltb, leb, eqb}
+use lib.Dec.{ltb, eqb}
 use lib.ListN.{length, length-map}
 use Rattle.format.specs.declared.Transition.{Transition}
-use Rattle.format.specs.Limits.{index_threshold}
 use Rattle.format.specs.Bytes.{pack_size, largest}
 use Rattle.format.specs.Node.{Node, end_len, index_len, transition_at}
 use Rattle.format.specs.Packed.{BuilderNode, delta_of, output_size, delta_size, head_of, packed_any, packs_to_nothing, has_one, packed}
-use Rattle.format.specs.Laws.PackedLaws.{length_deltas, get_d_deltas, length_index_bytes, length_packed_any, delta_size_is, packed_any_is}
-use Rattle.node_compile.specs.Parts.{RecordFits, any_len}
+use Rattle.format.specs.Laws.PackedLaws.{length_deltas, get_d_deltas, delta_size_is, packed_any_is}
+use Rattle.node_compile.specs.Parts.{any_len}
+use Rattle.node_compile.specs.CompileLaws.{any_len_is}
 use Rattle.converting.specs.Converting.{record_by}
 use Rattle.converting.specs.Laws.LayLaws.{get_d_map_lt}
 use Rattle.convert_size.specs.declared.Most.{Most}
@@ -27,39 +25,7 @@ use Rattle.convert_size.specs.Sizes.{entry_in, Sizable, Mosts}
 use Rattle.convert_size.specs.SingleLaws.{Single}
 use Rattle.convert_size.proofs.Largest.{LargestFrom, largest_none, largest_step, largest_all, largest_cons}
 
--- ---- bounds, by which the length of a node fits a usize
-
-cond_le : (t : Bool) (a b m : ℕ) → a ≤ m → b ≤ m → cond t a b ≤ m
-cond_le true a b m p q = p
-cond_le false a b m p q = q
-
-pub record AnyBounds (final : Bool) (n osize tsize : ℕ) : Type 0 where
-  pub end_le : end_len final osize ≤ 8
-  pub outputs_le : n * osize ≤ 2048
-  pub deltas_le : n * tsize ≤ 2048
-  pub index_le : index_len 3 n ≤ 256
-  pub head_le : cond (ltb 0 n && ltb n 64) 1 2 ≤ 2
-
-pub any_bounds : (final : Bool) (n osize tsize : ℕ) → n ≤ 256 → osize ≤ 8 → tsize ≤ 8 → AnyBounds final n osize tsize
-unfolding index_len
-any_bounds final n osize tsize few o8 t8 = record {
-  end_le = cond_le final osize 0 8 o8 (omega arith);
-  outputs_le = le_trans (mul-le-mul_right osize few) (mul-le-mul_left 256 o8);
-  deltas_le = le_trans (mul-le-mul_right tsize few) (mul-le-mul_left 256 t8);
-  index_le = cond_le (leb 2 3 && ltb index_threshold n) 256 0 256 (omega arith) (omega arith);
-  head_le = cond_le (ltb 0 n && ltb n 64) 1 2 2 (omega arith) (omega arith);
-}
-
 -- ---- the length of a node of the forms 00 and 01
-
-any_len_is : (first : ℕ) (b : BuilderNode) (osize tsize : ℕ) → RecordFits first b
-    → any_len b.final (length b.inputs) osize tsize ≡ length (packed_any b (map (delta_of first) b.targets) osize tsize)
-any_len_is first b osize tsize ok =
-    let all = length_packed_any b (map (delta_of first) b.targets) osize tsize in
-    let outputs : length b.outputs * osize ≡ length b.inputs * osize = ap (λ (n : ℕ). n * osize) ok.outputs_len in
-    let deltas : length (map (delta_of first) b.targets) * tsize ≡ length b.inputs * tsize =
-    ap (λ (n : ℕ). n * tsize) (length_deltas first b.targets ∙ ok.targets_len) in
-    omega (arith, length_index_bytes 3 b.inputs (omega arith))
 
 -- the bytes of all deltas: none where there is none, whatever one takes
 deltas_len : (ds : List ℕ) (n : ℕ) → n ≡ length ds → n * pack_size (largest ds) ≡ n * delta_size ds

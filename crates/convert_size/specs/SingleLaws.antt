@@ -3,6 +3,7 @@
 --     single_node         such a node is one
 --     single_packed       its bytes, with its target by a table; kept_packed    the same of what is kept of its input
 --     target_in, target_le     where a transition leads, and where that went
+--     kept_moves               what `first_moved` asks
 --     judged-..                what the code read by the node's form is the node
 -- Assumes nothing.
 use Rattle.std.specs.Prelude.{Ok}
@@ -21,12 +22,13 @@ use Rattle.format.specs.Laws.TransitionLaws.{at_member}
 use Rattle.node_sound.specs.JudgingLaws.{sound_low}
 use Rattle.node_sound.specs.Shapes.{is_any}
 use Rattle.node.specs.declared.Node as N
-use Rattle.node.specs.Read.{meaning, transitions_in, Judges}
+use Rattle.node.specs.Read.{meaning, transitions_in, Readable, Judges}
 use Rattle.node.specs.ReadLaws.{answer_sound, length_node_transitions}
 use Rattle.converting.specs.Converting.{record_by}
 use Rattle.converting.specs.Laws.LayLaws.{get_d_map_lt}
-use Rattle.convert_one.specs.One.{Code, one_bytes}
-use Rattle.convert_one.specs.OneLaws.{bytes_packed}
+use Rattle.node_compile.specs.Parts.{Code}
+use Rattle.node_compile.specs.One.{one_bytes}
+use Rattle.node_compile.specs.OneLaws.{bytes_packed}
 use Rattle.convert_size.specs.Sizes.{entry_in, Sizable, first_input, OneKept, SizableAt}
 
 -- a target that RECORD passes does not lie past F
@@ -114,6 +116,13 @@ module _ {m : Node} {first : ℕ} {moved : List ℕ} (ok : Sizable m first moved
       let lt : i < length (map (λ (t : Transition). entry_in moved t.addr) m.transitions) = omega (arith, length-map m.transitions (λ (t : Transition). entry_in moved t.addr)) in
       let q = within first _ ok.fits.targets_ok i lt in
       subst (λ (x : ℕ). x ≤ first) (get_d_map_lt (λ (t : Transition). entry_in moved t.addr) m.transitions i lt ∙ sym (is_target ∙ ap (entry_in moved) is_to)) q
+
+-- a node with one transition has a first, and its target lies within the table
+pub kept_moves : {s : List ℕ} {r : N.Node} {idx rare first : ℕ} {moved : List ℕ} → Readable s r → OneKept (meaning s r) idx rare → Sizable (meaning s r) first moved
+    → Readable s r × (0 < r.ntrans) × ((transition_at (transitions_in s r) 0).addr < length moved)
+kept_moves {s} {r} read kept ok =
+    let listed : 0 < length (transitions_in s r) = omega (arith, kept.one) in
+    (read, omega (arith, kept.one, length_node_transitions s r read), target_in ok 0 listed _ refl)
 
 -- ---- a node that the code read by its form
 

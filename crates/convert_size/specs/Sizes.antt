@@ -13,9 +13,8 @@ use Rattle.format.specs.Bytes.{largest}
 use Rattle.format.specs.Node.{Node, sound, transition_at}
 use Rattle.format.specs.Packed.{delta_of, packed}
 use Rattle.format.specs.Paths.{Fst, node_in}
-use Rattle.node_compile.specs.Parts.{RecordFits}
 use Rattle.converting.specs.Converting.{record_by}
-use Rattle.convert_one.specs.One.{Code}
+use Rattle.node_compile.specs.Parts.{RecordFits, Code}
 use Rattle.convert_size.specs.declared.Most.{Most}
 
 abbrev pub entry_in : List ℕ → ℕ → ℕ

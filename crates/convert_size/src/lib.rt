@@ -1,24 +1,22 @@
 // How long a node of a version 1 file is when it is packed with its targets replaced by the table's entries: from its largest output and
 // its largest new delta, in one pass over its transitions. The node is sound, so it is read by its form and not judged.
-// What is asked of an address or a node stands where it is needed: no type has the file and the table that it speaks of.
+// A node and the bytes that it was read in go as two values: `node`'s readers take them so, and one value of both would be taken apart at each call.
+// What is asked of a node (`Sizable`) speaks of F too, and F is another one at each node, so it is asked at the call and not promised by a type.
 #![tactic(auto)]
 
-ghost use Rattle.std.specs.Prelude.{◌≡◌, cond, not, ◌&&◌, ◌≤◌, ◌<◌, eqb, ltb, length};
-ghost use Rattle.format.specs.Limits.{max_trans};
-ghost use Rattle.format.specs.Node.{SoundAt, end_len, index_len};
+ghost use Rattle.std.specs.Prelude.{◌≡◌, ◌<◌, length};
+ghost use Rattle.format.specs.Node.{SoundAt, transition_at};
 ghost use Rattle.format.specs.Packed.{packed};
 ghost use Rattle.format.specs.View.{fst_is};
-ghost use Rattle.node.specs.Read.{meaning, Readable};
-ghost use Rattle.node_compile.specs.Parts.{any_len};
+ghost use Rattle.node.specs.Read.{meaning, transitions_in, Readable};
 ghost use Rattle.converting.specs.Converting.{record_by};
-ghost use Rattle.convert_size.specs.Sizes.{entry_in, Mosts, Sizable, first_input, OneKept, SizableAt, SizedAt};
+ghost use Rattle.convert_size.specs.Sizes.{entry_in, Mosts, Sizable, OneKept, SizableAt, SizedAt};
 
-use common_inputs::common_idx;
-use convert_one::{idx_of, one_len, output_size};
-use format::{FstRef, TRANS_INDEX_THRESHOLD};
+use convert_one::kept_of;
+use format::FstRef;
 use le_bytes::pack_size;
 use node::Node;
-use node_compile::{delta_of, packs_to_nothing};
+use node_compile::{Kept, any_len, delta_of, has_one, one_len, output_size, packs_to_nothing};
 
 // The largest output of a node, its final output included, and its largest delta.
 #[derive(Clone, Copy)]
@@ -37,50 +35,38 @@ pub fn new_target(moved: &[u64], to: usize) -> usize
 
 // ---- a node with one transition
 
-// The packed length of a node with one transition that is not final, where idx is what is kept of its input.
-fn len_single(file: &[u8], node: Node, idx: u8, first: usize, moved: &[u64]) -> usize
-    requires { Readable file.now node × OneKept (meaning file.now node) idx (first_input (meaning file.now node))
+// What the first transition of a node adds, and where its target went.
+#[derive(Clone, Copy)]
+pub struct Moved {
+    pub output: u64,
+    pub target: usize,
+}
+
+// The first transition of a node, its target replaced by the table's entry.
+pub fn first_moved(file: &[u8], node: Node, moved: &[u64]) -> Moved
+    requires { Readable file.now node × (0 < node.ntrans)
+        × ((transition_at (transitions_in file.now node) 0).addr < length moved.now) }
+    ensures { (result.output ≡ (transition_at (transitions_in file.now node) 0).out)
+        × (result.target ≡ entry_in moved.now (transition_at (transitions_in file.now node) 0).addr) }
+{
+    Moved {
+        output: node::output(file, node, 0),
+        target: new_target(moved, node::transition_addr(file, node, 0)),
+    }
+}
+
+// The packed length of a node with one transition that is not final.
+fn len_single(file: &[u8], node: Node, kept: Kept, first: usize, moved: &[u64]) -> usize
+    requires { Readable file.now node × OneKept (meaning file.now node) kept.idx kept.input
         × Sizable (meaning file.now node) first moved.now }
     ensures { result ≡ length
         (packed first (record_by (entry_in moved.now) (meaning file.now node))) }
 {
-    let to = node::transition_addr(file, node, 0);
-    let out = node::output(file, node, 0);
-    let target = new_target(moved, to);
-    one_len(idx, out, target, first)
+    let arc = first_moved(file, node, moved);
+    one_len(kept, arc.output, arc.target, first)
 }
 
 // ---- a node with any number of transitions
-
-// The bytes of the final output.
-fn end_len(is_final: bool, osize: usize) -> usize
-    ensures { result ≡ end_len is_final osize }
-{
-    if is_final { osize } else { 0 }
-}
-
-// The bytes of the index.
-#[tactic(auto, unfolding(format::specs::Node::index_len))]
-fn index_len(n: usize) -> usize
-    ensures { result ≡ index_len 3 n }
-{
-    if TRANS_INDEX_THRESHOLD < n { 256 } else { 0 }
-}
-
-// The bytes of the count, where it has its own, and of the state.
-fn head_len(n: usize) -> usize
-    ensures { result ≡ cond (ltb 0 n && ltb n 64) 1 2 }
-{
-    if 0 < n && n < 64 { 1 } else { 2 }
-}
-
-// The bytes of a node of the forms 00 and 01.
-fn any_len(is_final: bool, n: usize, osize: usize, tsize: usize) -> usize
-    requires { (n ≤ max_trans) × (osize ≤ 8) × (tsize ≤ 8) }
-    ensures { result ≡ any_len is_final n osize tsize }
-{
-    end_len(is_final, osize) + n * osize + n * tsize + n + index_len(n) + 1 + head_len(n)
-}
 
 // The largest output and the largest new delta, in one pass.
 fn most_of(file: &[u8], node: Node, first: usize, moved: &[u64]) -> Most
@@ -103,13 +89,6 @@ fn most_of(file: &[u8], node: Node, first: usize, moved: &[u64]) -> Most
     }
 }
 
-// One transition, and not final.
-fn has_one(is_final: bool, n: usize) -> bool
-    ensures { result ≡ (not is_final && eqb n 1) }
-{
-    !is_final && n == 1
-}
-
 // The packed length of a node that is stored in the forms 00 and 01, and is packed in another where it has one transition and is not
 // final.
 fn len_any(file: &[u8], node: Node, first: usize, moved: &[u64]) -> usize
@@ -123,8 +102,8 @@ fn len_any(file: &[u8], node: Node, first: usize, moved: &[u64]) -> usize
         return 0;
     }
     if has_one(is_final, n) {
-        let idx = common_idx(node::input(file, node, 0));
-        return len_single(file, node, idx, first, moved);
+        let kept = Kept::of(node::input(file, node, 0));
+        return len_single(file, node, kept, first, moved);
     }
     let most = most_of(file, node, first, moved);
     // where there is no transition no delta is stored, and none is counted
@@ -143,7 +122,13 @@ pub fn len_at(fst: FstRef<'_>, a: usize, first: usize, moved: &[u64]) -> usize
     let file = fst.bytes;
     match file[a] {
         0..=127 => len_any(file, node::any_node(fst, a), first, moved),
-        128..=191 => len_single(file, node::one_node(fst, a), idx_of(file, a), first, moved),
-        192..=255 => len_single(file, node::next_node(fst, a), idx_of(file, a), first, moved),
+        128..=191 => len_single(file, node::one_node(fst, a), kept_of(file, a), first, moved),
+        192..=255 => len_single(
+            file,
+            node::next_node(fst, a),
+            kept_of(file, a),
+            first,
+            moved,
+        ),
     }
 }

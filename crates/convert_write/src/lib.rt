@@ -1,5 +1,5 @@
 // A new file, written: header, nodes, key count and root.
-// depths, sums and out are slices and no struct: the C caller lends them one by one, and the definitions speak of each.
+// depths, sums and out are slices and no struct, as convert says: the table is not written here.
 #![tactic(auto)]
 
 ghost use Rattle.std.specs.Prelude.{◌≡◌, ◌≤◌, length, get_or};
@@ -20,9 +20,8 @@ fn write_header(file: &[u8], out: &mut [u8])
     requires { (16 ≤ length file.now) × (16 ≤ length out.old) }
     ensures { out.new ≡ put out.old 0 (header_of file.now) }
 {
-    let at = 8;
-    pack_uint_in(out, 0, NEW, at);
-    out[at..16].copy_from_slice(&file[at..16]);
+    pack_uint_in(out, 0, NEW, 8);
+    out[8..16].copy_from_slice(&file[8..16]);
 }
 
 // The whole file; the rest of out stays.

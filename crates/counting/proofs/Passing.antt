@@ -1,36 +1,92 @@
 -- The pass up the file: what is known once the addresses below a are passed.
---     Zeroing ..          zeros from an address on, so far
+--     zeros_put           zeros written from an address on, up to the next that has an entry
 --     Passing f d c a     the entries below a are as they are to be
 --     AtNode f d c a      and the next address has an entry in the depths
 -- Assumes nothing.
 use Rattle.std.specs.Prelude.{Option, Some, None}
 use mathlib.Core.Path.{◌≡◌, sym, ap, ◌∙◌}
-use mathlib.Core.List.{List}
-use Prim.Native.Nat.{ℕ, ◌+◌, ◌≤◌, ◌<◌}
+use mathlib.Core.List.{List, ◌++◌}
+use Prim.Native.Nat.{ℕ, ◌+◌, ◌-◌, ◌≤◌, ◌<◌}
 use native.Mathlib.Decide.{dec_le}
 use native.Mathlib.Omega.{arith}
-use lib.ListN.{length, get_or, set}
+use lib.ListN.{length, get_or, set, take, drop, replicate}
+use Rattle.std.proofs.lemmas.List.{length-take, length-drop, length-append, length-replicate, append_assoc, drop-drop, get_or-take, get_or-drop, get_or-append_right, get_or_append_left, get_or-replicate}
+use Rattle.std.proofs.lemmas.Slice.{drop-append-drop}
 use Rattle.format.specs.Node.{Node, sound, SoundAt, node_of}
 use Rattle.format.specs.Paths.{Fst, node_in}
 use Rattle.format.specs.Tables.{keys_from}
 use Rattle.format.specs.Laws.NodeLaws.{node_at_sound}
 use Rattle.format.specs.Laws.NodeFacts.{node_target_lt}
-use Rattle.admission_node.specs.Entries.{Kept, total_as}
+use Rattle.admission_node.specs.Entries.{total_as}
 use Rattle.admission_node.specs.KeptLaws.{at_set}
 use Rattle.admission_node.specs.TotalLaws.{total_cases}
 use Rattle.counting_node.specs.CountNodes.{CountedAt}
-use Rattle.counting.specs.CountPasses.{HasEntry, ZerosTo, Countable, KeysEntry, OverOne}
+use Rattle.counting.specs.CountPasses.{HasEntry, FirstEntry, ZerosTo, Countable, KeysEntry, OverOne}
 use Rattle.counting_node.specs.CountNodesLaws.{keys_by_is}
 
 -- ---- zeros, up to an address
 
-pub record Zeroing (d : List ℕ) (n from : ℕ) (c₀ c : List ℕ) (a : ℕ) : Type 0 where
-  pub low : from ≤ a
-  pub high : a ≤ n
-  pub kept : Kept n c₀ c
-  pub none : (j : ℕ) → from ≤ j → j < a → get_or d j 0 ≡ 0
-  pub zeros : (j : ℕ) → from ≤ j → j < a → get_or c j 0 ≡ 0
-  pub below : (j : ℕ) → j < from → get_or c j 0 ≡ get_or c₀ j 0
+-- zs is written over the k entries of c₀ from an address on, and the depths d have their first entry after as many
+module _ (d c₀ zs : List ℕ) (n from k m : ℕ) (low : from ≤ n) (room_d : n ≤ length d) (room_c : n ≤ length c₀)
+    (first : FirstEntry (take (n - from) (drop from d)) k) (m_is : m ≡ k) (zs_put : zs ≡ replicate (length (take m (drop from c₀))) 0) where
+  part_long : length (take (n - from) (drop from d)) ≡ n - from
+  part_long = simp (length-take, length-drop) (omega arith)
+
+  front_long : length (take from c₀) ≡ from
+  front_long = simp (length-take) (omega arith)
+
+  k_le : from + k ≤ n
+  k_le = omega (arith, first.within, part_long)
+
+  zs_is : zs ≡ replicate k 0
+  zs_is =
+      let long : length (take m (drop from c₀)) ≡ k = simp (length-take, length-drop) (omega (arith, k_le)) in
+      zs_put ∙ ap (λ i. replicate i 0) long
+
+  both_long : length (take from c₀ ++ zs) ≡ from + k
+  both_long = length-append (take from c₀) zs ∙ (omega (arith, front_long, ap length zs_is, length-replicate {A = ℕ} k 0))
+
+  part_at : (j : ℕ) → from ≤ j → j < n → get_or (take (n - from) (drop from d)) (j - from) 0 ≡ get_or d j 0
+  part_at j p l =
+      let back : from + (j - from) ≡ j = omega arith in
+      get_or-take (n - from) (drop from d) (j - from) 0 (omega arith) ∙ get_or-drop from d (j - from) 0 ∙ ap (λ i. get_or d i 0) back
+
+  abbrev whole : List ℕ
+  whole = take from c₀ ++ (zs ++ drop m (drop from c₀))
+
+  whole_is : whole ≡ (take from c₀ ++ zs) ++ drop (from + k) c₀
+  whole_is =
+      ap (λ (x : List ℕ). take from c₀ ++ (zs ++ x)) (drop-drop m from c₀ ∙ ap (λ i. drop (from + i) c₀) m_is)
+      ∙ sym (append_assoc (take from c₀) zs (drop (from + k) c₀))
+
+  zs_at : (j : ℕ) → from ≤ j → j < from + k → get_or whole j 0 ≡ 0
+  zs_at j p l =
+      get_or-append_right (take from c₀) (zs ++ drop m (drop from c₀)) from j 0 front_long p
+      ∙ get_or_append_left zs (drop m (drop from c₀)) 0 (j - from) (omega (arith, ap length zs_is, length-replicate {A = ℕ} k 0))
+      ∙ ap (λ (x : List ℕ). get_or x (j - from) 0) zs_is
+      ∙ get_or-replicate k (j - from) 0 0 (omega arith)
+
+  pub zeros_put : ZerosTo d n from c₀ (take from c₀ ++ (zs ++ drop m (drop from c₀))) (from + k)
+  zeros_put =
+      record {
+        low = omega arith;
+        high = k_le;
+        kept = record {
+          long =
+              ap length whole_is
+              ∙ length-append (take from c₀ ++ zs) (drop (from + k) c₀)
+              ∙ (omega (arith, both_long, length-drop (from + k) c₀, k_le));
+          beyond = ap (drop n) whole_is ∙ drop-append-drop (from + k) c₀ (take from c₀ ++ zs) n k_le both_long;
+        };
+        none = λ j p l. sym (part_at j p (omega (arith, k_le))) ∙ first.none (j - from) (omega arith);
+        zeros = zs_at;
+        below = λ j l.
+            get_or_append_left (take from c₀) (zs ++ drop m (drop from c₀)) 0 j (omega (arith, front_long))
+            ∙ get_or-take from c₀ j 0 l;
+        next = λ l z.
+            let back : from + k - from ≡ k = omega arith in
+            first.next (omega (arith, part_long)) (ap (λ i. get_or (take (n - from) (drop from d)) i 0) (sym back) ∙ part_at (from + k) (omega arith) l ∙ z);
+      }
 
 -- ---- the pass
 

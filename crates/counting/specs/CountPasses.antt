@@ -1,6 +1,7 @@
 -- What the inner functions ask and promise; what filling the table itself promises is in `CountOutcomes`. Nothing of `CountOutcomes` says how the
 -- reached nodes are found: here it is by the entries of the depths that are not 0.
 --     HasEntry d j            the address j has an entry in the depths d
+--     FirstEntry d r          how many entries stand before the first that is not 0
 --     ZerosTo                 zeros up to the next address that has one
 --     Countable, Passed       what the pass asks and answers
 --     Leaves                  the same, with the table wiped where a number does not fit
@@ -20,6 +21,12 @@ use Rattle.admission.specs.Outcome.{Wiped}
 
 abbrev pub HasEntry : List ℕ → ℕ → Type 0
 HasEntry d j = ¬ (get_or d j 0 ≡ 0)
+
+-- r entries from the first on are 0, and the next one, where there is one, is not
+pub record FirstEntry (d : List ℕ) (r : ℕ) : Type 0 where
+  pub within : r ≤ length d
+  pub none : (j : ℕ) → j < r → get_or d j 0 ≡ 0
+  pub next : r < length d → HasEntry d r
 
 -- zeros at the addresses from `from` below r, which have no entry in the depths; below n, r is the first that has one
 pub record ZerosTo (d : List ℕ) (n from : ℕ) (c₀ c : List ℕ) (r : ℕ) : Type 0 where

@@ -1,34 +1,39 @@
 // The table of keys (document 02, N11): the number of keys from each reached node, at its address. The file is admitted first. Then
 // one pass in ascending order of addresses works out each node's number from those of its targets, which lie below it. A node is reached
 // where admission left an entry in the depths.
-// depths, sums and counts are slices and no struct: the C caller lends them one by one, and the definitions speak of each.
+// depths, sums and counts are slices and no struct: `admit` takes the first two, `fill` reads the first and writes the third, and `count_at` reads
+// the third alone. One value of the three, made of those that the C caller lends, would be taken apart at each of these calls.
 #![tactic(auto)]
 
 ghost use Rattle.std.specs.Prelude.{◌≤◌, length};
 ghost use Rattle.format.specs.View.{fst_is};
 ghost use Rattle.admission.specs.Outcome.{Opens};
-ghost use Rattle.counting.specs.CountPasses.{ZerosTo, Countable, Passed, Leaves};
+ghost use Rattle.counting.specs.CountPasses.{FirstEntry, ZerosTo, Countable, Passed, Leaves};
 ghost use Rattle.counting.specs.CountOutcomes.{CountOutcome};
 
 use counting_node::count_at;
 use format::{FstRef, Refusal};
 
-// Zeros from an address on, up to the next one that has an entry in the depths; answers that, or n. A loop of its own is quicker, since
-// most addresses have none. No plainer by std: the entry would be looked for in one pass, and the zeros filled in by a second.
-// n is the file's length, and either table may be longer.
+// How many entries stand before the first that is not 0.
+fn gap(depths: &[u16]) -> usize
+    ensures { FirstEntry depths.now result }
+{
+    depths
+        .iter()
+        .position(|entry| *entry != 0)
+        .unwrap_or(depths.len())
+}
+
+// Zeros from an address on, up to the next one that has an entry in the depths; answers that, or n, which is the file's length. Either table
+// may be longer.
 fn zeros_to(depths: &[u16], from: usize, n: usize, counts: &mut [u64]) -> usize
     requires { (from ≤ n) × (n ≤ length depths.now) × (n ≤ length counts.old) }
     ensures { ZerosTo depths.now n from counts.old
         counts.new result }
 {
-    for a in from..n {
-        let reached = depths[a] != 0;
-        if reached {
-            return a;
-        }
-        counts[a] = 0;
-    }
-    n
+    let to = from + gap(&depths[from..n]);
+    counts[from..to].fill(0);
+    to
 }
 
 // Fills the table, in ascending order of addresses; false at the first node with more keys than an entry holds.

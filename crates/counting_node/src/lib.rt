@@ -51,7 +51,8 @@ fn count_any(file: &[u8], node: Node, counts: &[u64]) -> Option<u64>
     total
 }
 
-// The same of a node with one transition.
+// The same of a node with one transition. Tried, unproved: where `count_any` takes these too, a count of the keys of words takes 6.5 percent more
+// instructions, those of its admission included, and 5 percent more time.
 fn count_one(file: &[u8], node: Node, counts: &[u64]) -> Option<u64>
     requires { Readable file.now node × (node.ntrans ≡ 1)
         × Inside counts.now (transitions_in file.now node) }
@@ -64,21 +65,16 @@ fn count_one(file: &[u8], node: Node, counts: &[u64]) -> Option<u64>
 }
 
 // The same of the sound node at the address a.
+// The node's form is asked here. Tried, unproved: with the node made by `node_of` a count of the keys of words takes 7 percent longer.
 pub fn count_at(fst: FstRef<'_>, a: usize, counts: &[u64]) -> Option<u64>
     requires { SoundAt fst.bytes.now fst.version fst.root a
         × (length fst.bytes.now ≤ length counts.now) }
     ensures { CountedAt (fst_is fst.entry)
         counts.now a result }
 {
-    let state = fst.bytes[a];
-    if state < 128 {
-        let m = node::any_node(fst, a);
-        return count_any(fst.bytes, m, counts);
+    match fst.bytes[a] {
+        0..=127 => count_any(fst.bytes, node::any_node(fst, a), counts),
+        128..=191 => count_one(fst.bytes, node::one_node(fst, a), counts),
+        _ => count_one(fst.bytes, node::next_node(fst, a), counts),
     }
-    if state < 192 {
-        let m = node::one_node(fst, a);
-        return count_one(fst.bytes, m, counts);
-    }
-    let m = node::next_node(fst, a);
-    count_one(fst.bytes, m, counts)
 }

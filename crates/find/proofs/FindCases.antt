@@ -13,7 +13,7 @@ use Rattle.format.specs.Opening.{Meta, opening}
 use Rattle.format.specs.Strings.{Bound}
 use Rattle.reading.specs.Reading.{bounds_test}
 use Rattle.pattern.specs.Pattern.{Pattern, start_by}
-use Rattle.paging.specs.Paging.{Page, refused_page, room_test}
+use Rattle.paging.specs.Paging.{refused_page, room_test}
 use Rattle.finding.specs.Finding.{page_by, find}
 
 module _ (s : List ℕ) (p : Pattern) (lo hi : Bound) (most a b : ℕ) where

@@ -1,6 +1,7 @@
 // A page by pattern in one call (src/raw/mod.rs: `search` with an automaton for the pattern, and the loop of `next_with` over it): up to so many keys
 // between two bounds that fit, each in a row of 256 bytes with its value beside it, on any file, admitted or not.
-// rows and values are two slices and no struct: the C caller lends them one by one, and the definitions speak of each.
+// rows and values are two slices and no struct: the C caller lends two, a row is written by a function that takes the rows alone, and the definitions speak of
+// each, so that a struct would only be taken apart again.
 // The pattern is given as the C caller has it, positions and whether any rest may follow.
 // The two bounds are two values and no pair: each is taken by itself.
 // How many keys are asked for is a number of its own, and no length of rows or values.
@@ -18,8 +19,9 @@ use find_fill::fill;
 use format::{MAX_KEY, Refusal};
 use patterned::start;
 use range_fill::{Ranged, refused};
-use range_rows::{bounds_right, has_room};
+use range_rows::has_room;
 use std::ops::Bound;
+use stream_start::bounds_right;
 
 // The walk, where the buffers have room.
 fn find_from(

@@ -15,7 +15,6 @@ use Rattle.buffers.specs.Put.{put}
 use Rattle.buffers.specs.PutLaws.{length_put}
 use Rattle.format.specs.Limits.{max_path}
 use Rattle.reading.specs.Reading as R
-use Rattle.reading.specs.Reading.{View}
 use Rattle.reading.specs.Demand.{Entry, entry}
 use Rattle.pattern.specs.Pattern as P
 use Rattle.pattern.specs.Pattern.{next_by}
@@ -100,15 +99,18 @@ module _ {s : List ℕ} {p : P.Pattern} {w : Page} {most : ℕ} {rows₀ values�
     pub key_fits : (n v : ℕ) → o.answer ≡ Ok (Some (n, v)) → n ≤ max_path
     key_fits n v e = omega (arith, g.space, step_fits call_told n v e (same ∙ sym g.space))
 
+    pub key_len : (n v : ℕ) → o.answer ≡ Ok (Some (n, v)) → length (take n b) ≡ n
+    key_len n v e = let short = key_fits n v e in length-take-le n b (omega arith)
+
     pub going_key : row_len * most ≤ length rows₀ → most ≤ length values₀ → (n v : ℕ) → o.answer ≡ Ok (Some (n, v)) → {rows' : List ℕ}
-        → rows' ≡ put rows (count * 256) (n ∷ take n b) → Going s p w most rows₀ values₀ rows' (set values count v) b o.patterned (count + 1)
+        → rows' ≡ put rows (count * 256) (length (take n b) ∷ take n b) → Going s p w most rows₀ values₀ rows' (set values count v) b o.patterned (count + 1)
     going_key row_room value_room n v e {rows'} put_is =
         let k = take n b in
         let x = entry k v in
         let short = key_fits n v e in
         let len : length k ≡ n = length-take-le n b (omega arith) in
         let count_is = g.count_is in
-        let row_is : rows' ≡ put rows (count * 256) (row_of x) = put_is ∙ ap (λ (j : ℕ). put rows (count * 256) (j ∷ k)) (sym len) in
+        let row_is : rows' ≡ put rows (count * 256) (row_of x) = put_is in
         let place : count * 256 ≡ row_len * length g.entries = omega arith in
         let more_len : length (g.entries ++ (x ∷ [])) ≡ length g.entries + 1 = length-append g.entries (x ∷ []) in
         let in_values : length g.entries < length values₀ = omega arith in

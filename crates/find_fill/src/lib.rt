@@ -1,5 +1,6 @@
 // The keys of a reading by pattern, each in a row of 256 bytes with its value beside it: the loop of `find`.
-// rows and values are two slices and no struct: the C caller lends them one by one, and the definitions speak of each.
+// rows and values are two slices and no struct: the C caller lends two, a row is written by a function that takes the rows alone, and the definitions speak of
+// each, so that a struct would only be taken apart again.
 // How many keys are asked for is a number of its own, and no length of rows or values.
 #![tactic(auto)]
 
@@ -48,7 +49,7 @@ pub fn fill(
                 };
             }
             Ok(Some((n, value))) => {
-                put_row(&key, n, count * ROW, rows);
+                put_row(&key[..n], count * ROW, rows);
                 values[count] = value;
             }
         }

@@ -10,45 +10,47 @@ ghost use Rattle.format.specs.Limits.{number};
 // Why a call refuses, in the order of document 01's table, and from `Pattern` on of document 02's.
 #[derive(Clone, Copy, PartialEq, Eq)]
 pub enum Refusal {
-    // a file shorter than its header and trailer
+    // a file that has bytes, but fewer than its header and trailer
     Short,
     // a version that is none of 1 to 3
     Version,
     // a root that breaks the root rule (Opening)
     Root,
-    // a length past the largest
+    // a file, or a new one, over the largest length; to a listing, one over 4,096 bytes
     Large,
-    // a node that is not sound
+    // a node that is not sound; on admission also a broken chain, or a target that is no node of the chain
     Node,
-    // a path longer than the longest key
+    // a path or a key longer than the longest key
     Deep,
-    // a path whose sum is past the largest value
+    // a sum past the largest value
     Sum,
-    // a buffer or a table too short
+    // a buffer or a table too short, or fewer than two cells to pack with
     Space,
     // a bound longer than the longest key
     Bound,
-    // a record that no node has
+    // a node record that breaks a rule (Packed: `RecordOk`)
     Record,
-    // a reading, or marks or a card beside it, that cannot be right: over 256 levels, a bound over 255 bytes, or another file's length
+    // a reading that cannot be one of the file: over 256 levels, a held bound over 255 bytes, or the length of another file; a key that comes where
+    // the reading's number says that none is to come; marks beside it that cannot be right: over 16, one with such a reading, or a name of no bytes,
+    // of over 8, or that stands twice; of several files as one, a held key of over 256 levels
     State,
-    // over 255 positions of a pattern
+    // over 255 positions of a pattern, given or held
     Pattern,
-    // a list to pack that is not one
+    // bytes to pack that are no list
     List,
-    // no file, or over eight
+    // no files to read as one, or over eight, given or held
     Cards,
     // a file to convert that is not of version 1
     Edition,
-    // a held level that the new file does not have
+    // a held level that the new file does not have, or whose node there has another number of transitions or another sum
     Carry,
-    // a mark's name of a wrong length, or of no mark
+    // a mark's name of no bytes or over 8, or, to go back, of no mark
     Name,
     // a seventeenth mark
     Full,
-    // over 2^64 - 1 keys, or a table that cannot be right
+    // over 2^64 - 1 keys, or at a start a table of keys whose numbers do not go together
     Count,
-    // a seat's number over seven, or a seat without a reading
+    // a seat's number over seven, given or held, or a seat without a reading that is raised or waits
     Seat,
 }
 

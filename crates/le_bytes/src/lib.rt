@@ -1,7 +1,7 @@
 // Little-endian numbers of up to 8 bytes: read, sized and written, and read out of a row that is stored last first.
-// A caller gives the place and the count of bytes, and keeps both inside the slice.
-// Ports src/bytes.rs.
-// The length that is read is asked of the slice, where an array would ask each caller to copy.
+// A caller keeps the bytes that are read or written inside the slice.
+// Ports src/bytes.rs; `number_of` finds an output or a delta as src/raw/node.rs does.
+// That a slice is long enough is asked of the caller: an array in its place would have each caller copy the bytes.
 #![tactic(auto)]
 
 ghost use Rattle.std.specs.Prelude.{◌≡◌, ◌+◌, ◌*◌, ◌≤◌, ◌<◌, length, take, get_or};
@@ -12,7 +12,8 @@ ghost use Rattle.le_bytes.specs.Size.{PackedIn};
 
 use buffers::copy_front;
 
-// The number that the first 4 bytes of slice stand for.
+// The number that the first 4 bytes of slice stand for. It stands inline in each caller: to judge deltas of 3 bytes, one is read for each.
+#[inline(always)]
 pub fn read_u32_le(slice: &[u8]) -> u32
     requires { 4 ≤ length slice.now }
     ensures { result ≡ le (take 4 slice.now) }
@@ -48,7 +49,7 @@ fn unpack_wide(slice: &[u8], nbytes: usize) -> u64
     requires { (nbytes ≤ 8) × (8 ≤ length slice.now) }
     ensures { result ≡ le (take nbytes slice.now) }
 {
-    // a shift by 64 is none
+    // 0 bytes would need a shift by 64, which a u64 does not have
     if nbytes == 0 {
         return 0;
     }
@@ -66,7 +67,7 @@ fn unpack_short(slice: &[u8], nbytes: usize) -> u64
     read_u64_le(&eight)
 }
 
-// How many bytes the packer gives n, from its leading zero bits; zero, which has no bit, takes one byte.
+// How many bytes the packer gives n, from its leading zero bits; zero, which has no bit that is 1, takes one byte.
 pub fn pack_size(n: u64) -> u8
     ensures { PackedIn n result }
 {
@@ -77,6 +78,7 @@ pub fn pack_size(n: u64) -> u8
 }
 
 // Writes the nbytes lowest bytes of n from place at on; the other bytes stay.
+// Not by `to_le_bytes`: it gives 8 bytes, and nbytes is any number.
 pub fn pack_uint_in(out: &mut [u8], at: usize, n: u64, nbytes: usize)
     requires { at + nbytes ≤ length out.old }
     ensures { out.new ≡ put out.old at (bytes_of nbytes n) }
@@ -89,8 +91,8 @@ pub fn pack_uint_in(out: &mut [u8], at: usize, n: u64, nbytes: usize)
 }
 
 // Number i of n numbers of size bytes that stand last first from place at on.
-// at, size and n stand as in `numbers_down`, of which the contract speaks: for a slice in their place it would have to be proved that
-// the slice is that part of the file.
+// at, size and n stand as in `numbers_down`, of which the contract speaks: 8 bytes are read at once, and a slice of the numbers alone would not have them at
+// its end.
 pub fn number_of(file: &[u8], at: usize, size: usize, n: usize, i: usize) -> u64
     requires { (at + n * size ≤ length file.now) × (size ≤ 8) × (i < n) }
     ensures { result ≡ get_or (numbers_down file.now at size n) i 0 }

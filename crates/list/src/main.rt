@@ -2,7 +2,6 @@
 // The work is the crates' `listing_start` and `listing`; a line is written as soon as it is there, so that memory does not grow with the number of keys.
 #![tactic(auto)]
 
-ghost use Rattle.std.specs.Prelude.{◌≤◌, length};
 ghost use Rattle.stream.specs.Plains.{plain_is};
 ghost use Rattle.list.specs.Stands.{Stands};
 
@@ -17,18 +16,16 @@ const ROOM: u64 = 4_097;
 // One entry for each byte of the longest file that is listed.
 const CELLS: usize = 4_096;
 
-// Writes the first n bytes of a line; false where that fails.
-fn put(rt: &impl Print, line: &[u8], n: usize) -> bool
-    requires { n ≤ length line.now }
-{
-    rt.write_all(&line[..n]).is_ok()
+// Writes a line; false where that fails.
+fn put(rt: &impl Print, line: &[u8]) -> bool {
+    rt.write_all(line).is_ok()
 }
 
 // Writes the one line of a file that is not listed.
 fn refuse(rt: &impl Print, why: Refusal) {
     let mut line = [0u8; LINE];
     let n = listing_lines::refused_line(why, &mut line);
-    put(rt, &line, n);
+    put(rt, &line[..n]);
 }
 
 // Writes the lines of an admitted file, from its unbounded reading on. Each key that is handed out leaves fewer visits to come.
@@ -43,12 +40,12 @@ fn lines(rt: &impl Print, file: &[u8], first: Plain)
         let listed = listing::next_line(file, plain, keys, &mut line);
         match listed.line {
             Line::Key(n) => {
-                if !put(rt, &line, n) {
+                if !put(rt, &line[..n]) {
                     return;
                 }
             }
             Line::Last(n) => {
-                put(rt, &line, n);
+                put(rt, &line[..n]);
                 return;
             }
             Line::Short => return,

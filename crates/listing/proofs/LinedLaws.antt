@@ -1,5 +1,6 @@
 -- What a call of next gives a listing: the line of its answer, case by case.
---     lined_short, lined_key, lined_end, lined_refused     the four ways out of `next_line`
+--     wrote_key, wrote_end, wrote_refused     the three ways out of `write_line`
+--     lined_short, lined_wrote                the two of `next_line`
 -- Assumes nothing.
 use mathlib.Core.Path.{◌≡◌, refl, sym, ap, ◌∙◌, subst}
 use Rattle.std.specs.Prelude.{Ok, Err, Some, None}
@@ -7,7 +8,10 @@ use Rattle.format.specs.declared.Refusal.{Refusal}
 use mathlib.Core.List.{List}
 use Prim.Native.Nat.{ℕ, ◌≤◌, ◌<◌}
 use native.Mathlib.Omega.{arith}
-use lib.ListN.{length, take}
+use lib.ListN.{length, take, drop}
+use Rattle.std.proofs.lemmas.List.{drop-append-le, take-append-drop}
+use lib.Seq.{length-take-le}
+use mathlib.Core.List.{◌++◌, append_assoc}
 use Rattle.format.specs.Limits.{max_path}
 use Rattle.reading.specs.Reading as R
 use Rattle.reading.specs.Reading.{key, end, counted}
@@ -27,8 +31,28 @@ use Rattle.listing.specs.Lined.{state_is, Wrote, Lined}
 pub lined_short : (w : Rattle.listing.specs.Listing.Line) (st : State) (buf : List ℕ) (r : Listed) → length buf < 532 → r.line ≡ Short → state_is r ≡ st → Lined w st buf buf r
 lined_short w st buf r h e s = record { short = λ _. (e, refl, s); wrote = λ g. absurd (omega arith) }
 
+rest_of : (n k : ℕ) (s : List ℕ) → n ≤ k → k ≤ length s → drop n (take k s) ++ drop k s ≡ drop n s
+rest_of n k s low room =
+    let l : n ≤ length (take k s) = omega (arith, length-take-le k s room) in
+    sym (drop-append-le n (take k s) (drop k s) l) ∙ ap (drop n) (take-append-drop k s)
+
+-- a line in the buffer's first 532 bytes, the rest as given
+line_rest : (b s ws buf : List ℕ) → 532 ≤ length s → length b ≤ 532 → ws ≡ b ++ drop (length b) (take 532 s) → buf ≡ ws ++ drop 532 s → buf ≡ b ++ drop (length b) s
+line_rest b s ws buf room short w is =
+    is ∙ ap (λ (x : List ℕ). x ++ drop 532 s) w ∙ append_assoc b (drop (length b) (take 532 s)) (drop 532 s)
+    ∙ ap (λ (x : List ℕ). b ++ x) (rest_of (length b) 532 s short room)
+
+wrote_whole : (w : Rattle.listing.specs.Listing.Line) (s ws buf : List ℕ) (r : Listed) → 532 ≤ length s → Wrote w (take 532 s) ws r → buf ≡ ws ++ drop 532 s → Wrote w s buf r
+wrote_whole (more b st) s ws buf r room q is = (q.0, line_rest b s ws buf room q.3 q.1 is, q.2, q.3)
+wrote_whole (last b st) s ws buf r room q is = (q.0, line_rest b s ws buf room q.3 q.1 is, q.2, q.3)
+
+pub lined_wrote : (w : Rattle.listing.specs.Listing.Line) (st : State) (s ws buf : List ℕ) (r : Listed) → 532 ≤ length s → Wrote w (take 532 s) ws r → buf ≡ ws ++ drop 532 s → Lined w st s buf r
+lined_wrote w st s ws buf r room q is = record { short = λ g. absurd (omega arith); wrote = λ _. wrote_whole w s ws buf r room q is }
+
+-- ---- the ways out of `write_line`
+
 module _ (s : List ℕ) (v : Plain) (keys space : ℕ) (room : space ≡ max_path) {buf₀ buf : List ℕ} {o : Step} (h : PlainStepped (next_plain s v space) buf₀ buf o)
-    (line₀ line : List ℕ) (len : ℕ) (r : Listed) (rest : plain_is r.plain ≡ plain_is o.plain) (long : 532 ≤ length line₀) where
+    (line₀ line : List ℕ) (len : ℕ) (r : Listed) (rest : plain_is r.plain ≡ plain_is o.plain) where
   by_line : (a : R.Answer) → (next_plain s v space).answer ≡ a → line_of s (state v keys) ≡ line_by a (plain_is r.plain) keys
   unfolding line_of
   by_line a e =
@@ -36,25 +60,25 @@ module _ (s : List ℕ) (v : Plain) (keys space : ℕ) (room : space ≡ max_pat
       ∙ ap (λ (x : R.Answer). line_by x (next_plain s v space).reading keys) e
       ∙ ap (λ (x : Plain). line_by a x keys) (sym (rest ∙ h.gave.plain))
 
-  lined : (x : Rattle.listing.specs.Listing.Line) → line_of s (state v keys) ≡ x → Wrote x line₀ line r → Lined (line_of s (state v keys)) (state v keys) line₀ line r
-  lined x e q = record { short = λ g. absurd (omega arith); wrote = λ _. subst (λ z. Wrote z line₀ line r) (sym e) q }
+  wrote : (x : Rattle.listing.specs.Listing.Line) → line_of s (state v keys) ≡ x → Wrote x line₀ line r → Wrote (line_of s (state v keys)) line₀ line r
+  wrote x e q = subst (λ z. Wrote z line₀ line r) (sym e) q
 
-  pub lined_key : (n value : ℕ) → o.answer ≡ Ok (Some (n, value)) → Written (key_line (take n buf) value) line₀ line len → r.line ≡ KeyLine len → r.keys ≡ counted keys
-      → Lined (line_of s (state v keys)) (state v keys) line₀ line r
-  lined_key n value e wr is count =
-      lined (more (key_line (take n buf) value) (state (plain_is r.plain) (counted keys))) (by_line (key (take n buf) value) (step_text (plain_told h) n value e))
+  pub wrote_key : (n value : ℕ) → o.answer ≡ Ok (Some (n, value)) → Written (key_line (take n buf) value) line₀ line len → r.line ≡ KeyLine len → r.keys ≡ counted keys
+      → Wrote (line_of s (state v keys)) line₀ line r
+  wrote_key n value e wr is count =
+      wrote (more (key_line (take n buf) value) (state (plain_is r.plain) (counted keys))) (by_line (key (take n buf) value) (step_text (plain_told h) n value e))
       (is ∙ ap KeyLine wr.answer, wr.buffer, ap (state (plain_is r.plain)) count, omega (arith, wr.answer, wr.short))
 
-  pub lined_end : o.answer ≡ Ok None → Written (end_line keys (plain_is o.plain).view.total) line₀ line len → r.line ≡ Last len → r.keys ≡ keys
-      → Lined (line_of s (state v keys)) (state v keys) line₀ line r
-  lined_end e wr is count =
+  pub wrote_end : o.answer ≡ Ok None → Written (end_line keys (plain_is o.plain).view.total) line₀ line len → r.line ≡ Last len → r.keys ≡ keys
+      → Wrote (line_of s (state v keys)) line₀ line r
+  wrote_end e wr is count =
       let t : (plain_is r.plain).view.total ≡ (plain_is o.plain).view.total = ap (λ (x : Plain). x.view.total) rest in
       let q = by_line end (step_end (plain_told h) e) ∙ ap (λ (n : ℕ). last (end_line keys n) (state (plain_is r.plain) keys)) t in
-      lined (last (end_line keys (plain_is o.plain).view.total) (state (plain_is r.plain) keys)) q
+      wrote (last (end_line keys (plain_is o.plain).view.total) (state (plain_is r.plain) keys)) q
       (is ∙ ap Last wr.answer, wr.buffer, ap (state (plain_is r.plain)) count, omega (arith, wr.answer, wr.short))
 
-  pub lined_refused : (n : Refusal) → o.answer ≡ Err n → Written (refused_line n) line₀ line len → r.line ≡ Last len → r.keys ≡ keys
-      → Lined (line_of s (state v keys)) (state v keys) line₀ line r
-  lined_refused n e wr is count =
-      lined (last (refused_line n) (state (plain_is r.plain) keys)) (by_line (R.Answer.refused n) (step_refused (plain_told h) n e))
+  pub wrote_refused : (n : Refusal) → o.answer ≡ Err n → Written (refused_line n) line₀ line len → r.line ≡ Last len → r.keys ≡ keys
+      → Wrote (line_of s (state v keys)) line₀ line r
+  wrote_refused n e wr is count =
+      wrote (last (refused_line n) (state (plain_is r.plain) keys)) (by_line (R.Answer.refused n) (step_refused (plain_told h) n e))
       (is ∙ ap Last wr.answer, wr.buffer, ap (state (plain_is r.plain)) count, omega (arith, wr.answer, wr.short))

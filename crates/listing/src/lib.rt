@@ -4,13 +4,11 @@
 
 ghost use Rattle.stream.specs.Plains.{plain_is};
 ghost use Rattle.listing.specs.Listing.{state, line_of};
-ghost use Rattle.listing.specs.Lined.{Lined};
+ghost use Rattle.listing.specs.Lined.{Wrote, Lined};
 
 use format::MAX_KEY;
+pub use listing_lines::LINE;
 use stream::Plain;
-
-// The room that the longest line takes: 510 digits, a space, 20 digits, a newline.
-pub const LINE: usize = 532;
 
 // A line that was written, a key's or the last, by its length; or that the buffer has no room for every line.
 #[derive(Clone, Copy)]
@@ -28,19 +26,10 @@ pub struct Listed {
     pub plain: Plain,
 }
 
-// Writes the next line of a listing, after keys lines of keys: a key's, or the last. The line stands from the buffer's first byte on, the rest as
-// given; a buffer under LINE bytes is left as it is, and so is the listing.
-pub fn next_line(file: &[u8], plain: Plain, keys: u64, line: &mut [u8]) -> Listed
-    ensures { Lined (line_of file.now (state (plain_is plain) keys))
-        (state (plain_is plain) keys) line.old line.new result }
+// Writes the next line of a listing into a line with room for each, from its first byte on.
+fn write_line(file: &[u8], plain: Plain, keys: u64, line: &mut [u8; LINE]) -> Listed
+    ensures { Wrote (line_of file.now (state (plain_is plain) keys)) line.old line.new result }
 {
-    if line.len() < LINE {
-        return Listed {
-            line: Line::Short,
-            keys,
-            plain,
-        };
-    }
     let mut key = [0u8; MAX_KEY];
     let step = stream::next(file, plain, &mut key);
     let answer = step.answer;
@@ -71,5 +60,21 @@ pub fn next_line(file: &[u8], plain: Plain, keys: u64, line: &mut [u8]) -> Liste
                 plain: after,
             }
         }
+    }
+}
+
+// Writes the next line of a listing, after keys lines of keys: a key's, or the last. The line stands from the buffer's first byte on, the rest as
+// given; a buffer under LINE bytes is left as it is, and so is the listing.
+pub fn next_line(file: &[u8], plain: Plain, keys: u64, line: &mut [u8]) -> Listed
+    ensures { Lined (line_of file.now (state (plain_is plain) keys))
+        (state (plain_is plain) keys) line.old line.new result }
+{
+    match line.first_chunk_mut::<LINE>() {
+        Some(line) => write_line(file, plain, keys, line),
+        None => Listed {
+            line: Line::Short,
+            keys,
+            plain,
+        },
     }
 }

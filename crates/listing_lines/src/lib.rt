@@ -10,14 +10,17 @@ ghost use Rattle.buffers.specs.Put.{PutAt};
 
 use format::Refusal;
 
+// The room that the longest line takes: 510 digits, a space, 20 digits, a newline.
+pub const LINE: usize = 532;
+
 // ---- the parts, written
 
-// The digit of a number below 16, in lower case: 87 + 10 is `a`. No plainer by `char::from_digit`: it answers an `Option` of a `char`.
+// The digit of a number below 16, in lower case. No plainer by `char::from_digit`: it answers an `Option` of a `char`.
 fn hex_digit(d: u8) -> u8
     requires { d < 16 }
     ensures { result ≡ hex_digit d }
 {
-    if d < 10 { 48 + d } else { 87 + d }
+    if d < 10 { b'0' + d } else { b'a' + (d - 10) }
 }
 
 // Writes the bytes of text from place at on; returns the place past them.
@@ -35,13 +38,11 @@ fn put_hex(line: &mut [u8], at: usize, key: &[u8]) -> usize
     requires { at + 2 * length key.now ≤ length line.old }
     ensures { PutAt line.old at (hex_of key.now) line.new result }
 {
-    let mut p = at;
-    for x in key {
-        line[p] = hex_digit(*x / 16);
-        line[p + 1] = hex_digit(*x % 16);
-        p += 2;
+    for (i, x) in key.iter().enumerate() {
+        line[at + 2 * i] = hex_digit(*x / 16);
+        line[at + 2 * i + 1] = hex_digit(*x % 16);
     }
-    p
+    at + 2 * key.len()
 }
 
 // Writes the bytes of key, or `-` for none, from the line's first byte on; returns the place past them.
@@ -71,7 +72,7 @@ fn put_number(line: &mut [u8], at: usize, n: u64) -> usize
     let count = digit_count(n);
     let mut rest = n;
     for i in (0..count).rev() {
-        line[at + i] = 48 + (rest % 10) as u8;
+        line[at + i] = b'0' + (rest % 10) as u8;
         rest /= 10;
     }
     at + count

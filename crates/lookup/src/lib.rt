@@ -14,16 +14,12 @@ use format::{FstRef, Refusal};
 fn at_end(fst: FstRef<'_>, last: usize, sum: u64) -> Result<Option<u64>, Refusal>
     ensures { answer_is result ≡ get_from (fst_is fst.entry) [] last sum }
 {
-    let Ok(m) = node::node_at(fst, last) else {
-        return Err(Refusal::Node);
-    };
+    let m = node::node_at(fst, last)?;
     if !m.is_final {
         return Ok(None);
     }
-    match sum.checked_add(m.final_output) {
-        Some(value) => Ok(Some(value)),
-        None => Err(Refusal::Sum),
-    }
+    let value = sum.checked_add(m.final_output).ok_or(Refusal::Sum)?;
+    Ok(Some(value))
 }
 
 // Follows the key from the root of a file that opens.
@@ -34,9 +30,7 @@ fn get_from(fst: FstRef<'_>, key: &[u8]) -> Result<Option<u64>, Refusal>
     let mut addr = fst.root;
     let mut sum: u64 = 0;
     for &b in key {
-        let Ok(way) = node_step::step_at(fst, addr, b) else {
-            return Err(Refusal::Node);
-        };
+        let way = node_step::step_at(fst, addr, b)?;
         let Ok((out, target)) = way else {
             return Ok(None);
         };

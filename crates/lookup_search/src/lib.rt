@@ -27,9 +27,7 @@ pub fn find_key(
     let mut n = 0;
     // no for over the places of path: one node more than it has places is entered
     loop {
-        let Ok(choice) = node_fit::fit_at(fst, addr, left) else {
-            return Err(Refusal::Node);
-        };
+        let choice = node_fit::fit_at(fst, addr, left)?;
         match choice {
             Choice::Ends => return Ok(Some(n)),
             Choice::Absent => return Ok(None),

@@ -13,21 +13,20 @@ use Rattle.format.specs.declared.Refusal.{Refusal}
 use native.Mathlib.Omega.{arith}
 use Rattle.format.specs.Limits.{max_path, max_levels, STATE, NAME, FULL}
 use Rattle.format.specs.Opening.{Meta, Opening, opened, opening}
-use Rattle.format.specs.Opening as Opening
 use Rattle.format.specs.Admitted.{Admitted}
 use Rattle.format.specs.Strings.{Bound}
 use Rattle.reading.specs.Reading.{bound_bytes, View, Started, started, Answer, Step, refuse, state_test}
 use Rattle.reading.specs.Demand.{Call, Allowed}
 use Rattle.plain.specs.Plain.{Plain}
-use Rattle.pattern.specs.Pattern.{Pattern, start_by, next_by}
+use Rattle.pattern.specs.Pattern.{Pattern, next_by}
 use Rattle.pattern.specs.PatternDemand.{call_by, reading_after_by, DemandBy}
 use Rattle.pattern.proofs.DemandByLaws.{demand_3_by}
 use Rattle.marking.specs.MarkCalls.{name_test, marked, put, room_for, Mark, each_right, marks_test, Marking, has_marks, Return, at, found}
 use Rattle.marking.specs.MarksDemand.{Given, Did, reads, marks, returns, marks_after, History, history_is, takes, or_else, recorded, recorded_all, history_of, MarkTold, Replaced}
 use Rattle.marking.proofs.NamedLaws.{both_right, both_true, put_this, put_other, put_in_place, put_added, put_few, put_right, same_not, on_some, marked_map, put_map, room_map}
 use Rattle.marks.specs.MarkAnswers.{set_in, back_in}
-use Rattle.marks_by.specs.MarksBy.{pattern_test, mark_by, back_by, next_marked_by, view_at}
-use Rattle.marking_by.specs.MarksByDemand.{NowBy, now_by_is, stored, stored_now, next_now_by, mark_now_by, back_now_by, one_more_by, now_after_by, now_from_by, as_mark_by, BackToldBy, MarkedRunBy}
+use Rattle.marks_by.specs.MarksBy.{pattern_test, mark_by, back_by, next_marked_by}
+use Rattle.marking_by.specs.MarksByDemand.{NowBy, now_by_is, view_at, stored, stored_now, next_now_by, mark_now_by, back_now_by, one_more_by, now_after_by, now_from_by, as_mark_by, BackToldBy, MarkedRunBy}
 
 -- ---- lists
 

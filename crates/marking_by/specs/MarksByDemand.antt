@@ -20,7 +20,7 @@ use Rattle.pattern.specs.Pattern.{Pattern, start_by}
 use Rattle.pattern.specs.PatternDemand.{call_by, reading_after_by, DemandBy}
 use Rattle.marking.specs.MarkCalls.{name_test, Named, named, marked, Mark, Marking, has_marks, Return, at}
 use Rattle.marking.specs.MarksDemand.{Given, Did, reads, marks, returns, Now, now_is, marks_after, History, history_of, MarkTold, Replaced}
-use Rattle.marks_by.specs.MarksBy.{mark_by, back_by, next_marked_by, view_at}
+use Rattle.marks_by.specs.MarksBy.{mark_by, back_by, next_marked_by}
 
 -- ---- what the calls do
 
@@ -46,6 +46,11 @@ mark_now_by q w g n = mark_by g.file q w.reading w.marks n
 
 abbrev pub back_now_by : {s : List ℕ} → Pattern → NowBy → Given s → List ℕ → Return
 back_now_by q w g n = back_by g.file q (stored w.reading) w.marks n
+
+-- the reading after a return
+abbrev pub view_at : View → Return → View
+view_at v (at p) = p.view
+view_at v (Return.refused c) = v
 
 abbrev pub one_more_by : {s : List ℕ} → Pattern → NowBy → Did s → NowBy
 one_more_by q w (reads c) = now_by_is (next_now_by q w c).reading w.marks

@@ -1,1 +1,2 @@
 pub mod MarkAnswers
+pub mod MarkAnswersLaws

@@ -1,21 +1,21 @@
 -- What the calls of this crate tell, against `MarkCalls` (crate marking), and the parts of those.
 --     both_test             STATE's condition, on the reading and on its marks
+--     judging               opening's refusals and STATE, as the code judges them first; on_judged_mark, on_judged_back, what comes after that
 --     set_in, back_in        marking and going back, where that holds
---     MarkingTold          what a mark gives back, where the definition answers w
---     ReturnTold           what going back gives back
+--     marking_is r, return_is r       what a mark and going back answered
 -- Assumes nothing.
-use Rattle.std.specs.Prelude.{◌≡◌, Bool, cond, ◌&&◌, List, ℕ, Ok, Err, Result, ⊤}
+use Rattle.std.specs.Prelude.{Bool, cond, ◌&&◌, List, ℕ, length, Ok, Err, Result, ⊤}
 use Rattle.format.specs.declared.Refusal.{Refusal}
-use Rattle.format.specs.Limits.{NAME, FULL}
-use Rattle.reading.specs.Reading.{state_test}
+use Rattle.format.specs.Limits.{STATE, NAME, FULL}
+use Rattle.format.specs.Opening.{opening}
+use Rattle.reading.specs.Reading.{on_opened, state_test}
 use Rattle.plain.specs.Plain.{Plain}
 use Rattle.marking.specs.MarkCalls as M
 use Rattle.marking.specs.MarkCalls.{name_test, room_for, put, marked, found, marks_test}
-use Rattle.marking.specs.MarksDemand.{marks_after, reading_at}
+use Rattle.stream.specs.declared.Plain as S
 use Rattle.stream.specs.Plains.{plain_is}
 use Rattle.marks_held.specs.MarkViews.{marks_is}
-use Rattle.marks.specs.declared.Marking.{Marking}
-use Rattle.marks.specs.declared.Return.{Return}
+use Rattle.marks_held.specs.declared.Marks.{Marks}
 
 abbrev pub both_test : Plain → List M.Mark → ℕ → Bool
 both_test p ms len = state_test p.view len && marks_test len ms
@@ -26,20 +26,23 @@ set_in p ms n = cond (name_test n) (cond (room_for n ms) (M.has_marks (put n p m
 abbrev pub back_in : List M.Mark → List ℕ → M.Return
 back_in ms n = cond (name_test n) (found (marked n ms)) (M.Return.refused NAME)
 
-abbrev pub marking_as : M.Marking → Result ⊤ Refusal
-marking_as (M.has_marks ms) = Ok tt
-marking_as (M.Marking.refused n) = Err n
+abbrev pub marking_is : Result Marks Refusal → M.Marking
+marking_is (Ok m) = M.has_marks (marks_is m)
+marking_is (Err n) = M.Marking.refused n
 
-abbrev pub return_as : M.Return → Result ⊤ Refusal
-return_as (M.at p) = Ok tt
-return_as (M.Return.refused n) = Err n
+abbrev pub return_is : Result S.Plain Refusal → M.Return
+return_is (Ok p) = M.at (plain_is p)
+return_is (Err n) = M.Return.refused n
 
-pub record MarkingTold (w : M.Marking) (given : List M.Mark) (r : Marking) : Type 0 where
-  pub answer : r.answer ≡ marking_as w
-  -- those given, after a refusal
-  pub marks : marks_is r.marks ≡ marks_after given w
+-- ---- as the code goes
 
-pub record ReturnTold (w : M.Return) (given : Plain) (r : Return) : Type 0 where
-  pub answer : r.answer ≡ return_as w
-  -- the one given, after a refusal
-  pub reading : plain_is r.reading ≡ reading_at given w
+unfoldable pub judging : List ℕ → Plain → List M.Mark → Result ⊤ Refusal
+judging s p ms = on_opened (opening s) (λ m. cond (both_test p ms (length s)) (Ok tt) (Err STATE)) (λ n. Err n)
+
+abbrev pub on_judged_mark : Result ⊤ Refusal → M.Marking → M.Marking
+on_judged_mark (Ok tt) w = w
+on_judged_mark (Err n) w = M.Marking.refused n
+
+abbrev pub on_judged_back : Result ⊤ Refusal → M.Return → M.Return
+on_judged_back (Ok tt) w = w
+on_judged_back (Err n) w = M.Return.refused n

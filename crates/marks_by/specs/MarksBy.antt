@@ -2,9 +2,11 @@
 -- reading whose number carries no meaning.
 --     pattern_test                    at most 255 positions
 --     mark_by, back_by, next_marked_by   the calls: opening's refusals, STATE for the reading or the marks, PATTERN, then NAME and FULL, or the call by pattern
---     ReturnByTold                   what going back gives back: the reading, and the pattern as it was
+--     view_back, view_of, ReturnByTold   what going back answers: the reading, and the pattern as it was
+--     on_pattern, judging_by          opening's refusals, STATE and PATTERN, as the code judges them first
 -- Assumes nothing.
-use Rattle.std.specs.Prelude.{◌≡◌, Bool, cond, List, ℕ, leb, length}
+use Rattle.std.specs.Prelude.{◌≡◌, Bool, cond, List, ℕ, leb, length, Ok, Err, Result, ⊤}
+use Rattle.format.specs.declared.Refusal.{Refusal}
 use Rattle.format.specs.Limits.{max_path, STATE, PATTERN}
 use Rattle.format.specs.Opening.{opening}
 use Rattle.reading.specs.Reading.{View, on_opened, Step, refuse}
@@ -15,8 +17,7 @@ use Rattle.marking.specs.MarkCalls as M
 use Rattle.marking.specs.MarkCalls.{marks_test}
 use Rattle.stream_start.specs.Views.{view_is}
 use Rattle.patterned.specs.declared.Patterned.{Patterned}
-use Rattle.marks.specs.MarkAnswers.{both_test, set_in, back_in, return_as}
-use Rattle.marks_by.specs.declared.ReturnBy.{ReturnBy}
+use Rattle.marks.specs.MarkAnswers.{both_test, judging, set_in, back_in}
 
 abbrev pub pattern_test : Pattern → Bool
 pattern_test q = leb (length q.positions) max_path
@@ -39,12 +40,24 @@ back_by s q p ms n =
 unfoldable pub next_marked_by : List ℕ → Pattern → View → List M.Mark → ℕ → Step
 next_marked_by s q v ms space = on_opened (opening s) (λ m. cond (marks_test (length s) ms) (next_by s q v space) (refuse v STATE)) (λ c. refuse v c)
 
--- the reading afterwards
-abbrev pub view_at : View → M.Return → View
-view_at v (M.at p) = p.view
-view_at v (M.Return.refused c) = v
+-- the reading inside, as a return answers it
+abbrev pub view_back : M.Return → Result View Refusal
+view_back (M.at p) = Ok p.view
+view_back (M.Return.refused c) = Err c
 
-pub record ReturnByTold (w : M.Return) (given : Patterned) (r : ReturnBy) : Type 0 where
-  pub answer : r.answer ≡ return_as w
-  pub reading : view_is r.patterned.reading ≡ view_at (view_is given.reading) w
-  pub pattern : r.patterned.pattern ≡ given.pattern
+abbrev pub view_of : Result Patterned Refusal → Result View Refusal
+view_of (Ok x) = Ok (view_is x.reading)
+view_of (Err c) = Err c
+
+pub record ReturnByTold (w : M.Return) (given : Patterned) (r : Result Patterned Refusal) : Type 0 where
+  pub answer : view_of r ≡ view_back w
+  pub pattern : (x : Patterned) → r ≡ Ok x → x.pattern ≡ given.pattern
+
+-- ---- as the code goes
+
+abbrev pub on_pattern : Bool → Result ⊤ Refusal → Result ⊤ Refusal
+on_pattern b (Ok tt) = cond b (Ok tt) (Err PATTERN)
+on_pattern b (Err n) = Err n
+
+abbrev pub judging_by : List ℕ → Pattern → View → List M.Mark → Result ⊤ Refusal
+judging_by s q v ms = on_pattern (pattern_test q) (judging s (plain_with v 0) ms)

@@ -19,9 +19,7 @@ use Rattle.patterned.specs.declared.Patterned.{Patterned}
 use Rattle.patterned_held.specs.HeldPatterns.{held_is}
 use Rattle.carrying.specs.Carry as C
 use Rattle.carrying.specs.Carry.{carry_plain, carry_by, with_keys}
-use Rattle.carry.specs.declared.Carried.{Carried}
-use Rattle.carry.specs.declared.CarriedBy.{CarriedBy}
-use Rattle.carry.specs.Carries.{PlainCarried, PatternedCarried}
+use Rattle.carry.specs.Carries.{carried_plain_is, PatternedCarried}
 use Rattle.marking.specs.MarkCalls.{Mark}
 use Rattle.marks_carry.specs.MarksCarry.{carry_marked, carry_marked_by, judging, on_judged}
 use Rattle.marks_carry.specs.MarksCarryLaws.{marked_judged}
@@ -34,15 +32,12 @@ module _ (old new : List ℕ) (ms : List Mark) where
         ap (λ (i : Result ⊤ Refusal). with_keys given.keys (on_judged i (C.carry old new (view_is given.reading)))) is
         ∙ ap (with_keys given.keys) (sym (marked_judged true old new (view_is given.reading) ms))
 
-    pub plain_refused : (why : Refusal) → Err why ≡ judging old new ms
-        → PlainCarried (carry_marked old new (plain_is given) ms) given (record { answer = Err why; plain = given })
-    plain_refused why is =
-        subst (λ (q : C.CarriedPlain). PlainCarried q given (record { answer = Err why; plain = given })) (marked_plain (Err why) is)
-        (record { answer = refl; carried = λ v e. absurd (let z : ◌≡◌ {A = ℕ} 0 1 = cc in omega arith); kept = λ n e. refl })
+    pub plain_refused : (why : Refusal) → Err why ≡ judging old new ms → carried_plain_is (Err why) ≡ carry_marked old new (plain_is given) ms
+    plain_refused why is = marked_plain (Err why) is
 
-    pub plain_right : (Ok tt) ≡ judging old new ms → (r : Carried) → PlainCarried (carry_plain old new (plain_is given)) given r
-        → PlainCarried (carry_marked old new (plain_is given) ms) given r
-    plain_right is r h = subst (λ (q : C.CarriedPlain). PlainCarried q given r) (marked_plain (Ok tt) is) h
+    pub plain_right : (Ok tt) ≡ judging old new ms → (r : Result Plain Refusal) → carried_plain_is r ≡ carry_plain old new (plain_is given)
+        → carried_plain_is r ≡ carry_marked old new (plain_is given) ms
+    plain_right is r h = h ∙ marked_plain (Ok tt) is
 
   module _ (given : Patterned) where
     marked_patterned : (j : Result ⊤ Refusal) → j ≡ judging old new ms
@@ -53,13 +48,11 @@ module _ (old new : List ℕ) (ms : List Mark) where
         ∙ sym (marked_judged (leb (length (held_is given.pattern).positions) max_path) old new (view_is given.reading) ms)
 
     pub patterned_refused : (why : Refusal) → Err why ≡ judging old new ms
-        → PatternedCarried (carry_marked_by old new (held_is given.pattern) (view_is given.reading) ms) given
-        (record { answer = Err why; patterned = given })
+        → PatternedCarried (carry_marked_by old new (held_is given.pattern) (view_is given.reading) ms) given (Err why)
     patterned_refused why is =
-        subst (λ (q : C.Carried). PatternedCarried q given (record { answer = Err why; patterned = given })) (marked_patterned (Err why) is)
-        (record { answer = refl; carried = λ v e. absurd (let z : ◌≡◌ {A = ℕ} 0 1 = cc in omega arith); pattern = refl; kept = λ n e. refl })
+        record { answer = marked_patterned (Err why) is; pattern = λ x e. absurd (let z : ◌≡◌ {A = ℕ} 0 1 = cc in omega arith) }
 
-    pub patterned_right : (Ok tt) ≡ judging old new ms → (r : CarriedBy)
+    pub patterned_right : (Ok tt) ≡ judging old new ms → (r : Result Patterned Refusal)
         → PatternedCarried (carry_by old new (held_is given.pattern) (view_is given.reading)) given r
         → PatternedCarried (carry_marked_by old new (held_is given.pattern) (view_is given.reading) ms) given r
-    patterned_right is r h = subst (λ (q : C.Carried). PatternedCarried q given r) (marked_patterned (Ok tt) is) h
+    patterned_right is r h = record { answer = h.answer ∙ marked_patterned (Ok tt) is; pattern = h.pattern }

@@ -7,10 +7,9 @@ ghost use Rattle.stream_start.specs.Views.{view_is};
 ghost use Rattle.stream.specs.Plains.{plain_is};
 ghost use Rattle.patterned_held.specs.HeldPatterns.{held_is};
 ghost use Rattle.marks_held.specs.MarkViews.{marks_is};
-ghost use Rattle.carry.specs.Carries.{PlainCarried, PatternedCarried};
+ghost use Rattle.carry.specs.Carries.{carried_plain_is, PatternedCarried};
 ghost use Rattle.marks_carry.specs.MarksCarry.{carry_marked, carry_marked_by, judging};
 
-use carry::{Carried, CarriedBy};
 use format::Refusal;
 use marks_held::Marks;
 use patterned::Patterned;
@@ -29,30 +28,25 @@ fn judge(old: &[u8], new: &[u8], marks: Marks) -> Result<(), Refusal>
 }
 
 // A plain reading of the old file as a reading of the new one, without marks. Opening's refusals of the old file, then of the new one, then STATE for the
-// reading or its marks by the old file, then level by level as carry::carry. After a refusal the reading is the one given; the marks are the caller's.
-pub fn carry_marked(old: &[u8], new: &[u8], reading: Plain, marks: Marks) -> Carried
-    ensures { PlainCarried (carry_marked old.now new.now
-        (plain_is reading) (marks_is marks)) reading result }
+// reading or its marks by the old file, then level by level as carry::carry. The marks are the caller's.
+pub fn carry_marked(old: &[u8], new: &[u8], reading: Plain, marks: Marks) -> Result<Plain, Refusal>
+    ensures { carried_plain_is result ≡ carry_marked old.now new.now
+        (plain_is reading) (marks_is marks) }
 {
-    match judge(old, new, marks) {
-        Err(why) => Carried {
-            answer: Err(why),
-            plain: reading,
-        },
-        Ok(()) => carry::carry(old, new, reading),
-    }
+    judge(old, new, marks)?;
+    carry::carry(old, new, reading)
 }
 
 // The same of a reading by pattern, with PATTERN, after STATE, for over 255 held positions. The pattern stays as it is.
-pub fn carry_marked_by(old: &[u8], new: &[u8], patterned: Patterned, marks: Marks) -> CarriedBy
+pub fn carry_marked_by(
+    old: &[u8],
+    new: &[u8],
+    patterned: Patterned,
+    marks: Marks,
+) -> Result<Patterned, Refusal>
     ensures { PatternedCarried (carry_marked_by old.now new.now
         (held_is patterned.pattern) (view_is patterned.reading) (marks_is marks)) patterned result }
 {
-    match judge(old, new, marks) {
-        Err(why) => CarriedBy {
-            answer: Err(why),
-            patterned,
-        },
-        Ok(()) => carry::carry_by(old, new, patterned),
-    }
+    judge(old, new, marks)?;
+    carry::carry_by(old, new, patterned)
 }

@@ -1,23 +1,22 @@
 -- The loops over a name and over the marks: what is known after each turn.
---     names_differ, names_compared                       whether two names are the same
+--     names_differ, same_bytes                       whether two names are the same
 --     name_none, name_over, name_told                    whether the name of one mark is right
 --     head_test, head_state, head_name                   whether the mark is
 --     name_at, long_at, state_at               what the code's marks have
 --     each_on, each_wrong, each_through                 whether all are
 -- Assumes nothing.
-use mathlib.Core.Path.{◌≡◌, refl, sym, ap, ◌∙◌, subst}
+use mathlib.Core.Path.{◌≡◌, refl, sym, ap, ◌∙◌}
 use mathlib.Core.Bool.{Bool, true, false, ◌&&◌, not, false≢true}
 use Rattle.std.specs.Prelude.{Option}
 use Rattle.std.specs.Option.{is_some}
 use mathlib.Core.List.{List, [], ◌∷◌}
 use Prim.Native.Nat.{ℕ, zero, suc, ◌+◌, ◌≤◌, ◌<◌}
 use native.Mathlib.Omega.{arith}
-use native.Mathlib.Decide.{ℕ_discrete}
 use native.Mathlib.Numerals.{add-one}
 use borrow.Author.Tests.{lt-leb, le-leb}
 use lib.Dec.{eqb}
-use lib.ListN.{length, get_or, set, take, drop}
-use lib.Seq.{drop-cons, get_or-set_same, get_or-set_other}
+use lib.ListN.{length, get_or, take, drop}
+use lib.Seq.{drop-cons}
 use Rattle.std.specs.Cmp.Lexicographic.{pointwise}
 use Rattle.reading.specs.Reading.{state_test}
 use Rattle.stream_start.specs.declared.Reading.{Reading}
@@ -37,15 +36,12 @@ use Rattle.marks_held.specs.MarkViewsLaws.{stated_length, stated_take, mark_at_l
 pub names_differ : (held name : List ℕ) (n : ℕ) → ¬ (n ≡ length name) → false ≡ same_name (stated n 0 held) name
 names_differ held name n ne = sym (same_not (stated n 0 held) name (λ e. ne (sym (stated_length n 0 held) ∙ ap length e)))
 
-same_bytes : (a b : List ℕ) → pointwise eqb a b ≡ same_name a b
+pub same_bytes : (a b : List ℕ) → pointwise eqb a b ≡ same_name a b
 unfolding same_name
 same_bytes [] [] = refl
 same_bytes [] (y ∷ b) = refl
 same_bytes (x ∷ a) [] = refl
 same_bytes (x ∷ a) (y ∷ b) = ap (λ (r : Bool). eqb x y && r) (same_bytes a b)
-
-pub names_compared : (held name : List ℕ) (n : ℕ) → length held ≡ 8 → length name ≤ 8 → n ≡ length name → pointwise eqb (take n held) name ≡ same_name (stated n 0 held) name
-names_compared held name n eight small e = rw (stated_take n 0 held (omega arith)) (same_bytes (take n held) name)
 
 -- ---- one mark
 

@@ -36,11 +36,11 @@ impl Mark {
         requires { length name.now ≤ 8 }
         ensures { result ≡ M.same_name (mark_is self.now).name name.now }
     {
-        self.name_len == name.len() && &self.name[..self.name_len] == name
+        self.name_len == name.len() && self.stated() == name
     }
 }
 
-// The marks of a reading, passed by value beside it. Marks from count on carry no meaning.
+// The marks of a reading. There is no heap, so that there is room for 16, of which the first count are in use; those from count on carry no meaning.
 #[derive(Clone, Copy)]
 pub struct Marks {
     pub count: usize,
@@ -76,7 +76,7 @@ pub fn hold_name(name: &[u8]) -> [u8; MAX_NAME]
 }
 
 // The first place of a name, from a place on.
-fn place_from(marks: &Marks, from: usize, name: &[u8]) -> Option<usize>
+pub fn name_from(marks: &Marks, from: usize, name: &[u8]) -> Option<usize>
     requires { (marks.now.count ≤ 16) × (length name.now ≤ 8) × (from ≤ marks.now.count) }
     ensures { SeekTold name.now (marks_is marks.now) from result }
 {
@@ -86,14 +86,6 @@ fn place_from(marks: &Marks, from: usize, name: &[u8]) -> Option<usize>
         }
     }
     None
-}
-
-// The first place of a name, from a place on, in marks that are passed by value.
-pub fn name_from(marks: Marks, from: usize, name: &[u8]) -> Option<usize>
-    requires { (marks.count ≤ 16) × (length name.now ≤ 8) × (from ≤ marks.count) }
-    ensures { SeekTold name.now (marks_is marks) from result }
-{
-    place_from(&marks, from, name)
 }
 
 // Whether the name at a place is right: of 1 to 8 bytes, and no later mark has it.
@@ -106,11 +98,8 @@ fn name_right(marks: &Marks, i: usize) -> bool
     if n == 0 {
         return false;
     }
-    let too_long = MAX_NAME < n;
-    if too_long {
-        return false;
-    }
-    place_from(marks, i + 1, held.stated()).is_none()
+    let short = n <= MAX_NAME;
+    short && name_from(marks, i + 1, held.stated()).is_none()
 }
 
 // Whether the marks are right: at most 16, each with a reading that can go on with a file of this length, and a right name.

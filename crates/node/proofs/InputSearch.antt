@@ -1,20 +1,43 @@
 -- The place of a byte among ascending inputs, by how many are above it.
 -- Assumes nothing.
-use mathlib.Core.Path.{◌≡◌, sym, ◌∙◌}
+use mathlib.Core.Path.{◌≡◌, refl, sym, ◌∙◌}
 use mathlib.Core.Logic.{◌⊎◌, inl, inr}
 use mathlib.Core.List.{List}
-use Prim.Native.Nat.{ℕ, ◌+◌, ◌-◌, ◌≤◌, ◌<◌}
+use Prim.Native.Nat.{ℕ, zero, suc, ◌+◌, ◌-◌, ◌≤◌, ◌<◌}
 use native.Mathlib.Nat.{le_refl, eq-or-lt_of_le}
 use native.Mathlib.Omega.{arith}
 use borrow.Author.Count.{below_more}
-use lib.ListN.{get_or, take, drop}
+use lib.ListN.{length, get_or, take, drop, length-take, length-drop}
 use lib.Seq.{get_or-take, get_or-drop}
-use Rattle.format.specs.Node.{bytes_down, Ascending}
+use Rattle.format.specs.Node.{down_from, bytes_down, Ascending}
 use Rattle.format.specs.Laws.StoredLaws.{length_bytes_down, get_d_bytes_down}
 use Rattle.std.specs.Prelude.{Ok, Err}
 use Rattle.node.specs.Read.{Finds}
 use Rattle.node.specs.ReadLaws.{finds_at, finds_missing}
 use Rattle.node_inputs.specs.AscentLaws.{falls_ascending, falls_by}
+
+-- ---- a part of a file
+
+same_down : (f g : ℕ → ℕ) (n : ℕ) → ((j : ℕ) → j < n → f j ≡ g j) → down_from f n ≡ down_from g n
+unfolding down_from
+same_down f g zero same = refl
+same_down f g (suc n) same = rw (same n (omega arith), same_down f g n (λ j l. same j (omega arith)))
+
+-- what stands in n bytes from place at on is what stands in the slice of them
+part_down : (s : List ℕ) (at n : ℕ) → bytes_down (take n (drop at s)) 0 n ≡ bytes_down s at n
+unfolding bytes_down
+part_down s at n =
+    same_down (λ j. get_or (take n (drop at s)) (0 + j) 0) (λ j. get_or s (at + j) 0) n
+    (λ j l. let z : 0 + j ≡ j = omega arith in rw z (get_or-take n (drop at s) j 0 l ∙ get_or-drop at s j 0))
+
+pub slice_down : (s : List ℕ) (at n : ℕ) → at + n ≤ length s
+    → bytes_down (take (at + n - at) (drop at s)) 0 (length (take (at + n - at) (drop at s))) ≡ bytes_down s at n
+slice_down s at n h =
+    let w : at + n - at ≡ n = omega arith in
+    let len : length (take n (drop at s)) ≡ n = simp (length-take, length-drop) (omega arith) in
+    rw (w, len) (part_down s at n)
+
+-- ---- the inputs above a byte
 
 -- of the first j bytes from at on, `over` are above b, and they stand first
 pub record Over (s : List ℕ) (at n b over j : ℕ) : Type 0 where
@@ -22,6 +45,9 @@ pub record Over (s : List ℕ) (at n b over j : ℕ) : Type 0 where
   pub few : over ≤ j
   pub above : (k : ℕ) → k < over → b < get_or s (at + k) 0
   pub rest : (k : ℕ) → over ≤ k → k < j → get_or s (at + k) 0 ≤ b
+
+pub over_none : (s : List ℕ) (at n b : ℕ) → Over s at n b 0 0
+over_none s at n b = record { within = omega arith; few = omega arith; above = λ k l. absurd (omega arith); rest = λ k h m. absurd (omega arith) }
 
 module _ {s : List ℕ} {at n b over j : ℕ} (asc : Ascending (bytes_down s at n)) (l : j < n) (o : Over s at n b over j) where
   -- a byte above b follows none that is not

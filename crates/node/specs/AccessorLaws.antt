@@ -1,7 +1,7 @@
 -- The parts of a judged node's transition i, as the accessors read them.
 -- Assumes nothing.
 use Rattle.std.specs.Prelude.{Result, ◌≡◌, refl, false, List, ℕ, ◌+◌, ◌-◌, ◌≤◌, ◌<◌, get_or}
-use Rattle.std.proofs.Common.{sym, ap, ◌∙◌, arith, eq-eqb, ne_eqb}
+use Rattle.std.proofs.Common.{sym, ap, ◌∙◌, arith}
 use Rattle.format.specs.declared.State.{State}
 use Rattle.format.specs.declared.State.TheVariants.{OneTransNext, OneTrans, AnyTrans}
 use Rattle.format.specs.declared.Transition.{Transition}
@@ -62,11 +62,8 @@ module _ (s : List ℕ) (m : Node) (r : Readable s m) (i : ℕ) (l : i < m.ntran
     unfolding TargetsRight
     delta_le = rw is_d (r.targets i (omega (arith, length_node_deltas s m r))).reach
 
-    pub target_none : d ≡ 0 → 0 ≡ (transition_at (transitions_in s m) i).addr
-    target_none z = sym (transition_addr ∙ rw (← is_d, eq-eqb d 0 z))
-
-    pub target_some : ¬ (d ≡ 0) → m.first - d ≡ (transition_at (transitions_in s m) i).addr
-    target_some ne = sym (transition_addr ∙ rw (← is_d, ne_eqb d 0 ne))
+    pub target_is : (addr : ℕ) → addr ≡ target_of m.first d → addr ≡ (transition_at (transitions_in s m) i).addr
+    target_is addr is_addr = is_addr ∙ sym (transition_addr ∙ rw (← is_d) refl)
 
   -- all three parts
   pub transition_is : (inp out addr : ℕ) → inp ≡ (transition_at (transitions_in s m) i).inp → out ≡ (transition_at (transitions_in s m) i).out

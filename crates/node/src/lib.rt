@@ -1,18 +1,22 @@
 // A node, judged and read (src/raw/node.rs: `Node::new`, `transition`, `find_input`).
 // `node_at` judges the node at an address in one pass and answers its numbers, or `Unsound`. The other functions read
 // a node that it answered, out of the same file. Nothing outside the lent file is read, whatever the numbers are.
-// A node's numbers do not hold its file: what reads them is lent the bytes too and asks that the node was judged in them (`Readable`); node_view has both as
-// one value.
+// A node's numbers do not hold its file's bytes: a caller has the bytes, most as `fst`, and goes on to other nodes of them, and a node that held the bytes too
+// would need, in each contract, that they are that file's. What reads a node is lent the bytes and asks that it was judged in them (`Readable`). node_view's
+// view of a node has the file and the node's address, and no numbers.
+// That the node is sound is asked in four contracts, and that a place is below the node's count in five: a type that says it would hold the file or the node,
+// and each contract would need that it is the one that is lent.
 #![tactic(auto)]
 
-ghost use Rattle.std.specs.Prelude.{Ok, Err, ◌≡◌, ◌+◌, ◌≤◌, ◌<◌, length, get_or, take, drop, [], ◌∷◌};
-ghost use Rattle.format.specs.Node.{bytes_down, Ascending, SoundAt, transition_at, find_input};
+ghost use Rattle.std.specs.Prelude.{Ok, Err, ◌≡◌, ◌+◌, ◌≤◌, ◌<◌, length, get_or, [], ◌∷◌};
+ghost use Rattle.format.specs.Node.{bytes_down, Ascending, SoundAt, inputs_at, deltas_at, target_of, transition_at, find_input};
 ghost use Rattle.node.specs.Read.{Searchable, empty_node, Judges, transitions_in, node_inputs, node_deltas, Readable, Finds, search_is};
 ghost use Rattle.format.specs.declared.State.TheVariants.{OneTransNext, OneTrans, AnyTrans};
+ghost use Rattle.format.specs.declared.Refusal.TheVariants as R;
 
-use format::{FstRef, State, Transition};
+use format::{FstRef, Refusal, State, Transition};
 use le_bytes::{number_of, unpack_uint};
-use node_sound::{head_len, input_of, is_sound, shape_of};
+use node_sound::{head_len, input_of, is_sound, one_shape, shape_of};
 
 // The numbers of a sound node, for the functions below.
 #[derive(Clone, Copy)]
@@ -21,6 +25,7 @@ pub struct Node {
     pub state: State,
     // its first byte, F in document 01
     pub first: usize,
+    // beside `final_output`, which is 0 where the node is not final, as in the Rust and in document 01's record
     pub is_final: bool,
     // how many transitions
     pub ntrans: usize,
@@ -37,9 +42,35 @@ pub struct Node {
     pub outputs: usize,
 }
 
-// That a node is not sound: refusal 5 to those who asked.
+impl Node {
+    // Where the deltas start. Here and below the place must fit a usize, which it does in a file.
+    fn deltas(self) -> usize
+        requires { deltas_at self.outputs self.ntrans self.osize < 18446744073709551616 }
+        ensures { result ≡ deltas_at self.outputs self.ntrans self.osize }
+    {
+        self.outputs + self.ntrans * self.osize
+    }
+
+    // Where the inputs start, where the node has any number of transitions.
+    fn inputs(self) -> usize
+        requires { inputs_at self.outputs self.ntrans self.osize self.tsize < 18446744073709551616 }
+        ensures { result ≡ inputs_at self.outputs self.ntrans self.osize self.tsize }
+    {
+        self.deltas() + self.ntrans * self.tsize
+    }
+}
+
+// That a node is not sound: `Refusal::Node` to those who asked.
 #[derive(Clone, Copy, PartialEq, Eq)]
 pub struct Unsound;
+
+impl From<Unsound> for Refusal {
+    ghost from_gives = { λ _ why. why ≡ R.Node };
+
+    fn from(_: Unsound) -> Refusal {
+        Refusal::Node
+    }
+}
 
 // ---- the numbers of a sound node
 
@@ -50,27 +81,19 @@ pub fn any_node(fst: FstRef<'_>, addr: usize) -> Node
         × (result.state ≡ AnyTrans) }
 {
     let shape = shape_of(fst.bytes, fst.version, addr);
-    let size = shape.size;
-    let is_final = shape.is_final;
-    let ntrans = shape.ntrans;
-    let tsize = shape.tsize;
-    let osize = shape.osize;
-    let index_len = shape.index_len;
-    let first = addr + 1 - size;
-    let end_len = shape.end_len;
-    let outputs = first + end_len;
-    let final_output = unpack_uint(&fst.bytes[first..], end_len);
+    let parts = shape.parts(addr);
+    let final_output = unpack_uint(&fst.bytes[parts.first..], shape.end_len);
     Node {
         state: State::AnyTrans,
-        first,
-        is_final,
-        ntrans,
-        tsize,
-        osize,
-        index_len,
+        first: parts.first,
+        is_final: parts.is_final,
+        ntrans: parts.ntrans,
+        tsize: parts.tsize,
+        osize: parts.osize,
+        index_len: parts.index_len,
         final_output,
         input: 0,
-        outputs,
+        outputs: parts.outputs,
     }
 }
 
@@ -81,19 +104,16 @@ pub fn one_node(fst: FstRef<'_>, addr: usize) -> Node
     ensures { Judges fst.entry.bytes.now fst.entry.version fst.entry.root addr (Ok result)
         × (result.state ≡ OneTrans) }
 {
-    let len = head_len(fst.bytes, addr);
-    let sizes = usize::from(fst.bytes[addr - len]);
-    let tsize = sizes / 16;
-    let osize = sizes % 16;
-    let first = addr + 1 - (osize + tsize + 1 + len);
+    let one = one_shape(fst, addr);
+    let first = addr + 1 - one.size;
     let input = input_of(fst.bytes, addr);
     Node {
         state: State::OneTrans,
         first,
         is_final: false,
         ntrans: 1,
-        tsize,
-        osize,
+        tsize: one.tsize,
+        osize: one.osize,
         index_len: 0,
         final_output: 0,
         input,
@@ -123,9 +143,8 @@ pub fn next_node(fst: FstRef<'_>, addr: usize) -> Node
     }
 }
 
-// The numbers of the sound node at addr. They are made once it is judged, so that judging hands out
-// no more than a bool.
-fn node_of(fst: FstRef<'_>, addr: usize) -> Node
+// The numbers of the sound node at addr, for those who judged it by `is_sound`, which answers a bool and no numbers.
+pub fn node_of(fst: FstRef<'_>, addr: usize) -> Node
     requires { SoundAt fst.bytes.now fst.version fst.root addr }
     ensures { Judges fst.entry.bytes.now fst.entry.version fst.entry.root addr (Ok result) }
 {
@@ -180,10 +199,8 @@ pub fn input(file: &[u8], node: Node, i: usize) -> u8
     ensures { result ≡ (transition_at (transitions_in file.now node) i).inp }
 {
     let n = node.ntrans;
-    let outputs = node.outputs;
-    let inputs = outputs + n * node.osize + n * node.tsize;
     match node.state {
-        State::AnyTrans => file[inputs + (n - 1 - i)],
+        State::AnyTrans => file[node.inputs() + (n - 1 - i)],
         State::OneTrans | State::OneTransNext => node.input,
     }
 }
@@ -193,10 +210,7 @@ pub fn output(file: &[u8], node: Node, i: usize) -> u64
     requires { Readable file.now node × (i < node.ntrans) }
     ensures { result ≡ (transition_at (transitions_in file.now node) i).out }
 {
-    let n = node.ntrans;
-    let outputs = node.outputs;
-    let osize = node.osize;
-    number_of(file, outputs, osize, n, i)
+    number_of(file, node.outputs, node.osize, node.ntrans, i)
 }
 
 // The delta of transition i, from the node's first byte down to its target.
@@ -204,14 +218,29 @@ fn delta(file: &[u8], node: Node, i: usize) -> u64
     requires { Readable file.now node × (i < node.ntrans) }
     ensures { result ≡ get_or (node_deltas file.now node) i 0 }
 {
-    let n = node.ntrans;
-    let tsize = node.tsize;
-    let deltas = node.outputs + n * node.osize;
     match node.state {
-        State::AnyTrans | State::OneTrans => number_of(file, deltas, tsize, n, i),
+        State::AnyTrans | State::OneTrans => number_of(
+            file,
+            node.deltas(),
+            node.tsize,
+            node.ntrans,
+            i,
+        ),
         // the node just below ends one byte before this one starts
         State::OneTransNext => 1,
     }
+}
+
+// The address that a right delta leads to.
+// It stands inline in each caller: it is one of each step of a lookup.
+#[inline(always)]
+pub fn target_of(first: usize, delta: u64) -> usize
+    requires { delta ≤ first }
+    ensures { result ≡ target_of first delta }
+{
+    let d = delta as usize;
+    // delta 0 is target 0
+    if d == 0 { 0 } else { first - d }
 }
 
 // The address that transition i leads to.
@@ -219,10 +248,8 @@ pub fn transition_addr(file: &[u8], node: Node, i: usize) -> usize
     requires { Readable file.now node × (i < node.ntrans) }
     ensures { result ≡ (transition_at (transitions_in file.now node) i).addr }
 {
-    let first = node.first;
-    let d = delta(file, node, i) as usize;
-    // delta 0 is target 0
-    if d == 0 { 0 } else { first - d }
+    let d = delta(file, node, i);
+    target_of(node.first, d)
 }
 
 // Transition i.
@@ -236,23 +263,21 @@ pub fn transition(file: &[u8], node: Node, i: usize) -> Transition
     Transition { inp, out, addr }
 }
 
-// The place of b among n ascending inputs that stand last first from place at on: those above b
-// stand first.
-// at and n, here and in `find_in`, stand as in `bytes_down`, of which the contract speaks: for a slice in their place it would have to be
-// proved that the slice is that part of the file.
-fn seek(file: &[u8], at: usize, n: usize, b: u8) -> Result<usize, usize>
-    requires { (at + n ≤ length file.now) × Ascending (bytes_down file.now at n) }
-    ensures { Finds (bytes_down file.now at n) b result }
+// The place of b among ascending inputs that stand last first: those above b stand first.
+fn seek(inputs: &[u8], b: u8) -> Result<usize, usize>
+    requires { Ascending (bytes_down inputs.now 0 (length inputs.now)) }
+    ensures { Finds (bytes_down inputs.now 0 (length inputs.now)) b result }
 {
     // a byte holds the count: fewer than 256 bytes are above b
     let mut over: u8 = 0;
-    for j in 0..n {
-        if b < file[at + j] {
+    for input in inputs {
+        if b < *input {
             over += 1;
         }
     }
+    let n = inputs.len();
     let p = over as usize;
-    if p < n && file[at + p] == b {
+    if p < n && inputs[p] == b {
         return Ok(n - 1 - p);
     }
     Err(n - p)
@@ -260,7 +285,7 @@ fn seek(file: &[u8], at: usize, n: usize, b: u8) -> Result<usize, usize>
 
 // The place of b among n inputs from place at on, or of the first above it. An entry of the index, if
 // there is one, is the place of its byte where it is below the count, and otherwise says only that
-// the byte is absent.
+// the byte is absent. at and n stand as in `bytes_down`, of which the contract speaks: the index stands behind the inputs.
 pub fn find_in(file: &[u8], at: usize, n: usize, index_len: usize, b: u8) -> Result<usize, usize>
     requires { Searchable file.now at n index_len }
     ensures { Finds (bytes_down file.now at n) b result }
@@ -272,7 +297,7 @@ pub fn find_in(file: &[u8], at: usize, n: usize, index_len: usize, b: u8) -> Res
             return Ok(e);
         }
     }
-    seek(file, at, n, b)
+    seek(&file[at..at + n], b)
 }
 
 // The place of b in a node with any number of transitions.
@@ -280,9 +305,7 @@ fn find_any(file: &[u8], node: Node, b: u8) -> Result<usize, usize>
     requires { Readable file.now node × (node.state ≡ AnyTrans) }
     ensures { Finds (node_inputs file.now node) b result }
 {
-    let n = node.ntrans;
-    let inputs = node.outputs + n * node.osize + n * node.tsize;
-    find_in(file, inputs, n, node.index_len, b)
+    find_in(file, node.inputs(), node.ntrans, node.index_len, b)
 }
 
 // The place of the first input above b where there is one, and it is another.

@@ -1,6 +1,6 @@
 // Which transition of a sound node fits a value that is left: the part of a step of a lookup by value that comes after the judging.
-// A part of a file is its place, size and count, and no slice: the definitions speak of places in the whole file.
-// Each step takes the file, a node's address and what is left, and its way is by the state byte there.
+// The numbers of a node with any number of transitions are one value, `Parts`. Those of a node with one transition are read where they are used.
+// The steps for a node with one transition take the file and the node's address.
 #![tactic(auto)]
 
 ghost use Rattle.std.specs.Prelude.{Ok, ◌≡◌, ◌&&◌, ◌+◌, ◌*◌, ◌≤◌, ◌<◌, eqb, length, get_or};
@@ -13,9 +13,8 @@ ghost use Rattle.node_choice.specs.Choices.{Leading, fitting_in, fit_of};
 
 use format::FstRef;
 use le_bytes::number_of;
-use node::Unsound;
-use node_sound::{head_len, input_of};
-use node_way::target_of;
+use node::{Unsound, target_of};
+use node_sound::{Parts, head_len, input_of, one_shape};
 
 // What a sound node says of a value that is left.
 #[derive(Clone, Copy)]
@@ -32,8 +31,8 @@ pub enum Choice {
 pub type Fit = Result<Choice, Unsound>;
 
 // How many of the leading numbers of n are not above what is left.
-// at, size and n, and the places in `any_choice`, stand as in `numbers_down`, of which the contract speaks: for a slice in their place it would have to be
-// proved that the slice is that part of the file.
+// at, size and n stand as in `numbers_down`, of which the contract speaks: `number_of` reads 8 bytes at once, and a slice of the numbers alone would not have
+// them at its end.
 fn fitting(file: &[u8], at: usize, size: usize, n: usize, left: u64) -> usize
     requires { (at + n * size ≤ length file.now) × (size ≤ 8) }
     ensures leading { Leading (numbers_down file.now at size n) left result }
@@ -47,32 +46,21 @@ fn fitting(file: &[u8], at: usize, size: usize, n: usize, left: u64) -> usize
     n
 }
 
-// The transition that fits what is left, of a node with any number of them whose outputs start at this place.
-pub fn any_choice(
-    file: &[u8],
-    first: usize,
-    outputs: usize,
-    n: usize,
-    tsize: usize,
-    osize: usize,
-    index_len: usize,
-    left: u64,
-) -> Choice
-    requires { Readable file.now (any_node first outputs n tsize osize index_len) }
-    ensures { result ≡ fitting_in (transitions_in file.now
-        (any_node first outputs n tsize osize index_len)) left }
+// The transition that fits what is left, of a node with these parts.
+pub fn any_choice(file: &[u8], parts: Parts, left: u64) -> Choice
+    requires { Readable file.now (any_node parts) }
+    ensures { result ≡ fitting_in (transitions_in file.now (any_node parts)) left }
 {
-    let count = fitting(file, outputs, osize, n, left);
+    let n = parts.ntrans;
+    let count = fitting(file, parts.outputs, parts.osize, n, left);
     if count == 0 {
         return Choice::Absent;
     }
     let last = count - 1;
-    let deltas = outputs + n * osize;
-    let inputs = deltas + n * tsize;
-    let inp = file[inputs + (n - 1 - last)];
-    let out = number_of(file, outputs, osize, n, last);
-    let delta = number_of(file, deltas, tsize, n, last);
-    Choice::To(inp, out, target_of(first, delta))
+    let inp = file[parts.inputs() + (n - 1 - last)];
+    let out = number_of(file, parts.outputs, parts.osize, n, last);
+    let delta = number_of(file, parts.deltas(), parts.tsize, n, last);
+    Choice::To(inp, out, target_of(parts.first, delta))
 }
 
 // Whether the search ends at a node: nothing is left, and it is final.
@@ -88,17 +76,14 @@ pub fn one_choice(fst: FstRef<'_>, addr: usize, left: u64) -> Choice
         × (get_or fst.bytes.now addr 0 < 192) }
     ensures { Ok result ≡ fit_of (node_in (fst_is fst.entry) addr) left }
 {
-    let len = head_len(fst.bytes, addr);
-    let sizes = usize::from(fst.bytes[addr - len]);
-    let tsize = sizes / 16;
-    let osize = sizes % 16;
-    let first = addr + 1 - (osize + tsize + 1 + len);
+    let one = one_shape(fst, addr);
+    let first = addr + 1 - one.size;
     let inp = input_of(fst.bytes, addr);
-    let out = number_of(fst.bytes, first, osize, 1, 0);
+    let out = number_of(fst.bytes, first, one.osize, 1, 0);
     if left < out {
         return Choice::Absent;
     }
-    let delta = number_of(fst.bytes, first + osize, tsize, 1, 0);
+    let delta = number_of(fst.bytes, first + one.osize, one.tsize, 1, 0);
     Choice::To(inp, out, target_of(first, delta))
 }
 

@@ -3,5 +3,6 @@ mod Record
 mod Largest
 mod Sizes
 mod Storing
-mod Heads
+mod States
+mod Ones
 mod Whole

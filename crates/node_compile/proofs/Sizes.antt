@@ -1,19 +1,16 @@
 -- The sizes of a node's parts.
 -- Assumes nothing.
-use mathlib.Core.Path.{◌≡◌, refl, ap, ◌∙◌}
+use mathlib.Core.Path.{◌≡◌, refl}
 use mathlib.Core.Bool.{Bool, true, false, cond, ◌&&◌}
-use mathlib.Core.List.{List, [], ◌∷◌, map}
+use mathlib.Core.List.{List, [], ◌∷◌}
 use Prim.Native.Nat.{ℕ, ◌*◌, ◌≤◌}
 use native.Mathlib.Nat.{le_trans, mul-le-mul_right, mul-le-mul_left}
 use native.Mathlib.Omega.{arith}
-use lib.Dec.{ltb, leb, eqb}
+use lib.Dec.{ltb, leb}
 use lib.ListN.{length}
 use Rattle.format.specs.Limits.{index_threshold}
 use Rattle.format.specs.Node.{end_len, index_len}
-use Rattle.format.specs.CommonInputs.{common_idx}
-use Rattle.format.specs.Packed.{BuilderNode, delta_of, input_bytes, delta_size, packed_any}
-use Rattle.format.specs.Laws.PackedLaws.{length_deltas, length_index_bytes, length_input_bytes, length_packed_any}
-use Rattle.node_compile.specs.Parts.{RecordFits, any_len}
+use Rattle.format.specs.Packed.{delta_size}
 
 -- no transition
 pub delta_size_none : (ds : List ℕ) → length ds ≡ 0 → delta_size ds ≡ 0
@@ -43,17 +40,3 @@ any_bounds final n osize tsize few o8 t8 = record {
   index_le = cond_le (leb 2 3 && ltb index_threshold n) 256 0 256 (omega arith) (omega arith);
   head_le = cond_le (ltb 0 n && ltb n 64) 1 2 2 (omega arith) (omega arith);
 }
-
-pub input_bytes_le : (inp : ℕ) → length (input_bytes inp) ≤ 1
-input_bytes_le inp = rw length_input_bytes (cond_le (eqb (common_idx inp) 0) 1 0 1 (omega arith) (omega arith))
-
--- ---- the length of a node of the forms 00 and 01
-
-pub any_len_is : (first : ℕ) (b : BuilderNode) (osize tsize : ℕ) → RecordFits first b
-    → any_len b.final (length b.inputs) osize tsize ≡ length (packed_any b (map (delta_of first) b.targets) osize tsize)
-any_len_is first b osize tsize ok =
-    let all = length_packed_any b (map (delta_of first) b.targets) osize tsize in
-    let outputs : length b.outputs * osize ≡ length b.inputs * osize = ap (λ (n : ℕ). n * osize) ok.outputs_len in
-    let deltas : length (map (delta_of first) b.targets) * tsize ≡ length b.inputs * tsize =
-    ap (λ (n : ℕ). n * tsize) (length_deltas first b.targets ∙ ok.targets_len) in
-    omega (arith, length_index_bytes 3 b.inputs (omega arith))

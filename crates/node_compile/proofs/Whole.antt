@@ -5,14 +5,14 @@ use mathlib.Core.List.{List, [], ◌∷◌, ◌++◌, map}
 use Prim.Native.Nat.{ℕ, ◌+◌, ◌≤◌}
 use native.Mathlib.Omega.{arith}
 use lib.ListN.{length, set}
-use Rattle.format.specs.Bytes.{bytes_of, pack_size}
+use Rattle.format.specs.Bytes.{bytes_of}
 use Rattle.format.specs.Laws.BytesLaws.{length_bytes_of}
 use Rattle.buffers.specs.Put.{put, PutAt}
 use Rattle.buffers.specs.WritingLaws.{Writing, writing_none, part_room, part_written}
 use Rattle.node_parts.specs.ByteLaws.{put_one_byte}
 use Rattle.format.specs.Node.{end_len}
-use Rattle.format.specs.Packed.{BuilderNode, delta_of, stored_numbers, stored_bytes, index_bytes, output_size, sizes_of, packed_next, packed_one, head_of, packed_any}
-use Rattle.node_compile.specs.Parts.{state_bytes, any_in, AnyFits}
+use Rattle.format.specs.Packed.{BuilderNode, delta_of, stored_numbers, stored_bytes, index_bytes, sizes_of, head_of, packed_any}
+use Rattle.node_compile.specs.Parts.{any_in, AnyFits}
 
 -- a number in k bytes, by a callee that is given size and leaves the place to its caller
 pub number_written : (out : List ℕ) (at n k size : ℕ) (out' : List ℕ) (p : ℕ) → size ≡ k → p ≡ at + size → out' ≡ put out at (bytes_of size n)
@@ -30,27 +30,6 @@ number_room n k size rest is_k w = omega (arith, part_room (bytes_of k n) rest w
 pub byte_written : {out₀ whole out rest : List ℕ} {p b : ℕ} (x : ℕ) → x ≡ b → Writing out₀ whole (b ∷ rest) out p → Writing out₀ whole rest (set out p x) (p + 1)
 byte_written {out₀} {whole} {out} {rest} {p} {b} x is w =
     part_written (b ∷ []) rest (set out p x) (p + 1) w (rw (← is) (put_one_byte out p x (part_room (b ∷ []) rest w)))
-
--- ---- the form 11
-
-pub next_parts : (inp : ℕ) → state_bytes 192 inp ≡ packed_next inp
-unfolding packed_next
-next_parts inp = refl
-
--- ---- the form 10
-
-pub one_parts : (inp out delta : ℕ)
-    → bytes_of (output_size out) out
-    ++ (bytes_of (pack_size delta) delta ++ ((sizes_of (pack_size delta) (output_size out) ∷ []) ++ state_bytes 128 inp))
-    ≡ packed_one inp out delta
-unfolding packed_one
-one_parts inp out delta = refl
-
--- the output is to be written first
-pub one_start : (out₀ : List ℕ) (inp out delta : ℕ) → length (packed_one inp out delta) ≤ length out₀
-    → Writing out₀ (packed_one inp out delta)
-    (bytes_of (output_size out) out ++ (bytes_of (pack_size delta) delta ++ ((sizes_of (pack_size delta) (output_size out) ∷ []) ++ state_bytes 128 inp))) out₀ 0
-one_start out₀ inp out delta room = writing_none out₀ (packed_one inp out delta) _ (one_parts inp out delta) room
 
 -- ---- the forms 00 and 01
 

@@ -1,5 +1,6 @@
 -- What `compile` answers and leaves in the lent buffer (document 01: "a packed node", refusals RECORD and SPACE).
---     builder_with f o is os ts     the node record that these parameters are
+--     builder_with f o is os ts     the node record of these parts
+--     builder_is n                  the node record that the code's n is
 --     answer_as p                   the code's answer for the packing p: the number of bytes, or the refusal
 --     buffer_after p out            the lent buffer out after the packing p
 --     ReadsBack b F bs             the bytes bs read back as the record b in every file of version 2 or 3 that has them at F
@@ -9,6 +10,7 @@ use Rattle.std.specs.Prelude.{◌≡◌, Bool, List, ◌++◌, ℕ, ◌≤◌, l
 use Rattle.format.specs.declared.Refusal.{Refusal}
 use Rattle.format.specs.Node.{Useful, sound, node_at}
 use Rattle.format.specs.Packed.{BuilderNode, Packing, written, refused, packing, node_addr, record_node}
+use Rattle.node_record.specs.declared.BuilderNode as Lent
 
 abbrev pub builder_with : Bool → ℕ → List ℕ → List ℕ → List ℕ → BuilderNode
 builder_with final final_output inputs outputs targets = record {
@@ -18,6 +20,9 @@ builder_with final final_output inputs outputs targets = record {
   outputs = outputs;
   targets = targets;
 }
+
+abbrev pub builder_is : Lent.BuilderNode → BuilderNode
+builder_is n = builder_with n.is_final n.final_output n.inputs.now n.outputs.now n.targets.now
 
 abbrev pub answer_as : Packing → Result ℕ Refusal
 answer_as (written bs) = Ok (length bs)

@@ -1,18 +1,19 @@
 -- Laws of `Compile` and `Parts`: what a whole node answers and leaves follows from its bytes, once they are written.
+--     any_len_is    how many bytes a node of the forms 00 and 01 has
 -- Assumes nothing.
-use Rattle.std.specs.Prelude.{◌≡◌, Bool, true, false, cond, List, ℕ, ◌≤◌, ◌<◌, leb, length, take, drop, Ok, Err, Result}
-use Rattle.std.proofs.Common.{sym, ◌∙◌, le-leb, arith, take_at}
+use Rattle.std.specs.Prelude.{◌≡◌, Bool, true, false, cond, List, map, ℕ, ◌*◌, ◌≤◌, ◌<◌, leb, length, take, drop, Ok, Err, Result}
+use Rattle.std.proofs.Common.{sym, ap, ◌∙◌, le-leb, arith, take_at}
 use Rattle.std.proofs.lemmas.Bool.{lt-leb}
 use Rattle.format.specs.declared.Refusal.{Refusal}
 use Rattle.format.specs.Limits.{SPACE, RECORD}
 use Rattle.buffers.specs.Put.{put}
 use Rattle.buffers.specs.PutLaws.{put_zero}
 use Rattle.buffers.specs.DecideLaws.{true_of}
-use Rattle.format.specs.Packed.{BuilderNode, Ranges, RecordOk, record_test, packed, written, refused, packing}
-use Rattle.format.specs.Laws.PackedLaws.{decides_record, packing_record}
+use Rattle.format.specs.Packed.{BuilderNode, delta_of, packed_any, Ranges, RecordOk, record_test, packed, written, refused, packing}
+use Rattle.format.specs.Laws.PackedLaws.{decides_record, packing_record, length_deltas, length_index_bytes, length_packed_any}
 use Rattle.format.specs.RoundTrip.RoundTrip.{round_trip}
 use Rattle.node_compile.specs.Compile.{answer_as, buffer_after, ReadsBack, Compiles}
-use Rattle.node_compile.specs.Parts.{Fitted}
+use Rattle.node_compile.specs.Parts.{Fitted, RecordFits, any_len}
 
 module _ (bs out₀ : List ℕ) where
   pub fitted_space : length out₀ < length bs → Fitted bs out₀ out₀ (Err SPACE)
@@ -58,3 +59,14 @@ module _ (first : ℕ) (b : BuilderNode) (out₀ : List ℕ) where
     where
       read : ReadsBack b first (packed first b)
       read = record { node = λ pre post v root at version below useful. round_trip first b pre post v root ranges ok at version below useful }
+
+-- ---- the length of a node of the forms 00 and 01
+
+pub any_len_is : (first : ℕ) (b : BuilderNode) (osize tsize : ℕ) → RecordFits first b
+    → any_len b.final (length b.inputs) osize tsize ≡ length (packed_any b (map (delta_of first) b.targets) osize tsize)
+any_len_is first b osize tsize ok =
+    let all = length_packed_any b (map (delta_of first) b.targets) osize tsize in
+    let outputs : length b.outputs * osize ≡ length b.inputs * osize = ap (λ (n : ℕ). n * osize) ok.outputs_len in
+    let deltas : length (map (delta_of first) b.targets) * tsize ≡ length b.inputs * tsize =
+    ap (λ (n : ℕ). n * tsize) (length_deltas first b.targets ∙ ok.targets_len) in
+    omega (arith, length_index_bytes 3 b.inputs (omega arith))

@@ -1,5 +1,8 @@
 -- What the functions under `compile` answer and write: the bytes of a form, and the part of a buffer.
 --     state_bytes form inp              the end of a node with one transition, whose top two bits are given as form: 128, or 192
+--     Code inp idx rare                 the state byte keeps idx of the input inp, and where that is 0, the input is rare
+--     state_for form idx rare           the same end by what the state byte keeps
+--     one_for idx rare out delta        the bytes of the form 10, by the same
 --     any_in F b osize tsize            the bytes of b in the forms 00 and 01, with outputs of osize bytes and deltas of tsize bytes
 --     any_bytes F b                     the same, with the sizes that b's outputs and deltas need
 --     any_len f n osize tsize           how many they are, of n transitions, final or not by f
@@ -7,13 +10,13 @@
 --     AnyFits F b osize tsize room     what writing them asks: the record fits, and they have room
 --     Fitted bs out₀ out r             what writing a node's bytes bs answers and leaves, where only SPACE can refuse
 -- Assumes nothing.
-use Rattle.std.specs.Prelude.{◌≡◌, Bool, cond, List, [], ◌∷◌, ◌++◌, map, ℕ, ◌+◌, ◌*◌, ◌≤◌, leb, length, Result}
+use Rattle.std.specs.Prelude.{◌≡◌, Bool, cond, List, [], ◌∷◌, ◌++◌, map, ℕ, ◌+◌, ◌*◌, ◌≤◌, ◌<◌, eqb, leb, length, Result}
 use Rattle.format.specs.declared.Refusal.{Refusal}
 use Rattle.format.specs.Limits.{first_node, max_trans, SPACE}
-use Rattle.format.specs.Bytes.{largest}
+use Rattle.format.specs.Bytes.{bytes_of, pack_size, largest}
 use Rattle.format.specs.CommonInputs.{common_idx}
 use Rattle.format.specs.Node.{Ascending, end_len, index_len}
-use Rattle.format.specs.Packed.{BuilderNode, TargetsOk, RecordOk, delta_of, input_bytes, output_size, delta_size, head_of, packed_any, Packing, written, refused}
+use Rattle.format.specs.Packed.{BuilderNode, TargetsOk, RecordOk, delta_of, input_bytes, output_size, delta_size, sizes_of, head_of, packed_any, Packing, written, refused}
 use Rattle.node_compile.specs.Compile.{answer_as, buffer_after}
 
 -- ---- a node's bytes
@@ -21,6 +24,18 @@ use Rattle.node_compile.specs.Compile.{answer_as, buffer_after}
 -- the input where the state byte does not keep it, and the state byte
 abbrev pub state_bytes : ℕ → ℕ → List ℕ
 state_bytes form inp = input_bytes inp ++ ((form + common_idx inp) ∷ [])
+
+pub record Code (inp idx rare : ℕ) : Type 0 where
+  pub is : idx ≡ common_idx inp
+  pub lt : idx < 64
+  pub rare_is : idx ≡ 0 → rare ≡ inp
+
+abbrev pub state_for : ℕ → ℕ → ℕ → List ℕ
+state_for form idx rare = cond (eqb idx 0) (rare ∷ (form ∷ [])) ((form + idx) ∷ [])
+
+abbrev pub one_for : ℕ → ℕ → ℕ → ℕ → List ℕ
+one_for idx rare out delta =
+    bytes_of (output_size out) out ++ (bytes_of (pack_size delta) delta ++ ((sizes_of (pack_size delta) (output_size out) ∷ []) ++ state_for 128 idx rare))
 
 abbrev pub any_in : ℕ → BuilderNode → ℕ → ℕ → List ℕ
 any_in first b osize tsize = packed_any b (map (delta_of first) b.targets) osize tsize

@@ -1,50 +1,49 @@
 // The packer: a node record, written into a lent buffer in the layout of version 3.
-// A caller gives the node's first byte F and the record as its parts, and gets the number of bytes,
-// or a refusal.
+// A caller gives the record and the node's first byte F, and gets the number of bytes, or a refusal.
 // Ports `Node::compile` of src/raw/node.rs, and the `compile` of its three states.
-// inputs, outputs and targets are slices and no struct: the packer's are rows of tables that the C caller lends one by one. What is asked of the targets is
-// asked of them with F, and no type has both.
 #![tactic(auto)]
 
-ghost use Rattle.std.specs.Prelude.{◌≡◌, cond, not, ◌&&◌, map, ◌+◌, ◌≤◌, ◌<◌, eqb, ltb, length};
+ghost use Rattle.std.specs.Prelude.{◌≡◌, cond, not, ◌&&◌, map, ℕ, ◌+◌, ◌^◌, ◌≤◌, ◌<◌, eqb, ltb, length, get_or};
 ghost use Rattle.buffers.specs.Decide.{Decides};
 ghost use Rattle.format.specs.Limits.{first_node, max_trans};
 ghost use Rattle.format.specs.Bytes.{pack_size, largest};
 ghost use Rattle.format.specs.Node.{end_len, index_len};
 ghost use Rattle.format.specs.Packed.{TargetsOk, RecordOk, delta_of, stored_numbers};
-ghost use Rattle.format.specs.Packed.{output_size, delta_size, sizes_of, input_bytes, packed, packed_next, packed_one, last_addr};
-ghost use Rattle.node_compile.specs.Compile.{builder_with, Compiles};
-ghost use Rattle.node_compile.specs.Parts.{state_bytes, any_in, any_bytes, RecordFits, AnyFits, any_len, Fitted};
+ghost use Rattle.format.specs.Packed.{output_size, delta_size, sizes_of, packed, last_addr};
+ghost use Rattle.format.specs.CommonInputs.{common_idx};
+ghost use Rattle.node_compile.specs.Compile.{builder_is, Compiles};
+ghost use Rattle.node_compile.specs.One.{one_bytes};
+ghost use Rattle.node_compile.specs.Parts.{Code, state_for, one_for, any_in, any_bytes, RecordFits, AnyFits, any_len, Fitted};
 ghost use Rattle.buffers.specs.Put.{PutAt};
 
 use common_inputs::common_idx;
 use format::{FIRST_NODE, MAX_LEN, MAX_TRANS, Refusal, TRANS_INDEX_THRESHOLD};
 use le_bytes::{pack_size, pack_uint_in};
 use node_parts::{put_bytes, put_head, put_index};
-use node_record::{inputs_ascend, targets_ok};
+use node_record::{BuilderNode, inputs_ascend, targets_ok};
 
 // ---- RECORD
 
+// Says that a record's numbers have the ranges of their types. A proof knows it of a parameter, and of a struct's fields by this call.
+fn are_numbers(final_output: u64, inputs: &[u8], outputs: &[u64])
+    ensures { (final_output < 2 ^ 64)
+        × ((i : ℕ) → get_or inputs.now i 0 < 256)
+        × ((i : ℕ) → get_or outputs.now i 0 < 2 ^ 64) }
+{}
+
 // Whether RECORD has nothing to refuse.
-fn record_ok(
-    is_final: bool,
-    final_output: u64,
-    inputs: &[u8],
-    outputs: &[u64],
-    targets: &[usize],
-    first: usize,
-) -> bool
-    ensures { Decides result (RecordOk first
-        (builder_with is_final final_output inputs.now outputs.now targets.now)) }
+fn record_ok(node: BuilderNode<'_>, first: usize) -> bool
+    ensures { Decides result (RecordOk first (builder_is node.entry)) }
 {
-    inputs.len() <= MAX_TRANS
-        && outputs.len() == inputs.len()
-        && targets.len() == inputs.len()
+    let n = node.inputs.len();
+    n <= MAX_TRANS
+        && node.outputs.len() == n
+        && node.targets.len() == n
         && FIRST_NODE <= first
         && first <= MAX_LEN
-        && inputs_ascend(inputs)
-        && targets_ok(targets, first)
-        && (is_final || final_output == 0)
+        && inputs_ascend(node.inputs)
+        && targets_ok(node.targets, first)
+        && (node.is_final || node.final_output == 0)
 }
 
 // ---- sizes
@@ -71,7 +70,9 @@ pub fn delta_of(first: usize, target: usize) -> u64
     (first - target) as u64
 }
 
-// The largest of the targets' deltas, 0 for none.
+// The largest of the targets' deltas, 0 for none. It differs from `largest_of` by `delta_of` alone, as `put_deltas` does from `put_numbers`: one
+// function of both would take a function of a target, and its contract would have to say what that one asks and answers.
+// What is asked of the targets, here and below, is asked with F, which no type has beside them.
 fn largest_delta(first: usize, targets: &[usize]) -> u64
     requires { TargetsOk first targets.now }
     ensures { result ≡ largest (map (delta_of first) targets.now) }
@@ -85,7 +86,7 @@ fn largest_delta(first: usize, targets: &[usize]) -> u64
 
 // The bytes that each output takes where n is the largest: none where all are 0.
 #[tactic(auto, unfolding(format::specs::Packed::output_size))]
-fn output_size(n: u64) -> usize
+pub fn output_size(n: u64) -> usize
     ensures { result ≡ output_size n }
 {
     if n == 0 {
@@ -116,6 +117,7 @@ fn sizes_byte(tsize: usize, osize: usize) -> u8
 // ---- the parts, written
 
 // Writes each number in size bytes, last first, from place at on; returns the place past them.
+// p is moved by hand: `chunks_exact_mut` takes no size of 0, which outputs have where all are 0.
 fn put_numbers(out: &mut [u8], at: usize, numbers: &[u64], size: usize) -> usize
     requires { at + length (stored_numbers size numbers.now) ≤ length out.old }
     ensures { PutAt out.old at (stored_numbers size numbers.now)
@@ -147,60 +149,106 @@ fn put_deltas(out: &mut [u8], at: usize, targets: &[usize], first: usize, size: 
     p
 }
 
-// The bytes that the input takes before the state byte: none where the state byte keeps it.
-#[tactic(auto, unfolding(format::specs::Packed::input_bytes))]
-fn input_len(input: u8) -> usize
-    ensures { result ≡ length (input_bytes input) }
-{
-    if common_idx(input) == 0 { 1 } else { 0 }
+// ---- the end of a node with one transition
+
+// What the state byte keeps of the input: idx, its place among the frequent inputs from 1 on, or 0 where the input has a byte of its own
+// before it.
+#[derive(Clone, Copy)]
+pub struct Kept {
+    pub idx: u8,
+    pub input: u8,
 }
 
-// Writes the state byte of a node with one transition, and the input before it where the state byte
-// does not keep it; returns the place past them. The top two bits are given as form: 128, or 192.
-fn put_state(out: &mut [u8], at: usize, form: u8, input: u8) -> usize
-    requires { (at + length (state_bytes form input) ≤ length out.old) × (form ≤ 192) }
-    ensures { PutAt out.old at (state_bytes form input) out.new result }
-{
-    let idx = common_idx(input);
-    if idx == 0 {
-        out[at] = input;
-        out[at + 1] = form + idx;
-        return at + 2;
+impl Kept {
+    // What is kept of an input.
+    pub fn of(input: u8) -> Kept
+        ensures { Code input result.idx result.input × (result.input ≡ input) }
+    {
+        Kept {
+            idx: common_idx(input),
+            input,
+        }
     }
-    out[at] = form + idx;
-    at + 1
-}
 
-// ---- the three forms
-
-// Packs a node of the form 11: one transition, with output 0, to the node before.
-fn compile_next(input: u8, out: &mut [u8]) -> Result<usize, Refusal>
-    ensures { Fitted (packed_next input) out.old out.new result }
-{
-    let len = input_len(input) + 1;
-    if out.len() < len {
-        return Err(Refusal::Space);
+    // The bytes of the state, and of the input where it has its own.
+    pub fn state_len(self) -> usize
+        ensures { (result ≡ length (state_for 0 self.idx 0)) × (result ≤ 2) }
+    {
+        if self.idx == 0 { 2 } else { 1 }
     }
-    put_state(out, 0, 192, input);
-    Ok(len)
+
+    // Writes the state byte, and the input before it where it has its own; returns the place past them. The top two bits are given as
+    // form: 128, or 192.
+    pub fn put_state(self, out: &mut [u8], at: usize, form: u8) -> usize
+        requires { (at + length (state_for form self.idx self.input) ≤ length out.old) × (form ≤ 192) × (self.idx < 64) }
+        ensures { PutAt out.old at (state_for form self.idx self.input) out.new result }
+    {
+        if self.idx == 0 {
+            out[at] = self.input;
+            out[at + 1] = form;
+            return at + 2;
+        }
+        out[at] = form + self.idx;
+        at + 1
+    }
 }
 
-// Writes a node of the form 10 with an output of osize bytes and a delta of tsize bytes; returns its
-// length.
-fn put_one(out: &mut [u8], input: u8, output: u64, osize: usize, delta: u64, tsize: usize) -> usize
-    requires { (length (packed_one input output delta) ≤ length out.old)
+// ---- a node with one transition
+
+// Writes a node of the form 10 with an output of osize bytes and a delta of tsize bytes; returns its length.
+pub fn put_one(
+    out: &mut [u8],
+    kept: Kept,
+    output: u64,
+    osize: usize,
+    delta: u64,
+    tsize: usize,
+) -> usize
+    requires { (length (one_for kept.idx kept.input output delta) ≤ length out.old)
         × (osize ≡ output_size output)
-        × (tsize ≡ pack_size delta) }
-    ensures { PutAt out.old 0 (packed_one input output delta) out.new
+        × (tsize ≡ pack_size delta)
+        × (kept.idx < 64) }
+    ensures { PutAt out.old 0 (one_for kept.idx kept.input output delta) out.new
         result }
 {
     pack_uint_in(out, 0, output, osize);
     pack_uint_in(out, osize, delta, tsize);
     out[osize + tsize] = sizes_byte(tsize, osize);
-    put_state(out, osize + tsize + 1, 128, input)
+    kept.put_state(out, osize + tsize + 1, 128)
 }
 
-// Packs a node of the form 10: one transition.
+// The bytes of a node with one transition that is not final, by what its state byte keeps of the input.
+pub fn one_len(kept: Kept, output: u64, target: usize, first: usize) -> usize
+    requires { (first_node ≤ first) × (target ≤ first) }
+    ensures { result ≡ length (one_bytes first kept.idx kept.input output target) }
+{
+    let head = kept.state_len();
+    if leads_next(first, target, output) {
+        return head;
+    }
+    let delta = delta_of(first, target);
+    let osize = output_size(output);
+    let tsize = usize::from(pack_size(delta));
+    osize + tsize + 1 + head
+}
+
+// Writes such a node, which has room; returns its length.
+pub fn pack_one(kept: Kept, output: u64, target: usize, first: usize, out: &mut [u8]) -> usize
+    requires { (first_node ≤ first) × (target ≤ first) × (kept.idx < 64)
+        × (length (one_bytes first kept.idx kept.input output target) ≤ length out.old) }
+    ensures { PutAt out.old 0 (one_bytes first kept.idx kept.input output target)
+        out.new result }
+{
+    if leads_next(first, target, output) {
+        return kept.put_state(out, 0, 192);
+    }
+    let delta = delta_of(first, target);
+    let osize = output_size(output);
+    let tsize = usize::from(pack_size(delta));
+    put_one(out, kept, output, osize, delta, tsize)
+}
+
+// Packs a node with one transition that is not final.
 fn compile_one(
     first: usize,
     input: u8,
@@ -208,23 +256,22 @@ fn compile_one(
     target: usize,
     out: &mut [u8],
 ) -> Result<usize, Refusal>
-    requires { target ≤ first }
-    ensures { Fitted (packed_one input output (delta_of first target)) out.old
+    requires { (first_node ≤ first) × (target ≤ first) }
+    ensures { Fitted (one_bytes first (common_idx input) input output target) out.old
         out.new result }
 {
-    let delta = delta_of(first, target);
-    let osize = output_size(output);
-    let tsize = pack_size(delta) as usize;
-    // output, delta, sizes byte, input, state
-    let len = osize + tsize + 1 + input_len(input) + 1;
+    let kept = Kept::of(input);
+    let len = one_len(kept, output, target, first);
     if out.len() < len {
         return Err(Refusal::Space);
     }
-    put_one(out, input, output, osize, delta, tsize);
+    pack_one(kept, output, target, first, out);
     Ok(len)
 }
 
-// The bytes of the final output.
+// ---- a node with any number of transitions
+
+// The bytes of the final output. node_sound has lengths like this and the next two of its own: node_compile does not depend on it, and each is one line.
 fn end_len(is_final: bool, osize: usize) -> usize
     ensures { result ≡ end_len is_final osize }
 {
@@ -247,7 +294,7 @@ fn head_len(n: usize) -> usize
 }
 
 // The bytes of a node of the forms 00 and 01.
-fn any_len(is_final: bool, n: usize, osize: usize, tsize: usize) -> usize
+pub fn any_len(is_final: bool, n: usize, osize: usize, tsize: usize) -> usize
     requires { (n ≤ max_trans) × (osize ≤ 8) × (tsize ≤ 8) }
     ensures { result ≡ any_len is_final n osize tsize }
 {
@@ -256,67 +303,34 @@ fn any_len(is_final: bool, n: usize, osize: usize, tsize: usize) -> usize
 
 // Writes a node of the forms 00 and 01 with outputs of osize bytes and deltas of tsize bytes; returns
 // its length.
-fn put_any(
-    out: &mut [u8],
-    is_final: bool,
-    final_output: u64,
-    inputs: &[u8],
-    outputs: &[u64],
-    targets: &[usize],
-    first: usize,
-    osize: usize,
-    tsize: usize,
-) -> usize
-    requires { AnyFits first (builder_with is_final final_output inputs.now outputs.now
-        targets.now)
-        osize tsize (length out.old) }
-    ensures { PutAt out.old 0
-        (any_in first (builder_with is_final final_output inputs.now outputs.now targets.now)
-        osize tsize) out.new result }
+fn put_any(out: &mut [u8], node: BuilderNode<'_>, first: usize, osize: usize, tsize: usize) -> usize
+    requires { AnyFits first (builder_is node) osize tsize (length out.old) }
+    ensures { PutAt out.old 0 (any_in first (builder_is node.entry) osize tsize)
+        out.new result }
 {
-    let end = end_len(is_final, osize);
-    pack_uint_in(out, 0, final_output, end);
-    let deltas_at = put_numbers(out, end, outputs, osize);
-    let inputs_at = put_deltas(out, deltas_at, targets, first, tsize);
-    let index_at = put_bytes(out, inputs_at, inputs);
-    let sizes_at = put_index(out, index_at, inputs);
+    let end = end_len(node.is_final, osize);
+    pack_uint_in(out, 0, node.final_output, end);
+    let deltas_at = put_numbers(out, end, node.outputs, osize);
+    let inputs_at = put_deltas(out, deltas_at, node.targets, first, tsize);
+    let index_at = put_bytes(out, inputs_at, node.inputs);
+    let sizes_at = put_index(out, index_at, node.inputs);
     out[sizes_at] = sizes_byte(tsize, osize);
-    put_head(out, sizes_at + 1, is_final, inputs.len())
+    put_head(out, sizes_at + 1, node.is_final, node.inputs.len())
 }
 
 // Packs a node of the forms 00 and 01: any number of transitions, final or not.
-fn compile_any(
-    is_final: bool,
-    final_output: u64,
-    inputs: &[u8],
-    outputs: &[u64],
-    targets: &[usize],
-    first: usize,
-    out: &mut [u8],
-) -> Result<usize, Refusal>
-    requires { RecordFits first (builder_with is_final final_output inputs.now outputs.now
-        targets.now) }
-    ensures { Fitted
-        (any_bytes first (builder_with is_final final_output inputs.now outputs.now targets.now))
-        out.old out.new result }
+fn compile_any(node: BuilderNode<'_>, first: usize, out: &mut [u8]) -> Result<usize, Refusal>
+    requires { RecordFits first (builder_is node) }
+    ensures { Fitted (any_bytes first (builder_is node.entry)) out.old out.new
+        result }
 {
-    let osize = output_size(final_output.max(largest_of(outputs)));
-    let tsize = delta_size(first, targets);
-    let len = any_len(is_final, inputs.len(), osize, tsize);
+    let osize = output_size(node.final_output.max(largest_of(node.outputs)));
+    let tsize = delta_size(first, node.targets);
+    let len = any_len(node.is_final, node.inputs.len(), osize, tsize);
     if out.len() < len {
         return Err(Refusal::Space);
     }
-    put_any(
-        out,
-        is_final,
-        final_output,
-        inputs,
-        outputs,
-        targets,
-        first,
-        osize,
-        tsize,
-    );
+    put_any(out, node, first, osize, tsize);
     Ok(len)
 }
 
@@ -330,7 +344,7 @@ pub fn packs_to_nothing(is_final: bool, n: usize, final_output: u64) -> bool
 }
 
 // One transition, and not final.
-fn has_one(is_final: bool, n: usize) -> bool
+pub fn has_one(is_final: bool, n: usize) -> bool
     ensures { result ≡ (not is_final && eqb n 1) }
 {
     !is_final && n == 1
@@ -357,51 +371,30 @@ pub fn leads_next(first: usize, target: usize, output: u64) -> bool
 
 // Packs a record that RECORD would not refuse but for its limit on F: a list is packed past that limit while
 // its output has room.
-pub fn compile_record(
-    is_final: bool,
-    final_output: u64,
-    inputs: &[u8],
-    outputs: &[u64],
-    targets: &[usize],
-    first: usize,
-    out: &mut [u8],
-) -> Result<usize, Refusal>
-    requires { RecordFits first (builder_with is_final final_output inputs.now outputs.now
-        targets.now) }
-    ensures { Fitted
-        (packed first (builder_with is_final final_output inputs.now outputs.now targets.now))
-        out.old out.new result }
+pub fn compile_record(node: BuilderNode<'_>, first: usize, out: &mut [u8]) -> Result<usize, Refusal>
+    requires { RecordFits first (builder_is node) }
+    ensures { Fitted (packed first (builder_is node.entry)) out.old out.new
+        result }
 {
-    if packs_to_nothing(is_final, inputs.len(), final_output) {
+    let n = node.inputs.len();
+    if packs_to_nothing(node.is_final, n, node.final_output) {
         return Ok(0);
     }
-    if has_one(is_final, inputs.len()) {
-        if leads_next(first, targets[0], outputs[0]) {
-            return compile_next(inputs[0], out);
-        }
-        return compile_one(first, inputs[0], outputs[0], targets[0], out);
+    if has_one(node.is_final, n) {
+        return compile_one(first, node.inputs[0], node.outputs[0], node.targets[0], out);
     }
-    compile_any(is_final, final_output, inputs, outputs, targets, first, out)
+    compile_any(node, first, out)
 }
 
-// Packs the node record of these parts, whose first byte is to stand at first, into out: Ok(n) is that it takes n bytes, which stand at out's front.
-// A refusal leaves out as it was: RECORD where the parts are no record, and SPACE where out is too short.
+// Packs the node record, whose first byte is to stand at first, into out: Ok(n) is that it takes n bytes, which stand at out's front.
+// A refusal leaves out as it was: RECORD where it is no record, and SPACE where out is too short.
 // The record that is final with no transitions and output 0 packs to no bytes: it is address 0.
-pub fn compile(
-    is_final: bool,
-    final_output: u64,
-    inputs: &[u8],
-    outputs: &[u64],
-    targets: &[usize],
-    first: usize,
-    out: &mut [u8],
-) -> Result<usize, Refusal>
-    ensures { Compiles
-        (builder_with is_final final_output inputs.now outputs.now targets.now) first
-        out.old out.new result }
+pub fn compile(node: BuilderNode<'_>, first: usize, out: &mut [u8]) -> Result<usize, Refusal>
+    ensures { Compiles (builder_is node.entry) first out.old out.new result }
 {
-    if !record_ok(is_final, final_output, inputs, outputs, targets, first) {
+    if !record_ok(node, first) {
         return Err(Refusal::Record);
     }
-    compile_record(is_final, final_output, inputs, outputs, targets, first, out)
+    are_numbers(node.final_output, node.inputs, node.outputs);
+    compile_record(node, first, out)
 }

@@ -77,15 +77,6 @@ number_one s p h = omega (arith, number_step s p (p + 1) 0 h refl, number_zero s
 pub number_two : (s : List ℕ) (p : ℕ) → p + 2 ≤ length s → le (take 2 (drop p s)) ≡ get_or s p 0 + get_or s (p + 1) 0 * 256
 number_two s p h = omega (arith, number_step s p (p + 1) 1 h refl, number_one s (p + 1) (omega arith))
 
-pub number_four : (s : List ℕ) (p : ℕ) → p + 4 ≤ length s
-    → le (take 4 (drop p s)) ≡ get_or s p 0 + get_or s (p + 1) 0 * 256 + get_or s (p + 2) 0 * 65536 + get_or s (p + 3) 0 * 16777216
-number_four s p h =
-    let a = number_step s p (p + 1) 3 h refl in
-    let b = number_step s (p + 1) (p + 2) 2 (omega arith) (omega arith) in
-    let c = number_step s (p + 2) (p + 3) 1 (omega arith) (omega arith) in
-    let d = number_one s (p + 3) (omega arith) in
-    omega arith
-
 -- number i of one byte, and of two, as the code reads them
 pub byte_is : (s : List ℕ) (at w i : ℕ) → i < w → at + i < length s → get_or (take w (drop at s)) i 0 ≡ le (take 1 (drop (at + i * 1) s))
 byte_is s at w i l h =

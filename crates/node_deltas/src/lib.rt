@@ -10,7 +10,7 @@ ghost use Rattle.format.specs.Node.{numbers_down, TargetRight, TargetsRight};
 ghost use Rattle.node_deltas.specs.Deltas.{AtMost};
 
 use format::FIRST_NODE;
-use le_bytes::number_of;
+use le_bytes::{number_of, read_u32_le};
 
 // Whether a delta leads from first to 0 or to a place from 16 to first - 1.
 pub fn target_right(first: usize, delta: u64) -> bool
@@ -23,8 +23,8 @@ pub fn target_right(first: usize, delta: u64) -> bool
 }
 
 // Whether each of n deltas of size bytes, stored last first from place at on, leads to a right target.
-// at, size and n, here and below, stand as in `numbers_down`, of which the contract speaks: for a slice in their place it would have to be
-// proved that the slice is that part of the file.
+// at, size and n, here and below, stand as in `numbers_down`, of which the contract speaks: the byte before the numbers and those behind them are read too,
+// which a slice of the numbers alone does not have.
 pub fn targets_right(file: &[u8], at: usize, size: usize, n: usize, first: usize) -> bool
     requires { (at + n * size ≤ length file.now) × (size ≤ 8) × (first_node ≤ first) }
     ensures { Decides result (TargetsRight first (numbers_down file.now at size n)) }
@@ -67,7 +67,7 @@ fn load4(file: &[u8], p: usize) -> u32
     requires { p + 4 ≤ length file.now }
     ensures { result ≡ le (take 4 (drop p file.now)) }
 {
-    u32::from_le_bytes([file[p], file[p + 1], file[p + 2], file[p + 3]])
+    read_u32_le(&file[p..])
 }
 
 // A bound of n numbers of 3 bytes: each is read with the byte before it, which stands for less than
@@ -92,6 +92,7 @@ fn most3(file: &[u8], at: usize, n: usize) -> usize
 }
 
 // A bound of n numbers of 2 bytes.
+// Not by `chunks_exact`: the definition `AtMost` speaks of places in the whole file, and the loop has them.
 fn most2(file: &[u8], at: usize, n: usize) -> usize
     requires { at + n * 2 ≤ length file.now }
     ensures { AtMost file.now at 2 n result }

@@ -12,8 +12,7 @@ ghost use Rattle.node_inputs.specs.Inputs.{Falls, Probed, below};
 // Whether n inputs, stored last first from place at on, ascend strictly: whether the stored bytes
 // fall, pair by pair. The pairs are tested in groups of 4, 8 or 16 that may overlap, so that none is
 // left over.
-// at and n, here and below, stand as in `bytes_down`, of which the contract speaks: for a slice in their place it would have to be
-// proved that the slice is that part of the file.
+// at and n, here and below, stand as in `bytes_down`, of which the contract speaks: the groups overlap, and the index stands behind the inputs.
 pub fn ascends(file: &[u8], at: usize, n: usize) -> bool
     requires { at + n ≤ length file.now }
     ensures { Decides result (Ascending (bytes_down file.now at n)) }
@@ -41,6 +40,7 @@ pub fn ascends(file: &[u8], at: usize, n: usize) -> bool
 
 // Whether each byte of some pairs from place at on is above the next. There is no way out of the
 // loop, so that a fixed number of pairs is compared at once.
+// Not by `windows`: the definition `Falls` speaks of places in the whole file, and the loop has them.
 fn falls(file: &[u8], at: usize, pairs: usize) -> bool
     requires { at + pairs < length file.now }
     ensures { Decides result (Falls file.now at pairs) }
@@ -67,7 +67,7 @@ fn probes(file: &[u8], at: usize, n: usize, index: usize) -> bool
         return false;
     }
     let mut good = true;
-    // the inputs stand last first: from at on, n - 1 down to 0
+    // the inputs stand last first: from at on, n - 1 down to 0; a place worked out of one that counts up took more instructions (docs/PERFORMANCE.md)
     let mut i = n;
     for b in &file[at..at + n] {
         i -= 1;

@@ -1,4 +1,4 @@
-// What RECORD asks of a record's inputs and targets, for the packer: the inputs ascend, and each target is 0 or from 16 to F - 1.
+// A node record as the packer takes it, and what RECORD asks of its inputs and targets: the inputs ascend, and each target is 0 or from 16 to F - 1.
 #![tactic(auto)]
 
 ghost use Rattle.buffers.specs.Decide.{Decides};
@@ -6,6 +6,19 @@ ghost use Rattle.format.specs.Node.{Ascending};
 ghost use Rattle.format.specs.Packed.{TargetOk, TargetsOk};
 
 use format::FIRST_NODE;
+
+// A node to be packed, by the name of src/raw/build.rs. The transition at place i takes inputs[i], adds outputs[i] and leads to targets[i]:
+// three lists, since the packer's callers keep each in a table of its own.
+#[derive(Clone, Copy)]
+pub struct BuilderNode<'b> {
+    // whether a key ends here
+    pub is_final: bool,
+    // what such a key's value has more: beside `is_final`, as in document 01's record
+    pub final_output: u64,
+    pub inputs: &'b [u8],
+    pub outputs: &'b [u64],
+    pub targets: &'b [usize],
+}
 
 // Whether the inputs ascend strictly.
 #[tactic(auto, unfolding(format::specs::Node::Ascending))]

@@ -1,16 +1,15 @@
 -- A node is judged by its shape: what each way out of the judging functions says.
 -- Assumes nothing.
-use Rattle.std.specs.Prelude.{◌≡◌, refl, Bool, true, false, cond, ◌&&◌, List, ℕ, ◌+◌, ◌-◌, ◌*◌, ◌%◌, ◌≤◌, ◌<◌, ltb, leb, eqb, get_or}
+use Rattle.std.specs.Prelude.{◌≡◌, refl, Bool, true, false, cond, ◌&&◌, List, ℕ, ◌+◌, ◌-◌, ◌*◌, ◌%◌, ◌≤◌, ◌<◌, ltb, leb, eqb, get_or, Option, Some, None, is_some}
 use Rattle.std.proofs.Common.{arith}
 use Rattle.format.specs.declared.State.{State}
 use Rattle.format.specs.declared.State.TheVariants.{OneTransNext, OneTrans, AnyTrans}
 use Rattle.buffers.specs.Decide.{Decides}
-use Rattle.buffers.specs.DecideLaws.{decides_false, decides_iff}
+use Rattle.buffers.specs.DecideLaws.{decides_true, decides_false, decides_iff}
 use Rattle.format.specs.Node as F
 use Rattle.format.specs.Node.{state_form, head_len, ntrans_in, ntrans_of, sizes_len, inputs_len, index_len, end_len, size_of, shape_of, SoundShape, SoundAt}
-use Rattle.node_sound.specs.declared.Shape.{Shape}
-use Rattle.node_sound.specs.Shapes.{is_any, shape_is, AtForm}
-use Rattle.node_sound.specs.Shapes.{PartsRight}
+use Rattle.node_sound.specs.declared.Parts.{Parts as PartsOf}
+use Rattle.node_sound.specs.Shapes.{is_any, AtForm, parts_at, PartsRight, Judged}
 
 pub end_len_le : (final : Bool) (osize : ℕ) → end_len final osize ≤ osize
 end_len_le true osize = omega arith
@@ -52,6 +51,10 @@ parts_of s v a = record {
 pub sound_low : (s : List ℕ) (v root a : ℕ) → SoundAt s v root a → 16 ≤ a
 sound_low s v root a h = omega (arith, h.above, (parts_of s v a).whole)
 
+-- the state byte of a sound node lies from 16 to the root, and in the file
+pub sound_form : (s : List ℕ) (v root a : ℕ) → SoundAt s v root a → AtForm s root a
+sound_form s v root a is_sound = record { low = sound_low s v root a is_sound; below = is_sound.below; inside = is_sound.inside }
+
 -- ---- soundness is that of the shape
 
 module _ (s : List ℕ) (v root a : ℕ) (h : F.Shape) (is_h : h ≡ shape_of s v a) (ne : ¬ (a ≡ 0)) where
@@ -68,32 +71,52 @@ module _ (s : List ℕ) (v root a : ℕ) (h : F.Shape) (is_h : h ≡ shape_of s 
   pub shape_sound : SoundAt s v root a → SoundShape s root a h (a + 1 - h.size)
   shape_sound is_sound = rw is_h is_sound
 
--- ---- a node with any number of transitions, by the shape that the code works out
+  -- the answer with the parts of a sound node
+  pub judged_parts : (p : PartsOf) → p ≡ parts_at h a → SoundShape s root a h (a + 1 - h.size) → Judged s v root a (Some p)
+  judged_parts p is_p is_sound = record {
+    some = λ q e. let same : p ≡ q = cc in rw (← same) (sound, is_parts);
+    none = λ e. absurd (let z : ◌≡◌ {A = ℕ} 0 1 = cc in omega arith);
+  }
+    where
+      sound : SoundAt s v root a
+      sound = rw is_h at is_sound
 
-module _ (s : List ℕ) (root a : ℕ) (g : Shape) (is_end : g.end_len ≡ end_len g.is_final g.osize) where
-  abbrev PartsAt : Type 0
-  PartsAt =
-      let first = a + 1 - g.size in
-      let deltas = first + g.end_len + g.ntrans * g.osize in
-      PartsRight s first deltas g.tsize (deltas + g.ntrans * g.tsize) g.ntrans g.index_len
+      is_parts : p ≡ parts_at (shape_of s v a) a
+      is_parts = rw is_h at is_p
 
+-- ---- a node with any number of transitions
+
+-- its parts are stored: it has the state `AnyTrans`
+module _ (s : List ℕ) (root a : ℕ) (h : F.Shape) (any : h.state ≡ AnyTrans) where
   -- all tests passed
-  pub shape_right : AtForm s root a → g.size ≤ a - 15 → (g.tsize ≤ 8) × (g.osize ≤ 8) × (0 < g.ntrans → 0 < g.tsize)
-      → F.Useful g.is_final g.ntrans a root → PartsAt → SoundShape s root a (shape_is g) (a + 1 - g.size)
-  shape_right form above sizes useful parts = record {
+  pub shape_right : AtForm s root a → h.size ≤ a - 15 → (h.tsize ≤ 8) × (h.osize ≤ 8) × (0 < h.ntrans → 0 < h.tsize)
+      → F.Useful h.final h.ntrans a root → PartsRight s (parts_at h a) → SoundShape s root a h (a + 1 - h.size)
+  shape_right form above sizes useful right = record {
     inside = form.inside;
     below = form.below;
     above = omega (arith, form.low);
     sizes = record { tsize_le = sizes.0; osize_le = sizes.1; tsize_pos = λ _. sizes.2 };
-    ascending = rw is_end at parts.ascending;
-    entries = rw is_end at parts.index;
-    targets = rw is_end at parts.targets;
+    ascending = rw any right.ascending;
+    entries = rw any right.index;
+    targets = rw any right.targets;
     useful = useful;
   }
 
-  pub right_parts : SoundShape s root a (shape_is g) (a + 1 - g.size) → PartsAt
+  pub right_parts : SoundShape s root a h (a + 1 - h.size) → PartsRight s (parts_at h a)
   right_parts is_sound = record {
-    ascending = rw is_end is_sound.ascending;
-    targets = rw is_end is_sound.targets;
-    index = rw is_end is_sound.entries;
+    ascending = rw any at is_sound.ascending;
+    targets = rw any at is_sound.targets;
+    index = rw any at is_sound.entries;
   }
+
+module _ {s : List ℕ} {v root a : ℕ} where
+  pub judged_none : ¬ SoundAt s v root a → Judged s v root a None
+  judged_none not_sound = record {
+    some = λ p e. absurd (let z : ◌≡◌ {A = ℕ} 0 1 = cc in omega arith);
+    none = λ e. not_sound;
+  }
+
+  -- the answer with parts is `true`, and the one with none `false`
+  pub judged_decides : (r : Option PartsOf) → Judged s v root a r → Decides (is_some r) (SoundAt s v root a)
+  judged_decides (Some p) j = decides_true (j.some p refl).0
+  judged_decides None j = decides_false (j.none refl)

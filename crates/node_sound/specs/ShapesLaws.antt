@@ -11,7 +11,7 @@ use Rattle.format.specs.Node.{state_form, is_final, count_of, head_len, input_of
 use Rattle.format.specs.Laws.NodeLaws.{form_next, form_one, form_any, not_final, final_any}
 use Rattle.format.specs.Laws.HeadLaws.{ntrans_next, ntrans_one, ntrans_any, sizes_next, sizes_one, sizes_any, index_len_few}
 use Rattle.format.specs.Laws.StoredLaws.{length_numbers_down}
-use Rattle.node_sound.specs.Shapes.{AtForm}
+use Rattle.node_sound.specs.Shapes.{AtForm, one_shape}
 
 pub ascending_single : (b : ℕ) → Ascending (b ∷ [])
 unfolding Ascending
@@ -51,17 +51,6 @@ any_size_le {n} {sizes} few byte le_el le_il le_len =
     omega (arith, mul_small n (sizes % 16) few (omega arith), mul_small n (sizes / 16) few (omega arith))
 
 -- ---- one transition
-
-abbrev pub one_shape : ℕ → ℕ → ℕ → F.Shape
-one_shape tsize osize size = record {
-  state = OneTrans;
-  final = false;
-  ntrans = 1;
-  tsize = tsize;
-  osize = osize;
-  indexed = 0;
-  size = size;
-}
 
 pub shape_one : (s : List ℕ) (v a len sizes : ℕ) → 128 ≤ get_or s a 0 → get_or s a 0 < 192 → len ≡ head_len s a → sizes ≡ get_or s (a - len) 0
     → one_shape (sizes / 16) (sizes % 16) (sizes % 16 + sizes / 16 + 1 + len) ≡ shape_of s v a

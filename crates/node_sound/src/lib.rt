@@ -1,13 +1,16 @@
 // Whether the node at an address is sound, by its shape: what its last bytes say of its parts (src/raw/node.rs, `Node::new`).
 // Nothing outside the lent file is read, whatever the numbers are.
 // A part of a file is its place, size and count, and no slice: the definitions speak of places in the whole file.
+// That an address lies in the file is asked in five contracts, and `AtForm` in four. A type that says it would hold the file's bytes beside the address: each
+// caller, which has the file as `fst`, would make one for each node that it enters, and each contract would need that the bytes are those of `fst`.
+// The forms of a node are told by ranges of the state byte, as the contracts and document 01 have them; `State` is what a judged node says of itself.
 #![tactic(auto)]
 
 ghost use Rattle.std.specs.Prelude.{◌≡◌, ◌+◌, ◌*◌, ◌≤◌, ◌<◌, length, get_or};
 ghost use Rattle.buffers.specs.Decide.{Decides};
 ghost use Rattle.format.specs.Limits.{first_node, max_trans};
 ghost use Rattle.format.specs.Node.{count_of, input_of, index_len, end_len, Useful, SoundAt, shape_of};
-ghost use Rattle.node_sound.specs.Shapes.{Head, shape_is, AtForm, PartsRight};
+ghost use Rattle.node_sound.specs.Shapes.{Head, shape_is, one_shape, AtForm, parts_at, deltas_from, inputs_from, PartsRight, Judged};
 
 use common_inputs::common_input;
 use format::{FIRST_NODE, FstRef, MAX_TRANS, TRANS_INDEX_THRESHOLD};
@@ -15,7 +18,7 @@ use le_bytes::number_of;
 use node_deltas::{target_right, targets_right};
 use node_inputs::{ascends, entries_right};
 
-// What the last bytes of a node with any number of transitions say of its parts.
+// What the last bytes of a node with any number of transitions say of its parts, judged or not.
 #[derive(Clone, Copy)]
 pub struct Shape {
     pub is_final: bool,
@@ -28,7 +31,77 @@ pub struct Shape {
     pub size: usize,
 }
 
+// What the last bytes of a node with one transition, with its output and its delta, say of its parts, judged or not.
+#[derive(Clone, Copy)]
+pub struct One {
+    pub tsize: usize,
+    pub osize: usize,
+    // the bytes of the whole node
+    pub size: usize,
+}
+
+// What is read of a sound node with any number of transitions: where its parts stand in the file, and how many bytes each has.
+#[derive(Clone, Copy)]
+pub struct Parts {
+    pub is_final: bool,
+    // its first byte, F in document 01
+    pub first: usize,
+    // where the outputs start; deltas, inputs and index follow them
+    pub outputs: usize,
+    pub ntrans: usize,
+    pub tsize: usize,
+    pub osize: usize,
+    pub index_len: usize,
+}
+
+impl Shape {
+    // The parts of the node at addr that has this shape.
+    pub fn parts(self, addr: usize) -> Parts
+        requires { (self.size ≤ addr) × (self.end_len < self.size)
+            × (self.end_len ≡ end_len self.is_final self.osize) }
+        ensures { result ≡ parts_at (shape_is self) addr }
+    {
+        let first = addr - self.size + 1;
+        Parts {
+            is_final: self.is_final,
+            first,
+            outputs: first + self.end_len,
+            ntrans: self.ntrans,
+            tsize: self.tsize,
+            osize: self.osize,
+            index_len: self.index_len,
+        }
+    }
+}
+
+impl Parts {
+    // Where the deltas start. Here and below the place must fit a usize, which it does in a file.
+    pub fn deltas(self) -> usize
+        requires { deltas_from self < 18446744073709551616 }
+        ensures { result ≡ deltas_from self }
+    {
+        self.outputs + self.ntrans * self.osize
+    }
+
+    // Where the inputs start.
+    pub fn inputs(self) -> usize
+        requires { inputs_from self < 18446744073709551616 }
+        ensures { result ≡ inputs_from self }
+    {
+        self.deltas() + self.ntrans * self.tsize
+    }
+}
+
 // ---- the state byte and the byte below it
+
+// Whether the state byte itself lies from 16 to the root, and in the file.
+// It stands inline in each caller, and so does `one_shape`: both are a few instructions of each step of a lookup.
+#[inline(always)]
+pub fn at_form(fst: FstRef<'_>, addr: usize) -> bool
+    ensures { Decides result (AtForm fst.entry.bytes.now fst.entry.root addr) }
+{
+    FIRST_NODE <= addr && addr <= fst.root && addr < fst.bytes.len()
+}
 
 // How many bytes the state takes, with the count or the input below it where the low six bits are 0.
 pub fn head_len(file: &[u8], addr: usize) -> usize
@@ -113,6 +186,23 @@ pub fn shape_of(file: &[u8], version: u64, addr: usize) -> Shape
     }
 }
 
+// The shape of a node with one transition, with its output and its delta.
+#[inline(always)]
+pub fn one_shape(fst: FstRef<'_>, addr: usize) -> One
+    requires { (2 ≤ addr) × (addr < length fst.bytes.now) × (128 ≤ get_or fst.bytes.now addr 0)
+        × (get_or fst.bytes.now addr 0 < 192) }
+    ensures { (one_shape result.tsize result.osize result.size ≡ shape_of fst.entry.bytes.now fst.entry.version addr)
+        × (result.osize + result.tsize + 2 ≤ result.size) × (result.size ≤ 33) }
+{
+    let len = head_len(fst.bytes, addr);
+    let sizes = fst.bytes[addr - len] as usize;
+    let tsize = sizes / 16;
+    let osize = sizes % 16;
+    // output, delta, sizes byte, then the input byte where there is one and the state
+    let size = osize + tsize + 1 + len;
+    One { tsize, osize, size }
+}
+
 // ---- the conditions of document 01
 
 // Sizes are at most 8, and a delta has at least 1 byte if there is a transition.
@@ -132,58 +222,48 @@ pub fn useful(is_final: bool, n: usize, addr: usize, root: usize) -> bool
 
 // Whether the inputs ascend, each delta leads to a right target, and the index is right: what takes
 // time of a node with any number of transitions.
-// The places and n stand as in `bytes_down` and `numbers_down`, of which the contract speaks: for a slice in their place it would have to
-// be proved that the slice is that part of the file.
-pub fn parts_right(
-    file: &[u8],
-    first: usize,
-    deltas: usize,
-    tsize: usize,
-    inputs: usize,
-    n: usize,
-    index_len: usize,
-) -> bool
-    requires { (deltas + n * tsize ≤ length file.now) × (tsize ≤ 8) × (first_node ≤ first)
-        × (inputs + n + index_len ≤ length file.now)
-        × (¬ (index_len ≡ 0) → index_len ≡ 256) }
-    ensures { Decides result (PartsRight file.now first deltas tsize inputs n
-        index_len) }
+// It stands inline in `any_parts`, since a call would write the parts to memory first.
+#[inline(always)]
+pub fn parts_right(file: &[u8], parts: Parts) -> bool
+    requires { (inputs_from parts + parts.ntrans + parts.index_len ≤ length file.now)
+        × (parts.tsize ≤ 8) × (first_node ≤ parts.first)
+        × (¬ (parts.index_len ≡ 0) → parts.index_len ≡ 256) }
+    ensures { Decides result (PartsRight file.now parts) }
 {
-    ascends(file, inputs, n)
-        && targets_right(file, deltas, tsize, n, first)
-        && entries_right(file, inputs, n, index_len)
+    let inputs = parts.inputs();
+    ascends(file, inputs, parts.ntrans)
+        && targets_right(file, parts.deltas(), parts.tsize, parts.ntrans, parts.first)
+        && entries_right(file, inputs, parts.ntrans, parts.index_len)
 }
 
 // ---- judging
 
-// Whether a node with any number of transitions is sound (node.rs, `StateAnyTrans`).
+// The parts of a node with any number of transitions, or none where it is not sound (node.rs, `StateAnyTrans`).
+// It stands inline in each caller: called, unproved, it took 8 to 9 percent more instructions in a lookup by key.
+#[inline(always)]
+pub fn any_parts(fst: FstRef<'_>, addr: usize) -> Option<Parts>
+    requires { AtForm fst.bytes.now fst.root addr × (get_or fst.bytes.now addr 0 < 128) }
+    ensures { Judged fst.entry.bytes.now fst.entry.version fst.entry.root addr result }
+{
+    let shape = shape_of(fst.bytes, fst.version, addr);
+    // the first byte, addr + 1 - size, is 16 at least
+    if addr - 15 < shape.size
+        || !sizes_right(shape.ntrans, shape.tsize, shape.osize)
+        || !useful(shape.is_final, shape.ntrans, addr, fst.root)
+    {
+        return None;
+    }
+    let parts = shape.parts(addr);
+    let right = parts_right(fst.bytes, parts);
+    if right { Some(parts) } else { None }
+}
+
+// Whether a node with any number of transitions is sound.
 fn any_sound(fst: FstRef<'_>, addr: usize) -> bool
     requires { AtForm fst.bytes.now fst.root addr × (get_or fst.bytes.now addr 0 < 128) }
     ensures { Decides result (SoundAt fst.entry.bytes.now fst.entry.version fst.entry.root addr) }
 {
-    let shape = shape_of(fst.bytes, fst.version, addr);
-    let size = shape.size;
-    // the first byte, addr + 1 - size, is 16 at least
-    if addr - 15 < size {
-        return false;
-    }
-    let is_final = shape.is_final;
-    let ntrans = shape.ntrans;
-    let tsize = shape.tsize;
-    let osize = shape.osize;
-    if !sizes_right(ntrans, tsize, osize) {
-        return false;
-    }
-    if !useful(is_final, ntrans, addr, fst.root) {
-        return false;
-    }
-    let first = addr + 1 - size;
-    let end_len = shape.end_len;
-    let outputs = first + end_len;
-    let deltas = outputs + ntrans * osize;
-    let inputs = deltas + ntrans * tsize;
-    let index_len = shape.index_len;
-    parts_right(fst.bytes, first, deltas, tsize, inputs, ntrans, index_len)
+    any_parts(fst, addr).is_some()
 }
 
 // Whether a node with one transition, with its output and its delta, is sound (node.rs,
@@ -193,20 +273,13 @@ pub fn one_sound(fst: FstRef<'_>, addr: usize) -> bool
         × (get_or fst.bytes.now addr 0 < 192) }
     ensures { Decides result (SoundAt fst.entry.bytes.now fst.entry.version fst.entry.root addr) }
 {
-    let len = head_len(fst.bytes, addr);
-    let sizes = fst.bytes[addr - len] as usize;
-    let tsize = sizes / 16;
-    let osize = sizes % 16;
-    if !sizes_right(1, tsize, osize) {
-        return false;
-    }
-    let size = osize + tsize + 1 + len;
+    let one = one_shape(fst, addr);
     // the first byte, addr + 1 - size, is 16 at least
-    if addr - 15 < size {
+    if !sizes_right(1, one.tsize, one.osize) || addr - 15 < one.size {
         return false;
     }
-    let first = addr + 1 - size;
-    let delta = number_of(fst.bytes, first + osize, tsize, 1, 0);
+    let first = addr + 1 - one.size;
+    let delta = number_of(fst.bytes, first + one.osize, one.tsize, 1, 0);
     target_right(first, delta)
 }
 
@@ -225,8 +298,7 @@ pub fn next_sound(fst: FstRef<'_>, addr: usize) -> bool
 pub fn is_sound(fst: FstRef<'_>, addr: usize) -> bool
     ensures { Decides result (SoundAt fst.entry.bytes.now fst.entry.version fst.entry.root addr) }
 {
-    // the state byte itself lies from 16 to the root, and in the file
-    if addr < FIRST_NODE || fst.root < addr || fst.bytes.len() <= addr {
+    if !at_form(fst, addr) {
         return false;
     }
     match fst.bytes[addr] {

@@ -1,4 +1,4 @@
-// A node as a view over the lent file beside its numbers (src/raw/node.rs, `Node<'f>`).
+// A node as a view: the lent file and the node's address (src/raw/node.rs, `Node<'f>`, which holds the node's numbers beside its bytes).
 // The view judges nothing when it is made: each question judges the node.
 #![tactic(auto)]
 

@@ -3,12 +3,14 @@
 --     way_at first outs ds f   where finding an input leads, by the outputs outs and the deltas ds
 --     PlaceRight first ds n f  what is asked of it: a place is one of n, with a delta that is not above the first byte
 --     step_of j b              one step of a lookup by key, from what judging says
+--     parts_node p n, any_node p   a node with the parts p: with the final output n, or for its transitions alone
 -- Assumes nothing.
-use Rattle.std.specs.Prelude.{Result, Ok, Err, ◌≡◌, false, List, ℕ, ◌≤◌, ◌<◌, get_or}
+use Rattle.std.specs.Prelude.{Result, Ok, Err, ◌≡◌, List, ℕ, ◌≤◌, ◌<◌, get_or}
 use Rattle.format.specs.declared.State.TheVariants.{AnyTrans}
 use Rattle.format.specs.declared.Transition.{Transition}
 use Rattle.format.specs.Node as F
 use Rattle.format.specs.Node.{Judgement, sound, unsound, Search}
+use Rattle.node_sound.specs.declared.Parts.{Parts}
 use Rattle.node.specs.declared.Node.{Node}
 use Rattle.node.specs.declared.Unsound.{Unsound}
 
@@ -35,19 +37,23 @@ abbrev pub step_of : Judgement → ℕ → Result (Result (ℕ × ℕ) ℕ) Unso
 step_of (sound m) b = Ok (way_in m.transitions b)
 step_of unsound b = Err (record {})
 
--- ---- reading without a node
+-- ---- a node with any number of transitions
 
--- a node with any number of transitions, for those who read its transitions alone
-abbrev pub any_node : ℕ → ℕ → ℕ → ℕ → ℕ → ℕ → Node
-any_node first outputs n tsize osize entries = record {
+-- the node with these parts and this final output
+abbrev pub parts_node : Parts → ℕ → Node
+parts_node p final_output = record {
   state = AnyTrans;
-  first = first;
-  is_final = false;
-  ntrans = n;
-  tsize = tsize;
-  osize = osize;
-  index_len = entries;
-  final_output = 0;
+  first = p.first;
+  is_final = p.is_final;
+  ntrans = p.ntrans;
+  tsize = p.tsize;
+  osize = p.osize;
+  index_len = p.index_len;
+  final_output = final_output;
   input = 0;
-  outputs = outputs;
+  outputs = p.outputs;
 }
+
+-- with the final output left out as 0, which neither Readable nor transitions_in reads
+abbrev pub any_node : Parts → Node
+any_node p = parts_node p 0

@@ -5,9 +5,9 @@ use Rattle.std.proofs.Common.{ap, ◌∙◌, arith}
 use Rattle.format.specs.declared.Transition.{Transition}
 use Rattle.format.specs.Node as F
 use Rattle.format.specs.Node.{transition_at, find_input, Search, Judgement, sound, unsound}
-use Rattle.node_way.specs.Ways.{any_node, way_as, way_in, step_of}
+use Rattle.node_way.specs.Ways.{parts_node, any_node, way_as, way_in, step_of}
+use Rattle.node_sound.specs.declared.Parts.{Parts}
 use Rattle.node.specs.Read.{Readable}
-use Rattle.node.specs.JudgedLaws.{code_node}
 
 pub step_sound : (j : Judgement) (b : ℕ) (w : Result (ℕ × ℕ) ℕ) → Ok w ≡ step_of j b → (m : F.Node) × ((j ≡ sound m) × (w ≡ way_in m.transitions b))
 step_sound (sound m) b w e = (m, (refl, cc))
@@ -36,16 +36,15 @@ way_none ts b p e = go (find_input ts b) refl e
     go (Search.at i) is_r e = absurd (let z : ◌≡◌ {A = ℕ} 0 1 = cc in omega arith)
     go (Search.absent q) is_r e = let same : q ≡ p = cc in is_r ∙ ap Search.absent same
 
--- a node that is read for its transitions alone
-pub readable_any : (s : List ℕ) (first outs n tsize osize entries fo : ℕ) (h : F.Shape) → (code_node h first fo 0 outs).state ≡ (any_node first outs n tsize osize entries).state
-    → h.ntrans ≡ n → h.tsize ≡ tsize → h.osize ≡ osize → h.indexed ≡ entries → Readable s (code_node h first fo 0 outs) → Readable s (any_node first outs n tsize osize entries)
-readable_any s first outs n tsize osize entries fo h is_state is_n is_t is_o is_e r = rw (← is_n, ← is_t, ← is_o, ← is_e) (record {
-  room = rw is_state at r.room;
+-- the transitions do not depend on the final output
+pub readable_any : (s : List ℕ) (p : Parts) (final_output : ℕ) → Readable s (parts_node p final_output) → Readable s (any_node p)
+readable_any s p final_output r = record {
+  room = r.room;
   tsize_le = r.tsize_le;
   osize_le = r.osize_le;
-  single = λ z. absurd (let y : ◌≡◌ {A = ℕ} 0 1 = cc in omega arith);
-  ascending = rw is_state at r.ascending;
-  targets = rw is_state at r.targets;
+  single = r.single;
+  ascending = r.ascending;
+  targets = r.targets;
   entries_len = r.entries_len;
-  entries = rw is_state at r.entries;
-})
+  entries = r.entries;
+}

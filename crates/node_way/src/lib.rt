@@ -1,19 +1,20 @@
 // Where an input leads from a sound node: the part of a step of a lookup by key that comes after the judging.
-// A part of a file is its place, size and count, and no slice: the definitions speak of places in the whole file.
-// Each step takes the file, a node's address and what is looked for, and its way is by the state byte there.
+// The numbers of a node with any number of transitions are one value, `Parts`. Those of a node with one transition are read where they are used.
+// The steps for a node with one transition take the file and the node's address.
 #![tactic(auto)]
 
-ghost use Rattle.std.specs.Prelude.{Ok, ◌≡◌, ◌+◌, ◌*◌, ◌≤◌, ◌<◌, length, get_or};
-ghost use Rattle.format.specs.Node.{SoundAt, numbers_down, target_of};
+ghost use Rattle.std.specs.Prelude.{Ok, ◌≡◌, ◌≤◌, ◌<◌, length, get_or};
+ghost use Rattle.format.specs.Node.{SoundAt, numbers_down};
 ghost use Rattle.format.specs.View.{fst_is};
 ghost use Rattle.format.specs.Paths.{node_in};
+ghost use Rattle.node_sound.specs.Shapes.{deltas_from, inputs_from};
 ghost use Rattle.node.specs.Read.{transitions_in, Readable};
 ghost use Rattle.node_way.specs.Ways.{any_node, way_at, PlaceRight, way_in, step_of};
 
 use format::FstRef;
 use le_bytes::number_of;
-use node::{Unsound, find_in, place_beside};
-use node_sound::{head_len, input_of};
+use node::{Unsound, find_in, place_beside, target_of};
+use node_sound::{Parts, head_len, input_of, one_shape};
 
 // Where an input leads from a sound node: the output and the target of its transition, or nowhere, and
 // then the place of the first greater input.
@@ -22,60 +23,26 @@ pub type Way = Result<(u64, usize), usize>;
 // One step of a lookup by key: what a node that is judged as it is entered says of an input.
 pub type Step = Result<Way, Unsound>;
 
-// The address that a right delta leads to.
-pub fn target_of(first: usize, delta: u64) -> usize
-    requires { delta ≤ first }
-    ensures { result ≡ target_of first delta }
-{
-    let d = delta as usize;
-    // delta 0 is target 0
-    if d == 0 { 0 } else { first - d }
-}
-
-// Where finding an input leads in a node with any number of transitions: by the output and the delta at its place, or nowhere.
-// The places and n, here and in `any_way`, stand as in `numbers_down`, of which the contract speaks: for a slice in their place it would have to be proved
-// that the slice is that part of the file.
-fn way_at(
-    file: &[u8],
-    first: usize,
-    outputs: usize,
-    deltas: usize,
-    n: usize,
-    tsize: usize,
-    osize: usize,
-    found: Result<usize, usize>,
-) -> Way
-    requires { (outputs + n * osize ≤ length file.now) × (deltas + n * tsize ≤ length file.now)
-        × (osize ≤ 8) × (tsize ≤ 8)
-        × PlaceRight first (numbers_down file.now deltas tsize n) n found }
-    ensures { result ≡ way_at first (numbers_down file.now outputs osize n)
-        (numbers_down file.now deltas tsize n) found }
+// Where finding an input leads in a node with these parts: by the output and the delta at its place, or nowhere.
+fn way_at(file: &[u8], parts: Parts, found: Result<usize, usize>) -> Way
+    requires { (inputs_from parts ≤ length file.now) × (parts.osize ≤ 8) × (parts.tsize ≤ 8)
+        × PlaceRight parts.first (numbers_down file.now (deltas_from parts) parts.tsize parts.ntrans) parts.ntrans found }
+    ensures { result ≡ way_at parts.first (numbers_down file.now parts.outputs parts.osize parts.ntrans)
+        (numbers_down file.now (deltas_from parts) parts.tsize parts.ntrans) found }
 {
     let i = found?;
-    let out = number_of(file, outputs, osize, n, i);
-    let delta = number_of(file, deltas, tsize, n, i);
-    Ok((out, target_of(first, delta)))
+    let out = number_of(file, parts.outputs, parts.osize, parts.ntrans, i);
+    let delta = number_of(file, parts.deltas(), parts.tsize, parts.ntrans, i);
+    Ok((out, target_of(parts.first, delta)))
 }
 
-// Where b leads from a node with any number of transitions, whose outputs start at this place.
-pub fn any_way(
-    file: &[u8],
-    first: usize,
-    outputs: usize,
-    n: usize,
-    tsize: usize,
-    osize: usize,
-    index_len: usize,
-    b: u8,
-) -> Way
-    requires { Readable file.now (any_node first outputs n tsize osize index_len) }
-    ensures { result ≡ way_in (transitions_in file.now
-        (any_node first outputs n tsize osize index_len)) b }
+// Where b leads from a node with these parts.
+pub fn any_way(file: &[u8], parts: Parts, b: u8) -> Way
+    requires { Readable file.now (any_node parts) }
+    ensures { result ≡ way_in (transitions_in file.now (any_node parts)) b }
 {
-    let deltas = outputs + n * osize;
-    let inputs = deltas + n * tsize;
-    let found = find_in(file, inputs, n, index_len, b);
-    way_at(file, first, outputs, deltas, n, tsize, osize, found)
+    let found = find_in(file, parts.inputs(), parts.ntrans, parts.index_len, b);
+    way_at(file, parts, found)
 }
 
 // Where b leads from a sound node with one transition.
@@ -84,17 +51,14 @@ pub fn one_way(fst: FstRef<'_>, addr: usize, b: u8) -> Way
         × (get_or fst.bytes.now addr 0 < 192) }
     ensures { Ok result ≡ step_of (node_in (fst_is fst.entry) addr) b }
 {
-    let len = head_len(fst.bytes, addr);
-    let sizes = usize::from(fst.bytes[addr - len]);
-    let tsize = sizes / 16;
-    let osize = sizes % 16;
-    let first = addr + 1 - (osize + tsize + 1 + len);
+    let one = one_shape(fst, addr);
+    let first = addr + 1 - one.size;
     let input = input_of(fst.bytes, addr);
     if input != b {
         return Err(place_beside(input, b));
     }
-    let out = number_of(fst.bytes, first, osize, 1, 0);
-    let delta = number_of(fst.bytes, first + osize, tsize, 1, 0);
+    let out = number_of(fst.bytes, first, one.osize, 1, 0);
+    let delta = number_of(fst.bytes, first + one.osize, one.tsize, 1, 0);
     Ok((out, target_of(first, delta)))
 }
 

@@ -6,13 +6,14 @@
 ghost use Rattle.std.specs.Prelude.{◌≡◌, map, ◌++◌, ◌-◌, ◌≤◌, ◌<◌, length, take, drop};
 ghost use Rattle.format.specs.Limits.{max_levels};
 ghost use Rattle.ops_keys.specs.Heads.{head_key};
-ghost use Rattle.ops.specs.Merges.{fresh_card, BegunBy, refused_step, held_item, MergedBy};
+ghost use Rattle.ops.specs.Merges.{BegunBy, refused_step, held_item, MergedBy};
 
 use format::Refusal;
 use ops_decide::Op;
 use ops_keys::{Head, key_len};
-use ops_round::{Card, Slot};
-use ops_rounds::{Came, rounds};
+use ops_pairs::Pairs;
+use ops_round::{Card, unstepped};
+use ops_rounds::rounds;
 use stream::Plain;
 
 // An operation over the readings of the first count cards, passed by value. Cards from count on carry no meaning.
@@ -23,69 +24,31 @@ pub struct Cards {
     pub cards: [Card; 8],
 }
 
-// What begin gives back. After a refusal the cards carry no meaning.
+// An item that a call hands out: the length of its key, and its values with the numbers of their files, in order of value and then of file.
 #[derive(Clone, Copy)]
-pub struct Begun {
-    pub answer: Result<(), Refusal>,
-    pub cards: Cards,
+pub struct Item {
+    pub len: usize,
+    pub pairs: Pairs,
 }
 
-// What a call gives back: its answer, the item's values with the numbers of their files, in order of value and then of file, and the cards after it. The
-// values and the numbers are 0 from count on, and where there is no item.
+// What a call gives back: its item, or none at the end, and the cards after it.
 #[derive(Clone, Copy)]
 pub struct Step {
-    pub answer: Result<Option<usize>, Refusal>,
-    pub count: usize,
-    pub files: [u8; 8],
-    pub values: [u64; 8],
+    pub answer: Result<Option<Item>, Refusal>,
     pub cards: Cards,
 }
 
 // ---- begin
 
-// The card of a reading that is still to be stepped.
-fn fresh(reading: Plain) -> Card
-    ensures { result ≡ fresh_card reading }
-{
-    Card {
-        reading,
-        slot: Slot::Used,
-        value: 0,
-    }
-}
-
 // An operation over the first count readings: CARDS for none or over eight. It touches no file.
-pub fn begin(op: Op, count: usize, readings: [Plain; 8]) -> Begun
+pub fn begin(op: Op, count: usize, readings: [Plain; 8]) -> Result<Cards, Refusal>
     ensures { BegunBy op count readings result }
 {
-    let cards = [
-        fresh(readings[0]),
-        fresh(readings[1]),
-        fresh(readings[2]),
-        fresh(readings[3]),
-        fresh(readings[4]),
-        fresh(readings[5]),
-        fresh(readings[6]),
-        fresh(readings[7]),
-    ];
-    let all = Cards { op, count, cards };
-    if count == 0 {
-        return Begun {
-            answer: Err(Refusal::Cards),
-            cards: all,
-        };
+    if !(1..=8).contains(&count) {
+        return Err(Refusal::Cards);
     }
-    let too_many = count > 8;
-    if too_many {
-        return Begun {
-            answer: Err(Refusal::Cards),
-            cards: all,
-        };
-    }
-    Begun {
-        answer: Ok(()),
-        cards: all,
-    }
+    let cards = readings.map(unstepped);
+    Ok(Cards { op, count, cards })
 }
 
 // ---- next_item
@@ -96,9 +59,6 @@ fn refused(why: Refusal, cards: Cards) -> Step
 {
     Step {
         answer: Err(why),
-        count: 0,
-        files: [0; 8],
-        values: [0; 8],
         cards,
     }
 }
@@ -126,47 +86,36 @@ pub fn next_item(files: [&[u8]; 8], cards: Cards, key: &mut [u8]) -> Step
 {
     let op = cards.op;
     let count = cards.count;
-    let all = cards.cards;
     if count == 0 {
         return refused(Refusal::Cards, cards);
     }
     if 8 < count {
         return refused(Refusal::Cards, cards);
     }
-    let called = rounds(files, op, count, all, key.len());
-    let came = called.came;
-    let head = called.key;
-    let pairs = called.pairs;
+    let held = cards.cards;
+    let called = match rounds(files, op, count, held, key.len()) {
+        Err(why) => return refused(why, cards),
+        Ok(called) => called,
+    };
     let after = called.cards;
-    match came {
-        Err(why) => refused(why, cards),
-        Ok(Came::End) => Step {
+    let Some((head, pairs)) = called.item else {
+        return Step {
             answer: Ok(None),
-            count: 0,
-            files: [0; 8],
-            values: [0; 8],
             cards: Cards {
                 op,
                 count,
                 cards: after,
             },
+        };
+    };
+    // no `map` over the item: its closure would write the lent buffer, and would need a contract of its own
+    let len = put_key(head, key);
+    Step {
+        answer: Ok(Some(Item { len, pairs })),
+        cards: Cards {
+            op,
+            count,
+            cards: after,
         },
-        Ok(Came::Item) => {
-            let numbers = pairs.files;
-            let values = pairs.values;
-            let n = put_key(head, key);
-            // by `return`, since the value of a `match` is copied once more
-            return Step {
-                answer: Ok(Some(n)),
-                count: pairs.count,
-                files: numbers,
-                values,
-                cards: Cards {
-                    op,
-                    count,
-                    cards: after,
-                },
-            };
-        }
     }
 }

@@ -3,6 +3,7 @@
 --     lend_is          cards handed the files of a call, whatever files they had before
 --     code_call        a call of `next_item` on one to eight cards (`held_item`, which its contract cites)
 --     begin_is         the cards of `begin`, for readings and files that are those of the sources
+--     begun_is         the cards that `begin` gives, by its contract
 --     code_one         such a call, with what it tells and the cards that it leaves
 --     CodeCalls, code_told     a list of calls by the contract of `next_item` tells what the definition answers
 --     code_from_begin  so of calls from what `begin` gave, of which `ops_exact` speaks
@@ -21,14 +22,14 @@ use Rattle.ops_calls.specs.OpsCalls.{files_of, lend, OpsCall, Told, item, end, r
 use Rattle.stream.specs.declared.Plain.{Plain}
 use Rattle.stream.specs.Plains.{plain_is}
 use Rattle.ops_round.specs.declared.Card.{Card}
-use Rattle.ops_round.specs.Cards.{card_is, with_files, cards_is}
+use Rattle.ops_round.specs.Cards.{card_is, with_files, cards_is, used_card}
 use Rattle.ops_pairs.specs.Pairs.{padded, pairs_in}
 use Rattle.ops_decide.specs.declared.Op.{Op}
 use Rattle.ops_decide.specs.Verdicts.{op_is}
 use Rattle.ops.specs.declared.Cards.{Cards}
 use Rattle.ops.specs.declared.Step.{Step}
-use Rattle.ops.specs.declared.Begun.{Begun}
-use Rattle.ops.specs.Merges.{count_test, fresh_card, BegunAs, BegunBy, held_item, ItemBy, MergedBy}
+use Rattle.ops.specs.declared.Item.{Item}
+use Rattle.ops.specs.Merges.{count_test, BegunAs, BegunBy, held_item, ItemBy, MergedBy}
 
 -- ---- a call
 
@@ -54,7 +55,7 @@ readings_of (o ∷ S) = o.reading ∷ readings_of S
 
 -- what stands from the count on does not matter
 pub begin_is : (S : List Source) (fs : List (List ℕ)) (ps : List Plain) → take (length S) fs ≡ files_of S → map plain_is (take (length S) ps) ≡ readings_of S
-    → cards_is fs (length S) (map fresh_card ps) ≡ cards_of S
+    → cards_is fs (length S) (map used_card ps) ≡ cards_of S
 unfolding with_files
 begin_is [] fs ps e r = refl
 begin_is (o ∷ S) [] ps e r = let z : ◌≡◌ {A = ℕ} 0 1 = cc in absurd (omega arith)
@@ -66,33 +67,41 @@ begin_is (o ∷ S) (f ∷ fs) (p ∷ ps) e r =
     let readings : map plain_is (take (length S) ps) ≡ readings_of S = cc in
     ap₂ ◌∷◌ (ap₂ (λ (g : List ℕ) (q : P.Plain). O.card_is g q O.used) file reading) (begin_is S fs ps files readings)
 
+-- the cards that begin gives
+pub begun_is : (o : Op) (n : ℕ) (ps : List Plain) (b : Cards) → count_test n ≡ true → BegunBy o n ps (Ok b) → b ≡ record { op = o; count = n; cards = map used_card ps }
+begun_is o n ps b few begins = let is = subst (λ (t : Bool). BegunAs t o n ps (Ok b)) few begins.is in ok_is is
+  where
+    ok_is : {x y : Cards} → ◌≡◌ {A = Result Cards Refusal} (Ok x) (Ok y) → x ≡ y
+    ok_is e = cc
+
 -- ---- a list of calls
 
--- what a call tells: the key stands in the buffer, its values and file numbers in the arrays
-abbrev pub told_of : Result (Option ℕ) Refusal → Step → List ℕ → Told
-told_of (Ok (Some n)) r buf = item (take n buf) (take r.count (pairs_in r.values r.files))
-told_of (Ok None) r buf = end
-told_of (Err n) r buf = refused n
+-- what a call tells: the key stands in the buffer
+abbrev pub told_of : Result (Option Item) Refusal → List ℕ → Told
+told_of (Ok (Some x)) buf = item (take x.len buf) (take x.pairs.count (pairs_in x.pairs.values x.pairs.files))
+told_of (Ok None) buf = end
+told_of (Err n) buf = refused n
 
 -- calls of `next_item` by their contract, each with the cards that the one before gave back; files from the held count on may be any
 pub data CodeCalls (S : List Source) : Cards → List (OpsCall S) → List Told → Type 0 where
   no_call : {c : Cards} → CodeCalls S c [] []
   one_call : {c : Cards} {calls : List (OpsCall S)} {ts : List Told} (call : OpsCall S) (fs : List (List ℕ)) (buf₀ buf : List ℕ) (r : Step) → c.count ≤ length fs
       → take c.count fs ≡ call.files → length buf₀ ≡ call.space → MergedBy fs c (held_item fs c (length buf₀)) buf₀ buf r → CodeCalls S r.cards calls ts
-      → CodeCalls S c (call ∷ calls) (told_of r.answer r buf ∷ ts)
+      → CodeCalls S c (call ∷ calls) (told_of r.answer buf ∷ ts)
 
 pairs_of : (ps : List Indexed) → pairs_in (map (λ (x : Indexed). x.value) ps) (map (λ (x : Indexed). x.index) ps) ≡ ps
 pairs_of [] = refl
 pairs_of (x ∷ ps) = ap (λ (l : List Indexed). x ∷ l) (pairs_of ps)
 
 item_told : (fs : List (List ℕ)) (c : Cards) (k : List ℕ) (ps : List Indexed) (ds : List O.Card) (buf₀ buf : List ℕ) (r : Step) → ItemBy fs c k ps ds buf₀ buf r
-    → told_of r.answer r buf ≡ item k ps
+    → told_of r.answer buf ≡ item k ps
 item_told fs c k ps ds buf₀ buf r h =
-    let key : take (length k) buf ≡ k = ap (take (length k)) h.buffer ∙ take-append_seam k (drop (length k) buf₀) in
-    let all : pairs_in r.values r.files ≡ padded ps = ap₂ pairs_in h.values h.files ∙ pairs_of (padded ps) in
-    let pairs : take r.count (pairs_in r.values r.files) ≡ ps =
+    let x : Item = h.item in
+    let key : take x.len buf ≡ k = ap₂ take h.len h.buffer ∙ take-append_seam k (drop (length k) buf₀) in
+    let all : pairs_in x.pairs.values x.pairs.files ≡ padded ps = ap₂ pairs_in h.values h.files ∙ pairs_of (padded ps) in
+    let pairs : take x.pairs.count (pairs_in x.pairs.values x.pairs.files) ≡ ps =
     ap₂ take h.count all ∙ take-append_seam ps (replicate (8 - length ps) (indexed 0 0)) in
-    ap (λ (m : Result (Option ℕ) Refusal). told_of m r buf) h.answer ∙ ap₂ item key pairs
+    ap (λ (m : Result (Option Item) Refusal). told_of m buf) h.answer ∙ ap₂ item key pairs
 
 -- one call: what it tells, and the cards after it with some files
 pub record CodeStep (op : O.Op) (n : ℕ) (r : Step) (told : Told) (w : ItemStep) : Type 0 where
@@ -103,12 +112,12 @@ pub record CodeStep (op : O.Op) (n : ℕ) (r : Step) (told : Told) (w : ItemStep
   pub count_same : r.cards.count ≡ n
 
 code_step : (fs gs : List (List ℕ)) (c : Cards) (m : O.Merged) (buf₀ buf : List ℕ) (r : Step) → MergedBy fs c m buf₀ buf r
-    → CodeStep (op_is c.op) c.count r (told_of r.answer r buf) (step_by (cards_is gs c.count c.cards) m)
+    → CodeStep (op_is c.op) c.count r (told_of r.answer buf) (step_by (cards_is gs c.count c.cards) m)
 code_step fs gs c (O.item k ps ds) buf₀ buf r h =
     record { same = item_told fs c k ps ds buf₀ buf r h; files = fs; cards = sym h.cards.cards; op_same = ap op_is h.cards.op; count_same = h.cards.count }
 code_step fs gs c (O.ending ds) buf₀ buf r h =
     record {
-      same = ap (λ (m : Result (Option ℕ) Refusal). told_of m r buf) h.answer;
+      same = ap (λ (m : Result (Option Item) Refusal). told_of m buf) h.answer;
       files = fs;
       cards = sym h.cards.cards;
       op_same = ap op_is h.cards.op;
@@ -117,7 +126,7 @@ code_step fs gs c (O.ending ds) buf₀ buf r h =
 code_step fs gs c (O.Merged.refused n) buf₀ buf r h =
     let kept : r.cards ≡ c = ap (λ (s : Step). s.cards) h.is in
     record {
-      same = ap (λ (s : Step). told_of s.answer s buf) h.is;
+      same = ap (λ (s : Step). told_of s.answer buf) h.is;
       files = gs;
       cards = ap (λ (d : Cards). cards_is gs c.count d.cards) (sym kept);
       op_same = ap (λ (d : Cards). op_is d.op) kept;
@@ -127,7 +136,7 @@ code_step fs gs c (O.Merged.refused n) buf₀ buf r h =
 -- a call by its contract, on cards that stand for ds with some files
 pub code_one : (S : List Source) (op : O.Op) (n : ℕ) → count_test n ≡ true → (c : Cards) → op_is c.op ≡ op → c.count ≡ n → (gs : List (List ℕ)) (ds : List O.Card)
     → ds ≡ cards_is gs n c.cards → (call : OpsCall S) (fs : List (List ℕ)) (buf₀ buf : List ℕ) (r : Step) → c.count ≤ length fs → take c.count fs ≡ call.files
-    → length buf₀ ≡ call.space → MergedBy fs c (held_item fs c (length buf₀)) buf₀ buf r → CodeStep op n r (told_of r.answer r buf) (call_item op ds call)
+    → length buf₀ ≡ call.space → MergedBy fs c (held_item fs c (length buf₀)) buf₀ buf r → CodeStep op n r (told_of r.answer buf) (call_item op ds call)
 code_one S op n few c o e gs ds is call fs buf₀ buf r long files space merged =
     let w = code_step fs gs c (held_item fs c (length buf₀)) buf₀ buf r merged in
     let start : cards_is gs c.count c.cards ≡ ds = ap (λ (k : ℕ). cards_is gs k c.cards) e ∙ sym is in
@@ -152,10 +161,10 @@ code_told S op n few (one_call {c = c} {calls = calls} {ts = ts} call fs buf₀ 
     ap₂ ◌∷◌ w.same (code_told S op n few more w.op_same w.count_same w.files (call_item op ds call).cards w.cards)
 
 -- from what `begin` gave, for readings that are those of the starts: `ops_exact` says what these answers are
-pub code_from_begin : (S : List Source) (o : Op) (fs : List (List ℕ)) (ps : List Plain) (b : Begun) → count_test (length S) ≡ true → BegunBy o (length S) ps b
-    → take (length S) fs ≡ files_of S → map plain_is (take (length S) ps) ≡ readings_of S → {calls : List (OpsCall S)} {ts : List Told} → CodeCalls S b.cards calls ts
+pub code_from_begin : (S : List Source) (o : Op) (fs : List (List ℕ)) (ps : List Plain) (b : Cards) → count_test (length S) ≡ true → BegunBy o (length S) ps (Ok b)
+    → take (length S) fs ≡ files_of S → map plain_is (take (length S) ps) ≡ readings_of S → {calls : List (OpsCall S)} {ts : List Told} → CodeCalls S b calls ts
     → ts ≡ answers_of (op_is o) (cards_of S) calls
 code_from_begin S o fs ps b few begins files readings run =
-    let is = subst (λ (t : Bool). BegunAs t o (length S) ps b) few begins.is in
-    code_told S (op_is o) (length S) few run (ap (λ (c : Cards). op_is c.op) is.1) (ap (λ (c : Cards). c.count) is.1) fs (cards_of S)
-    (sym (begin_is S fs ps files readings) ∙ ap (λ (c : Cards). cards_is fs (length S) c.cards) (sym is.1))
+    let is = begun_is o (length S) ps b few begins in
+    code_told S (op_is o) (length S) few run (ap (λ (c : Cards). op_is c.op) is) (ap (λ (c : Cards). c.count) is) fs (cards_of S)
+    (sym (begin_is S fs ps files readings) ∙ ap (λ (c : Cards). cards_is fs (length S) c.cards) (sym is))

@@ -1,9 +1,9 @@
 // What a round comes to, once its steps are made (src/raw/ops.rs: `Union`, `Intersection`, `Difference`, `SymmetricDifference`): an item, the end, or
 // another round.
-// The cards in use are the first count of eight, passed whole: fixed memory. What is asked of keys, count and cards is of the three together.
+// The cards are those in use, one to eight. What is asked of keys and cards is of the two together.
 #![tactic(auto)]
 
-ghost use Rattle.std.specs.Prelude.{◌≡◌, List, ◌≤◌, ◌<◌};
+ghost use Rattle.std.specs.Prelude.{◌≡◌, List, ◌≤◌, ◌<◌, length};
 ghost use Rattle.ops_spec.specs.Ops as O;
 ghost use Rattle.ops_spec.specs.Ops.{Indexed};
 ghost use Rattle.ops_keys.specs.Heads.{place_key, Within};
@@ -26,8 +26,8 @@ pub enum Op {
     SymmetricDifference,
 }
 
-// The operation of a number, which the C interface and the comparisons give. Any number from 3 on stands for the symmetric difference. No `From`: not every
-// number is an operation, so a conversion that is called by its name is plainer.
+// The operation of a number, which the C interface and the comparisons give. Any number from 3 on stands for the symmetric difference. No `From`: four
+// numbers name an operation and the rest are taken for the last, and a conversion that does so is called by its name.
 pub fn op_of(n: u64) -> Op
     ensures { result ≡ op_of n }
 {
@@ -39,22 +39,12 @@ pub fn op_of(n: u64) -> Op
     }
 }
 
-// What a round comes to.
+// What a round comes to: an item, by where its key stands and its values; the end; or another round.
 #[derive(Clone, Copy)]
 pub enum Verdict {
-    This,
+    This(Place, Pairs),
     NoMore,
     Another,
-}
-
-// What a round comes to, with where the item's key stands and values, and what is seen of the cards afterwards. The key and the values carry no meaning without an
-// item, the cards none at the end.
-#[derive(Clone, Copy)]
-pub struct Decided {
-    pub verdict: Verdict,
-    pub key: Place,
-    pub pairs: Pairs,
-    pub cards: [Seen; 8],
 }
 
 // Whether a key with these values, among so many files, belongs to an operation.
@@ -76,92 +66,71 @@ fn takes(op: Op, count: usize, pairs: Pairs) -> bool
 }
 
 // At a key: its cards become used up, and it is the item or not.
-fn at_key(op: Op, keys: &[u8; KEYS], count: usize, cards: [Seen; 8], key: Place) -> Decided
-    requires { (count ≤ 8) × Ready keys.now count cards × Within key }
-    ensures { (X : List O.Card) → Sees keys.now count cards X → DecidedBy keys.now cards X count (O.at_key (op_is op)
-        (place_key keys.now key) X) result }
+fn at_key(op: Op, keys: &[u8; KEYS], cards: &mut [Seen], key: Place) -> Verdict
+    requires { (length cards.old ≤ 8) × Ready keys.now (length cards.old) cards.old × Within key }
+    ensures { (X : List O.Card) → Sees keys.now (length cards.old) cards.old X → DecidedBy keys.now cards.old X (O.at_key (op_is op)
+        (place_key keys.now key) X) cards.new result }
 {
-    let pairs = collect(keys, count, cards, key);
-    let after = use_up(keys, count, cards, key, false);
-    let verdict = if takes(op, count, pairs) {
-        Verdict::This
+    let count = cards.len();
+    let pairs = collect(keys, cards, key);
+    use_up(keys, cards, key, false);
+    if takes(op, count, pairs) {
+        Verdict::This(key, pairs)
     } else {
         Verdict::Another
-    };
-    Decided {
-        verdict,
-        key,
-        pairs,
-        cards: after,
-    }
-}
-
-// The end.
-fn no_more(cards: [Seen; 8]) -> Decided
-    ensures { result.verdict ≡ Verdict.NoMore }
-{
-    Decided {
-        verdict: Verdict::NoMore,
-        key: Place { at: 0, levels: 0 },
-        pairs: ops_pairs::none(),
-        cards,
     }
 }
 
 // By the least key held: the end where there is none.
-fn at_least(op: Op, keys: &[u8; KEYS], count: usize, cards: [Seen; 8]) -> Decided
-    requires { (count ≤ 8) × Ready keys.now count cards }
-    ensures { (X : List O.Card) → Sees keys.now count cards X → DecidedBy keys.now cards X count (O.at_least (op_is op)
-        (O.least_key X) X) result }
+fn at_least(op: Op, keys: &[u8; KEYS], cards: &mut [Seen]) -> Verdict
+    requires { (length cards.old ≤ 8) × Ready keys.now (length cards.old) cards.old }
+    ensures { (X : List O.Card) → Sees keys.now (length cards.old) cards.old X → DecidedBy keys.now cards.old X (O.at_least (op_is op)
+        (O.least_key X) X) cards.new result }
 {
-    match least_key(keys, count, cards) {
-        Some(key) => at_key(op, keys, count, cards, key),
-        None => no_more(cards),
+    match least_key(keys, cards) {
+        Some(key) => at_key(op, keys, cards, key),
+        None => Verdict::NoMore,
     }
 }
 
 // By the first card's key: another round where a card holds a lesser one, which is used up.
-fn at_first(keys: &[u8; KEYS], count: usize, cards: [Seen; 8], key: Place) -> Decided
-    requires { (count ≤ 8) × Ready keys.now count cards × Within key }
-    ensures { (X : List O.Card) → Sees keys.now count cards X → DecidedBy keys.now cards X count (O.at_first (place_key keys.now key)
-        (O.least_key X) X) result }
+fn at_first(keys: &[u8; KEYS], cards: &mut [Seen], key: Place) -> Verdict
+    requires { (length cards.old ≤ 8) × Ready keys.now (length cards.old) cards.old × Within key }
+    ensures { (X : List O.Card) → Sees keys.now (length cards.old) cards.old X → DecidedBy keys.now cards.old X (O.at_first (place_key keys.now key)
+        (O.least_key X) X) cards.new result }
 {
-    let Some(lesser) = least_key(keys, count, cards) else {
-        return no_more(cards);
+    let Some(lesser) = least_key(keys, cards) else {
+        return Verdict::NoMore;
     };
     let order = compare(keys, lesser, key);
     if order.is_lt() {
-        return Decided {
-            verdict: Verdict::Another,
-            key,
-            pairs: ops_pairs::none(),
-            cards: use_up(keys, count, cards, key, true),
-        };
+        use_up(keys, cards, key, true);
+        return Verdict::Another;
     }
-    at_key(Op::Difference, keys, count, cards, key)
+    at_key(Op::Difference, keys, cards, key)
 }
 
 // A difference: the end where the first reading has ended.
-fn difference(keys: &[u8; KEYS], count: usize, cards: [Seen; 8]) -> Decided
-    requires { (0 < count) × (count ≤ 8) × Ready keys.now count cards }
-    ensures { (X : List O.Card) → Sees keys.now count cards X → DecidedBy keys.now cards X count (O.decide O.difference
-        X) result }
+fn difference(keys: &[u8; KEYS], cards: &mut [Seen]) -> Verdict
+    requires { (0 < length cards.old) × (length cards.old ≤ 8) × Ready keys.now (length cards.old) cards.old }
+    ensures { (X : List O.Card) → Sees keys.now (length cards.old) cards.old X → DecidedBy keys.now cards.old X (O.decide O.difference
+        X) cards.new result }
 {
     let first = cards[0];
-    if first.slot != Slot::Holds {
-        return no_more(cards);
+    match first.slot {
+        Slot::Holds(_) => at_first(keys, cards, first.key),
+        Slot::Used | Slot::Ended => Verdict::NoMore,
     }
-    at_first(keys, count, cards, first.key)
 }
 
-// What a round comes to: an item, the end, or another round.
-pub fn decide(op: Op, keys: &[u8; KEYS], count: usize, cards: [Seen; 8]) -> Decided
-    requires { (0 < count) × (count ≤ 8) × Ready keys.now count cards }
-    ensures { (X : List O.Card) → Sees keys.now count cards X → DecidedBy keys.now cards X count (O.decide (op_is op) X)
-        result }
+// What a round comes to: an item, the end, or another round. The cards become those after it; at the end they stay as they were.
+pub fn decide(op: Op, keys: &[u8; KEYS], cards: &mut [Seen]) -> Verdict
+    requires { (0 < length cards.old) × (length cards.old ≤ 8) × Ready keys.now (length cards.old) cards.old }
+    ensures { (X : List O.Card) → Sees keys.now (length cards.old) cards.old X → DecidedBy keys.now cards.old X (O.decide (op_is op) X)
+        cards.new result }
 {
     if op == Op::Difference {
-        return difference(keys, count, cards);
+        return difference(keys, cards);
     }
-    at_least(op, keys, count, cards)
+    at_least(op, keys, cards)
 }

@@ -2,8 +2,8 @@
 --     Leasting, Using, Collecting      what is done of a loop
 --     leasting-.., using-.., collecting-..    at its start, after a card, and at its end
 -- Assumes nothing.
-use mathlib.Core.Path.{◌≡◌, refl, sym, ap, ap₂, ◌∙◌, subst}
-use mathlib.Core.Bool.{Bool, false, cond}
+use mathlib.Core.Path.{◌≡◌, refl, sym, ap, ◌∙◌, subst}
+use mathlib.Core.Bool.{Bool, cond}
 use mathlib.Core.Option.{Option}
 use mathlib.Core.Logic.{⊎_elim}
 use Rattle.std.specs.Prelude as S
@@ -15,7 +15,7 @@ use native.Mathlib.Omega.{arith}
 use lib.ListN.{length, drop, get_or, set, length-set, length-drop, drop_of_length-le}
 use lib.Seq.{get_or-set_same, get_or-set_other}
 use Rattle.ops_spec.specs.Ops as O
-use Rattle.ops_spec.specs.Ops.{Indexed, indexed, card_key, if_holds, least_key, same_test, insert, pairs_from, use_up}
+use Rattle.ops_spec.specs.Ops.{Indexed, indexed, card_key, if_holds, least_key, same_test, insert, pairs_from}
 use Rattle.ops_spec.specs.OpsPairsLaws.{pairs_most}
 use Rattle.ops_keys.specs.declared.Place.{Place}
 use Rattle.ops_keys.specs.Heads.{place_key, Within}
@@ -79,17 +79,17 @@ leasting_all ks n cs l i z L = record { is = λ X S. ap (λ (j : ℕ). least_key
 
 -- ---- keys used up
 
-pub record Using (ks : List ℕ) (n : ℕ) (cs : List Seen) (k : Place) (less : Bool) (all : List Seen) (i : ℕ) : Type 0 where
-  pub within : i ≤ n
-  pub eight : length all ≡ 8
-  pub few : (j : ℕ) (d : Seen) → j < n → Few (get_or all j d)
+pub record Using (ks : List ℕ) (cs : List Seen) (k : Place) (less : Bool) (all : List Seen) (i : ℕ) : Type 0 where
+  pub within : i ≤ length cs
+  pub long : length all ≡ length cs
+  pub few : (j : ℕ) (d : Seen) → j < length cs → Few (get_or all j d)
   pub done : (j : ℕ) (d : Seen) → j < i → (x : O.Card) → Shows ks (get_or cs j d) x → Shows ks (get_or all j d) (used1 (key_test less (place_key ks k)) x)
   pub rest : (j : ℕ) (d : Seen) → i ≤ j → get_or all j d ≡ get_or cs j d
-  pub keys : (j : ℕ) (d : Seen) → j < n → (get_or all j d).key ≡ (get_or cs j d).key
+  pub keys : (j : ℕ) (d : Seen) → j < length cs → (get_or all j d).key ≡ (get_or cs j d).key
 
-pub using_none : (ks : List ℕ) (n : ℕ) (cs : List Seen) (k : Place) (less : Bool) → length cs ≡ 8 → Ready ks n cs → Using ks n cs k less cs 0
-using_none ks n cs k less eight ready =
-    record { within = omega arith; eight = eight; few = ready.few; done = λ j d h. absurd (omega arith); rest = λ j d h. refl; keys = λ j d h. refl }
+pub using_none : (ks : List ℕ) (cs : List Seen) (k : Place) (less : Bool) → Ready ks (length cs) cs → Using ks cs k less cs 0
+using_none ks cs k less ready =
+    record { within = omega arith; long = refl; few = ready.few; done = λ j d h. absurd (omega arith); rest = λ j d h. refl; keys = λ j d h. refl }
 
 -- a place within a list has the same element whatever else is named
 default_any : (l : List Seen) (i : ℕ) (a b : Seen) → i < length l → get_or l i a ≡ get_or l i b
@@ -97,33 +97,33 @@ default_any [] i a b h = absurd (omega arith)
 default_any (x ∷ l) zero a b h = refl
 default_any (x ∷ l) (suc i) a b h = default_any l i a b (omega arith)
 
-module _ (ks : List ℕ) (n : ℕ) (cs : List Seen) (k : Place) (less : Bool) (all : List Seen) (i : ℕ) (small : n ≤ 8) (U : Using ks n cs k less all i) where
-  pub using_on : (d r : Seen) → i < n → UsedBy ks (get_or all i d) k less r → Using ks n cs k less (set all i r) (i + 1)
+module _ (ks : List ℕ) (cs : List Seen) (k : Place) (less : Bool) (all : List Seen) (i : ℕ) (U : Using ks cs k less all i) where
+  pub using_on : (d r : Seen) → i < length cs → UsedBy ks (get_or all i d) k less r → Using ks cs k less (set all i r) (i + 1)
   using_on b r h by =
-      let eight = U.eight in
+      let long = U.long in
       record {
         within = omega arith;
-        eight = length-set all i r ∙ eight;
+        long = length-set all i r ∙ long;
         few = λ j d l. ⊎_elim (λ (z : j < i). few_at j d l (λ q. omega arith)) (λ (g : i ≤ j). ⊎_elim (λ (z : i < j). few_at j d l (λ q. omega arith)) (λ (z : j ≤ i). few_here j d (omega arith)) (lt_or i j)) (lt_or j i);
         done = λ j d l. ⊎_elim (λ (z : j < i). earlier j d z) (λ (z : i ≤ j). here j d (omega arith)) (lt_or j i);
         rest = λ j d l. get_or-set_other all i j r d (λ z. omega arith) ∙ U.rest j d (omega arith);
         keys = λ j d l. ⊎_elim (λ (z : j < i). key_at_lem j d l (λ q. omega arith)) (λ (g : i ≤ j). ⊎_elim (λ (z : i < j). key_at_lem j d l (λ q. omega arith)) (λ (z : j ≤ i). key_here j d l (omega arith)) (lt_or i j)) (lt_or j i);
       }
     where
-      few_at : (j : ℕ) (d : Seen) → j < n → ¬ (j ≡ i) → Few (get_or (set all i r) j d)
+      few_at : (j : ℕ) (d : Seen) → j < length cs → ¬ (j ≡ i) → Few (get_or (set all i r) j d)
       few_at j d l ne = subst Few (sym (get_or-set_other all i j r d ne)) (U.few j d l)
 
       few_here : (j : ℕ) (d : Seen) → j ≡ i → Few (get_or (set all i r) j d)
       few_here j d z =
-          let eight = U.eight in
+          let long = U.long in
           subst (λ (m : ℕ). Few (get_or (set all i r) m d)) (sym z) (subst Few (sym (get_or-set_same all i r d (omega arith))) by.few)
 
-      key_at_lem : (j : ℕ) (d : Seen) → j < n → ¬ (j ≡ i) → (get_or (set all i r) j d).key ≡ (get_or cs j d).key
+      key_at_lem : (j : ℕ) (d : Seen) → j < length cs → ¬ (j ≡ i) → (get_or (set all i r) j d).key ≡ (get_or cs j d).key
       key_at_lem j d l ne = ap (λ (c : Seen). c.key) (get_or-set_other all i j r d ne) ∙ U.keys j d l
 
-      key_here : (j : ℕ) (d : Seen) → j < n → j ≡ i → (get_or (set all i r) j d).key ≡ (get_or cs j d).key
+      key_here : (j : ℕ) (d : Seen) → j < length cs → j ≡ i → (get_or (set all i r) j d).key ≡ (get_or cs j d).key
       key_here j d l z =
-          let eight = U.eight in
+          let long = U.long in
           ap (λ (m : ℕ). (get_or (set all i r) m d).key) z
           ∙ ap (λ (c : Seen). c.key) (get_or-set_same all i r d (omega arith))
           ∙ by.key
@@ -137,7 +137,7 @@ module _ (ks : List ℕ) (n : ℕ) (cs : List Seen) (k : Place) (less : Bool) (a
 
       here_at : (d : Seen) (x : O.Card) → Shows ks (get_or cs i d) x → Shows ks (get_or (set all i r) i d) (used1 (key_test less (place_key ks k)) x)
       here_at d x s =
-          let eight = U.eight in
+          let long = U.long in
           subst (λ (c : Seen). Shows ks c (used1 (key_test less (place_key ks k)) x)) (sym (get_or-set_same all i r d (omega arith)))
           (by.is x (subst (λ (c : Seen). Shows ks c x) (sym (U.rest i d (omega arith)) ∙ default_any all i d b (omega arith)) s))
 
@@ -145,7 +145,7 @@ module _ (ks : List ℕ) (n : ℕ) (cs : List Seen) (k : Place) (less : Bool) (a
       here j d z =
           subst (λ (m : ℕ). (x : O.Card) → Shows ks (get_or cs m d) x → Shows ks (get_or (set all i r) m d) (used1 (key_test less (place_key ks k)) x)) (sym z) (here_at d)
 
-  pub using_all : n ≤ i → AllUsed ks n cs k less all
+  pub using_all : length cs ≤ i → AllUsed ks cs k less all
   using_all h =
       let within = U.within in
       record {
@@ -157,7 +157,7 @@ module _ (ks : List ℕ) (n : ℕ) (cs : List Seen) (k : Place) (less : Bool) (a
                   subst (Shows ks (get_or all j d)) (sym (used_at (key_test less (place_key ks k)) X j e (omega arith)))
                   (U.done j d (omega arith) (get_or X j e) (S.at j d e l));
             };
-        eight = U.eight;
+        long = U.long;
         keys = record { at = U.keys };
       }
 

@@ -5,7 +5,7 @@
 --     UsedBy, AllUsed                  a card, and the cards, with those keys used up
 --     GatheredBy, CollectedBy          the values of a key, with one card's; of all
 -- Assumes nothing.
-use Rattle.std.specs.Prelude.{◌≡◌, Bool, false, cond, List, ℕ, length, Option, None, Some, IfSome}
+use Rattle.std.specs.Prelude.{◌≡◌, Bool, cond, List, ℕ, length, Option, None, Some, IfSome}
 use Rattle.std.specs.declared.cmp.Ordering.{Ordering}
 use Rattle.std.specs.Ordering.{is_lt, is_eq}
 use Rattle.std.proofs.Math.Option as M
@@ -47,10 +47,10 @@ pub record UsedBy (ks : List ℕ) (c : Seen) (k : Place) (less : Bool) (r : Seen
   pub few : Few r
   pub key : r.key ≡ c.key
 
-pub record AllUsed (ks : List ℕ) (n : ℕ) (cs : List Seen) (k : Place) (less : Bool) (r : List Seen) : Type 0 where
-  pub is : (X : List O.Card) → Sees ks n cs X → Sees ks n r (use_up (key_test less (place_key ks k)) X)
-  pub eight : length r ≡ 8
-  pub keys : SameKeys n cs r
+pub record AllUsed (ks : List ℕ) (cs : List Seen) (k : Place) (less : Bool) (r : List Seen) : Type 0 where
+  pub is : (X : List O.Card) → Sees ks (length cs) cs X → Sees ks (length cs) r (use_up (key_test less (place_key ks k)) X)
+  pub long : length r ≡ length cs
+  pub keys : SameKeys (length cs) cs r
 
 -- ---- the values of a key
 

@@ -1,6 +1,6 @@
 // What a round looks up in what is seen of the cards: the least key held, the values of a key, and the cards with some keys used up. Each goes over the
 // cards one by one.
-// The cards in use are the first count of eight, passed whole: fixed memory. What is asked of keys, count and cards is of the three together.
+// The cards are those in use, at most eight. What is asked of keys and cards is of the two together.
 #![tactic(auto)]
 
 ghost use Rattle.std.specs.Prelude.{◌≡◌, ◌≤◌, ◌<◌, length, IfSome};
@@ -16,10 +16,10 @@ use std::cmp::Ordering;
 
 // The lesser of a key, if one was found, and the one that a card holds. Not std's `min`: the bytes that order two places stand in keys, beside them.
 fn lesser(keys: &[u8; KEYS], least: Option<Place>, card: Seen) -> Option<Place>
-    requires { (length keys.now ≡ 2048) × IfSome least Within × Few card }
+    requires { IfSome least Within × Few card }
     ensures { LesserBy keys.now least card result }
 {
-    if card.slot != Slot::Holds {
+    if !matches!(card.slot, Slot::Holds(_)) {
         return least;
     }
     let held = card.key;
@@ -30,14 +30,14 @@ fn lesser(keys: &[u8; KEYS], least: Option<Place>, card: Seen) -> Option<Place>
     if order.is_lt() { least } else { Some(held) }
 }
 
-// The least key that the first count cards hold. The count stands beside the eight, here and in the crates above: they are passed whole by value, in fixed
-// memory, and the clauses speak of the first count of them.
-pub fn least_key(keys: &[u8; KEYS], count: usize, cards: [Seen; 8]) -> Option<Place>
-    requires { (count ≤ 8) × Ready keys.now count cards }
-    ensures { LeastBy keys.now count cards result }
+// The least key that the cards hold, looked up from the last card to the first, as its definition goes.
+pub fn least_key(keys: &[u8; KEYS], cards: &[Seen]) -> Option<Place>
+    requires { Ready keys.now (length cards.now) cards.now }
+    ensures { LeastBy keys.now (length cards.now) cards.now result }
 {
     let mut least = None;
-    for i in (0..count).rev() {
+    // by index: what the loop keeps is said of the cards from place i on
+    for i in (0..cards.len()).rev() {
         least = lesser(keys, least, cards[i]);
     }
     least
@@ -52,63 +52,56 @@ fn is_meant(order: Ordering, less: bool) -> bool
 
 // A card that holds a key less than this one, or the same, is used up.
 fn used_up(keys: &[u8; KEYS], card: Seen, key: Place, less: bool) -> Seen
-    requires { (length keys.now ≡ 2048) × Within key × Few card }
+    requires { Within key × Few card }
     ensures { UsedBy keys.now card key less result }
 {
-    if card.slot != Slot::Holds {
+    if !matches!(card.slot, Slot::Holds(_)) {
         return card;
     }
     let order = compare(keys, card.key, key);
     if is_meant(order, less) {
         return Seen {
             slot: Slot::Used,
-            value: 0,
             ..card
         };
     }
     card
 }
 
-// The cards, where those of the first count that hold a key less than this one, or the same, are used up.
-pub fn use_up(
-    keys: &[u8; KEYS],
-    count: usize,
-    cards: [Seen; 8],
-    key: Place,
-    less: bool,
-) -> [Seen; 8]
-    requires { (count ≤ 8) × Ready keys.now count cards × Within key }
-    ensures { AllUsed keys.now count cards key less result }
+// Uses up the cards that hold a key less than this one, or the same.
+pub fn use_up(keys: &[u8; KEYS], cards: &mut [Seen], key: Place, less: bool)
+    requires { Ready keys.now (length cards.old) cards.old × Within key }
+    ensures { AllUsed keys.now cards.old key less cards.new }
 {
-    let mut all = cards;
-    for i in 0..count {
-        all[i] = used_up(keys, all[i], key, less);
+    // by index: what the loop keeps is said of the cards before place i and of those from it on
+    for i in 0..cards.len() {
+        cards[i] = used_up(keys, cards[i], key, less);
     }
-    all
 }
 
 // The values gathered of a key, with that of a card that holds it.
 fn gather(keys: &[u8; KEYS], pairs: Pairs, card: Seen, key: Place, file: u8) -> Pairs
-    requires { (length keys.now ≡ 2048) × Within key × Few card × (pairs.count < 8) }
+    requires { Within key × Few card × (pairs.count < 8) }
     ensures { GatheredBy keys.now pairs card key file result }
 {
-    if card.slot != Slot::Holds {
+    let Slot::Holds(value) = card.slot else {
         return pairs;
-    }
+    };
     let order = compare(keys, card.key, key);
     if is_meant(order, false) {
-        return ops_pairs::insert(pairs, card.value, file);
+        return ops_pairs::insert(pairs, value, file);
     }
     pairs
 }
 
-// The values that the first count cards have of a key, with the numbers of their files.
-pub fn collect(keys: &[u8; KEYS], count: usize, cards: [Seen; 8], key: Place) -> Pairs
-    requires { (count ≤ 8) × Ready keys.now count cards × Within key }
-    ensures { CollectedBy keys.now count cards key result }
+// The values that the cards have of a key, with the numbers of their files.
+pub fn collect(keys: &[u8; KEYS], cards: &[Seen], key: Place) -> Pairs
+    requires { (length cards.now ≤ 8) × Ready keys.now (length cards.now) cards.now × Within key }
+    ensures { CollectedBy keys.now (length cards.now) cards.now key result }
 {
     let mut pairs = ops_pairs::none();
-    for i in (0..count).rev() {
+    // by index: a card's place is its file's number
+    for i in (0..cards.len()).rev() {
         pairs = gather(keys, pairs, cards[i], key, i as u8);
     }
     pairs

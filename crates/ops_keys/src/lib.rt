@@ -34,7 +34,7 @@ pub fn key_len(levels: usize) -> usize
 
 // How one of eight keys stands to another.
 pub fn compare(keys: &[u8; KEYS], a: Place, b: Place) -> Ordering
-    requires { (length keys.now ≡ 2048) × Within a × Within b }
+    requires { Within a × Within b }
     ensures { Compared (place_key keys.now a) (place_key keys.now b) result }
 {
     let j = key_len(a.levels);
@@ -48,7 +48,7 @@ pub fn compare(keys: &[u8; KEYS], a: Place, b: Place) -> Ordering
 
 // One of eight keys by itself, to be handed out.
 pub fn head_at(keys: &[u8; KEYS], place: Place) -> Head
-    requires { (length keys.now ≡ 2048) × Within place }
+    requires { Within place }
     ensures { (result.levels ≡ place.levels) × (head_key result ≡ place_key keys.now place) }
 {
     let from = place.at * LEVELS;
@@ -62,7 +62,7 @@ pub fn head_at(keys: &[u8; KEYS], place: Place) -> Head
 
 // Puts the bytes of a reading's key among the eight, as number i. The other keys stay as they are.
 pub fn put_bytes(plain: Plain, i: usize, keys: &mut [u8; KEYS]) -> Place
-    requires { (length keys.old ≡ 2048) × (i < 8) }
+    requires { i < 8 }
     ensures { BytesPut plain i keys.old keys.new result }
 {
     let levels = plain.reading.levels;

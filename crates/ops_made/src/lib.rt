@@ -7,8 +7,9 @@
 ghost use Rattle.std.specs.Prelude.{◌<◌};
 
 use format::Refusal;
-use ops::Cards;
+use ops::{Cards, Item};
 use ops_decide::op_of;
+use ops_pairs::Pairs;
 use ops_round::{Card, Slot};
 use seats_arrays::{plain_at, put_plain};
 use stream::Plain;
@@ -18,30 +19,18 @@ const END: u64 = 1_000;
 
 const REFUSED: u64 = 2_000;
 
-// By functions, as neither Slot nor From is of this crate. Any number from 2 on stands for a reading that has ended.
-fn slot_of(n: u8) -> Slot {
+// By a function, as neither Slot nor From is of this crate. Any number from 2 on stands for a reading that has ended.
+fn slot_of(n: u8, value: u64) -> Slot {
     match n {
         0 => Slot::Used,
-        1 => Slot::Holds,
+        1 => Slot::Holds(value),
         _ => Slot::Ended,
     }
 }
 
-fn slot_number(slot: Slot) -> u8 {
-    match slot {
-        Slot::Used => 0,
-        Slot::Holds => 1,
-        Slot::Ended => 2,
-    }
-}
-
 fn card(reading: Plain, n: u8, value: u64) -> Card {
-    let slot = slot_of(n);
-    Card {
-        reading,
-        slot,
-        value,
-    }
+    let slot = slot_of(n, value);
+    Card { reading, slot }
 }
 
 // The cards that the arrays hold.
@@ -58,6 +47,7 @@ fn cards_in(
 ) -> [Card; 8] {
     let first = plain_at(0, heads, bounds, addrs, inps, trans, outs, keys);
     let mut all = [card(first, slots[0], values[0]); 8];
+    // by index: plain_at reads row number i of each array
     for i in 1..8 {
         let reading = plain_at(i, heads, bounds, addrs, inps, trans, outs, keys);
         all[i] = card(reading, slots[i], values[i]);
@@ -65,7 +55,7 @@ fn cards_in(
     all
 }
 
-// Puts one card into its row.
+// Puts one card into its row. Where no key is held, the value's place stays as it was.
 fn put_card(
     one: Card,
     i: usize,
@@ -81,11 +71,25 @@ fn put_card(
 )
     requires { i < 8 }
 {
-    let reading = one.reading;
-    let slot = one.slot;
-    slots[i] = slot_number(slot);
-    values[i] = one.value;
-    put_plain(reading, i, heads, bounds, addrs, inps, trans, outs, keys);
+    match one.slot {
+        Slot::Used => slots[i] = 0,
+        Slot::Holds(value) => {
+            slots[i] = 1;
+            values[i] = value;
+        }
+        Slot::Ended => slots[i] = 2,
+    }
+    put_plain(
+        one.reading,
+        i,
+        heads,
+        bounds,
+        addrs,
+        inps,
+        trans,
+        outs,
+        keys,
+    );
 }
 
 // Puts the cards into the arrays.
@@ -101,6 +105,7 @@ fn put_cards(
     outs: &mut [[u64; 256]; 8],
     keys: &mut [u64; 8],
 ) {
+    // by index: put_card writes row number i of each array
     for i in 0..8 {
         put_card(
             all[i], i, slots, values, heads, bounds, addrs, inps, trans, outs, keys,
@@ -108,10 +113,18 @@ fn put_cards(
     }
 }
 
-// What a call answered, as a number.
-fn told(answer: Result<Option<usize>, Refusal>) -> u64 {
+// An item's values with the numbers of their files, 0 where there is no item.
+fn pairs_of(answer: Result<Option<Item>, Refusal>) -> Pairs {
     match answer {
-        Ok(Some(n)) => n as u64,
+        Ok(Some(item)) => item.pairs,
+        Ok(None) | Err(_) => ops_pairs::none(),
+    }
+}
+
+// What a call answered, as a number.
+fn told(answer: Result<Option<Item>, Refusal>) -> u64 {
+    match answer {
+        Ok(Some(item)) => item.len as u64,
         Ok(None) => END,
         Err(why) => REFUSED + u64::from(u8::from(why)),
     }
@@ -144,27 +157,34 @@ pub fn made_item<'a>(
     pair_files: &mut [u8; 8],
     pair_values: &mut [u64; 8],
 ) -> u64 {
-    let s = *slots;
-    let v = *values;
-    let operation = op_of(op);
-    let cards = cards_in(s, v, heads, bounds, addrs, inps, trans, outs, keys);
+    let cards = cards_in(
+        *slots, *values, heads, bounds, addrs, inps, trans, outs, keys,
+    );
     let held = Cards {
-        op: operation,
+        op: op_of(op),
         count,
         cards,
     };
     let files = [a, b, c, d, e, f, g, h];
     let step = ops::next_item(files, held, key);
-    let answer = step.answer;
-    let after = step.cards;
-    let all = after.cards;
     put_cards(
-        all, slots, values, heads, bounds, addrs, inps, trans, outs, keys,
+        step.cards.cards,
+        slots,
+        values,
+        heads,
+        bounds,
+        addrs,
+        inps,
+        trans,
+        outs,
+        keys,
     );
-    *pairs = step.count;
-    let numbers = step.files;
+    let its = pairs_of(step.answer);
+    *pairs = its.count;
+    // by names of their own: the borrow checker covers no array that is stored straight from a field
+    let numbers = its.files;
     *pair_files = numbers;
-    let its = step.values;
-    *pair_values = its;
-    told(answer)
+    let found = its.values;
+    *pair_values = found;
+    told(step.answer)
 }

@@ -1,20 +1,20 @@
 -- Items written one after the other: what a turn of the loop over calls knows, and what each way out of it gives back.
 --     Filling w fs op n all ks ss i most .. done `done` items are written, the page w goes on by a call that is on its way
---     filling_none, filling_step, filling_skip   before the first item, after a card that was stepped, after one that was not
+--     filling_none, filling_on                before the first item, after the steps of a round
 --     filling_item, filling_again             after an item, after a round without one
---     item_less, round_less                   the measure falls
---     filled_more, filled_end, filled_refused, filled_long the ways out
+--     steps_less, item_less, round_less       the steps leave no more to do, and the measure falls
+--     filled_more, filled_end, filled_refused the ways out
 --     paged_as, refused_by                    by an equation between pages; a refusal before any item
 --     room_of, page_began, page_refused       what has_room shows; a page by what its starts came to
 -- Assumes nothing.
-use Rattle.std.specs.Prelude.{◌≡◌, refl, Bool, true, false, cond, ◌&&◌, ◌||◌, ◌⊎◌, List, [], ◌∷◌, ◌++◌, ℕ, ◌+◌, ◌-◌, ◌*◌, min, ◌≤◌, ◌<◌, ltb, leb, length, drop, get_or, set, replicate, Ok, Err, Result, ⊤}
+use Rattle.std.specs.Prelude.{◌≡◌, refl, Bool, true, false, cond, ◌&&◌, ◌||◌, List, [], ◌∷◌, ◌++◌, ℕ, ◌+◌, ◌-◌, ◌*◌, min, ◌≤◌, ◌<◌, ltb, leb, length, take, drop, set, replicate, Ok, Err, Result}
 use Rattle.std.proofs.Common.{sym, ap, ap₂, subst, ◌∙◌, arith, length-take, length-append, length-set, lt-ltb, le-leb}
 use Rattle.std.proofs.lemmas.List.{length-map, length-replicate}
 use Rattle.format.specs.declared.Refusal.{Refusal}
 use Rattle.buffers.specs.DecideLaws.{decides_and, decides_le}
 use Rattle.buffers.specs.Put.{put}
 use Rattle.buffers.specs.PutLaws.{length_put}
-use Rattle.format.specs.Limits.{max_path, CARDS, STATE}
+use Rattle.format.specs.Limits.{max_path, CARDS}
 use Rattle.reading.specs.Demand.{Entry, entry}
 use Rattle.paging.specs.Paging as G
 use Rattle.paging.specs.Paging.{ended, more, row_len, row_of, rows_after, values_after}
@@ -26,24 +26,23 @@ use Rattle.ops_spec.specs.OpsFuelLaws.{rounds_by, rounds_by_lem, next_item_by}
 use Rattle.ops_paging.specs.ItemPaging.{ItemPage, item_page, refused_items, Starts, fold, room_test, page_from, lines_of, eight_of, eights_after, index_of, value_of}
 use Rattle.ops_paging.proofs.ItemFoldLaws.{Folded, folded_none, folded_item, folded_more, folded_end, folded_refused, lines_snoc, eights_none, eights_snoc}
 use Rattle.ops_keys.specs.declared.Head.{Head}
+use Rattle.ops_keys.specs.declared.Place.{Place}
 use Rattle.ops_keys.specs.Heads.{head_key, place_key, Within}
 use Rattle.ops_pairs.specs.declared.Pairs.{Pairs}
 use Rattle.ops_pairs.specs.Pairs.{padded, pairs_in, PairsAre}
 use Rattle.ops_pairs.specs.PairsLaws.{in_length, the_values, the_files}
-use Rattle.ops_round.specs.declared.Slot.TheVariants.{Used, Holds, Ended}
 use Rattle.ops_round.specs.declared.Card.{Card}
 use Rattle.ops_round.specs.Cards.{cards_is}
 use Rattle.ops_round.specs.CardsLaws.{cards_length}
 use Rattle.ops_seen.specs.declared.Seen.{Seen}
 use Rattle.ops_seen.specs.Sights.{AllSeen, Sees, Ready}
-use Rattle.ops_turn.specs.declared.SeenStep.{SeenStep}
-use Rattle.ops_turn.specs.Parts.{dealt_all, SeenStepped, load, Turning}
+use Rattle.ops_turn.specs.Parts.{dealt_all, Turning, to_do, Went, CardsStepped}
 use Rattle.ops_turn.specs.LoadLaws.{Lighter, decide_lighter}
-use Rattle.ops_turn.specs.PartsLaws.{to_do, turning_none, turning_on, turning_skip, turn_halted, turn_long, turn_sees, turn_ready, turn_judged, turning_item, turning_again, step_less, again_less}
+use Rattle.ops_turn.specs.PartsLaws.{turning_none, turn_sees, turn_ready, turn_judged, turning_item, turning_again, again_less}
 use Rattle.ops_decide.specs.declared.Verdict.TheVariants.{This, NoMore, Another}
-use Rattle.ops_decide.specs.declared.Decided.{Decided}
+use Rattle.ops_decide.specs.declared.Verdict.{Verdict}
 use Rattle.ops_decide.specs.Verdicts.{DecidedBy}
-use Rattle.ops_decide.specs.VerdictsLaws.{ThisOf, AnotherOf, this_by, over_by, another_by}
+use Rattle.ops_decide.specs.VerdictsLaws.{lent_length, lent_sees, lent_ready, ThisOf, AnotherOf, this_by, over_by, another_by}
 use Rattle.ops_starts.specs.StartedCards.{StartsBy}
 use Rattle.ops_put.specs.ItemPut.{HasPlace, ItemPut}
 use Rattle.range_fill.specs.declared.Stop.TheVariants.{End, More}
@@ -178,29 +177,27 @@ module _ {w : ItemPage} {fs : List (List ℕ)} {op : O.Op} {n : ℕ} {all : List
         ∙ ap (λ (b : Bool). cond b (after_steps op max_path false (rounds_by op max_path true) (step_all max_path X)) (O.Merged.refused CARDS)) t
         ∙ sym (rounds_by_lem op max_path false X)
 
-    -- ---- a card's part
+    -- ---- the steps of a round
 
-    module _ (h : i < n) (d : Card) (e : Seen) where
-      module _ (used : (get_or ss i e).slot ≡ Used) (ks' : List ℕ) (r : SeenStep) (by : SeenStepped (get_or fs i []) max_path (get_or all i d).reading i ks ks' r) where
-        pub filled_refused : done < most → (why : Refusal) → r.answer ≡ Err why → PagedBy w rows₀ rows counts₀ counts numbers₀ numbers values₀ values (record { count = done; stop = Err why })
-        filled_refused left why t =
-            stops (G.Stop.refused why) (folded_refused f.folded (omega arith) why (called_is ∙ turn_halted f.turning few h d e used ks' r by why t))
+    module _ (first : i ≡ 0) {all' : List Card} {ks' : List ℕ} {ss' : List Seen} {r : Result Bool Refusal}
+        (by : CardsStepped fs max_path n all ks ss all' ks' ss' r) where
+      began : Turning max_path fs op n f.cards all ks ss 0 f.stepped
+      began = subst (λ (j : ℕ). Turning max_path fs op n f.cards all ks ss j f.stepped) first f.turning
 
-        pub filling_step : r.answer ≡ Ok tt
-            → Filling w fs op n (set all i r.card) ks' (set ss i r.seen) (i + 1) most rows₀ rows counts₀ counts numbers₀ numbers values₀ values done
-        filling_step t = goes_on true (turning_on f.turning few h d e used ks' r by t)
+      pub filled_refused : done < most → (why : Refusal) → r ≡ Err why → PagedBy w rows₀ rows counts₀ counts numbers₀ numbers values₀ values (record { count = done; stop = Err why })
+      filled_refused left why t =
+          stops (G.Stop.refused why)
+          (folded_refused f.folded (omega arith) why (called_is ∙ (subst (CardsStepped fs max_path n all ks ss all' ks' ss') t by).is op f.cards f.stepped began))
 
-        pub card_less : r.answer ≡ Ok tt → to_do fs n (set all i r.card) (set ss i r.seen) (i + 1) < to_do fs n all ss i
-        card_less t = step_less f.turning few h d e used ks' r by t
+      module _ (m : Bool) (t : r ≡ Ok m) where
+        went : Went max_path fs op n f.cards all ss all' ks' ss' n (f.stepped || m)
+        went = (subst (CardsStepped fs max_path n all ks ss all' ks' ss') t by).is op f.cards f.stepped began
 
-    module _ (h : i < n) (e : Seen) where
-      pub filled_long : done < most → ((get_or ss i e).slot ≡ Holds) × (256 < (get_or ss i e).key.levels)
-          → PagedBy w rows₀ rows counts₀ counts numbers₀ numbers values₀ values (record { count = done; stop = Err STATE })
-      filled_long left long = stops (G.Stop.refused STATE) (folded_refused f.folded (omega arith) STATE (called_is ∙ turn_long f.turning few h e long))
+        pub filling_on : Filling w fs op n all' ks' ss' n most rows₀ rows counts₀ counts numbers₀ numbers values₀ values done
+        filling_on = goes_on (f.stepped || m) went.turning
 
-      pub filling_skip : ((get_or ss i e).slot ≡ Holds) ⊎ ((get_or ss i e).slot ≡ Ended) → ((get_or ss i e).slot ≡ Holds → (get_or ss i e).key.levels ≤ 256)
-          → Filling w fs op n all ks ss (i + 1) most rows₀ rows counts₀ counts numbers₀ numbers values₀ values done
-      filling_skip slot short = goes_on f.stepped (turning_skip f.turning few h e slot short)
+        pub steps_less : to_do fs n all' ss' n ≤ to_do fs n all ss 0
+        steps_less = went.less
 
     -- ---- what the round comes to
 
@@ -215,96 +212,110 @@ module _ {w : ItemPage} {fs : List (List ℕ)} {op : O.Op} {n : ℕ} {all : List
       room_told : (f.stepped || leb max_path max_path) ≡ true
       room_told = or_room f.stepped
 
-      pub page_ready : Ready ks n ss
-      page_ready = turn_ready f.turning few some full
+      long : n ≤ length ss
+      long = let e = f.turning.seen_len in omega arith
 
-      module _ (v : Decided) (by : (X : List O.Card) → Sees ks n ss X → DecidedBy ks ss X n (decide op X) v) where
-        here : DecidedBy ks ss Y n (decide op Y) v
-        here = by Y (turn_sees f.turning few some full)
+      pub page_ready : (0 < length (take n ss)) × (length (take n ss) ≤ 8) × Ready ks (length (take n ss)) (take n ss)
+      page_ready =
+          let len = lent_length ks ss n long in
+          (omega arith, omega arith, lent_ready ks ss n long (turn_ready f.turning few some full))
+
+      module _ (z : List Seen) (v : Verdict)
+          (by : (X : List O.Card) → Sees ks (length (take n ss)) (take n ss) X → DecidedBy ks (take n ss) X (decide op X) z v) where
+        abbrev m : List Seen
+        m = z ++ drop n ss
+
+        here : DecidedBy ks (take n ss) Y (decide op Y) z v
+        here = by Y (lent_sees ks ss n long Y (turn_sees f.turning few some full))
+
+        here_as : (u : Verdict) → v ≡ u → DecidedBy ks (take n ss) Y (decide op Y) z u
+        here_as u e = subst (DecidedBy ks (take n ss) Y (decide op Y) z) e here
 
         judged : (q : O.Verdict) → decide op Y ≡ q → next_item op f.cards max_path ≡ by_verdict Y (rounds_by op max_path true) q
         judged q e = called_is ∙ turn_judged f.turning few some full room_told ∙ ap (by_verdict Y (rounds_by op max_path true)) e
 
-        pub filled_end : done < most → v.verdict ≡ NoMore → PagedBy w rows₀ rows counts₀ counts numbers₀ numbers values₀ values (record { count = done; stop = Ok End })
-        filled_end left e = stops ended (folded_end f.folded (omega arith) Y (judged O.no_more (over_by ks ss Y n v (decide op Y) here e)))
+        pub filled_end : done < most → v ≡ NoMore → PagedBy w rows₀ rows counts₀ counts numbers₀ numbers values₀ values (record { count = done; stop = Ok End })
+        filled_end left e =
+            stops ended (folded_end f.folded (omega arith) Y (judged O.no_more (over_by ks ss n long z Y (decide op Y) (here_as NoMore e)).0))
 
-        another_of : v.verdict ≡ Another → AnotherOf ks ss Y n (decide op Y) v
-        another_of e = another_by ks ss Y n v (decide op Y) here e
+        another_of : v ≡ Another → AnotherOf ks ss Y n (decide op Y) m
+        another_of e = another_by ks ss n long z Y (decide op Y) (here_as Another e)
 
-        pub filling_again : v.verdict ≡ Another → Filling w fs op n all ks v.cards 0 most rows₀ rows counts₀ counts numbers₀ numbers values₀ values done
+        pub filling_again : v ≡ Another → Filling w fs op n all ks m 0 most rows₀ rows counts₀ counts numbers₀ numbers values₀ values done
         filling_again e =
             let a = another_of e in
-            goes_on true (turning_again f.turning few some full v.cards a.eight a.cards a.sees a.kept a.keys room_told a.is)
+            goes_on true (turning_again f.turning few some full m (a.long ∙ f.turning.seen_len) a.cards a.sees a.kept a.keys room_told a.is)
 
-        pub round_less : v.verdict ≡ Another → to_do fs n all v.cards 0 < to_do fs n all ss i
+        pub round_less : v ≡ Another → to_do fs n all m 0 < to_do fs n all ss i
         round_less e =
             let a = another_of e in
-            again_less f.turning few some full v.cards a.eight a.cards a.sees a.kept (subst (Lighter Y) a.is (decide_lighter op Y))
+            again_less f.turning few some full m (a.long ∙ f.turning.seen_len) a.cards a.sees a.kept (subst (Lighter Y) a.is (decide_lighter op Y))
 
-        item_of : v.verdict ≡ This → ThisOf ks ss Y n (decide op Y) v
-        item_of e = this_by ks ss Y n v (decide op Y) here e
+        module _ (place : Place) (its : Pairs) (e : v ≡ This place its) where
+          item_of : ThisOf ks ss Y n (decide op Y) m place its
+          item_of = this_by ks ss n long z Y place its (decide op Y) (here_as (This place its) e)
 
-        pub item_fits : v.verdict ≡ This → Within v.key
-        item_fits e = (item_of e).few
+          pub item_fits : Within place
+          item_fits = item_of.few
 
-        pub pairs_fit : v.verdict ≡ This → v.pairs.count ≤ 8
-        pairs_fit e = omega (arith, (item_of e).are.count, pairs_few (item_of e).pairs v.pairs (item_of e).are)
+          pub pairs_fit : its.count ≤ 8
+          pairs_fit = omega (arith, item_of.are.count, pairs_few item_of.pairs its item_of.are)
 
-        pub item_less : v.verdict ≡ This → to_do fs n all v.cards 0 < to_do fs n all ss i
-        item_less e =
-            let a = item_of e in
-            again_less f.turning few some full v.cards a.eight a.cards a.sees a.kept (subst (Lighter Y) a.is (decide_lighter op Y))
+          pub item_less : to_do fs n all m 0 < to_do fs n all ss i
+          item_less =
+              let a = item_of in
+              again_less f.turning few some full m (a.long ∙ f.turning.seen_len) a.cards a.sees a.kept (subst (Lighter Y) a.is (decide_lighter op Y))
 
-        pub filling_item : done < most → HasRoom most rows₀ counts₀ numbers₀ values₀ → v.verdict ≡ This → (hd : Head) → hd.levels ≡ v.key.levels
-            → head_key hd ≡ place_key ks v.key → {rows' counts' numbers' values' : List ℕ}
-            → ItemPut hd v.pairs done rows rows' counts counts' numbers numbers' values values'
-            → Filling w fs op n all ks v.cards 0 most rows₀ rows' counts₀ counts' numbers₀ numbers' values₀ values' (done + 1)
-        filling_item left room e hd same_levels same_key {rows'} {counts'} {numbers'} {values'} put_is =
-            let a = item_of e in
-            let k : List ℕ = head_key hd in
-            let fits = (item_fits e).few in
-            let is : decide op Y ≡ O.this k a.pairs a.cards = a.is ∙ ap (λ (x : List ℕ). O.this x a.pairs a.cards) (sym same_key) in
-            let x : Item = item_is k a.pairs in
-            let line : Entry = entry k (length a.pairs) in
-            let done_is = f.done_is in
-            let lines_len : length (lines_of f.items) ≡ length f.items = length-map f.items (λ (y : Item). entry y.key (length y.pairs)) in
-            let row_at : done * 256 ≡ row_len * length (lines_of f.items) = omega arith in
-            let count_at : done ≡ length (lines_of f.items) = omega arith in
-            let eight_at : done * 8 ≡ 8 * length f.items = omega arith in
-            let more_len : length (f.items ++ (x ∷ [])) ≡ length f.items + 1 = length-append f.items (x ∷ []) in
-            let in_counts : length (lines_of f.items) < length counts₀ = omega (arith, room.count) in
-            let short : length k ≤ 255 = key_short hd (omega arith) in
-            let eight : length v.pairs.files ≡ 8 = a.are.files_len in
-            let held : length v.pairs.values ≡ 8 = a.are.values_len in
-            record {
-              items = f.items ++ (x ∷ []);
-              done_is = omega arith;
-              within = omega arith;
-              cards = a.cards;
-              count = a.sees.count;
-              folded = folded_item f.folded k a.pairs a.cards (most - (done + 1)) (omega arith) (judged (O.this k a.pairs a.cards) is);
-              stepped = false;
-              turning = turning_item f.turning few some full v.cards a.eight a.cards a.sees a.kept a.keys;
-              rows_are = put_is.row
-                  ∙ ap₂ (λ (l : List ℕ) (j : ℕ). put l j (row_of line)) f.rows_are row_at
-                  ∙ sym (ap (λ (l : List Entry). rows_after l rows₀) (lines_snoc f.items x) ∙ rows_snoc (lines_of f.items) line rows₀);
-              counts_are = put_is.count
-                  ∙ ap (set counts done) a.are.count
-                  ∙ ap₂ (λ (l : List ℕ) (j : ℕ). set l j (length a.pairs)) f.counts_are count_at
-                  ∙ sym (ap (λ (l : List Entry). values_after l counts₀) (lines_snoc f.items x) ∙ values_snoc (lines_of f.items) line counts₀ in_counts);
-              numbers_are = put_is.number
-                  ∙ ap (put numbers (done * 8)) (the_files a.are)
-                  ∙ ap₂ (λ (l : List ℕ) (j : ℕ). put l j (eight_of index_of x)) f.numbers_are eight_at
-                  ∙ sym (eights_snoc index_of f.items x numbers₀);
-              values_are = put_is.value
-                  ∙ ap (put values (done * 8)) (the_values a.are)
-                  ∙ ap₂ (λ (l : List ℕ) (j : ℕ). put l j (eight_of value_of x)) f.values_are eight_at
-                  ∙ sym (eights_snoc value_of f.items x values₀);
-              rows_len = ap length put_is.row ∙ length_put rows (done * 256) (row_of line) (omega (arith, f.rows_len, room.row)) ∙ f.rows_len;
-              counts_len = ap length put_is.count ∙ length-set counts done v.pairs.count ∙ f.counts_len;
-              numbers_len = ap length put_is.number ∙ length_put numbers (done * 8) v.pairs.files (omega (arith, f.numbers_len, room.number)) ∙ f.numbers_len;
-              values_len = ap length put_is.value ∙ length_put values (done * 8) v.pairs.values (omega (arith, f.values_len, room.value)) ∙ f.values_len;
-            }
+          pub filling_item : done < most → HasRoom most rows₀ counts₀ numbers₀ values₀ → (hd : Head) → hd.levels ≡ place.levels
+              → head_key hd ≡ place_key ks place → {rows' counts' numbers' values' : List ℕ}
+              → ItemPut hd its done rows rows' counts counts' numbers numbers' values values'
+              → Filling w fs op n all ks m 0 most rows₀ rows' counts₀ counts' numbers₀ numbers' values₀ values' (done + 1)
+          filling_item left room hd same_levels same_key {rows'} {counts'} {numbers'} {values'} put_is =
+              let a = item_of in
+              let k : List ℕ = head_key hd in
+              let fits = item_fits.few in
+              let is : decide op Y ≡ O.this k a.pairs a.cards = a.is ∙ ap (λ (x : List ℕ). O.this x a.pairs a.cards) (sym same_key) in
+              let x : Item = item_is k a.pairs in
+              let line : Entry = entry k (length a.pairs) in
+              let done_is = f.done_is in
+              let lines_len : length (lines_of f.items) ≡ length f.items = length-map f.items (λ (y : Item). entry y.key (length y.pairs)) in
+              let row_at : done * 256 ≡ row_len * length (lines_of f.items) = omega arith in
+              let count_at : done ≡ length (lines_of f.items) = omega arith in
+              let eight_at : done * 8 ≡ 8 * length f.items = omega arith in
+              let more_len : length (f.items ++ (x ∷ [])) ≡ length f.items + 1 = length-append f.items (x ∷ []) in
+              let in_counts : length (lines_of f.items) < length counts₀ = omega (arith, room.count) in
+              let short : length k ≤ 255 = key_short hd (omega arith) in
+              let eight : length its.files ≡ 8 = a.are.files_len in
+              let held : length its.values ≡ 8 = a.are.values_len in
+              record {
+                items = f.items ++ (x ∷ []);
+                done_is = omega arith;
+                within = omega arith;
+                cards = a.cards;
+                count = a.sees.count;
+                folded = folded_item f.folded k a.pairs a.cards (most - (done + 1)) (omega arith) (judged (O.this k a.pairs a.cards) is);
+                stepped = false;
+                turning = turning_item f.turning few some full m (a.long ∙ f.turning.seen_len) a.cards a.sees a.kept a.keys;
+                rows_are = put_is.row
+                    ∙ ap₂ (λ (l : List ℕ) (j : ℕ). put l j (row_of line)) f.rows_are row_at
+                    ∙ sym (ap (λ (l : List Entry). rows_after l rows₀) (lines_snoc f.items x) ∙ rows_snoc (lines_of f.items) line rows₀);
+                counts_are = put_is.count
+                    ∙ ap (set counts done) a.are.count
+                    ∙ ap₂ (λ (l : List ℕ) (j : ℕ). set l j (length a.pairs)) f.counts_are count_at
+                    ∙ sym (ap (λ (l : List Entry). values_after l counts₀) (lines_snoc f.items x) ∙ values_snoc (lines_of f.items) line counts₀ in_counts);
+                numbers_are = put_is.number
+                    ∙ ap (put numbers (done * 8)) (the_files a.are)
+                    ∙ ap₂ (λ (l : List ℕ) (j : ℕ). put l j (eight_of index_of x)) f.numbers_are eight_at
+                    ∙ sym (eights_snoc index_of f.items x numbers₀);
+                values_are = put_is.value
+                    ∙ ap (put values (done * 8)) (the_values a.are)
+                    ∙ ap₂ (λ (l : List ℕ) (j : ℕ). put l j (eight_of value_of x)) f.values_are eight_at
+                    ∙ sym (eights_snoc value_of f.items x values₀);
+                rows_len = ap length put_is.row ∙ length_put rows (done * 256) (row_of line) (omega (arith, f.rows_len, room.row)) ∙ f.rows_len;
+                counts_len = ap length put_is.count ∙ length-set counts done its.count ∙ f.counts_len;
+                numbers_len = ap length put_is.number ∙ length_put numbers (done * 8) its.files (omega (arith, f.numbers_len, room.number)) ∙ f.numbers_len;
+                values_len = ap length put_is.value ∙ length_put values (done * 8) its.values (omega (arith, f.values_len, room.value)) ∙ f.values_len;
+              }
 
 -- by an equation between pages
 pub paged_as : {v w : ItemPage} {rows₀ rows counts₀ counts numbers₀ numbers values₀ values : List ℕ} {r : Ranged} → v ≡ w

@@ -1,11 +1,11 @@
 // A page of items in one call (src/raw/ops.rs: `OpBuilder`, and the loop over its stream): up to so many items of an operation over one to eight files,
 // the least key first, between two bounds that all files share, on any files, admitted or not. No table of keys is lent.
-// rows, counts, numbers and values are slices and no struct: the C caller lends them one by one, and the definitions speak of each.
+// rows, counts, numbers and values are four slices and no struct: each is written by itself, and the definitions speak of each.
 // The two bounds are two values and no pair: each is taken by itself.
 // The cards in use are the first count of eight, passed whole by value: fixed memory.
 #![tactic(auto)]
 
-ghost use Rattle.std.specs.Prelude.{◌≡◌, map, ◌≤◌, ◌<◌, length, take};
+ghost use Rattle.std.specs.Prelude.{map, ◌≤◌, ◌<◌, length, take};
 ghost use Rattle.ops_paging.specs.ItemPaging as P;
 ghost use Rattle.stream_start.specs.Views.{bound_of};
 ghost use Rattle.ops_round.specs.Cards.{cards_is};
@@ -17,14 +17,14 @@ use ops_decide::{Op, Verdict, decide};
 use ops_keys::{KEYS, head_at};
 use ops_put::{has_room, put_item};
 use ops_round::Card;
-use ops_seen::{is_long, is_used, see};
+use ops_seen::see;
 use ops_starts::starts;
-use ops_turn::step_seen;
+use ops_turn::step_cards;
 use range_fill::{Ranged, Stop, refused};
 use std::ops::Bound;
 
 // The items of cards, up to `most`: how many were written, and how it stopped, as a range says it. A refusal stands beside the items before it. Each turn
-// steps one card, or decides once all are stepped: so the cards stay in one place, and what is seen of them stands beside them.
+// is a round, which steps the cards whose keys are used up and decides. The cards stay in one place, and what is seen of them stands beside them.
 fn fill(
     files: [&[u8]; 8],
     op: Op,
@@ -46,43 +46,15 @@ fn fill(
     let mut keys = [0u8; KEYS];
     let mut seen = see(count, cards, &mut keys);
     let mut done = 0;
-    let mut i = 0;
-    // by `while`: a turn steps one card or writes one item, so no number goes up in each
+    // by `while`: a turn is a round, and not each writes an item
     while done < most {
-        if i < count {
-            let one = seen[i];
-            if is_used(one) {
-                let file = files[i];
-                let card = all[i];
-                let reading = card.reading;
-                let step = step_seen(file, reading, i, &mut keys, MAX_KEY);
-                if let Err(why) = step.answer {
-                    return Ranged {
-                        count: done,
-                        stop: Err(why),
-                    };
-                }
-                let after = step.card;
-                let shown = step.seen;
-                all[i] = after;
-                seen[i] = shown;
-                i += 1;
-                continue;
-            }
-            if is_long(one) {
-                return Ranged {
-                    count: done,
-                    stop: Err(Refusal::State),
-                };
-            }
-            i += 1;
-            continue;
+        if let Err(why) = step_cards(files, count, &mut all, &mut keys, &mut seen, MAX_KEY) {
+            return Ranged {
+                count: done,
+                stop: Err(why),
+            };
         }
-        let decided = decide(op, &keys, count, seen);
-        let verdict = decided.verdict;
-        let place = decided.key;
-        let pairs = decided.pairs;
-        let marked = decided.cards;
+        let verdict = decide(op, &keys, &mut seen[..count]);
         match verdict {
             Verdict::NoMore => {
                 return Ranged {
@@ -90,20 +62,13 @@ fn fill(
                     stop: Ok(Stop::End),
                 };
             }
-            Verdict::This => {
-                let more = done + 1;
+            Verdict::This(place, pairs) => {
                 let key = head_at(&keys, place);
                 put_item(key, pairs, done, rows, counts, numbers, values);
-                seen = marked;
-                done = more;
-                i = 0;
+                done += 1;
                 continue;
             }
-            Verdict::Another => {
-                seen = marked;
-                i = 0;
-                continue;
-            }
+            Verdict::Another => continue,
         }
     }
     Ranged {

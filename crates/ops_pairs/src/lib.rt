@@ -6,7 +6,8 @@ ghost use Rattle.ops_spec.specs.Ops as O;
 ghost use Rattle.ops_spec.specs.Ops.{Indexed, indexed};
 ghost use Rattle.ops_pairs.specs.Pairs.{PairsAre};
 
-// So many values with the numbers of their files, passed by value. The rest is 0.
+// So many values with the numbers of their files, passed by value. The rest is 0. Two arrays and no array of pairs: each is copied whole into its own slice
+// of those that the C caller lends.
 #[derive(Clone, Copy)]
 pub struct Pairs {
     pub count: usize,
@@ -29,7 +30,7 @@ pub fn none() -> Pairs
 fn goes_before(found: bool, value: u64, file: u8, other: u64, beside: u8) -> bool
     ensures { result ≡ (found || O.sooner (indexed value file) (indexed other beside)) }
 {
-    found || value < other || (value == other && file < beside)
+    found || (value, file) < (other, beside)
 }
 
 // A value more: from its place on, each is moved up by one.

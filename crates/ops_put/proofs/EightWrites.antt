@@ -2,13 +2,13 @@
 --     eight_put                   a part of eight overwritten, as a run of writes
 --     key_row                     a key's bytes as they stand in a head
 -- Assumes nothing.
-use mathlib.Core.Path.{◌≡◌, sym, ap, ap₂, ◌∙◌}
+use mathlib.Core.Path.{◌≡◌, sym, ap, ◌∙◌}
 use mathlib.Core.List.{List, ◌∷◌, ◌++◌}
-use Prim.Native.Nat.{ℕ, ◌+◌, ◌-◌, ◌≤◌}
+use Prim.Native.Nat.{ℕ, ◌+◌, ◌-◌}
 use native.Mathlib.Omega.{arith}
 use borrow.Rule.Slice.PartMut.{put_mid}
-use lib.ListN.{length, take, drop, length-drop}
-use lib.Seq.{length-take-le, take-length, take-take}
+use lib.ListN.{length, take, drop}
+use lib.Seq.{take-length}
 use Rattle.std.proofs.lemmas.Slice.{put_mid-paste}
 use Rattle.buffers.specs.Put.{put}
 use Rattle.ops_keys.specs.declared.Head.{Head}
@@ -23,9 +23,8 @@ eight_put out at v w held e =
 
 -- ---- the key of a head
 
-pub key_row : (h : Head) (n : ℕ) → length h.inps ≡ 256 → h.levels ≤ 256 → n ≡ h.levels - 1
-    → ◌≡◌ {A = List ℕ} (n ∷ take n (take 255 (drop 1 h.inps))) (length (head_key h) ∷ head_key h)
-key_row h n len few is =
-    let key : take n (take 255 (drop 1 h.inps)) ≡ head_key h = take-take n 255 (drop 1 h.inps) (omega arith) ∙ ap (λ (j : ℕ). take j (drop 1 h.inps)) is in
-    let long : length (head_key h) ≡ h.levels - 1 = length-take-le (h.levels - 1) (drop 1 h.inps) (omega (arith, length-drop 1 h.inps)) in
-    ap₂ ◌∷◌ (is ∙ sym long) key
+pub key_row : (h : Head) (n : ℕ) → n ≡ h.levels - 1
+    → ◌≡◌ {A = List ℕ} (length (take (n + 1 - 1) (drop 1 h.inps)) ∷ take (n + 1 - 1) (drop 1 h.inps)) (length (head_key h) ∷ head_key h)
+key_row h n is =
+    let same : n + 1 - 1 ≡ h.levels - 1 = omega arith in
+    ap (λ (j : ℕ). length (take j (drop 1 h.inps)) ∷ take j (drop 1 h.inps)) same

@@ -1,6 +1,6 @@
 // What a page of items tests before its calls, the room for its items, and how an item is written: its key in a row of 256 bytes, how many files hold it,
 // and eight places for the numbers of these files and eight for its values.
-// rows, counts, numbers and values are slices and no struct: the C caller lends them one by one, and the definitions speak of each.
+// rows, counts, numbers and values are four slices and no struct: each is written by itself, and the definitions speak of each.
 #![tactic(auto)]
 
 ghost use Rattle.std.specs.Prelude.{◌≡◌, ◌≤◌};
@@ -40,10 +40,9 @@ pub fn put_item(
 {
     let n = key_len(head.levels);
     let inps = head.inps;
-    put_row(&inps[1..], n, place * ROW, rows);
+    put_row(&inps[1..=n], place * ROW, rows);
     counts[place] = pairs.count as u8;
-    let numbers_at = place * PLACES;
-    numbers[numbers_at..numbers_at + PLACES].copy_from_slice(&pairs.files);
-    let values_at = place * PLACES;
-    values[values_at..values_at + PLACES].copy_from_slice(&pairs.values);
+    let at = place * PLACES;
+    numbers[at..at + PLACES].copy_from_slice(&pairs.files);
+    values[at..at + PLACES].copy_from_slice(&pairs.values);
 }

@@ -18,13 +18,13 @@ use Rattle.ops_round.specs.declared.Slot.{Slot}
 use Rattle.ops_round.specs.declared.Slot.TheVariants.{Used, Holds, Ended}
 use Rattle.ops_round.specs.declared.Card.{Card}
 
-abbrev pub slot_is : Slot → ℕ → O.Slot
-slot_is Used v = O.used
-slot_is Holds v = O.holds v
-slot_is Ended v = O.ended
+abbrev pub slot_is : Slot → O.Slot
+slot_is Used = O.used
+slot_is (Holds v) = O.holds v
+slot_is Ended = O.ended
 
 abbrev pub card_is : List ℕ → Card → O.Card
-card_is f c = O.card_is f (plain_is c.reading) (slot_is c.slot c.value)
+card_is f c = O.card_is f (plain_is c.reading) (slot_is c.slot)
 
 unfoldable pub with_files : List (List ℕ) → List Card → List O.Card
 with_files fs [] = []
@@ -38,7 +38,7 @@ cards_is fs n cs = take n (with_files fs cs)
 
 abbrev pub FewBy : Slot → ℕ → Type 0
 FewBy Used n = Unit {0}
-FewBy Holds n = n ≤ max_levels
+FewBy (Holds v) n = n ≤ max_levels
 FewBy Ended n = Unit {0}
 
 abbrev pub Few : Card → Type 0
@@ -61,7 +61,7 @@ pub record CardStep : Type 0 where
   pub card : Card
 
 abbrev pub used_card : Plain → Card
-used_card p = record { reading = p; slot = Used; value = 0 }
+used_card p = record { reading = p; slot = Used }
 
 abbrev pub then_step : Stepping → O.Card → O.Stepped → O.Stepped
 then_step Still c others = with_card c false others
@@ -74,5 +74,5 @@ FewAfter Moved c = Few c
 FewAfter (Halted n) c = Unit {0}
 
 pub record OneStepped (f : List ℕ) (space : ℕ) (c : Card) (r : CardStep) : Type 0 where
-  pub steps : (others : O.Stepped) → step_one space (card_is f c) (slot_is c.slot c.value) others ≡ then_step r.answer (card_is f r.card) others
+  pub steps : (others : O.Stepped) → step_one space (card_is f c) (slot_is c.slot) others ≡ then_step r.answer (card_is f r.card) others
   pub few : FewAfter r.answer r.card

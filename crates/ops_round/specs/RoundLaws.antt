@@ -3,7 +3,7 @@
 --     Rounding ..               what is done of a round: the first i cards are stepped, and the rest decides
 --     rounding-..               at its start, after a card, and each way out
 -- Assumes nothing.
-use Rattle.std.specs.Prelude.{◌≡◌, refl, Bool, true, false, ◌||◌, ℕ, suc, ◌+◌, ◌<◌, ◌≤◌, length, get_or, set}
+use Rattle.std.specs.Prelude.{◌≡◌, refl, Bool, true, false, ◌||◌, ℕ, ◌+◌, ◌<◌, ◌≤◌, length, get_or, set}
 use Rattle.std.proofs.Math.Path.{sym, ap, ap₂}
 use Rattle.std.proofs.Common.{◌∙◌, subst, length-set}
 use mathlib.Core.List.{List, [], ◌∷◌, ◌++◌, append_assoc, append-nil}
@@ -55,7 +55,7 @@ rounding_none fs space n cs len =
 module _ (fs : List (List ℕ)) (space n : ℕ) (cs all : List Card) (moved : Bool) (i : ℕ) (R : Rounding fs space n cs all moved i) (small : n ≤ 8) where
   steps_head : (d : Card) → i < n
       → step_all space (drop i (cards_is fs n all))
-      ≡ step_one space (card_is (get_or fs i []) (get_or all i d)) (slot_is (get_or all i d).slot (get_or all i d).value) (step_all space (drop (i + 1) (cards_is fs n all)))
+      ≡ step_one space (card_is (get_or fs i []) (get_or all i d)) (slot_is (get_or all i d).slot) (step_all space (drop (i + 1) (cards_is fs n all)))
   unfolding step_all
   steps_head d h = let eight = R.eight in ap (step_all space) (cards_cons fs n all (omega arith) i h d)
 

@@ -20,7 +20,7 @@ use Rattle.stream_step.specs.SteppedLaws.{Told, step_key, step_end, step_refused
 use Rattle.stream.specs.declared.Plain.{Plain}
 use Rattle.stream.specs.declared.Step.{Step}
 use Rattle.stream.specs.Plains.{plain_is, CallGave}
-use Rattle.ops_round.specs.declared.Slot.TheVariants.{Used, Holds, Ended}
+use Rattle.ops_round.specs.declared.Slot.TheVariants.{Holds, Ended}
 use Rattle.ops_round.specs.declared.Card.{Card}
 use Rattle.ops_round.specs.Cards.{slot_is, card_is, FewBy, Still, Moved, Halted, used_card, OneStepped}
 
@@ -34,35 +34,35 @@ levels_number : (p : Plain) → length (plain_is p).view.levels ≡ p.reading.le
 levels_number p = stack_length p.reading.levels p.reading.stack.addrs p.reading.stack.inps p.reading.stack.trans p.reading.stack.outs
 
 module _ (f : List ℕ) (space : ℕ) (c : Card) where
-  slot_as : (x : O.Slot) (others : O.Stepped) → slot_is c.slot c.value ≡ x
-      → step_one space (card_is f c) (slot_is c.slot c.value) others ≡ step_one space (card_is f c) x others
+  slot_as : (x : O.Slot) (others : O.Stepped) → slot_is c.slot ≡ x
+      → step_one space (card_is f c) (slot_is c.slot) others ≡ step_one space (card_is f c) x others
   slot_as x others e = ap (λ (y : O.Slot). step_one space (card_is f c) y others) e
 
   pub card_ended : c.slot ≡ Ended → OneStepped f space c (record { answer = Still; card = c })
   card_ended e =
       record {
-        steps = λ others. slot_as O.ended others (ap (λ x. slot_is x c.value) e);
+        steps = λ others. slot_as O.ended others (ap slot_is e);
         few = subst (λ x. FewBy x c.reading.reading.levels) (sym e) tt;
       }
 
-  pub card_held : c.slot ≡ Holds → c.reading.reading.levels ≤ max_levels → OneStepped f space c (record { answer = Still; card = c })
-  card_held e h =
+  pub card_held : (v : ℕ) → c.slot ≡ Holds v → c.reading.reading.levels ≤ max_levels → OneStepped f space c (record { answer = Still; card = c })
+  card_held v e h =
       let n = levels_number c.reading in
       let t = le-leb (length (plain_is c.reading).view.levels) max_levels (omega arith) in
       record {
         steps = λ others.
-            slot_as (O.holds c.value) others (ap (λ x. slot_is x c.value) e)
+            slot_as (O.holds v) others (ap slot_is e)
             ∙ ap (λ (b : Bool). cond b (with_card (card_is f c) false others) (O.halted STATE)) t;
         few = subst (λ x. FewBy x c.reading.reading.levels) (sym e) h;
       }
 
-  pub card_long : c.slot ≡ Holds → max_levels < c.reading.reading.levels → OneStepped f space c (record { answer = Halted STATE; card = c })
-  card_long e h =
+  pub card_long : (v : ℕ) → c.slot ≡ Holds v → max_levels < c.reading.reading.levels → OneStepped f space c (record { answer = Halted STATE; card = c })
+  card_long v e h =
       let n = levels_number c.reading in
       let t = lt-leb (length (plain_is c.reading).view.levels) max_levels (omega arith) in
       record {
         steps = λ others.
-            slot_as (O.holds c.value) others (ap (λ x. slot_is x c.value) e)
+            slot_as (O.holds v) others (ap slot_is e)
             ∙ ap (λ (b : Bool). cond b (with_card (card_is f c) false others) (O.halted STATE)) t;
         few = tt;
       }
@@ -75,7 +75,7 @@ module _ (f : List ℕ) (space : ℕ) (p : Plain) (g : Step) (gave : CallGave (n
   used_as others a is = ap₂ (λ (q : P.Plain) (x : R.Answer). by_answer f q x others) (sym gave.plain) is
 
   pub card_key_lem : (n v : ℕ) → g.answer ≡ Ok (Some (n, v))
-      → OneStepped f space (used_card p) (record { answer = Moved; card = record { reading = g.plain; slot = Holds; value = v } })
+      → OneStepped f space (used_card p) (record { answer = Moved; card = record { reading = g.plain; slot = Holds v } })
   card_key_lem n v e =
       let q = step_key (told_by_lem gave) n v e in
       let number = levels_number g.plain in
@@ -83,8 +83,8 @@ module _ (f : List ℕ) (space : ℕ) (p : Plain) (g : Step) (gave : CallGave (n
       let few = plain_few f (plain_is p) space q.0 v q.1 in
       record { steps = λ others. used_as others (R.key q.0 v) q.1; few = omega arith }
 
-  pub card_end : (v : ℕ) → g.answer ≡ Ok None → OneStepped f space (used_card p) (record { answer = Moved; card = record { reading = g.plain; slot = Ended; value = v } })
-  card_end v e = record { steps = λ others. used_as others R.end (step_end (told_by_lem gave) e); few = tt }
+  pub card_end : g.answer ≡ Ok None → OneStepped f space (used_card p) (record { answer = Moved; card = record { reading = g.plain; slot = Ended } })
+  card_end e = record { steps = λ others. used_as others R.end (step_end (told_by_lem gave) e); few = tt }
 
   pub card_refused : (c : Card) (n : Refusal) → g.answer ≡ Err n → OneStepped f space (used_card p) (record { answer = Halted n; card = c })
   card_refused c n e = record { steps = λ others. used_as others (R.Answer.refused n) (step_refused (told_by_lem gave) n e); few = tt }

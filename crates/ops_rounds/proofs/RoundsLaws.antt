@@ -1,42 +1,38 @@
 -- The rounds of a call, turn after turn.
 --     Rounds ..                          the call from the cards given goes on
---     rounds_none, -step, -skip, -again  at the start, after a card that was stepped, after one that was not, after a round
---     called-..                          the ways out
---     card_less, round_less              the measure falls
+--     rounds_none, rounds_on, rounds_again    at the start, after the steps of a round, after a round
+--     called_..                          the ways out
+--     steps_less, round_less             the steps leave no more to do, and the measure falls
 -- Assumes nothing.
 use mathlib.Core.Path.{◌≡◌, refl, sym, ap, ◌∙◌, subst}
-use Rattle.std.specs.Prelude.{Ok, Err, Result}
+use Rattle.std.specs.Prelude.{Ok, Err, Some, None, Result}
 use Rattle.format.specs.declared.Refusal.{Refusal}
 use mathlib.Core.Bool.{Bool, true, false, ◌||◌}
-use mathlib.Core.Logic.{◌⊎◌}
-use mathlib.Core.List.{List, []}
+use mathlib.Core.List.{List, [], ◌++◌}
 use Prim.Native.Nat.{ℕ, ◌+◌, ◌<◌, ◌≤◌}
 use native.Mathlib.Omega.{arith}
 use lib.Dec.{leb}
-use lib.ListN.{length, get_or, set}
-use Rattle.format.specs.Limits.{max_path, SPACE, STATE}
+use lib.ListN.{length, take, drop}
+use Rattle.format.specs.Limits.{max_path, SPACE}
 use Rattle.ops_spec.specs.Ops as O
 use Rattle.ops_spec.specs.Ops.{by_verdict, decide}
 use Rattle.ops_spec.specs.OpsFuelLaws.{rounds_by}
 use Rattle.ops_keys.specs.declared.Head.{Head}
+use Rattle.ops_keys.specs.declared.Place.{Place}
 use Rattle.ops_keys.specs.Heads.{head_key, place_key, Within}
-use Rattle.ops_round.specs.declared.Slot.TheVariants.{Used, Holds, Ended}
+use Rattle.ops_pairs.specs.declared.Pairs.{Pairs}
 use Rattle.ops_round.specs.declared.Card.{Card}
 use Rattle.ops_round.specs.Cards.{cards_is}
 use Rattle.ops_seen.specs.declared.Seen.{Seen}
 use Rattle.ops_seen.specs.Sights.{AllSeen, AllDealt, Sees, Ready, Kept}
-use Rattle.ops_turn.specs.declared.SeenStep.{SeenStep}
-use Rattle.ops_turn.specs.Parts.{dealt_all, SeenStepped, load, Turning}
+use Rattle.ops_turn.specs.Parts.{dealt_all, Turning, to_do, Went, CardsStepped}
 use Rattle.ops_turn.specs.LoadLaws.{Lighter, decide_lighter}
-use Rattle.ops_turn.specs.PartsLaws.{to_do, turning_none, turning_on, turning_skip, turn_halted, turn_long, turn_sees, turn_ready, turn_judged, turn_short, turning_again, dealt_is, step_less, again_less}
+use Rattle.ops_turn.specs.PartsLaws.{turning_none, turn_sees, turn_ready, turn_judged, turn_short, turning_again, dealt_is, again_less}
 use Rattle.ops_decide.specs.declared.Verdict.TheVariants.{This, NoMore, Another}
-use Rattle.ops_decide.specs.declared.Decided.{Decided}
+use Rattle.ops_decide.specs.declared.Verdict.{Verdict}
 use Rattle.ops_decide.specs.Verdicts.{DecidedBy}
-use Rattle.ops_decide.specs.VerdictsLaws.{ThisOf, AnotherOf, this_by, over_by, another_by}
-use Rattle.ops_rounds.specs.declared.Came.{Came}
-use Rattle.ops_rounds.specs.declared.Came.TheVariants as C
-use Rattle.ops_rounds.specs.declared.Called.{Called}
-use Rattle.ops_rounds.specs.Turns.{ItemIs, CalledAs, CalledBy}
+use Rattle.ops_decide.specs.VerdictsLaws.{lent_length, lent_sees, lent_ready, ThisOf, AnotherOf, this_by, over_by, another_by}
+use Rattle.ops_rounds.specs.Turns.{CalledBy}
 
 pub record Rounds (fs : List (List ℕ)) (o : O.Op) (n space : ℕ) (cs all : List Card) (ks : List ℕ) (ss : List Seen) (i : ℕ) (stepped : Bool) : Type 0 where
   pub given : length cs ≡ 8
@@ -45,53 +41,59 @@ pub record Rounds (fs : List (List ℕ)) (o : O.Op) (n space : ℕ) (cs all : Li
 pub rounds_none : (fs : List (List ℕ)) (o : O.Op) (n space : ℕ) (cs : List Card) (ks : List ℕ) (ss : List Seen) → n ≤ 8 → AllSeen n cs ks ss → Rounds fs o n space cs cs ks ss 0 false
 rounds_none fs o n space cs ks ss small all = record { given = all.given; turning = turning_none space fs o n cs ks ss small all }
 
+-- ---- the steps of a round
+
+module _ {fs : List (List ℕ)} {o : O.Op} {n space : ℕ} {cs all : List Card} {ks : List ℕ} {ss : List Seen} {stepped : Bool} (R : Rounds fs o n space cs all ks ss 0 stepped)
+    {all' : List Card} {ks' : List ℕ} {ss' : List Seen} {r : Result Bool Refusal} (by : CardsStepped fs space n all ks ss all' ks' ss' r) where
+  pub called_refused : (why : Refusal) → r ≡ Err why → CalledBy fs n cs (rounds_by o space false (cards_is fs n cs)) (Err why)
+  called_refused why t =
+      record { is = (subst (CardsStepped fs space n all ks ss all' ks' ss') t by).is o (cards_is fs n cs) stepped R.turning; given = R.given }
+
+  module _ (m : Bool) (t : r ≡ Ok m) where
+    went : Went space fs o n (cards_is fs n cs) all ss all' ks' ss' n (stepped || m)
+    went = (subst (CardsStepped fs space n all ks ss all' ks' ss') t by).is o (cards_is fs n cs) stepped R.turning
+
+    pub rounds_on : Rounds fs o n space cs all' ks' ss' n (stepped || m)
+    rounds_on = record { given = R.given; turning = went.turning }
+
+    pub steps_less : to_do fs n all' ss' n ≤ to_do fs n all ss 0
+    steps_less = went.less
+
+-- ---- all cards have had their part
+
 module _ {fs : List (List ℕ)} {o : O.Op} {n space : ℕ} {cs all : List Card} {ks : List ℕ} {ss : List Seen} {i : ℕ} {stepped : Bool}
     (R : Rounds fs o n space cs all ks ss i stepped) (some : 0 < n) (small : n ≤ 8) where
   abbrev M : O.Merged
   M = rounds_by o space false (cards_is fs n cs)
 
-  called_as : (a : Result Came Refusal) (r : Called) → r.came ≡ a → CalledAs fs n M r a → CalledBy fs n cs M r
-  called_as a r e is = record { is = subst (CalledAs fs n M r) (sym e) is; given = R.given }
-
-  -- ---- a card's part
-
-  module _ (h : i < n) (d : Card) (e : Seen) where
-    module _ (used : (get_or ss i e).slot ≡ Used) (ks' : List ℕ) (s : SeenStep) (by : SeenStepped (get_or fs i []) space (get_or all i d).reading i ks ks' s) where
-      pub called_halted : (why : Refusal) → s.answer ≡ Err why → (r : Called) → r.came ≡ Err why → CalledBy fs n cs M r
-      called_halted why t r is = called_as (Err why) r is (turn_halted R.turning small h d e used ks' s by why t)
-
-      pub rounds_step : s.answer ≡ Ok tt → Rounds fs o n space cs (set all i s.card) ks' (set ss i s.seen) (i + 1) true
-      rounds_step t = record { given = R.given; turning = turning_on R.turning small h d e used ks' s by t }
-
-      pub card_less : s.answer ≡ Ok tt → to_do fs n (set all i s.card) (set ss i s.seen) (i + 1) < to_do fs n all ss i
-      card_less t = step_less R.turning small h d e used ks' s by t
-
-  module _ (h : i < n) (e : Seen) where
-    pub called_long : ((get_or ss i e).slot ≡ Holds) × (256 < (get_or ss i e).key.levels) → (r : Called) → r.came ≡ Err STATE → CalledBy fs n cs M r
-    called_long long r is = called_as (Err STATE) r is (turn_long R.turning small h e long)
-
-    pub rounds_skip : ((get_or ss i e).slot ≡ Holds) ⊎ ((get_or ss i e).slot ≡ Ended) → ((get_or ss i e).slot ≡ Holds → (get_or ss i e).key.levels ≤ 256)
-        → Rounds fs o n space cs all ks ss (i + 1) stepped
-    rounds_skip slot few = record { given = R.given; turning = turning_skip R.turning small h e slot few }
-
-  -- ---- all cards have had their part
-
   module _ (full : n ≤ i) where
     abbrev Y : List O.Card
     Y = cards_is fs n (dealt_all all ss)
 
-    pub called_short : (stepped || leb max_path space) ≡ false → (r : Called) → r.came ≡ Err SPACE → CalledBy fs n cs M r
-    called_short t r is = called_as (Err SPACE) r is (turn_short R.turning small some full t)
+    pub called_short : (stepped || leb max_path space) ≡ false → CalledBy fs n cs M (Err SPACE)
+    called_short t = record { is = turn_short R.turning small some full t; given = R.given }
 
-    pub rounds_ready : Ready ks n ss
-    rounds_ready = turn_ready R.turning small some full
+    long : n ≤ length ss
+    long = let e = R.turning.seen_len in omega arith
 
-    module _ (room : (stepped || leb max_path space) ≡ true) (v : Decided) (by : (X : List O.Card) → Sees ks n ss X → DecidedBy ks ss X n (decide o X) v) where
+    pub rounds_ready : (0 < length (take n ss)) × (length (take n ss) ≤ 8) × Ready ks (length (take n ss)) (take n ss)
+    rounds_ready =
+        let len = lent_length ks ss n long in
+        (omega arith, omega arith, lent_ready ks ss n long (turn_ready R.turning small some full))
+
+    module _ (room : (stepped || leb max_path space) ≡ true) (w : List Seen) (v : Verdict)
+        (by : (X : List O.Card) → Sees ks (length (take n ss)) (take n ss) X → DecidedBy ks (take n ss) X (decide o X) w v) where
+      abbrev m : List Seen
+      m = w ++ drop n ss
+
       sees : Sees ks n ss Y
       sees = turn_sees R.turning small some full
 
-      here : DecidedBy ks ss Y n (decide o Y) v
-      here = by Y sees
+      here : DecidedBy ks (take n ss) Y (decide o Y) w v
+      here = by Y (lent_sees ks ss n long Y sees)
+
+      here_as : (u : Verdict) → v ≡ u → DecidedBy ks (take n ss) Y (decide o Y) w u
+      here_as u e = subst (DecidedBy ks (take n ss) Y (decide o Y) w) e here
 
       judged : (q : O.Verdict) → decide o Y ≡ q → M ≡ by_verdict Y (rounds_by o space true) q
       judged q e = turn_judged R.turning small some full room ∙ ap (by_verdict Y (rounds_by o space true)) e
@@ -99,45 +101,50 @@ module _ {fs : List (List ℕ)} {o : O.Op} {n space : ℕ} {cs all : List Card} 
       kept_same : Kept Y Y
       kept_same = record { count = refl; file = λ j x. refl; reading = λ j x. refl }
 
-      pub called_end : v.verdict ≡ NoMore → (r : Called) → r.came ≡ Ok C.End → AllDealt n all ss r.cards → CalledBy fs n cs M r
-      called_end e r is dealt =
-          called_as (Ok C.End) r is
-          (judged O.no_more (over_by ks ss Y n v (decide o Y) here e)
-          ∙ ap O.ending (sym (dealt_is R.turning small some full ss R.turning.seen_len Y sees kept_same r.cards dealt)))
-
-      this_of : v.verdict ≡ This → ThisOf ks ss Y n (decide o Y) v
-      this_of e = this_by ks ss Y n v (decide o Y) here e
-
-      pub item_within : v.verdict ≡ This → Within v.key
-      item_within e = (this_of e).few
-
-      pub called_item : v.verdict ≡ This → (hd : Head) → hd.levels ≡ v.key.levels → head_key hd ≡ place_key ks v.key → (after : List Card) → AllDealt n all v.cards after
-          → CalledBy fs n cs M (record { came = Ok C.Item; key = hd; pairs = v.pairs; cards = after })
-      called_item e hd levels key after dealt =
-          let a = this_of e in
-          let fits = a.few.few in
-          let cards : cards_is fs n after ≡ a.cards = dealt_is R.turning small some full v.cards a.eight a.cards a.sees a.kept after dealt in
+      pub called_end : v ≡ NoMore → (after : List Card) → AllDealt n all m after → CalledBy fs n cs M (Ok (record { item = None; cards = after }))
+      called_end e after dealt =
+          let o_b = over_by ks ss n long w Y (decide o Y) (here_as NoMore e) in
+          let dealt_ss = subst (λ (l : List Seen). AllDealt n all l after) o_b.1 dealt in
           record {
-            is = record {
-              pairs = a.pairs;
-              are = a.are;
-              few = omega arith;
-              is = judged (O.this (place_key ks v.key) a.pairs a.cards) a.is
-                  ∙ ap (λ (k : List ℕ). O.item k a.pairs a.cards) (sym key)
-                  ∙ ap (O.item (head_key hd) a.pairs) (sym cards);
-            };
+            is = judged O.no_more o_b.0
+                ∙ ap O.ending (sym (dealt_is R.turning small some full ss R.turning.seen_len Y sees kept_same after dealt_ss));
             given = R.given;
           }
 
-      another_of : v.verdict ≡ Another → AnotherOf ks ss Y n (decide o Y) v
-      another_of e = another_by ks ss Y n v (decide o Y) here e
+      module _ (place : Place) (its : Pairs) (e : v ≡ This place its) where
+        this_of : ThisOf ks ss Y n (decide o Y) m place its
+        this_of = this_by ks ss n long w Y place its (decide o Y) (here_as (This place its) e)
 
-      pub rounds_again : v.verdict ≡ Another → Rounds fs o n space cs all ks v.cards 0 true
+        pub item_within : Within place
+        item_within = this_of.few
+
+        pub called_item : (hd : Head) → hd.levels ≡ place.levels → head_key hd ≡ place_key ks place → (after : List Card) → AllDealt n all m after
+            → CalledBy fs n cs M (Ok (record { item = Some (hd, its); cards = after }))
+        called_item hd levels key after dealt =
+            let a = this_of in
+            let fits = a.few.few in
+            let cards : cards_is fs n after ≡ a.cards = dealt_is R.turning small some full m (a.long ∙ R.turning.seen_len) a.cards a.sees a.kept after dealt in
+            record {
+              is = record {
+                pairs = a.pairs;
+                are = a.are;
+                few = omega arith;
+                is = judged (O.this (place_key ks place) a.pairs a.cards) a.is
+                    ∙ ap (λ (k : List ℕ). O.item k a.pairs a.cards) (sym key)
+                    ∙ ap (O.item (head_key hd) a.pairs) (sym cards);
+              };
+              given = R.given;
+            }
+
+      another_of : v ≡ Another → AnotherOf ks ss Y n (decide o Y) m
+      another_of e = another_by ks ss n long w Y (decide o Y) (here_as Another e)
+
+      pub rounds_again : v ≡ Another → Rounds fs o n space cs all ks m 0 true
       rounds_again e =
           let a = another_of e in
-          record { given = R.given; turning = turning_again R.turning small some full v.cards a.eight a.cards a.sees a.kept a.keys room a.is }
+          record { given = R.given; turning = turning_again R.turning small some full m (a.long ∙ R.turning.seen_len) a.cards a.sees a.kept a.keys room a.is }
 
-      pub round_less : v.verdict ≡ Another → to_do fs n all v.cards 0 < to_do fs n all ss i
+      pub round_less : v ≡ Another → to_do fs n all m 0 < to_do fs n all ss i
       round_less e =
           let a = another_of e in
-          again_less R.turning small some full v.cards a.eight a.cards a.sees a.kept (subst (Lighter Y) a.is (decide_lighter o Y))
+          again_less R.turning small some full m (a.long ∙ R.turning.seen_len) a.cards a.sees a.kept (subst (Lighter Y) a.is (decide_lighter o Y))

@@ -2,7 +2,7 @@
 --     ItemIs fs n m k p cs               m is an item, with its key and its values as they are held
 --     CalledBy fs n cs m r               the rounds of a call with the cards cs whose definition answers m
 -- Assumes nothing.
-use Rattle.std.specs.Prelude.{◌≡◌, List, ℕ, ◌≤◌, length, Ok, Err, Result}
+use Rattle.std.specs.Prelude.{◌≡◌, List, ℕ, ◌≤◌, length, Ok, Err, Some, None, Result, Option}
 use Rattle.format.specs.declared.Refusal.{Refusal}
 use Rattle.format.specs.Limits.{max_levels}
 use Rattle.ops_spec.specs.Ops as O
@@ -13,8 +13,6 @@ use Rattle.ops_pairs.specs.declared.Pairs.{Pairs}
 use Rattle.ops_pairs.specs.Pairs.{PairsAre}
 use Rattle.ops_round.specs.declared.Card.{Card}
 use Rattle.ops_round.specs.Cards.{cards_is}
-use Rattle.ops_rounds.specs.declared.Came.{Came}
-use Rattle.ops_rounds.specs.declared.Came.TheVariants as C
 use Rattle.ops_rounds.specs.declared.Called.{Called}
 
 -- an item, with its values as they are held
@@ -26,12 +24,15 @@ pub record ItemIs (fs : List (List ℕ)) (n : ℕ) (m : O.Merged) (k : Head) (p 
 
 -- ---- the rounds of a call
 
-abbrev pub CalledAs : List (List ℕ) → ℕ → O.Merged → Called → Result Came Refusal → Type 0
-CalledAs fs n m r (Ok C.Item) = ItemIs fs n m r.key r.pairs r.cards
-CalledAs fs n m r (Ok C.End) = m ≡ O.ending (cards_is fs n r.cards)
-CalledAs fs n m r (Err c) = m ≡ O.Merged.refused c
+abbrev pub CalledAs : List (List ℕ) → ℕ → O.Merged → Option (Head × Pairs) → List Card → Type 0
+CalledAs fs n m (Some (k, p)) cs = ItemIs fs n m k p cs
+CalledAs fs n m None cs = m ≡ O.ending (cards_is fs n cs)
 
-pub record CalledBy (fs : List (List ℕ)) (n : ℕ) (cs : List Card) (m : O.Merged) (r : Called) : Type 0 where
-  pub is : CalledAs fs n m r r.came
+abbrev pub CameBy : List (List ℕ) → ℕ → O.Merged → Result Called Refusal → Type 0
+CameBy fs n m (Ok r) = CalledAs fs n m r.item r.cards
+CameBy fs n m (Err c) = m ≡ O.Merged.refused c
+
+pub record CalledBy (fs : List (List ℕ)) (n : ℕ) (cs : List Card) (m : O.Merged) (r : Result Called Refusal) : Type 0 where
+  pub is : CameBy fs n m r
   -- the cards given are eight: a caller that holds them in a struct is not told
   pub given : length cs ≡ 8

@@ -9,61 +9,43 @@ ghost use Rattle.ops_round.specs.Cards.{cards_is};
 ghost use Rattle.ops_decide.specs.Verdicts.{op_is};
 ghost use Rattle.ops_rounds.specs.Turns.{CalledBy};
 
-use format::{LEVELS, MAX_KEY, Refusal};
+use format::{MAX_KEY, Refusal};
 use ops_decide::{Op, Verdict, decide};
 use ops_keys::{Head, KEYS, head_at};
 use ops_pairs::Pairs;
 use ops_round::Card;
-use ops_seen::{deal, is_long, is_used, see};
-use ops_turn::step_seen;
+use ops_seen::{deal, see};
+use ops_turn::step_cards;
 
-// What the rounds of a call come to.
-#[derive(Clone, Copy)]
-pub enum Came {
-    Item,
-    End,
-}
-
-// The rounds of a call, with the item's key and values, and the cards afterwards. Without an item the key and the values carry no meaning, after a
-// refusal nothing.
+// What the rounds of a call come to: the item's key and values, and none at the end; and the cards afterwards.
 #[derive(Clone, Copy)]
 pub struct Called {
-    pub came: Result<Came, Refusal>,
-    pub key: Head,
-    pub pairs: Pairs,
+    pub item: Option<(Head, Pairs)>,
     pub cards: [Card; 8],
 }
 
-// A call without an item.
-fn without(came: Result<Came, Refusal>, cards: [Card; 8]) -> Called
-    ensures { (result.came ≡ came) × (result.cards ≡ cards) }
+// Whether a round may be decided: a reading was stepped in this call, before this round or in it, or the buffer has room for every key.
+fn has_room(before: bool, stepped: bool, space: usize) -> bool
+    ensures { result ≡ ((before || stepped) || leb max_path space) }
 {
-    let pairs = ops_pairs::none();
-    let key = Head {
-        levels: 0,
-        inps: [0; LEVELS],
-    };
-    Called {
-        came,
-        key,
-        pairs,
-        cards,
+    if before {
+        return true;
     }
-}
-
-// Whether a round may be decided: a reading was stepped in this call, or the buffer has room for every key.
-fn has_room(moved: bool, space: usize) -> bool
-    ensures { result ≡ (moved || leb max_path space) }
-{
-    if moved {
+    if stepped {
         return true;
     }
     MAX_KEY <= space
 }
 
-// The rounds of a call: each turn looks at one card, or decides once all were looked at. SPACE where no reading was stepped in this call and the buffer is
-// too short for some key.
-pub fn rounds(files: [&[u8]; 8], op: Op, count: usize, cards: [Card; 8], space: usize) -> Called
+// The rounds of a call: each steps the cards whose keys are used up, and decides. SPACE where no reading was stepped in this call and the buffer is too
+// short for some key.
+pub fn rounds(
+    files: [&[u8]; 8],
+    op: Op,
+    count: usize,
+    cards: [Card; 8],
+    space: usize,
+) -> Result<Called, Refusal>
     requires { (0 < count) × (count ≤ 8) }
     ensures { CalledBy (map (λ f. f.now) files.entry) count cards (rounds_by (op_is op) space false
         (cards_is (map (λ f. f.now) files.entry) count cards)) result }
@@ -72,60 +54,31 @@ pub fn rounds(files: [&[u8]; 8], op: Op, count: usize, cards: [Card; 8], space: 
     let mut keys = [0u8; KEYS];
     let mut seen = see(count, cards, &mut keys);
     let mut moved = false;
-    let mut i = 0;
-    // by `loop`: a turn looks at one card or decides, so no number goes up in each
+    // by `loop`: a turn is a round, and nothing counts them
     loop {
-        if i < count {
-            let one = seen[i];
-            if is_used(one) {
-                let file = files[i];
-                let card = all[i];
-                let reading = card.reading;
-                let step = step_seen(file, reading, i, &mut keys, space);
-                if let Err(why) = step.answer {
-                    return without(Err(why), all);
-                }
-                let after = step.card;
-                let shown = step.seen;
-                all[i] = after;
-                seen[i] = shown;
-                moved = true;
-                i += 1;
-                continue;
-            }
-            if is_long(one) {
-                return without(Err(Refusal::State), all);
-            }
-            i += 1;
-            continue;
+        let stepped = step_cards(files, count, &mut all, &mut keys, &mut seen, space)?;
+        if !has_room(moved, stepped, space) {
+            return Err(Refusal::Space);
         }
-        if has_room(moved, space) {} else {
-            return without(Err(Refusal::Space), all);
-        }
-        let decided = decide(op, &keys, count, seen);
-        let verdict = decided.verdict;
-        let place = decided.key;
-        let pairs = decided.pairs;
-        let marked = decided.cards;
+        let verdict = decide(op, &keys, &mut seen[..count]);
         match verdict {
             Verdict::NoMore => {
                 let last = deal(count, all, seen);
-                return without(Ok(Came::End), last);
+                return Ok(Called {
+                    item: None,
+                    cards: last,
+                });
             }
-            Verdict::This => {
+            Verdict::This(place, pairs) => {
                 let key = head_at(&keys, place);
-                let after = deal(count, all, marked);
-                return Called {
-                    came: Ok(Came::Item),
-                    key,
-                    pairs,
+                let after = deal(count, all, seen);
+                return Ok(Called {
+                    item: Some((key, pairs)),
                     cards: after,
-                };
+                });
             }
             Verdict::Another => {
-                seen = marked;
                 moved = true;
-                i = 0;
                 continue;
             }
         }

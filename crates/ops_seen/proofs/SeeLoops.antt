@@ -3,7 +3,7 @@
 --     seeing-.., dealing-..        at its start, after a card, and at its end
 -- Assumes nothing.
 use mathlib.Core.Path.{◌≡◌, refl, sym, ap, ◌∙◌, subst}
-use mathlib.Core.Logic.{⊎_elim, ◌⊎◌, inl, inr}
+use mathlib.Core.Logic.{⊎_elim, ◌⊎◌}
 use mathlib.Core.List.{List, [], ◌∷◌}
 use Prim.Native.Nat.{ℕ, zero, suc, ◌+◌, ◌<◌, ◌≤◌}
 use native.Mathlib.Omega.{arith}
@@ -48,7 +48,6 @@ seeing_on n cs ks₀ ks r i b s small given S h one =
         let o = S.at j d e k in
         record {
           slot = o.slot;
-          value = o.value;
           key = key_kept (get_or cs i b).reading (get_or cs j d).reading i j ks₀ ks s.key (get_or r j e).key one.put (omega arith) (λ z. omega arith) o.key;
         }
 
@@ -57,7 +56,7 @@ seeing_on n cs ks₀ ks r i b s small given S h one =
 
     one_at : (d : Card) → SeenAt ks (get_or cs i d) i s
     one_at d =
-        subst (λ (c : Card). SeenAt ks c i s) (default_any cs i b d (omega arith)) (record { slot = one.slot; value = one.value; key = one.put.here })
+        subst (λ (c : Card). SeenAt ks c i s) (default_any cs i b d (omega arith)) (record { slot = one.slot; key = one.put.here })
 
     here : (j : ℕ) (d : Card) (e : Seen) → j ≡ i → SeenAt ks (get_or cs j d) j (get_or (set r i s) j e)
     here j d e z =

@@ -5,7 +5,7 @@
 --     see_sees, see_few        what is seen of cards is seen of the cards that they stand for
 --     deal_is                  cards dealt by what is seen of Y stand for Y
 -- Assumes nothing.
-use Rattle.std.specs.Prelude.{◌≡◌, refl, Bool, true, false, cond, List, [], ◌∷◌, ℕ, zero, suc, ◌+◌, ◌≤◌, ◌<◌, length, take, drop, get_or}
+use Rattle.std.specs.Prelude.{◌≡◌, refl, Bool, true, false, cond, List, [], ◌∷◌, ℕ, zero, suc, ◌+◌, ◌≤◌, ◌<◌, length, drop, get_or}
 use Rattle.std.proofs.Common.{sym, ap, ap₂, ◌∙◌, subst, arith, add-one, drop-cons, get_or-take, ext_get_or}
 use Rattle.format.specs.Limits.{max_levels}
 use Rattle.plain.specs.Plain as P
@@ -13,7 +13,7 @@ use Rattle.ops_spec.specs.Ops as O
 use Rattle.ops_spec.specs.Ops.{card_key, if_holds, use_up}
 use Rattle.stream.specs.declared.Plain.{Plain}
 use Rattle.ops_keys.specs.declared.Place.{Place}
-use Rattle.ops_keys.specs.Heads.{Within, KeyAt, BytesPut}
+use Rattle.ops_keys.specs.Heads.{KeyAt, BytesPut}
 use Rattle.ops_round.specs.declared.Slot.{Slot}
 use Rattle.ops_round.specs.declared.Slot.TheVariants.{Holds}
 use Rattle.ops_round.specs.declared.Card.{Card}
@@ -100,8 +100,8 @@ key_kept p q i j ks₀ ks h g put eight ne at =
     }
 
 module _ (n : ℕ) (cs : List Card) (ks : List ℕ) (r : List Seen) (all : AllSeen n cs ks r) (small : n ≤ 8) where
-  few_levels : (c : Card) → C.Few c → c.slot ≡ Holds → c.reading.reading.levels ≤ max_levels
-  few_levels c few e = subst (λ (x : Slot). FewBy x c.reading.reading.levels) e few
+  few_levels : (c : Card) → C.Few c → (v : ℕ) → c.slot ≡ Holds v → c.reading.reading.levels ≤ max_levels
+  few_levels c few v e = subst (λ (x : Slot). FewBy x c.reading.reading.levels) e few
 
   pub see_few : C.AllFew n cs → (i : ℕ) (d : Seen) → i < n → (b : Card) → Few (get_or r i d)
   see_few few i d h b =
@@ -109,14 +109,14 @@ module _ (n : ℕ) (cs : List Card) (ks : List ℕ) (r : List Seen) (all : AllSe
       let a = s.key.at in
       let l = s.key.levels in
       record {
-        held = λ e. let f = few_levels (get_or cs i b) (few i b h) (sym s.slot ∙ e) in record { eight = omega arith; few = omega arith };
+        held = λ v e. let f = few_levels (get_or cs i b) (few i b h) v (sym s.slot ∙ e) in record { eight = omega arith; few = omega arith };
       }
 
   shown : (f : List ℕ) (c : Card) (i : ℕ) (s : Seen) → SeenAt ks c i s → C.Few c → Shows ks s (card_is f c)
   shown f c i s o few =
       record {
-        slot = sym (ap₂ slot_is o.slot o.value);
-        key = λ e. sym (o.key.key (few_levels c few (sym o.slot ∙ e)));
+        slot = sym (ap slot_is o.slot);
+        key = λ v e. sym (o.key.key (few_levels c few v (sym o.slot ∙ e)));
       }
 
   card_at : (fs : List (List ℕ)) (i : ℕ) (b : Card) (e : O.Card) → i < n → get_or (cards_is fs n cs) i e ≡ card_is (get_or fs i []) (get_or cs i b)

@@ -1,47 +1,45 @@
-// What a round sees of the cards: where their keys stand, their slots and values. The readings, which are large, do not go through the functions that
-// decide, and the bytes of the keys are lent to them.
-// The cards in use are the first count of eight, passed whole: fixed memory. What is asked of keys, count and cards is of the three together.
+// What a round sees of the cards: where their keys stand, and their slots. The readings, which are large, do not go through the functions that decide, and
+// the bytes of the keys are lent to them.
+// The cards in use are the first count of eight, passed whole by value: fixed memory. The functions that decide are lent what is seen of those in use alone.
 #![tactic(auto)]
 
-ghost use Rattle.std.specs.Prelude.{◌≡◌, ◌≤◌, ◌<◌, length};
+ghost use Rattle.std.specs.Prelude.{◌≡◌, ◌≤◌, ◌<◌};
 ghost use Rattle.ops_seen.specs.Sights.{dealt_card, SeenOf, AllSeen, AllDealt, UsedTest, LongTest};
 
 use format::LEVELS;
 use ops_keys::{KEYS, Place, put_bytes};
 use ops_round::{Card, Slot};
 
-// What is seen of a card, passed by value. The key is that of its reading; like the value it carries meaning only where a key is held.
+// What is seen of a card, passed by value. The key is that of its reading in every slot, since the proof of a round speaks of the place of each card's key.
 #[derive(Clone, Copy)]
 pub struct Seen {
     pub key: Place,
     pub slot: Slot,
-    pub value: u64,
 }
 
 // What is seen of card number i, its key put among the eight.
-pub fn show(card: Card, i: usize, keys: &mut [u8; KEYS]) -> Seen
-    requires { (length keys.old ≡ 2048) × (i < 8) }
+fn show(card: Card, i: usize, keys: &mut [u8; KEYS]) -> Seen
+    requires { i < 8 }
     ensures { SeenOf card i keys.old keys.new result }
 {
     let key = put_bytes(card.reading, i, keys);
     Seen {
         key,
         slot: card.slot,
-        value: card.value,
     }
 }
 
 // What is seen of the first count cards.
 pub fn see(count: usize, cards: [Card; 8], keys: &mut [u8; KEYS]) -> [Seen; 8]
-    requires { (length keys.old ≡ 2048) × (count ≤ 8) }
+    requires { count ≤ 8 }
     ensures { AllSeen count cards keys.new result }
 {
     let blank = Seen {
         key: Place { at: 0, levels: 0 },
         slot: Slot::Used,
-        value: 0,
     };
     let mut seen = [blank; 8];
+    // by index: a card's place is also that of its key
     for i in 0..count {
         seen[i] = show(cards[i], i, keys);
     }
@@ -52,33 +50,33 @@ pub fn see(count: usize, cards: [Card; 8], keys: &mut [u8; KEYS]) -> [Seen; 8]
 pub fn is_used(seen: Seen) -> bool
     ensures { UsedTest seen result }
 {
-    seen.slot == Slot::Used
+    matches!(seen.slot, Slot::Used)
 }
 
 // Whether a card holds a key of over 256 levels.
 pub fn is_long(seen: Seen) -> bool
     ensures { LongTest seen result }
 {
-    seen.slot == Slot::Holds && LEVELS < seen.key.levels
+    matches!(seen.slot, Slot::Holds(_)) && LEVELS < seen.key.levels
 }
 
-// A card with the slot and the value that are seen.
+// A card with the slot that is seen.
 fn dealt(card: Card, seen: Seen) -> Card
     ensures { result ≡ dealt_card card seen }
 {
     Card {
         slot: seen.slot,
-        value: seen.value,
         ..card
     }
 }
 
-// The cards with the slots and the values that are seen of the first count.
+// The cards with the slots that are seen of the first count.
 pub fn deal(count: usize, cards: [Card; 8], seen: [Seen; 8]) -> [Card; 8]
     requires { count ≤ 8 }
     ensures { AllDealt count cards seen result }
 {
     let mut all = cards;
+    // by index: what the loop keeps is said of the cards before place i and of those from it on
     for i in 0..count {
         all[i] = dealt(all[i], seen[i]);
     }

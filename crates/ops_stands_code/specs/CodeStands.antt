@@ -16,7 +16,7 @@ use Rattle.ops_round.specs.declared.Card.{Card}
 use Rattle.ops_decide.specs.declared.Op.{Op}
 use Rattle.ops.specs.declared.Cards.{Cards}
 use Rattle.ops.specs.declared.Step.{Step}
-use Rattle.ops.specs.declared.Begun.{Begun}
+use Rattle.ops.specs.declared.Item.{Item}
 use Rattle.ops.specs.Merges.{count_test, BegunBy, held_item, MergedBy}
 use Rattle.ops_code.specs.OpsCodeLaws.{readings_of, CodeCalls, no_call, one_call}
 use Rattle.ops_stands.specs.OpsStands.{AllAt, EndsAt}
@@ -29,12 +29,12 @@ pub record CodeRun (S : List Source) (o : Op) (pre : List (OpsCall S)) (call : O
   pub few : count_test (length S) ≡ true
   -- begin
   pub readings : List Plain
-  pub begun : Begun
-  pub begins : BegunBy o (length S) readings begun
+  pub begun : Cards
+  pub begins : BegunBy o (length S) readings (Ok begun)
   pub starts : map plain_is (take (length S) readings) ≡ readings_of S
   -- calls
   pub told : List Told
-  pub run : CodeCalls S begun.cards pre told
+  pub run : CodeCalls S begun pre told
   -- one call more, by its contract; files from the held count on may be any
   pub files : List (List ℕ)
   pub buf₀ : List ℕ
@@ -48,5 +48,5 @@ left_readings n c = map (λ (d : Card). plain_is d.reading) (take n c.cards)
 
 pub record CodeStands (op : O.Op) (S : List Source) (r : Step) (buf : List ℕ) : Type 0 where
   -- the item's key stands in the buffer
-  pub after_item : (n : ℕ) → r.answer ≡ Ok (Some n) → AllAt (λ x. ¬ Before x (take n buf)) S (left_readings (length S) r.cards)
+  pub after_item : (x : Item) → r.answer ≡ Ok (Some x) → AllAt (λ y. ¬ Before y (take x.len buf)) S (left_readings (length S) r.cards)
   pub after_end : r.answer ≡ Ok None → EndsAt op S (left_readings (length S) r.cards)

@@ -18,9 +18,10 @@ use Rattle.ops_pairs.specs.Pairs.{pairs_in}
 use Rattle.ops_decide.specs.declared.Op.{Op}
 use Rattle.ops_decide.specs.Verdicts.{op_is}
 use Rattle.ops.specs.declared.Cards.{Cards}
+use Rattle.ops.specs.declared.Item.{Item}
 use Rattle.ops.specs.declared.Step.{Step}
-use Rattle.ops.specs.Merges.{count_test, BegunAs}
-use Rattle.ops_code.specs.OpsCodeLaws.{begin_is, told_of, CodeCalls, no_call, one_call, code_one}
+use Rattle.ops.specs.Merges.{count_test}
+use Rattle.ops_code.specs.OpsCodeLaws.{begin_is, begun_is, told_of, CodeCalls, no_call, one_call, code_one}
 use Rattle.ops_stands.specs.OpsStands.{AllAt, EndsAt, readings_in}
 use Rattle.ops_stands.proofs.OpsStandsLaws.{ops_stands}
 use Rattle.ops_stands_code.specs.CodeStands.{last_cards, CodeRun, left_readings, CodeStands}
@@ -66,13 +67,13 @@ readings_are (suc n) (f ∷ fs) (c ∷ cs) = ap (λ (ps : List P.Plain). plain_i
 
 pub code_stands : (S : List Source) (o : Op) (pre : List (OpsCall S)) (call : OpsCall S) (r : Step) (buf : List ℕ) → CodeRun S o pre call r buf → CodeStands (op_is o) S r buf
 code_stands S o pre call r buf x =
-    let begins = subst (λ (t : Bool). BegunAs t o (length S) x.readings x.begun) x.few x.begins.is in
-    let first : Left S (op_is o) (length S) (cards_of S) x.begun.cards =
+    let begins = begun_is o (length S) x.readings x.begun x.few x.begins in
+    let first : Left S (op_is o) (length S) (cards_of S) x.begun =
     record {
       files = files_of S;
-      is = sym (begin_is S (files_of S) x.readings (files_all S) x.starts) ∙ ap (λ (c : Cards). cards_is (files_of S) (length S) c.cards) (sym begins.1);
-      op_same = ap (λ (c : Cards). op_is c.op) begins.1;
-      count_same = ap (λ (c : Cards). c.count) begins.1;
+      is = sym (begin_is S (files_of S) x.readings (files_all S) x.starts) ∙ ap (λ (c : Cards). cards_is (files_of S) (length S) c.cards) (sym begins);
+      op_same = ap (λ (c : Cards). op_is c.op) begins;
+      count_same = ap (λ (c : Cards). c.count) begins;
     } in
     by (cards_after (op_is o) (cards_of S) pre) (code_left S (op_is o) (length S) x.few x.run (cards_of S) first)
     (λ k ps. (ops_stands (op_is o) S (some_of (length S) x.few) pre call).after_item k ps) (ops_stands (op_is o) S (some_of (length S) x.few) pre call).after_end
@@ -88,8 +89,8 @@ code_stands S o pre call r buf x =
         let left : readings_in (call_item (op_is o) ds call).cards ≡ left_readings (length S) r.cards =
         ap readings_in w.cards ∙ readings_are (length S) w.files r.cards.cards in
         record {
-          after_item = λ n e.
-              subst (λ (ps : List P.Plain). AllAt (λ y. ¬ Before y (take n buf)) S ps) left
-              (item (take n buf) (take r.count (pairs_in r.values r.files)) (sym w.same ∙ ap (λ (m : Result (Option ℕ) Refusal). told_of m r buf) e));
-          after_end = λ e. subst (λ (ps : List P.Plain). EndsAt (op_is o) S ps) left (end (sym w.same ∙ ap (λ (m : Result (Option ℕ) Refusal). told_of m r buf) e));
+          after_item = λ t e.
+              subst (λ (ps : List P.Plain). AllAt (λ y. ¬ Before y (take t.len buf)) S ps) left
+              (item (take t.len buf) (take t.pairs.count (pairs_in t.pairs.values t.pairs.files)) (sym w.same ∙ ap (λ (m : Result (Option Item) Refusal). told_of m buf) e));
+          after_end = λ e. subst (λ (ps : List P.Plain). EndsAt (op_is o) S ps) left (end (sym w.same ∙ ap (λ (m : Result (Option Item) Refusal). told_of m buf) e));
         }

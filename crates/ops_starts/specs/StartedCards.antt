@@ -7,12 +7,11 @@ use Rattle.format.specs.declared.Refusal.{Refusal}
 use Rattle.format.specs.Limits.{max_sum}
 use Rattle.ops_paging.specs.ItemPaging as P
 use Rattle.stream_start.specs.declared.Reading.{Reading}
-use Rattle.ops_round.specs.declared.Slot.TheVariants.{Used}
 use Rattle.ops_round.specs.declared.Card.{Card}
-use Rattle.ops_round.specs.Cards.{cards_is}
+use Rattle.ops_round.specs.Cards.{cards_is, used_card}
 
 abbrev pub wide_is : Reading → Card
-wide_is r = record { reading = record { reading = r; keys = max_sum }; slot = Used; value = 0 }
+wide_is r = used_card (record { reading = r; keys = max_sum })
 
 abbrev pub StartsBy : List (List ℕ) → ℕ → P.Starts → Result (List Card) Refusal → Type 0
 StartsBy fs n m (Ok cs) = m ≡ P.cards (cards_is fs n cs)

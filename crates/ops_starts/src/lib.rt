@@ -9,7 +9,7 @@ ghost use Rattle.stream_start.specs.Views.{bound_of};
 ghost use Rattle.ops_starts.specs.StartedCards.{wide_is, StartsBy};
 
 use format::Refusal;
-use ops_round::{Card, Slot};
+use ops_round::{Card, unstepped};
 use std::ops::Bound;
 use stream::Plain;
 use stream_start::Reading;
@@ -17,15 +17,11 @@ use stream_start::Reading;
 // As many keys may come as a number can say: a page is lent no table of keys.
 const ANY: u64 = u64::MAX;
 
-// The card of a reading that is still to be stepped. No `From`: neither type is of this crate.
+// The card of a reading that is still to be stepped, with no table of keys.
 fn wide(reading: Reading) -> Card
     ensures { result ≡ wide_is reading }
 {
-    Card {
-        reading: Plain { reading, keys: ANY },
-        slot: Slot::Used,
-        value: 0,
-    }
+    unstepped(Plain { reading, keys: ANY })
 }
 
 // Starts a reading of each of the first count files. The first refusal in file order ends it: opening's refusals, BOUND, and those of the walk along the
@@ -42,6 +38,7 @@ pub fn starts(
         (take count (map (λ f. f.now) files.entry))) result }
 {
     let mut cards = [wide(stream_start::no_reading()); 8];
+    // by index: a file and its card stand at one place of two arrays
     for i in 0..count {
         let started = stream_start::start(files[i], lower, upper);
         cards[i] = wide(started?);

@@ -1,19 +1,19 @@
 -- A round on its way, card after card, and what it comes to.
---     dealt_length, dealt_at, dealt_set     the cards with the slots and values seen
---     stepped_as                            the step of a reading, by the answer of its call
+--     dealt_length, dealt_at, dealt_set     the cards with the slots seen
+--     step_goes                             the step of a reading, by what its call found
 --     turning_none, turning_on, turning_skip, turning_again     at a call's start, after a card that was stepped, after one that was not, after a round
 --     turn_halted, turn_long                a refusal of a card is that of the call
 --     turn_ready, turn_judged, turn_short   all cards have had their part: what is seen of them, and the call by the verdict
 --     dealt_is                              the cards dealt by what is seen afterwards
---     to_do, step_less, again_less           the measure, and that it falls
+--     step_less, again_less                 the measure falls
 -- Assumes nothing.
-use Rattle.std.specs.Prelude.{◌≡◌, refl, Bool, true, false, cond, ◌||◌, ◌⊎◌, List, [], ◌∷◌, ◌++◌, map, ℕ, zero, suc, ◌+◌, ◌-◌, ◌*◌, ◌<◌, ◌≤◌, leb, length, take, drop, get_or, set, Ok, Err, Some, None, Result, Option, ⊤}
-use Rattle.std.proofs.Common.{sym, ap, ap₂, ◌∙◌, subst, ⊎_elim, inl, inr, arith, length-set, take-append-drop, get_or-take, ext_get_or, get_or-set_same, get_or-set_other}
+use Rattle.std.specs.Prelude.{◌≡◌, refl, Bool, true, false, cond, ◌||◌, ◌⊎◌, List, [], ◌∷◌, map, ℕ, zero, suc, ◌+◌, ◌-◌, ◌*◌, ◌<◌, ◌≤◌, leb, length, take, drop, get_or, set, Ok, Err, Some, None, Result, Option}
+use Rattle.std.proofs.Common.{sym, ap, ◌∙◌, subst, ⊎_elim, inl, inr, arith, length-set, take-append-drop, get_or-take, ext_get_or, get_or-set_same, get_or-set_other}
 use Rattle.std.specs.Borrow.{Bor}
 use Rattle.std.proofs.Math.ListN.{get_or-map}
 use Rattle.std.proofs.lemmas.List.{set-get_or}
 use Rattle.format.specs.declared.Refusal.{Refusal}
-use Rattle.format.specs.Limits.{max_path, max_levels, SPACE, STATE}
+use Rattle.format.specs.Limits.{max_path, SPACE, STATE}
 use Rattle.reading.proofs.RunLaws.{lt_or}
 use Rattle.plain.specs.Plain.{next_plain}
 use Rattle.ops_spec.specs.Ops as O
@@ -25,20 +25,20 @@ use Rattle.stream.specs.Plains.{plain_is, CallGave}
 use Rattle.ops_keys.specs.declared.Place.{Place}
 use Rattle.ops_keys.specs.Heads.{KeyAt, BytesPut}
 use Rattle.ops_round.specs.declared.Slot.{Slot}
-use Rattle.ops_round.specs.declared.Slot.TheVariants.{Used, Holds, Ended}
+use Rattle.ops_round.specs.declared.Slot.TheVariants.{Used, Ended}
 use Rattle.ops_round.specs.declared.Card.{Card}
-use Rattle.ops_round.specs.Cards.{slot_is, card_is, with_files, cards_is, AllFew, Stepping, Still, Moved, Halted, CardStep, used_card, OneStepped}
+use Rattle.ops_round.specs.Cards.{slot_is, card_is, with_files, cards_is, AllFew, Stepping, Still, Moved, Halted, used_card, OneStepped}
 use Rattle.ops_round.specs.CardsLaws.{cards_length, cards_cons, files_at, put_front, put_back}
 use Rattle.ops_round.specs.RoundLaws.{Rounding, rounding_none, rounding_halted, rounding_still, rounding_moved, done, few_all}
 use Rattle.ops_round.specs.StepLaws.{card_ended, card_held, card_long, card_key_lem, card_end, card_refused}
 use Rattle.ops_seen.specs.declared.Seen.{Seen}
-use Rattle.ops_seen.specs.Sights.{dealt_card, SeenOf, SeenAt, AllSeen, AllDealt, Sees, SameKeys, Ready, Kept}
+use Rattle.ops_seen.specs.Sights.{dealt_card, IsHeld, SeenAt, AllSeen, AllDealt, Sees, SameKeys, Ready, Kept}
 use Rattle.ops_seen.specs.SightsLaws.{key_kept, see_few, see_sees, deal_is}
 use Rattle.ops_turn.specs.declared.SeenStep.{SeenStep}
-use Rattle.ops_turn.specs.Parts.{dealt_all, after_is, SeenStepped, weight, load, Turning}
+use Rattle.ops_turn.specs.Parts.{dealt_all, slot_after, StepHalts, StepGoes, SeenStepped, weight, load, Turning, to_do}
 use Rattle.ops_turn.specs.LoadLaws.{load_append, load_one, load_step}
 
--- ---- the cards with the slots and values seen
+-- ---- the cards with the slots seen
 
 pub dealt_length : (cs : List Card) (ss : List Seen) → length (dealt_all cs ss) ≡ length cs
 unfolding dealt_all
@@ -62,9 +62,9 @@ dealt_set (x ∷ cs) [] i c s h = absurd (omega arith)
 dealt_set (x ∷ cs) (y ∷ ss) zero c s h = refl
 dealt_set (x ∷ cs) (y ∷ ss) (suc i) c s h = ap (λ (l : List Card). dealt_card x y ∷ l) (dealt_set cs ss i c s (omega arith))
 
--- a card with the slot and the value that it has
-dealt_same : (c : Card) (s : Seen) → s.slot ≡ c.slot → s.value ≡ c.value → dealt_card c s ≡ c
-dealt_same c s e f = ap₂ (λ x (v : ℕ). record { reading = c.reading; slot = x; value = v }) e f
+-- a card with the slot that it has
+dealt_same : (c : Card) (s : Seen) → s.slot ≡ c.slot → dealt_card c s ≡ c
+dealt_same c s e = ap (λ (x : Slot). record { reading = c.reading; slot = x }) e
 
 some_of : {A : Type 0} (l : List A) → 0 < length l → A
 some_of [] h = absurd (omega arith)
@@ -90,40 +90,22 @@ load_none = refl
 
 -- ---- a reading that is stepped
 
-module _ (f : List ℕ) (space : ℕ) (p : Plain) (i : ℕ) (ks₀ ks : List ℕ) (g : Step) (gave : CallGave (next_plain f (plain_is p) space) g) (key : Place)
-    (put : BytesPut g.plain i ks₀ ks key) where
-  abbrev step_of : Result (Slot × ℕ) Refusal → SeenStep
-  step_of (Ok (t, v)) = record { answer = Ok tt; card = record { reading = g.plain; slot = t; value = v }; seen = record { key = key; slot = t; value = v } }
-  step_of (Err n) = record { answer = Err n; card = record { reading = g.plain; slot = Used; value = 0 }; seen = record { key = key; slot = Used; value = 0 } }
+module _ (f : List ℕ) (space : ℕ) (p : Plain) (g : Step) (gave : CallGave (next_plain f (plain_is p) space) g) where
+  -- by what the call found
+  pub step_goes : (i : ℕ) (ks₀ ks : List ℕ) (key : Place) → BytesPut g.plain i ks₀ ks key → (a : Option (ℕ × ℕ)) → g.answer ≡ Ok a
+      → StepGoes f space p i ks₀ ks (record { card = record { reading = g.plain; slot = slot_after a }; seen = record { key = key; slot = slot_after a } })
+  step_goes i ks₀ ks key put (Some (n, v)) e = record { goes = card_key_lem f space p g gave n v e; seen = record { slot = refl; put = put } }
+  step_goes i ks₀ ks key put None e = record { goes = card_end f space p g gave e; seen = record { slot = refl; put = put } }
 
-  by_answer : (a : Result (Option (ℕ × ℕ)) Refusal) → g.answer ≡ a → SeenStepped f space p i ks₀ ks (step_of (after_is a))
-  by_answer (Ok (Some (n, v))) e =
-      record {
-        halts = λ w z. let x : ◌≡◌ {A = ℕ} 0 1 = cc in absurd (omega arith);
-        goes = λ z. card_key_lem f space p g gave n v e;
-        seen = record { slot = refl; value = refl; put = put };
-      }
-  by_answer (Ok None) e =
-      record {
-        halts = λ w z. let x : ◌≡◌ {A = ℕ} 0 1 = cc in absurd (omega arith);
-        goes = λ z. card_end f space p g gave 0 e;
-        seen = record { slot = refl; value = refl; put = put };
-      }
-  by_answer (Err n) e =
-      record {
-        halts = λ w z. let same : n ≡ w = cc in card_refused f space p g gave (record { reading = g.plain; slot = Used; value = 0 }) w (e ∙ ap Err same);
-        goes = λ z. let x : ◌≡◌ {A = ℕ} 0 1 = cc in absurd (omega arith);
-        seen = record { slot = refl; value = refl; put = put };
-      }
+  -- by the slot that it got
+  pub step_goes_as : (i : ℕ) (ks₀ ks : List ℕ) (key : Place) → BytesPut g.plain i ks₀ ks key → (a : Option (ℕ × ℕ)) → g.answer ≡ Ok a → (t : Slot) → t ≡ slot_after a
+      → StepGoes f space p i ks₀ ks (record { card = record { reading = g.plain; slot = t }; seen = record { key = key; slot = t } })
+  step_goes_as i ks₀ ks key put a e t is =
+      subst (λ (x : Slot). StepGoes f space p i ks₀ ks (record { card = record { reading = g.plain; slot = x }; seen = record { key = key; slot = x } })) (sym is)
+      (step_goes i ks₀ ks key put a e)
 
-  -- by what the answer made of the card
-  pub stepped_as : (t : Result (Slot × ℕ) Refusal) → t ≡ after_is g.answer → (u : Result (Slot × ℕ) Refusal) → t ≡ u → SeenStepped f space p i ks₀ ks (step_of u)
-  stepped_as t e u is = subst (λ (x : Result (Slot × ℕ) Refusal). SeenStepped f space p i ks₀ ks (step_of x)) (sym e ∙ is) (by_answer g.answer refl)
-
--- ---- the measure
-
-abbrev pub to_do : List (List ℕ) → ℕ → List Card → List Seen → ℕ → ℕ
-to_do fs n all ss i = 9 * load (cards_is fs n (dealt_all all ss)) + (n - i)
+  pub step_halts : (ks : List ℕ) (why : Refusal) → g.answer ≡ Err why → StepHalts f space p ks ks why
+  step_halts ks why e = record { halts = λ c. card_refused f space p g gave c why e; kept = refl }
 
 -- ---- a call's start
 
@@ -143,7 +125,7 @@ turning_none space fs o n cs ks ss small all =
       round = rounding_none fs space n (dealt_all cs ss) (len ∙ g);
       call = ap (rounds_by o space false)
           (cards_same fs n cs (dealt_all cs ss) b (omega arith) (omega arith)
-          (λ i h. sym (dealt_at cs ss i b s (omega arith) (omega arith) ∙ dealt_same (get_or cs i b) (get_or ss i s) (all.at i b s h).slot (all.at i b s h).value)));
+          (λ i h. sym (dealt_at cs ss i b s (omega arith) (omega arith) ∙ dealt_same (get_or cs i b) (get_or ss i s) (all.at i b s h).slot)));
       heads = λ j d q h. (all.at j d q h).key;
       cards_len = g;
       seen_len = e;
@@ -189,28 +171,27 @@ module _ {space : ℕ} {fs : List (List ℕ)} {o : O.Op} {n : ℕ} {X : List O.C
 
     -- ---- its key is used up
 
-    module _ (used : s.slot ≡ Used) (ks' : List ℕ) (r : SeenStep) (by : SeenStepped f space c.reading i ks ks' r) where
-      one_of : (a : Stepping) → OneStepped f space (used_card c.reading) (record { answer = a; card = r.card })
-          → OneStepped f space (get_or D i d) (record { answer = a; card = r.card })
-      one_of a one =
-          subst (λ (x : Card). OneStepped f space x (record { answer = a; card = r.card })) (sym here)
+    module _ (used : s.slot ≡ Used) (ks' : List ℕ) where
+      one_of : (a : Stepping) (y : Card) → OneStepped f space (used_card c.reading) (record { answer = a; card = y })
+          → OneStepped f space (get_or D i d) (record { answer = a; card = y })
+      one_of a y one =
+          subst (λ (x : Card). OneStepped f space x (record { answer = a; card = y })) (sym here)
           (record {
-            steps = λ others.
-                ap (λ (x : O.Slot). step_one space (O.card_is f (plain_is c.reading) x) x others) (ap (λ (x : Slot). slot_is x s.value) used) ∙ one.steps others;
+            steps = λ others. ap (λ (x : O.Slot). step_one space (O.card_is f (plain_is c.reading) x) x others) (ap slot_is used) ∙ one.steps others;
             few = one.few;
           })
 
-      pub turn_halted : (why : Refusal) → r.answer ≡ Err why → rounds_by o space false X ≡ O.Merged.refused why
-      turn_halted why t = halts why r.card (one_of (Halted why) (by.halts why t))
+      pub turn_halted : (why : Refusal) → StepHalts f space c.reading ks ks' why → rounds_by o space false X ≡ O.Merged.refused why
+      turn_halted why by = halts why c (one_of (Halted why) c (by.halts c))
 
-      module _ (t : r.answer ≡ Ok tt) where
+      module _ (r : SeenStep) (by : StepGoes f space c.reading i ks ks' r) where
         one : OneStepped f space (get_or D i d) (record { answer = Moved; card = r.card })
-        one = one_of Moved (by.goes t)
+        one = one_of Moved r.card by.goes
 
         set_is : dealt_all (set all i r.card) (set ss i r.seen) ≡ set D i r.card
         set_is =
             let b = T.seen_len in
-            dealt_set all ss i r.card r.seen (omega arith) ∙ ap (set D i) (dealt_same r.card r.seen by.seen.slot by.seen.value)
+            dealt_set all ss i r.card r.seen (omega arith) ∙ ap (set D i) (dealt_same r.card r.seen by.seen.slot)
 
         heads_on : (j : ℕ) (x : Card) (q : Seen) → j < n → KeyAt ks' (get_or (set all i r.card) j x).reading j (get_or (set ss i r.seen) j q).key
         heads_on j x q l =
@@ -279,18 +260,18 @@ module _ {space : ℕ} {fs : List (List ℕ)} {o : O.Op} {n : ℕ} {X : List O.C
     abbrev held : Card
     held = dealt_card (get_or all i x) (get_or ss i e)
 
-    pub turn_long : ((get_or ss i e).slot ≡ Holds) × (256 < (get_or ss i e).key.levels) → rounds_by o space false X ≡ O.Merged.refused STATE
+    pub turn_long : IsHeld (get_or ss i e).slot × (256 < (get_or ss i e).key.levels) → rounds_by o space false X ≡ O.Merged.refused STATE
     turn_long (holds, long) =
         let l = (T.heads i x e h).levels in
         halts h x e STATE held
-        (subst (λ (c : Card). OneStepped (get_or fs i []) space c (record { answer = Halted STATE; card = held })) (sym (here h x e)) (card_long (get_or fs i []) space held holds (omega arith)))
+        (subst (λ (c : Card). OneStepped (get_or fs i []) space c (record { answer = Halted STATE; card = held })) (sym (here h x e)) (card_long (get_or fs i []) space held holds.value holds.is (omega arith)))
 
-    still : ((get_or ss i e).slot ≡ Holds) ⊎ ((get_or ss i e).slot ≡ Ended) → ((get_or ss i e).slot ≡ Holds → (get_or ss i e).key.levels ≤ 256)
+    still : IsHeld (get_or ss i e).slot ⊎ ((get_or ss i e).slot ≡ Ended) → (IsHeld (get_or ss i e).slot → (get_or ss i e).key.levels ≤ 256)
         → OneStepped (get_or fs i []) space held (record { answer = Still; card = held })
-    still (inl holds) few = let l = (T.heads i x e h).levels in let m = few holds in card_held (get_or fs i []) space held holds (omega arith)
+    still (inl holds) few = let l = (T.heads i x e h).levels in let m = few holds in card_held (get_or fs i []) space held holds.value holds.is (omega arith)
     still (inr ended) few = card_ended (get_or fs i []) space held ended
 
-    pub turning_skip : ((get_or ss i e).slot ≡ Holds) ⊎ ((get_or ss i e).slot ≡ Ended) → ((get_or ss i e).slot ≡ Holds → (get_or ss i e).key.levels ≤ 256)
+    pub turning_skip : IsHeld (get_or ss i e).slot ⊎ ((get_or ss i e).slot ≡ Ended) → (IsHeld (get_or ss i e).slot → (get_or ss i e).key.levels ≤ 256)
         → Turning space fs o n X all ks ss (i + 1) stepped
     turning_skip slot few =
         let one : OneStepped (get_or fs i []) space (get_or D i x) (record { answer = Still; card = get_or D i x }) =
@@ -328,7 +309,7 @@ module _ {space : ℕ} {fs : List (List ℕ)} {o : O.Op} {n : ℕ} {X : List O.C
               let a = T.cards_len in
               let g = T.seen_len in
               subst (λ (x : Card). SeenAt ks x j (get_or ss j e)) (sym (dealt_at all ss j d e (omega arith) (omega arith)))
-              (record { slot = refl; value = refl; key = T.heads j d e l });
+              (record { slot = refl; key = T.heads j d e l });
           eight = T.seen_len;
           given = D-len;
           long = T.keys_len;
@@ -341,7 +322,7 @@ module _ {space : ℕ} {fs : List (List ℕ)} {o : O.Op} {n : ℕ} {X : List O.C
     turn_sees = see_sees n D ks ss all_seen small fs b few
 
     pub turn_ready : Ready ks n ss
-    turn_ready = record { long = T.keys_len; few = λ j d l. see_few n D ks ss all_seen small few j d l b; cards = Y; sees = turn_sees }
+    turn_ready = record { few = λ j d l. see_few n D ks ss all_seen small few j d l b; cards = Y; sees = turn_sees }
 
     round_done : rounds_by o space false X
         ≡ cond (T.before || (T.moved || leb max_path space)) (by_verdict Y (rounds_by o space true) (decide o Y)) (O.Merged.refused SPACE)
@@ -419,7 +400,7 @@ module _ {space : ℕ} {fs : List (List ℕ)} {o : O.Op} {n : ℕ} {X : List O.C
       again_less l = let e = ap load marked_is in omega arith
 
 -- the file that a card is lent
-pub at_file : (l : List (Bor (List ℕ))) (space i : ℕ) (p : Plain) (ks₀ ks : List ℕ) (r : SeenStep) (d : Bor (List ℕ)) → SeenStepped (get_or l i d).now space p i ks₀ ks r → d.now ≡ []
+pub at_file : (l : List (Bor (List ℕ))) (space i : ℕ) (p : Plain) (ks₀ ks : List ℕ) (r : Result SeenStep Refusal) (d : Bor (List ℕ)) → SeenStepped (get_or l i d).now space p i ks₀ ks r → d.now ≡ []
     → SeenStepped (get_or (map (λ (f : Bor (List ℕ)). f.now) l) i []) space p i ks₀ ks r
 at_file l space i p ks₀ ks r d h e =
     let same : get_or (map (λ (f : Bor (List ℕ)). f.now) l) i [] ≡ (get_or l i d).now =

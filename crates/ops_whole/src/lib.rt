@@ -4,9 +4,8 @@
 #![tactic(auto)]
 
 use format::Refusal;
-use ops::Cards;
+use ops::{Cards, Item};
 use ops_decide::{Op, op_of};
-use ops_round::Card;
 use stream::Plain;
 use stream_arrays::bound_with;
 
@@ -25,19 +24,11 @@ const START_REFUSED: u64 = 4_294_968_296;
 
 const REFUSED: u64 = 4_294_969_296;
 
-// What a call comes to beside a refusal.
-const ITEM_PUT: u64 = 0;
-
-const ENDED: u64 = 1;
-
 // ---- the arguments taken apart
 
 // What stands from one place to another, and nothing where they are not there.
 fn part<T>(items: &[T], from: usize, to: usize) -> &[T] {
-    if from <= to && to <= items.len() {
-        return &items[from..to];
-    }
-    &items[..0]
+    items.get(from..to).unwrap_or(&[])
 }
 
 // Whether parts that end there follow one another in so many bytes.
@@ -75,29 +66,6 @@ fn start(
 
 // ---- the items
 
-// Writes a number, if there is a place for it: std has no call that is this.
-fn put_number(item: &mut [u64], i: usize, n: u64) {
-    if i < item.len() {
-        item[i] = n;
-    }
-}
-
-fn put_pair(item: &mut [u64], i: usize, j: usize, a: u64, b: u64) {
-    put_number(item, i, a);
-    put_number(item, j, b);
-}
-
-// The values of an item's pairs stand after the key's length and the number of pairs.
-fn put_values(item: &mut [u64], values: [u64; 8]) {
-    put_pair(item, 2, 3, values[0], values[1]);
-    put_pair(item, 4, 5, values[2], values[3]);
-}
-
-fn put_more_values(item: &mut [u64], values: [u64; 8]) {
-    put_pair(item, 6, 7, values[4], values[5]);
-    put_pair(item, 8, 9, values[6], values[7]);
-}
-
 // Writes a key and the numbers of its files to the front of a row that has room for them.
 fn put_row(key: &[u8], files: [u8; 8], row: &mut [u8]) {
     if key.len() < 255 {
@@ -110,77 +78,21 @@ fn put_row(key: &[u8], files: [u8; 8], row: &mut [u8]) {
     buffers::copy_front(&files, 8, &mut row[255..]);
 }
 
-// Writes an item to the front of both buffers.
-fn put_item(
-    n: usize,
-    key: &[u8],
-    count: usize,
-    files: [u8; 8],
-    values: [u64; 8],
-    row: &mut [u8],
-    item: &mut [u64],
-) {
-    put_row(key, files, row);
-    put_pair(item, 0, 1, n as u64, count as u64);
-    put_values(item, values);
-    put_more_values(item, values);
-}
-
-// The transitions that a card's reading followed.
-fn total(card: Card) -> u64 {
-    let plain = card.reading;
-    let reading = plain.reading;
-    reading.total
-}
-
-// The total of each reading.
-fn totals(cards: Cards) -> [u64; 8] {
-    let held = cards.cards;
-    [
-        total(held[0]),
-        total(held[1]),
-        total(held[2]),
-        total(held[3]),
-        total(held[4]),
-        total(held[5]),
-        total(held[6]),
-        total(held[7]),
-    ]
-}
-
-// What a call came to: ITEM_PUT, ENDED, or REFUSED plus the refusal; and the cards after it.
-#[derive(Clone, Copy)]
-struct Called {
-    came: u64,
-    cards: Cards,
-}
-
-// One call of next_item, and its item written.
-fn call(files: [&[u8]; 8], cards: Cards, row: &mut [u8], item: &mut [u64]) -> Called {
-    let mut key = [0u8; 255];
-    let step = ops::next_item(files, cards, &mut key);
-    let answer = step.answer;
-    let after = step.cards;
-    let count = step.count;
-    let numbers = step.files;
-    let values = step.values;
-    match answer {
-        Err(why) => Called {
-            came: REFUSED + u64::from(u8::from(why)),
-            cards: after,
-        },
-        Ok(None) => Called {
-            came: ENDED,
-            cards: after,
-        },
-        Ok(Some(n)) => {
-            put_item(n, &key, count, numbers, values, row, item);
-            Called {
-                came: ITEM_PUT,
-                cards: after,
-            }
-        }
+// Writes an item to the front of both buffers. The values of its pairs stand after the key's length and the number of pairs.
+fn put_item(found: Item, key: &[u8], row: &mut [u8], item: &mut [u64]) {
+    let pairs = found.pairs;
+    put_row(key, pairs.files, row);
+    if let Some(front) = item.get_mut(..2) {
+        front.copy_from_slice(&[found.len as u64, pairs.count as u64]);
     }
+    if let Some(values) = item.get_mut(2..10) {
+        values.copy_from_slice(&pairs.values);
+    }
+}
+
+// The transitions that the reading of each card followed.
+fn totals(cards: Cards) -> [u64; 8] {
+    cards.cards.map(|card| card.reading.reading.total)
 }
 
 // Calls up to the first that hands out no item, and no more than there is room for: each takes a row.
@@ -197,15 +109,16 @@ fn items(
         .zip(numbers.chunks_exact_mut(ITEM))
         .enumerate()
     {
-        let called = call(files, cards, row, item);
-        let came = called.came;
-        cards = called.cards;
-        if came == ENDED {
-            *followed = totals(cards);
-            return n as u64;
-        }
-        if came != ITEM_PUT {
-            return came;
+        let mut key = [0u8; 255];
+        let step = ops::next_item(files, cards, &mut key);
+        cards = step.cards;
+        match step.answer {
+            Err(why) => return REFUSED + u64::from(u8::from(why)),
+            Ok(None) => {
+                *followed = totals(cards);
+                return n as u64;
+            }
+            Ok(Some(found)) => put_item(found, &key, row, item),
         }
     }
     NO_ROOM
@@ -250,40 +163,34 @@ fn start_at(
     start(file, counts, lower_kind, lower, upper_kind, upper)
 }
 
-// The readings of eight starts, or the first refusal.
-fn readings_of(starts: [Result<Plain, Refusal>; 8]) -> Result<[Plain; 8], Refusal> {
-    Ok([
-        starts[0]?, starts[1]?, starts[2]?, starts[3]?, starts[4]?, starts[5]?, starts[6]?,
-        starts[7]?,
-    ])
+// The readings of eight files, or the first refusal.
+fn readings(
+    blob: &[u8],
+    tables: &[u64],
+    ends: [u64; 8],
+    stated: [u64; 32],
+    bounds: &[u8],
+) -> Result<[Plain; 8], Refusal> {
+    let mut all = [start_at(blob, tables, ends, stated, bounds, 0)?; 8];
+    for i in 1..8 {
+        all[i] = start_at(blob, tables, ends, stated, bounds, i)?;
+    }
+    Ok(all)
 }
 
 // The operation over readings of these files that stand at their starts.
-fn run<'a>(
+fn run(
     op: Op,
     count: usize,
-    a: &'a [u8],
-    b: &'a [u8],
-    c: &'a [u8],
-    d: &'a [u8],
-    e: &'a [u8],
-    f: &'a [u8],
-    g: &'a [u8],
-    h: &'a [u8],
+    files: [&[u8]; 8],
     readings: [Plain; 8],
     rows: &mut [u8],
     numbers: &mut [u64],
     followed: &mut [u64; 8],
 ) -> u64 {
-    let begun = ops::begin(op, count, readings);
-    let answer = begun.answer;
-    let cards = begun.cards;
-    match answer {
+    match ops::begin(op, count, readings) {
         Err(why) => REFUSED + u64::from(u8::from(why)),
-        Ok(()) => {
-            let files = [a, b, c, d, e, f, g, h];
-            items(files, cards, rows, numbers, followed)
-        }
+        Ok(cards) => items(files, cards, rows, numbers, followed),
     }
 }
 
@@ -307,34 +214,13 @@ pub fn whole(
     if !is_ordered(e, blob.len()) {
         return LAYOUT;
     }
-    let starts = [
-        start_at(blob, tables, e, s, bounds, 0),
-        start_at(blob, tables, e, s, bounds, 1),
-        start_at(blob, tables, e, s, bounds, 2),
-        start_at(blob, tables, e, s, bounds, 3),
-        start_at(blob, tables, e, s, bounds, 4),
-        start_at(blob, tables, e, s, bounds, 5),
-        start_at(blob, tables, e, s, bounds, 6),
-        start_at(blob, tables, e, s, bounds, 7),
-    ];
-    let all = match readings_of(starts) {
+    let all = match readings(blob, tables, e, s, bounds) {
         Err(why) => return START_REFUSED + u64::from(u8::from(why)),
         Ok(all) => all,
     };
-    run(
-        op_of(op),
-        count,
-        part(blob, 0, e[0] as usize),
-        part(blob, e[0] as usize, e[1] as usize),
-        part(blob, e[1] as usize, e[2] as usize),
-        part(blob, e[2] as usize, e[3] as usize),
-        part(blob, e[3] as usize, e[4] as usize),
-        part(blob, e[4] as usize, e[5] as usize),
-        part(blob, e[5] as usize, e[6] as usize),
-        part(blob, e[6] as usize, e[7] as usize),
-        all,
-        rows,
-        numbers,
-        followed,
-    )
+    let mut files: [&[u8]; 8] = [&[]; 8];
+    for i in 0..8 {
+        files[i] = part(blob, begins_at(e, i), e[i] as usize);
+    }
+    run(op_of(op), count, files, all, rows, numbers, followed)
 }

@@ -46,11 +46,9 @@ pub extern "C" fn oracle_carry(
     let reading = reading_of(h, b, a, i, t, o);
     let plain = Plain { reading, keys };
     let carried = carry::carry(old, new, plain);
-    let answer = carried.answer;
-    match answer {
+    match carried {
         Err(why) => u64::from(u8::from(why)),
-        Ok(()) => {
-            let after = carried.plain;
+        Ok(after) => {
             let reading = after.reading;
             put(reading, head, bound, addrs, inps, trans, outs);
             0
@@ -94,11 +92,9 @@ pub extern "C" fn oracle_carry_by(
     };
     let patterned = Patterned { reading, pattern };
     let carried = carry::carry_by(old, new, patterned);
-    let answer = carried.answer;
-    match answer {
+    match carried {
         Err(why) => u64::from(u8::from(why)),
-        Ok(()) => {
-            let after = carried.patterned;
+        Ok(after) => {
             let reading = after.reading;
             put(reading, head, bound, addrs, inps, trans, outs);
             0

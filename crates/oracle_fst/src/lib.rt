@@ -4,11 +4,12 @@
 // Each function takes what the comparison lends, one by one, as the C interface does.
 #![tactic(auto)]
 
-ghost use Rattle.std.specs.Prelude.{◌≡◌, [], ◌∷◌, length};
+ghost use Rattle.std.specs.Prelude.{◌≡◌, length};
 ghost use Rattle.format.specs.Opening.{opening};
 ghost use Rattle.format.specs.Lookup as L;
-ghost use Rattle.fst.specs.Open.{checksum_is};
-ghost use Rattle.oracle_fst.specs.FstTells.{front, checksum_number, OpenTold, AdmitTold, CountTold, GetTold, KeyTold};
+ghost use Rattle.oracle_fst.specs.FstTells.{front, done_number, OpenTold, AdmitTold, CountTold, GetTold, KeyTold};
+
+use format::Refusal;
 
 // ---- opening
 
@@ -43,16 +44,23 @@ pub extern "C" fn oracle_open(file: &[u8], out: &mut [u64]) -> u64
 
 // ---- admission
 
+// 0 for what was done, else the refusal.
+fn done(answer: Result<(), Refusal>) -> u64
+    ensures { result ≡ done_number answer }
+{
+    match answer {
+        Ok(()) => 0,
+        Err(why) => u64::from(u8::from(why)),
+    }
+}
+
 // 0 for an admitted file, else the refusal; the two tables are left as admission leaves them.
 #[unsafe(no_mangle)]
 pub extern "C" fn oracle_admit(file: &[u8], depths: &mut [u16], sums: &mut [u64]) -> u64
     ensures { AdmitTold file.now depths.old sums.old
         depths.new sums.new result }
 {
-    match admission::admit(file, depths, sums) {
-        Ok(()) => 0,
-        Err(why) => u64::from(u8::from(why)),
-    }
+    done(admission::admit(file, depths, sums))
 }
 
 // ---- the table of keys
@@ -69,10 +77,7 @@ pub extern "C" fn oracle_count_keys(
         counts.old depths.new sums.new counts.new
         result }
 {
-    match counting::count_keys(file, depths, sums, counts) {
-        Ok(()) => 0,
-        Err(why) => u64::from(u8::from(why)),
-    }
+    done(counting::count_keys(file, depths, sums, counts))
 }
 
 // ---- lookup

@@ -1,12 +1,30 @@
 // One start, next, mark or return of the comparison of marks, plain or by pattern, for crate oracle_marks. Nothing is promised of the answers: what they are
 // is promised of the calls of crates marks and marks_by that are made here.
-// Each function takes what the comparison lends, one by one, as the C interface does.
+// What the comparison lends is one value (`Lent`), made by the function that it calls.
 #![tactic(auto)]
 
 use format::Refusal;
 use oracle_marks_held::{Held, Ran, held_by, told};
 use patterned::Patterned;
-use stream_arrays::bound_with;
+use std::ops::Bound;
+
+// What the comparison lends to an operation: a file and its table of keys, and the bytes of the bounds and the names. The readings are by the pattern of
+// these positions, with its rest or without, or plain where there is none.
+#[derive(Clone, Copy)]
+pub struct Lent<'l> {
+    pub file: &'l [u8],
+    pub table: &'l [u64],
+    pub pattern: Option<(&'l [u16], bool)>,
+    pub bytes: &'l [u8],
+}
+
+// The held reading by its pattern.
+fn patterned_of(held: Held) -> Patterned {
+    Patterned {
+        reading: held.plain.reading,
+        pattern: held.pattern,
+    }
+}
 
 // A refused start: the reading before it stays.
 fn refused(why: Refusal, held: Held) -> Ran {
@@ -14,29 +32,16 @@ fn refused(why: Refusal, held: Held) -> Ran {
 }
 
 // A start.
-pub fn started(
-    file: &[u8],
-    table: &[u64],
-    by: u64,
-    positions: &[u16],
-    rest: bool,
-    lower_kind: u64,
-    lower: &[u8],
-    upper_kind: u64,
-    upper: &[u8],
-    held: Held,
-) -> Ran {
-    let low = bound_with(lower_kind, lower);
-    let high = bound_with(upper_kind, upper);
-    if by == 0 {
-        return match stream::start(file, low, high, table) {
+pub fn started(lent: Lent<'_>, lower: Bound<&[u8]>, upper: Bound<&[u8]>, held: Held) -> Ran {
+    if let Some((positions, rest)) = lent.pattern {
+        return match patterned::start(lent.file, positions, rest, lower, upper) {
             Err(why) => refused(why, held),
-            Ok(plain) => told(1002, 0, Held { plain, ..held }),
+            Ok(patterned) => told(1002, 0, held_by(patterned, held.marks)),
         };
     }
-    match patterned::start(file, positions, rest, low, high) {
+    match stream::start(lent.file, lower, upper, lent.table) {
         Err(why) => refused(why, held),
-        Ok(patterned) => told(1002, 0, held_by(patterned, held.marks)),
+        Ok(plain) => told(1002, 0, Held { plain, ..held }),
     }
 }
 
@@ -50,93 +55,53 @@ fn stepped(answer: Result<Option<(usize, u64)>, Refusal>, held: Held) -> Ran {
 }
 
 // A next.
-pub fn next_of(file: &[u8], by: u64, held: Held, key: &mut [u8]) -> Ran {
-    let plain = held.plain;
-    let pattern = held.pattern;
-    let marks = held.marks;
-    if by == 0 {
-        let step = marks::next_marked(file, plain, marks, key);
-        let answer = step.answer;
-        let plain = step.plain;
-        return stepped(
-            answer,
-            Held {
-                plain,
-                pattern,
-                marks,
-            },
-        );
+pub fn next_of(lent: Lent<'_>, held: Held, key: &mut [u8]) -> Ran {
+    if lent.pattern.is_some() {
+        let step = marks_by::next_marked_by(lent.file, patterned_of(held), held.marks, key);
+        return stepped(step.answer, held_by(step.patterned, held.marks));
     }
-    let reading = plain.reading;
-    let step = marks_by::next_marked_by(file, Patterned { reading, pattern }, marks, key);
-    let answer = step.answer;
-    let inside = step.patterned;
-    stepped(answer, held_by(inside, marks))
+    let step = marks::next_marked(lent.file, held.plain, held.marks, key);
+    let plain = step.plain;
+    stepped(step.answer, Held { plain, ..held })
 }
 
-// What a mark or a return answered.
-fn done(answer: Result<(), Refusal>, held: Held) -> Ran {
-    match answer {
-        Ok(()) => told(1002, 0, held),
-        Err(why) => told(2000 + u64::from(u8::from(why)), 0, held),
-    }
+// A refused mark or return: all that is held stays.
+fn stays(why: Refusal, held: Held) -> Ran {
+    told(2000 + u64::from(u8::from(why)), 0, held)
 }
 
 // A mark.
-fn mark_of(file: &[u8], by: u64, held: Held, name: &[u8]) -> Ran {
-    let plain = held.plain;
-    let pattern = held.pattern;
-    let marks = held.marks;
-    let reading = plain.reading;
-    let marking = if by == 0 {
-        marks::mark(file, plain, marks, name)
+fn mark_of(lent: Lent<'_>, held: Held, name: &[u8]) -> Ran {
+    let marking = if lent.pattern.is_some() {
+        marks_by::mark_by(lent.file, patterned_of(held), held.marks, name)
     } else {
-        marks_by::mark_by(file, Patterned { reading, pattern }, marks, name)
+        marks::mark(lent.file, held.plain, held.marks, name)
     };
-    let answer = marking.answer;
-    let marks = marking.marks;
-    done(
-        answer,
-        Held {
-            plain,
-            pattern,
-            marks,
-        },
-    )
+    match marking {
+        Err(why) => stays(why, held),
+        Ok(marks) => told(1002, 0, Held { marks, ..held }),
+    }
 }
 
 // A return.
-fn back_of(file: &[u8], by: u64, held: Held, name: &[u8]) -> Ran {
-    let plain = held.plain;
-    let pattern = held.pattern;
-    let marks = held.marks;
-    if by == 0 {
-        let back = marks::go_back(file, plain, marks, name);
-        let answer = back.answer;
-        let plain = back.reading;
-        return done(
-            answer,
-            Held {
-                plain,
-                pattern,
-                marks,
-            },
-        );
+fn back_of(lent: Lent<'_>, held: Held, name: &[u8]) -> Ran {
+    if lent.pattern.is_some() {
+        return match marks_by::go_back_by(lent.file, patterned_of(held), held.marks, name) {
+            Err(why) => stays(why, held),
+            Ok(patterned) => told(1002, 0, held_by(patterned, held.marks)),
+        };
     }
-    let reading = plain.reading;
-    let back = marks_by::go_back_by(file, Patterned { reading, pattern }, marks, name);
-    let answer = back.answer;
-    let inside = back.patterned;
-    done(answer, held_by(inside, marks))
+    match marks::go_back(lent.file, held.plain, held.marks, name) {
+        Err(why) => stays(why, held),
+        Ok(plain) => told(1002, 0, Held { plain, ..held }),
+    }
 }
 
 // An operation with a name.
-pub fn named(file: &[u8], by: u64, what: u64, held: Held, name: &[u8]) -> Ran {
-    if what == 2 {
-        return mark_of(file, by, held, name);
+pub fn named(lent: Lent<'_>, what: u64, held: Held, name: &[u8]) -> Ran {
+    match what {
+        2 => mark_of(lent, held, name),
+        3 => back_of(lent, held, name),
+        _ => told(4000, 0, held),
     }
-    if what == 3 {
-        return back_of(file, by, held, name);
-    }
-    told(4000, 0, held)
 }

@@ -6,7 +6,6 @@ use marks_held::{MARKS, Mark, Marks};
 use patterned::Patterned;
 use patterned_held::Pattern;
 use stream::Plain;
-use stream_start::Reading;
 
 // What is held between operations. A plain reading has no pattern, and a reading by pattern no number of keys.
 #[derive(Clone, Copy)]

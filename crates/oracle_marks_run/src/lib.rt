@@ -21,163 +21,86 @@
 // An answer is six numbers: a key's length, or 1000 for the end, 1002 for what was done, 2000 plus a refusal, 3000 plus the refusal of a start, or 4000
 // for an operation that is none; the value; and then the reading's total, number of keys to come and levels, and how many marks there are. The key stands
 // in a row of 255 bytes.
-// Each function takes what the comparison lends, one by one, as the C interface does.
+// `run_operations` takes each thing that the comparison lends as a parameter of its own, as the C interface does, and makes one value (`Lent`) of them,
+// which the functions that it calls take.
 #![tactic(auto)]
 
-use oracle_marks_calls::{named, next_of, started};
+use oracle_marks_calls::{Lent, named, next_of, started};
 use oracle_marks_held::{Held, Ran, changed, nothing, told};
+use stream_arrays::bound_with;
 
 // The bytes of a row, room for the longest key.
 const ROW: usize = 255;
 
-// An operation that writes no key.
-fn keyless(
-    file: &[u8],
-    table: &[u64],
-    by: u64,
-    positions: &[u16],
-    rest: bool,
-    bytes: &[u8],
-    op: [u64; 10],
-    held: Held,
-) -> Ran {
-    let from = op[4] as usize;
-    let middle = op[5] as usize;
-    let to = op[6] as usize;
-    if bytes.len() < to {
-        return told(4000, 0, held);
-    }
-    if to < middle {
-        return told(4000, 0, held);
-    }
-    if middle < from {
-        return told(4000, 0, held);
-    }
-    if op[0] == 0 {
-        return started(
-            file,
-            table,
-            by,
-            positions,
-            rest,
-            op[2],
-            &bytes[from..middle],
-            op[3],
-            &bytes[middle..to],
-            held,
-        );
-    }
-    named(file, by, op[0], held, &bytes[from..to])
-}
-
-// An operation with the file that it names.
-fn operation_with(
-    file: &[u8],
-    table: &[u64],
-    by: u64,
-    positions: &[u16],
-    rest: bool,
-    bytes: &[u8],
-    op: [u64; 10],
-    held: Held,
-    key: &mut [u8],
-) -> Ran {
-    let less = op[2] as usize;
+// An operation with the file that it names: next, or one on the bytes of two bounds or of a name.
+fn operation_with(lent: Lent<'_>, op: [u64; 10], held: Held, key: &mut [u8]) -> Ran {
     if op[0] == 1 {
+        let less = op[2] as usize;
         if key.len() < less {
             return told(4000, 0, held);
         }
-        return next_of(file, by, held, &mut key[less..]);
+        return next_of(lent, held, &mut key[less..]);
     }
-    keyless(file, table, by, positions, rest, bytes, op, held)
+    let from = op[4] as usize;
+    let middle = op[5] as usize;
+    let to = op[6] as usize;
+    let (Some(low), Some(high)) = (lent.bytes.get(from..middle), lent.bytes.get(middle..to)) else {
+        return told(4000, 0, held);
+    };
+    if op[0] == 0 {
+        return started(lent, bound_with(op[2], low), bound_with(op[3], high), held);
+    }
+    match lent.bytes.get(from..to) {
+        Some(name) => named(lent, op[0], held, name),
+        None => told(4000, 0, held),
+    }
 }
 
 // The same, on a made state where it says so.
-fn tried(
-    file: &[u8],
-    table: &[u64],
-    by: u64,
-    positions: &[u16],
-    rest: bool,
-    bytes: &[u8],
-    op: [u64; 10],
-    held: Held,
-    key: &mut [u8],
-) -> Ran {
+fn operation_of(lent: Lent<'_>, op: [u64; 10], held: Held, key: &mut [u8]) -> Ran {
     if op[7] == 0 {
-        return operation_with(file, table, by, positions, rest, bytes, op, held, key);
+        return operation_with(lent, op, held, key);
     }
     let made = changed(held, op[7], op[8] as usize, op[9] as usize);
-    let ran = operation_with(file, table, by, positions, rest, bytes, op, made, key);
-    let told = ran.told;
-    Ran { told, held }
-}
-
-// One operation.
-fn operation_of(
-    file: &[u8],
-    table: &[u64],
-    other: &[u8],
-    other_table: &[u64],
-    by: u64,
-    positions: &[u16],
-    rest: bool,
-    bytes: &[u8],
-    op: [u64; 10],
-    held: Held,
-    key: &mut [u8],
-) -> Ran {
-    if op[1] == 0 {
-        return tried(file, table, by, positions, rest, bytes, op, held, key);
-    }
-    tried(
-        other,
-        other_table,
-        by,
-        positions,
-        rest,
-        bytes,
-        op,
-        held,
-        key,
-    )
+    let ran = operation_with(lent, op, made, key);
+    let answer = ran.told;
+    Ran { told: answer, held }
 }
 
 // Runs the operations one after the other from no reading and no marks, as far as there is room for answers and rows; how many were run.
-pub fn run_operations(
-    file: &[u8],
-    table: &[u64],
-    other: &[u8],
-    other_table: &[u64],
+pub fn run_operations<'l>(
+    file: &'l [u8],
+    table: &'l [u64],
+    other: &'l [u8],
+    other_table: &'l [u64],
     by: u64,
-    positions: &[u16],
+    positions: &'l [u16],
     rest: u64,
-    bytes: &[u8],
+    bytes: &'l [u8],
     operations: &[[u64; 10]],
     answers: &mut [[u64; 6]],
     rows: &mut [u8],
 ) -> u64 {
     let count = operations.len().min(answers.len()).min(rows.len() / ROW);
-    let by_pattern = rest != 0;
+    let first = Lent {
+        file,
+        table,
+        pattern: (by != 0).then_some((positions, rest != 0)),
+        bytes,
+    };
+    let second = Lent {
+        file: other,
+        table: other_table,
+        ..first
+    };
     let mut held = nothing();
     // by index: the operations, the answers and the rows zipped are no chain that the borrow checker covers
     for i in 0..count {
         let at = i * ROW;
         let op = operations[i];
         let row = &mut rows[at..at + ROW];
-        let ran = operation_of(
-            file,
-            table,
-            other,
-            other_table,
-            by,
-            positions,
-            by_pattern,
-            bytes,
-            op,
-            held,
-            row,
-        );
+        let lent = if op[1] == 0 { first } else { second };
+        let ran = operation_of(lent, op, held, row);
         let answer = ran.told;
         answers[i] = answer;
         held = ran.held;

@@ -4,15 +4,16 @@
 // Each function takes what the comparison lends, one by one, as the C interface does.
 #![tactic(auto)]
 
-ghost use Rattle.std.specs.Prelude.{◌≡◌, [], ◌∷◌, length, get_or};
+ghost use Rattle.std.specs.Prelude.{◌≡◌, length, get_or};
 ghost use Rattle.format.specs.Bytes.{pack_size};
 ghost use Rattle.format.specs.CommonInputs.{common_inputs, common_inputs_inv, common_idx};
 ghost use Rattle.format.specs.Node.{node_at};
 ghost use Rattle.format.specs.Packed.{packing};
 ghost use Rattle.node_compile.specs.Compile.{builder_with};
-ghost use Rattle.oracle_node.specs.NodeTells.{unpacked, flag_as, is_set, PackingTold, front, NodeTold, TransitionTold, found_as};
+ghost use Rattle.oracle_node.specs.NodeTells.{unpacked, is_set, PackingTold, front, NodeTold, TransitionTold, found_as};
 
 use format::FstRef;
+use node_record::BuilderNode;
 
 // ---- stored numbers (src/bytes.rs)
 
@@ -84,15 +85,14 @@ pub extern "C" fn oracle_compile(
         targets.now) (length out.old)) out.old out.new
         result }
 {
-    match node_compile::compile(
-        is_final != 0,
+    let node = BuilderNode {
+        is_final: is_final != 0,
         final_output,
         inputs,
         outputs,
         targets,
-        first,
-        out,
-    ) {
+    };
+    match node_compile::compile(node, first, out) {
         Ok(n) => n as u64,
         Err(k) => 4_294_967_296 + u64::from(u8::from(k)),
     }

@@ -13,7 +13,7 @@ ghost use Rattle.oracle_pack.specs.PackTells.{number_as, PackTold};
 use format::Refusal;
 use pack_cell::Cell;
 
-// The answer as a number.
+// The answer as a number. oracle_convert has the same: no crate below these two libraries is for the comparison alone.
 fn number(answer: Result<usize, Refusal>) -> u64
     ensures { result ≡ number_as answer }
 {

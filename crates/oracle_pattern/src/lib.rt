@@ -7,7 +7,7 @@
 // Each function takes what the comparison lends, one by one, as the C interface does.
 #![tactic(auto)]
 
-ghost use Rattle.std.specs.Prelude.{◌≡◌, ltb, length, get_or};
+ghost use Rattle.std.specs.Prelude.{ltb, length, get_or};
 ghost use Rattle.stream_start.specs.Views.{bound_is, view_is};
 ghost use Rattle.pattern.specs.Pattern.{start_by, next_by};
 ghost use Rattle.patterned_fit.specs.Positions.{pattern_is};

@@ -13,16 +13,33 @@
 // An answer is four numbers: a key's length, or 1000 for the end, 1001 for nobody, 1002 for a change that was made, 2000 plus a refusal, 3000 plus the
 // refusal of a start, or 4000 for an event that is none; the seat; the value; and the total of that seat's reading. The key stands in a row of 255
 // bytes.
-// Each function takes what the comparison lends, one by one, as the C interface does.
+// `run_events` takes each thing that the comparison lends as a parameter of its own, as the C interface does, and makes one value (`Lent`) of them, which
+// the functions that it calls take.
 #![tactic(auto)]
 
-use seats::{Seated, Served};
+use format::Refusal;
+use seats::{Dispatched, Served};
 use seats_turn::{LAST_SEAT, Seat, Seats};
 use stream::Plain;
 use stream_arrays::bound_with;
 
 // The bytes of a row, room for the longest key.
 const ROW: usize = 255;
+
+// A file that the comparison lends, and its table of keys.
+#[derive(Clone, Copy)]
+struct Tabled<'l> {
+    file: &'l [u8],
+    table: &'l [u64],
+}
+
+// What the comparison lends to every event: the two files, and the bytes of the bounds.
+#[derive(Clone, Copy)]
+struct Lent<'l> {
+    first: Tabled<'l>,
+    second: Tabled<'l>,
+    bounds: &'l [u8],
+}
 
 // What an event answers but for the total, and the seats after it.
 #[derive(Clone, Copy)]
@@ -41,9 +58,9 @@ fn total_of(readings: &[Plain; 8], number: usize) -> u64 {
 
 // The readings that the seats have, or had last: a made state may take a reading away and give it back.
 fn keep(readings: &mut [Plain; 8], seats: Seats) {
-    for i in 0..8 {
-        if let Some(plain) = seats.seats[i].reading {
-            readings[i] = plain;
+    for (reading, seat) in readings.iter_mut().zip(seats.seats) {
+        if let Some(plain) = seat.reading {
+            *reading = plain;
         }
     }
 }
@@ -56,49 +73,46 @@ fn told(code: u64, number: usize, value: u64, seats: Seats) -> Ran {
     }
 }
 
-// What seating and raising answered.
-fn changed(seated: Seated, number: usize) -> Ran {
-    let seats = seated.seats;
-    let answer = seated.answer;
+// What seating and raising answered, on the seats before.
+fn changed(answer: Result<Seats, Refusal>, number: usize, seats: Seats) -> Ran {
     match answer {
-        Ok(()) => told(1002, number, 0, seats),
+        Ok(after) => told(1002, number, 0, after),
         Err(why) => told(2000 + u64::from(u8::from(why)), number, 0, seats),
     }
 }
 
 // A reading between the event's bounds, seated.
-fn seat_started(file: &[u8], table: &[u64], bounds: &[u8], event: [u64; 8], seats: Seats) -> Ran {
+fn seat_started(lent: Tabled<'_>, bounds: &[u8], event: [u64; 8], seats: Seats) -> Ran {
     let number = event[1] as usize;
     let from = event[5] as usize;
     let middle = event[6] as usize;
     let to = event[7] as usize;
-    if bounds.len() < to {
+    let (Some(low), Some(high)) = (bounds.get(from..middle), bounds.get(middle..to)) else {
         return told(4000, number, 0, seats);
-    }
-    if to < middle {
-        return told(4000, number, 0, seats);
-    }
-    if middle < from {
-        return told(4000, number, 0, seats);
-    }
-    let lower = bound_with(event[3], &bounds[from..middle]);
-    let upper = bound_with(event[4], &bounds[middle..to]);
-    match stream::start(file, lower, upper, table) {
+    };
+    let lower = bound_with(event[3], low);
+    let upper = bound_with(event[4], high);
+    match stream::start(lent.file, lower, upper, lent.table) {
         Err(why) => told(3000 + u64::from(u8::from(why)), number, 0, seats),
-        Ok(plain) => changed(seats::seat(seats, number, plain), number),
+        Ok(plain) => changed(seats::seat(seats, number, plain), number, seats),
+    }
+}
+
+// What a dispatch answered.
+fn served(dispatch: Dispatched) -> Ran {
+    let after = dispatch.seats;
+    match dispatch.served {
+        Served::Key(number, n, value) => told(n as u64, number as usize, value, after),
+        Served::End(number) => told(1000, number as usize, 0, after),
+        Served::Nobody => told(1001, 0, 0, after),
     }
 }
 
 // A dispatch.
 fn dispatched(file: &[u8], seats: Seats, key: &mut [u8]) -> Ran {
-    let dispatch = seats::dispatch(file, seats, key);
-    let after = dispatch.seats;
-    let served = dispatch.served;
-    match served {
-        Ok(Served::Key(number, n, value)) => told(n as u64, number as usize, value, after),
-        Ok(Served::End(number)) => told(1000, number as usize, 0, after),
-        Ok(Served::Nobody) => told(1001, 0, 0, after),
-        Err(why) => told(2000 + u64::from(u8::from(why)), 0, 0, after),
+    match seats::dispatch(file, seats, key) {
+        Ok(dispatch) => served(dispatch),
+        Err(why) => told(2000 + u64::from(u8::from(why)), 0, 0, seats),
     }
 }
 
@@ -125,61 +139,36 @@ fn flagged(event: [u64; 8], seats: Seats, readings: &[Plain; 8]) -> Ran {
     told(1002, number, 0, after)
 }
 
-// An event that reads no file.
-fn small_event(event: [u64; 8], seats: Seats, readings: &[Plain; 8]) -> Ran {
-    let number = event[1] as usize;
-    if event[0] == 1 {
-        return changed(seats::raise(seats, number), number);
-    }
-    if event[0] == 3 {
-        let all = seats.seats;
-        let made = Seats {
-            last: number,
-            seats: all,
-        };
-        return told(1002, number, 0, made);
-    }
-    if event[0] == 4 {
-        return flagged(event, seats, readings);
-    }
-    told(4000, number, 0, seats)
-}
-
 // One event, with the file that it names.
-fn event_with(
-    file: &[u8],
-    table: &[u64],
-    bounds: &[u8],
-    event: [u64; 8],
-    seats: Seats,
-    readings: &[Plain; 8],
-    key: &mut [u8],
-) -> Ran {
-    if event[0] == 0 {
-        return seat_started(file, table, bounds, event, seats);
-    }
-    if event[0] == 2 {
-        return dispatched_in(file, event[1] as usize, seats, key);
-    }
-    small_event(event, seats, readings)
-}
-
-// One event.
 fn event_of(
-    file: &[u8],
-    table: &[u64],
-    other: &[u8],
-    other_table: &[u64],
-    bounds: &[u8],
+    lent: Lent<'_>,
     event: [u64; 8],
     seats: Seats,
     readings: &[Plain; 8],
     key: &mut [u8],
 ) -> Ran {
-    if event[2] == 0 {
-        return event_with(file, table, bounds, event, seats, readings, key);
+    let number = event[1] as usize;
+    let named = if event[2] == 0 {
+        lent.first
+    } else {
+        lent.second
+    };
+    match event[0] {
+        0 => seat_started(named, lent.bounds, event, seats),
+        1 => changed(seats::raise(seats, number), number, seats),
+        2 => dispatched_in(named.file, number, seats, key),
+        3 => told(
+            1002,
+            number,
+            0,
+            Seats {
+                last: number,
+                ..seats
+            },
+        ),
+        4 => flagged(event, seats, readings),
+        _ => told(4000, number, 0, seats),
     }
-    event_with(other, other_table, bounds, event, seats, readings, key)
 }
 
 // Runs the events one after the other from no readings, as far as there is room for answers and rows; how many were run.
@@ -194,6 +183,14 @@ pub fn run_events(
     rows: &mut [u8],
 ) -> u64 {
     let count = events.len().min(answers.len()).min(rows.len() / ROW);
+    let lent = Lent {
+        first: Tabled { file, table },
+        second: Tabled {
+            file: other,
+            table: other_table,
+        },
+        bounds,
+    };
     let mut seats = seats::new();
     let mut readings = [Plain {
         reading: stream_start::no_reading(),
@@ -203,17 +200,7 @@ pub fn run_events(
     for i in 0..count {
         let at = i * ROW;
         let row = &mut rows[at..at + ROW];
-        let ran = event_of(
-            file,
-            table,
-            other,
-            other_table,
-            bounds,
-            events[i],
-            seats,
-            &readings,
-            row,
-        );
+        let ran = event_of(lent, events[i], seats, &readings, row);
         seats = ran.seats;
         keep(&mut readings, seats);
         let [code, number, value] = ran.told;

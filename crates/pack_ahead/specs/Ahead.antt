@@ -7,15 +7,14 @@
 --     Started, GoesAhead   what opening keys asks, and what it leaves; GoneTo: on the way
 --     row_next, RowAsked    the record of the node to be finished next, and what finding its row asks
 -- Assumes nothing.
-use Rattle.std.specs.Prelude.{◌≡◌, false, cond, ◌⊎◌, List, ℕ, ◌+◌, ◌-◌, ◌*◌, ◌≤◌, ◌<◌, eqb, length, get_or, replicate}
+use Rattle.std.specs.Prelude.{◌≡◌, cond, ◌⊎◌, List, ℕ, ◌+◌, ◌-◌, ◌*◌, ◌≤◌, ◌<◌, eqb, length, get_or, replicate}
 use Rattle.format.specs.Packed.{BuilderNode}
 use Rattle.packing.specs.Lists.{count_in, key_at, value_at, pairs_of}
 use Rattle.packing.specs.Registry.{empty_cell}
 use Rattle.packing.specs.Packing.{State, insert_all, start}
-use Rattle.packing_rows.specs.WorkTables.{Tables, row_in, count_at, least_from}
+use Rattle.packing_rows.specs.WorkTables.{Tables}
 use Rattle.pack_intern.specs.Interning.{build_is}
-use Rattle.pack_finish.specs.FinishRow.{row_node}
-use Rattle.pack_close.specs.Closing.{closed_to, ClosingTo}
+use Rattle.pack_close.specs.Closing.{RowsFit, node_from, least_in, closed_to, ClosingTo}
 use Rattle.pack_close.specs.OpenNodes.{tables_of}
 use Rattle.pack_close.specs.declared.Open.{Open}
 use Rattle.pack_insert.specs.Inserting.{CommonIs, Opened}
@@ -83,15 +82,11 @@ pub record GoesAhead (s : List ℕ) (o : Open) (w : Way) (o' : Open) (r : Way) :
 
 -- the number from which its outputs are counted
 abbrev pub base_next : Tables → ℕ → ℕ
-base_next T d = cond (eqb d 0) 0 (least_from (get_or T.finals d false) (get_or T.values d 0) (row_in T.leasts d (count_at T d)))
+base_next T d = cond (eqb d 0) 0 (least_in T d)
 
 abbrev pub row_next : Tables → ℕ → BuilderNode
-row_next T d = row_node (get_or T.finals d false) (get_or T.values d 0) T.inputs T.leasts T.targets d (count_at T d) (base_next T d)
+row_next T d = node_from T d (base_next T d)
 
 pub record RowAsked (cells d : ℕ) (T : Tables) : Type 0 where
   pub two : 2 ≤ cells
-  pub low : d < 256
-  pub few : count_at T d ≤ 256
-  pub inputs_long : 65536 ≤ length T.inputs
-  pub leasts_long : 65536 ≤ length T.leasts
-  pub targets_long : 65536 ≤ length T.targets
+  pub fits : RowsFit T d

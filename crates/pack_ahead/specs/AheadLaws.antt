@@ -6,32 +6,31 @@
 --     underway_close       a node finished
 --     underway_full        the output has no room for a node
 --     root_asked, root_done    the root finished
---     gone_none, gone_from, gone_open  the loop over the keys
---     row_asked, row_given, row_next_is, record_next   the row of the node to be finished
+--     gone_none, gone_open, gone_on  the loop over the keys
+--     row_asked, row_given, record_next   the row of the node to be finished
 -- Assumes nothing.
-use Rattle.std.specs.Prelude.{◌≡◌, Option, None, refl, Bool, true, false, cond, List, [], ◌∷◌, ℕ, zero, suc, ◌+◌, ◌-◌, ◌*◌, ◌/◌, ◌%◌, ◌≤◌, ◌<◌, eqb, length, get_or, take, drop, replicate}
+use Rattle.std.specs.Prelude.{◌≡◌, Option, None, refl, Bool, true, false, cond, List, [], ◌∷◌, ℕ, zero, suc, ◌+◌, ◌-◌, ◌*◌, ◌≤◌, ◌<◌, eqb, length, get_or, take, drop, replicate}
 use Rattle.std.proofs.Common.{sym, ap, ◌∙◌, subst, inl, arith, ne_eqb, length-take, get_or-take, get_or-drop}
 use Rattle.std.proofs.Math.Decide.{ℕ_discrete}
 use Rattle.std.proofs.lemmas.List.{length-replicate}
 use Rattle.std.proofs.Math.ListN.{get_or-eq_default}
 use Rattle.format.specs.Packed.{BuilderNode}
 use Rattle.packing.specs.Lists.{IsList, count_in, begin_at, end_at, key_at, value_at, pairs_of}
-use Rattle.packing.specs.Registry.{Cell, empty_cell, hash_of, intern}
+use Rattle.packing.specs.Registry.{Cell, empty_cell, intern}
 use Rattle.packing.specs.Packing.{State, insert_all, start, pack_nodes, least_at, record_of}
-use Rattle.packing_rows.specs.WorkTables.{Tables, tables_with, row_in, zip_arcs, count_at, open_at, levels, least_from, Sized}
+use Rattle.packing_rows.specs.WorkTables.{Tables, tables_with, row_in, zip_arcs, count_at, open_at, levels, Sized}
 use Rattle.packing_rows.specs.WorkTableLaws.{length_row, open_least, record_row}
 use Rattle.pack_intern.specs.Interning.{cells_is, build_is, InternIs}
 use Rattle.pack_intern.specs.declared.Placed.{Placed}
-use Rattle.pack_finish.specs.FinishRow.{row_node, Finishable}
 use Rattle.pack_finish.specs.LeastLaws.{from_each, from_value}
-use Rattle.pack_close.specs.Closing.{closed_to, StepTo, JoinedAt, ClosesTo}
+use Rattle.pack_close.specs.Closing.{node_from, least_in, CanFinish, closed_to, StepTo, JoinedAt, ClosesTo}
 use Rattle.pack_close.specs.OpenNodes.{tables_of}
 use Rattle.pack_close.specs.declared.Open.{Open}
 use Rattle.pack_close.specs.ClosingLaws.{closing_none, closing_step, closing_full, closing_all, step_done, step_no_room}
 use Rattle.pack_insert.specs.Inserting.{CommonIs, Opened, state_of, Between}
 use Rattle.pack_insert.specs.InsertingLaws.{inserted, insert_done, insert_full}
 use Rattle.pack_keys.specs.AddKeys.{BuildsTo, Builds, Building}
-use Rattle.pack_keys.specs.AddKeysLaws.{cut_is, cut_length, cut_short, building_none, insertable, building_step, building_full, building_all}
+use Rattle.pack_keys.specs.AddKeysLaws.{cut_is, cut_short, building_none, insertable, building_step, building_full, building_all}
 use Rattle.pack_run.specs.Running.{Blank, Runs}
 use Rattle.pack_run.specs.RunningLaws.{fresh, run_full, run_closed_full, root_finishable, run_done}
 use Rattle.pack_row.specs.Row.{RowGiven}
@@ -51,26 +50,22 @@ part_bytes s f a b j = elim (ℕ_discrete (j + 1 - a) 0) [
   | no z ↦ omega (arith, get_or-eq_default (take a (drop b s)) 0 {n = j} (omega (arith, length-take a (drop b s))))
 ]
 
-module _ (s : List ℕ) (ok : IsList s) (i n b e : ℕ) (l : i < count_in s) (n_is : n ≡ count_in s) (b_is : b ≡ begin_at s i) (e_is : e ≡ end_at s i) where
-  abbrev key : List ℕ
-  key = take (8 + 12 * n + e - (8 + 12 * n + b)) (drop (8 + 12 * n + b) s)
+pub leaves_common : {s led : List ℕ} {k i m : ℕ} → i < count_in s → (key : List ℕ) → key ≡ key_at s i → CommonIs key led k m → LeavesAt s led k i m
+leaves_common {s} {led} {k} {i} {m} l key key_is c = record {
+  low = c.low;
+  on = λ h. subst (λ (x : List ℕ). CommonIs x led k m) key_is c;
+  last = λ h. absurd (omega arith);
+}
 
-  pub leaves_common : {led : List ℕ} {k m : ℕ} → CommonIs key led k m → LeavesAt s led k i m
-  leaves_common {led} {k} {m} c = record {
-    low = c.low;
-    on = λ h. subst (λ (x : List ℕ). CommonIs x led k m) (cut_is s ok i n b e l n_is b_is e_is) c;
-    last = λ h. absurd (omega arith);
-  }
-
-  pub opens_key : {m v : ℕ} → v ≡ value_at s i → {T T' : Tables} → Opened key m v T T' → ((j : ℕ) → get_or s j 0 < 256) → {r : Way} → r.depth ≡ 8 + 12 * n + e - (8 + 12 * n + b)
-      → r.keys ≡ i + 1 → LeavesAt s T'.led r.depth r.keys r.to → OpensKey s i m T T' r
-  opens_key {m} {v} v_is {T} {T'} o bytes {r} d_is k_is lv = record {
-    opened = subst (λ (x : ℕ). Opened (key_at s i) m x T T') v_is (subst (λ (x : List ℕ). Opened x m v T T') (cut_is s ok i n b e l n_is b_is e_is) o);
-    bytes = part_bytes s bytes (end_at s i - begin_at s i) (8 + 12 * count_in s + begin_at s i);
-    depth = d_is ∙ sym (cut_length s ok i n b e l n_is b_is e_is) ∙ ap length (cut_is s ok i n b e l n_is b_is e_is);
-    more = k_is;
-    leaves = lv;
-  }
+pub opens_key : (s : List ℕ) (i : ℕ) (key : List ℕ) → key ≡ key_at s i → {m v : ℕ} → v ≡ value_at s i → {T T' : Tables} → Opened key m v T T' → ((j : ℕ) → get_or s j 0 < 256) → {r : Way}
+    → r.depth ≡ length key → r.keys ≡ i + 1 → LeavesAt s T'.led r.depth r.keys r.to → OpensKey s i m T T' r
+opens_key s i key key_is {m} {v} v_is {T} {T'} o bytes {r} d_is k_is lv = record {
+  opened = subst (λ (x : ℕ). Opened (key_at s i) m x T T') v_is (subst (λ (x : List ℕ). Opened x m v T T') key_is o);
+  bytes = part_bytes s bytes (end_at s i - begin_at s i) (8 + 12 * count_in s + begin_at s i);
+  depth = d_is ∙ ap length key_is;
+  more = k_is;
+  leaves = lv;
+}
 
 pub leaves_none : (s led : List ℕ) (k i : ℕ) → count_in s ≤ i → LeavesAt s led k i 0
 leaves_none s led k i h = record { low = omega arith; on = λ l. absurd (omega arith); last = λ z. refl }
@@ -175,20 +170,6 @@ module _ {s : List ℕ} {cells : ℕ} {out : List ℕ} {table : List (List ℕ)}
     leaves = u.leaves;
   }
 
-  -- the same, with the way's numbers
-  pub underway_same : Underway s cells out table T next (way_with w.depth w.to w.keys)
-  underway_same = record {
-    out₀ = u.out₀;
-    table₀ = u.table₀;
-    T₀ = u.T₀;
-    next₀ = u.next₀;
-    k = u.k;
-    building = u.building;
-    closing = u.closing;
-    led_kept = u.led_kept;
-    leaves = u.leaves;
-  }
-
   -- ---- no room
 
   module _ (two : 2 ≤ cells) where
@@ -230,14 +211,14 @@ module _ {s : List ℕ} {cells : ℕ} {out : List ℕ} {table : List (List ℕ)}
       S = u.closing.closable.sized
 
       abbrev root_node : BuilderNode
-      root_node = row_node (get_or T.finals 0 false) (get_or T.values 0 0) T.inputs T.leasts T.targets 0 (count_at T 0) 0
+      root_node = node_from T 0 0
 
       joined_root : JoinedAt (closed_to (build_is u.out₀ u.next₀ u.table₀) u.T₀ 0 u.k) u.T₀ 0 out table T next
       joined_root =
           subst (λ (m : ℕ). JoinedAt (closed_to (build_is u.out₀ u.next₀ u.table₀) u.T₀ m u.k) u.T₀ m out table T next) (u.leaves.last none_left)
           ((closing_all u.closing (omega arith)).at next refl)
 
-      pub root_asked : Finishable out next table (get_or T.finals 0 false) (get_or T.values 0 0) T.inputs T.leasts T.targets 0 (count_at T 0) 0
+      pub root_asked : CanFinish out next table T 0 0
       root_asked =
           root_finishable (zeros cells two) (empties cells two) (blank cells two) T.inputs T.leasts T.targets S.inputs_long S.leasts_long S.targets_long (pairs_of s) (all_open none_left) joined_root
 
@@ -250,27 +231,27 @@ module _ {s : List ℕ} {cells : ℕ} {out : List ℕ} {table : List (List ℕ)}
 pub gone_none : (s : List ℕ) (o : Open) (w : Way) → GoneTo s o w o w
 gone_none s o w = record { on = λ cells out table inputs leasts targets next u. u; less = omega arith }
 
--- from the way whose numbers the loop has
-pub gone_from : {s : List ℕ} {o : Open} {w : Way} {o' : Open} {r : Way} → IsList s → GoneTo s o (way_with w.depth w.to w.keys) o' r → GoneTo s o w o' r
-gone_from ok g = record {
-  on = λ cells out table inputs leasts targets next u. g.on cells out table inputs leasts targets next (underway_same u ok);
-  less = g.less;
-}
-
-module _ {s : List ℕ} {o₀ : Open} {w : Way} {o : Open} {d m i : ℕ} (g : GoneTo s o₀ w o (way_with d m i)) (ok : IsList s) (l : i < count_in s) (le : d ≤ m) where
+module _ {s : List ℕ} {o₀ : Open} {w : Way} {o : Open} {v : Way} (g : GoneTo s o₀ w o v) (ok : IsList s) (l : v.keys < count_in s) (le : v.depth ≤ v.to) where
   -- the key goes along the open nodes that far
-  pub key_goes : Started s o₀ w → (m ≤ length (key_at s i)) × (length o.counts ≡ 256) × (length o.led ≡ 256) × (length o.finals ≡ 256) × (length o.values ≡ 256)
+  pub key_goes : Started s o₀ w → (v.to ≤ length (key_at s v.keys)) × (length o.counts ≡ 256) × (length o.led ≡ 256) × (length o.finals ≡ 256) × (length o.values ≡ 256)
   key_goes st =
       let u = g.on st.cells st.out st.table st.inputs st.leasts st.targets st.next st.underway in
       let z = u.closing.closable.sized in
       ((u.leaves.on l).within, z.counts_long, z.led_long, z.finals_long, z.values_long)
 
-  pub gone_open : {o' : Open} {r : Way} → ((inputs leasts targets : List ℕ) → OpensKey s i m (tables_of inputs leasts targets o) (tables_of inputs leasts targets o') r)
-      → GoneTo s o₀ w o' (way_with r.depth r.to (i + 1))
+  pub gone_open : {o' : Open} {r : Way} → ((inputs leasts targets : List ℕ) → OpensKey s v.keys v.to (tables_of inputs leasts targets o) (tables_of inputs leasts targets o') r)
+      → GoneTo s o₀ w o' (way_with r.depth r.to (v.keys + 1))
   gone_open opens = record {
     on = λ cells out table inputs leasts targets next u. underway_open (g.on cells out table inputs leasts targets next u) ok l le (opens inputs leasts targets);
-    less = omega (arith, g.less, (opens [] [] []).depth, key_short s ok i l);
+    less = omega (arith, g.less, (opens [] [] []).depth, key_short s ok v.keys l);
   }
+
+  pub gone_on : {i : ℕ} {o' : Open} {r : Way} → v.keys ≡ i → ((inputs leasts targets : List ℕ) → OpensKey s i v.to (tables_of inputs leasts targets o) (tables_of inputs leasts targets o') r)
+      → GoneTo s o₀ w o' r
+  gone_on {i} {o'} {r} e opens =
+      let here : (inputs leasts targets : List ℕ) → OpensKey s v.keys v.to (tables_of inputs leasts targets o) (tables_of inputs leasts targets o') r =
+      λ inputs leasts targets. subst (λ (k : ℕ). OpensKey s k v.to (tables_of inputs leasts targets o) (tables_of inputs leasts targets o') r) (sym e) (opens inputs leasts targets) in
+      subst (λ (k : ℕ). GoneTo s o₀ w o' (way_with r.depth r.to k)) (sym (here [] [] []).more) (gone_open here)
 
 -- ---- the row of the node to be finished
 
@@ -281,61 +262,48 @@ row_asked {w = w} u two =
     let C = u.closing.closable in
     record {
       two = two;
-      low = C.low;
-      few = C.orderly.few w.depth (omega arith);
-      inputs_long = C.sized.inputs_long;
-      leasts_long = C.sized.leasts_long;
-      targets_long = C.sized.targets_long;
+      fits = record {
+        low = C.low;
+        few = C.orderly.few w.depth (omega arith);
+        inputs_long = C.sized.inputs_long;
+        leasts_long = C.sized.leasts_long;
+        targets_long = C.sized.targets_long;
+      };
     }
 
--- n' being the row's length by its ends
-pub row_given : (cells d n' : ℕ) (T : Tables) (final : Bool) (v base : ℕ) → RowAsked cells d T → n' ≡ count_at T d
-    → base ≡ cond (eqb d 0) 0 (least_from final v (take n' (drop (256 * d) T.leasts))) → RowGiven cells d (count_at T d) base final v T.inputs T.leasts T.targets
-row_given cells d n' T final v base a same e = record {
+pub row_given : (cells d : ℕ) (T : Tables) (base : ℕ) → RowAsked cells d T → base ≡ base_next T d → RowGiven cells d base T
+row_given cells d T base a e = record {
   two = a.two;
-  low = a.low;
-  few = a.few;
-  inputs_long = a.inputs_long;
-  leasts_long = a.leasts_long;
-  targets_long = a.targets_long;
+  fits = a.fits;
   high = record {
-    within = omega (arith, a.leasts_long, a.low, a.few);
+    within = omega (arith, a.fits.leasts_long, a.fits.low, a.fits.few);
     high = λ j l h.
         let i : ℕ = j - 256 * d in
         let at : 256 * d + i ≡ j = omega arith in
         let e₁ = get_or-take n (drop (256 * d) T.leasts) i 0 (omega arith) ∙ get_or-drop (256 * d) T.leasts i 0 ∙ ap (λ (k : ℕ). get_or T.leasts k 0) at in
-        omega (arith, base_low, e₁, from_each final v (row_in T.leasts d n) i (omega (arith, o)));
+        omega (arith, base_low, e₁, from_each (get_or T.finals d false) (get_or T.values d 0) (row_in T.leasts d n) i (omega (arith, o)));
   };
-  value_high = λ z. omega (arith, base_low, from_value final v (row_in T.leasts d n) z);
+  value_high = λ z. omega (arith, base_low, from_value (get_or T.finals d false) (get_or T.values d 0) (row_in T.leasts d n) z);
 }
   where
     n : ℕ
     n = count_at T d
 
     o : length (row_in T.leasts d n) ≡ n
-    o = length_row T.leasts d n (omega (arith, a.leasts_long, a.low, a.few))
+    o = length_row T.leasts d n (omega (arith, a.fits.leasts_long, a.fits.low, a.fits.few))
 
     low_of : (b : Bool) (m : ℕ) → cond b 0 m ≤ m
     low_of true m = omega arith
     low_of false m = omega arith
 
-    base_low : base ≤ least_from final v (row_in T.leasts d n)
-    base_low = omega (arith, e, low_of (eqb d 0) (least_from final v (take n' (drop (256 * d) T.leasts))), ap (λ (k : ℕ). least_from final v (take k (drop (256 * d) T.leasts))) same)
-
-pub row_next_is : (cells d n' r : ℕ) (T : Tables) (base : ℕ) → n' ≡ count_at T d
-    → base ≡ cond (eqb d 0) 0 (least_from (get_or T.finals d false) (get_or T.values d 0) (take n' (drop (256 * d) T.leasts)))
-    → r ≡ 2 * (hash_of (row_node (get_or T.finals d false) (get_or T.values d 0) T.inputs T.leasts T.targets d (count_at T d) base) % (cells / 2))
-    → r ≡ 2 * (hash_of (row_next T d) % (cells / 2))
-row_next_is cells d n' r T base same e h =
-    h
-    ∙ ap (λ (x : ℕ). 2 * (hash_of (row_node (get_or T.finals d false) (get_or T.values d 0) T.inputs T.leasts T.targets d (count_at T d) x) % (cells / 2)))
-    (e ∙ ap (λ (k : ℕ). cond (eqb d 0) 0 (least_from (get_or T.finals d false) (get_or T.values d 0) (take k (drop (256 * d) T.leasts)))) same)
+    base_low : base ≤ least_in T d
+    base_low = omega (arith, e, low_of (eqb d 0) (least_in T d))
 
 -- the record of a node that is not the root is the definition's
 pub record_next : (T : Tables) (d : ℕ) → Sized T → d < 256 → count_at T d ≤ 256 → 0 < d
     → row_next T d ≡ record_of (open_at T d) (least_at (open_at T d))
 record_next T d sized low few pos =
     let e : base_next T d ≡ least_at (open_at T d) =
-    ap (λ (b : Bool). cond b 0 (least_from (get_or T.finals d false) (get_or T.values d 0) (row_in T.leasts d (count_at T d)))) (ne_eqb d 0 (λ z. omega arith))
+    ap (λ (b : Bool). cond b 0 (least_in T d)) (ne_eqb d 0 (λ z. omega arith))
     ∙ sym (open_least T sized d low few) in
-    ap (row_node (get_or T.finals d false) (get_or T.values d 0) T.inputs T.leasts T.targets d (count_at T d)) e ∙ sym (record_row T sized d low few (least_at (open_at T d)))
+    ap (node_from T d) e ∙ sym (record_row T sized d low few (least_at (open_at T d)))

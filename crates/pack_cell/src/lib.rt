@@ -4,11 +4,14 @@
 ghost use Rattle.std.specs.Prelude.{◌≡◌, ◌+◌, ◌<◌, length, set, replicate};
 ghost use Rattle.pack_cell.specs.Cells.{empty, at};
 
+// The address of an empty cell: no node's.
+const NONE_ADDRESS: u64 = 1;
+
 // Two words for a C caller: functions for C are lent a table of them.
 #[repr(C)]
 #[derive(Clone, Copy)]
 pub struct Cell {
-    // the address of a node; 1 when the cell is empty
+    // the address of a node, or NONE_ADDRESS when the cell is empty
     pub addr: u64,
     // the hash of that node
     pub hash: u64,
@@ -23,15 +26,15 @@ pub fn put_cell(cells: &mut [Cell], i: usize, c: Cell)
 }
 
 // Stores the two cells of the row that begins at i.
-pub fn put_row(cells: &mut [Cell], i: usize, first: Cell, second: Cell)
+pub fn put_row(cells: &mut [Cell], i: usize, row: [Cell; 2])
     requires { i + 1 < length cells.old }
-    ensures { cells.new ≡ set (set cells.old i first) (i + 1) second }
+    ensures { cells.new ≡ set (set cells.old i (at row 0)) (i + 1) (at row 1) }
 {
-    put_cell(cells, i, first);
-    put_cell(cells, i + 1, second);
+    put_cell(cells, i, row[0]);
+    put_cell(cells, i + 1, row[1]);
 }
 
-// The two cells of the row that begins at i change places.
+// The two cells of the row that begins at i change places. The packer does not call it: it is for a program that keeps its own table of cells.
 pub fn promote(cells: &mut [Cell], i: usize)
     requires { i + 1 < length cells.old }
     ensures { cells.new ≡ set (set cells.old i (at cells.old (i + 1))) (i + 1) (at cells.old i) }
@@ -42,23 +45,19 @@ pub fn promote(cells: &mut [Cell], i: usize)
     cells[i + 1] = first;
 }
 
-// Every cell to c.
-fn fill_cells(cells: &mut [Cell], c: Cell)
-    ensures { cells.new ≡ replicate (length cells.old) c }
-{
-    cells.fill(c);
-}
-
 // An empty cell.
 fn empty_cell() -> Cell
     ensures { result ≡ empty }
 {
-    Cell { addr: 1, hash: 0 }
+    Cell {
+        addr: NONE_ADDRESS,
+        hash: 0,
+    }
 }
 
 // Every cell empty.
 pub fn empty_cells(cells: &mut [Cell])
     ensures { cells.new ≡ replicate (length cells.old) empty }
 {
-    fill_cells(cells, empty_cell());
+    cells.fill(empty_cell());
 }

@@ -26,11 +26,12 @@ pairs_set [] i c = refl
 pairs_set (x ∷ cells) zero c = refl
 pairs_set (x ∷ cells) (suc i) c = ap (λ (t : List (List ℕ)). pair_is x ∷ t) (pairs_set cells i c)
 
-pub pairs_taken : (cells : List Cell) (i : ℕ) → i + 1 < length cells → TakenFrom (pairs_is cells) i (pair_of (at cells i) (at cells (i + 1)))
+pub pairs_taken : (cells : List Cell) (i : ℕ) → i + 1 < length cells → TakenFrom (pairs_is cells) i (pair_of (at cells i ∷ at cells (i + 1) ∷ []))
 pairs_taken cells i l = record {
   within = omega (arith, l, pairs_length cells);
   is = ap₂ (λ (a b : List ℕ). a ∷ b ∷ []) (sym (pairs_at cells i (omega (arith, l)))) (sym (pairs_at cells (i + 1) l));
 }
 
-pub pairs_put : (cells : List Cell) (i : ℕ) (c d : Cell) → pairs_is (set (set cells i c) (i + 1) d) ≡ put_pair (pairs_is cells) i (pair_of c d)
-pairs_put cells i c d = pairs_set (set cells i c) (i + 1) d ∙ ap (λ (t : List (List ℕ)). set t (i + 1) (pair_is d)) (pairs_set cells i c)
+pub pairs_put : (cells : List Cell) (i : ℕ) (row : List Cell) → pairs_is (set (set cells i (at row 0)) (i + 1) (at row 1)) ≡ put_pair (pairs_is cells) i (pair_of row)
+pairs_put cells i row =
+    pairs_set (set cells i (at row 0)) (i + 1) (at row 1) ∙ ap (λ (t : List (List ℕ)). set t (i + 1) (pair_is (at row 1))) (pairs_set cells i (at row 0))

@@ -1,5 +1,5 @@
 // The nodes of a list packed over the table of cells as a slice of structs: the two cells of a row are taken, a step is made, and two cells are stored.
-// inputs, leasts and targets are slices and no struct: the C caller lends them one by one.
+// The three working tables are lent one by one, by the C caller: here they become one struct with the open nodes.
 #![tactic(auto)]
 
 ghost use Rattle.std.specs.Prelude.{◌≡◌, cond, length, replicate};
@@ -10,7 +10,7 @@ ghost use Rattle.pack_cells.specs.Pairs.{pairs_is};
 
 use format::Refusal;
 use pack_cell::{Cell, empty_cells, put_row};
-use pack_close::Open;
+use pack_close::{Open, Tables};
 use pack_intern::Placed;
 use pack_step::Turn;
 
@@ -27,36 +27,24 @@ pub fn run(
     ensures { Ended list.now (tables_test (length inputs.old) (length leasts.old) (length targets.old))
         (length cells.old) (length output.old) output.new (pairs_is cells.new) result }
 {
-    let mut nodes = Open::new();
-    let mut turn = pack_step::begin(
-        list,
-        output.len(),
-        cells.len(),
+    let mut tables = Tables {
         inputs,
         leasts,
         targets,
-        &mut nodes,
-    )?;
+        nodes: Open::new(),
+    };
+    let mut turn = pack_step::begin(list, output.len(), cells.len(), &mut tables)?;
+    // No `for`: how many nodes there are to finish is known only when the root is placed.
     loop {
         let due = match turn {
             Turn::Next(due) => due,
             Turn::Done(root) => return Ok(root),
         };
         let i = due.row;
-        let done = pack_step::step(
-            list,
-            cells.len(),
-            output,
-            cells[i],
-            cells[i + 1],
-            due,
-            inputs,
-            leasts,
-            targets,
-            &mut nodes,
-        );
-        put_row(cells, i, done.one, done.two);
-        turn = done.turn?;
+        let mut row = [cells[i], cells[i + 1]];
+        let next = pack_step::step(list, cells.len(), output, &mut row, due, &mut tables);
+        put_row(cells, i, row);
+        turn = next?;
     }
 }
 

@@ -1,28 +1,72 @@
 -- Laws of closing: what each function of the crate asks and leaves, from the rows to the definition.
+--     finish_high, finish_less, finish_fits, finish_asked, finish_done    a row finished
+--     row_closable         the deepest row can be read
 --     finishable           an orderly row can be finished
 --     step_at, step_full   the deepest node is finished, or has no room
 --     closing_none, -step, -full, -all     the loop that closes down to a depth
 -- Assumes nothing.
-use Rattle.std.specs.Prelude.{◌≡◌, Option, None, Some, refl, false, List, ℕ, suc, ◌+◌, ◌-◌, ◌*◌, ◌≤◌, ◌<◌, length, get_or, drop}
+use Rattle.std.specs.Prelude.{◌≡◌, Option, None, Some, refl, false, cond, List, ◌++◌, map, ℕ, suc, ◌+◌, ◌-◌, ◌*◌, ◌≤◌, ◌<◌, length, get_or, take, drop}
 use Rattle.std.proofs.Common.{sym, ◌∙◌, subst, arith, length-append, get_or-take, get_or-drop}
 use Rattle.std.proofs.Math.Path.{ap}
 use Rattle.format.specs.Packed.{BuilderNode}
+use Rattle.node_compile.specs.Compile.{builder_with}
 use Rattle.node_compile.specs.Parts.{RecordFits}
 use Rattle.packing.specs.Registry.{Build, intern}
 use Rattle.packing.specs.Packing.{Open, least_at, record_of, with_arc, finish, closed_as}
-use Rattle.packing_rows.specs.WorkTables.{Tables, tables_with, row_in, arc_with, count_at, open_at, levels, least_from, Joined, close_into, Sized, Orderly, SameAbove}
+use Rattle.packing_rows.specs.WorkTables.{Tables, tables_with, row_in, arc_with, count_at, open_at, levels, Joined, close_into, Sized, Orderly, SameAbove}
 use Rattle.packing_rows.specs.OpenLaws.{closed_with, close_deepest, finish_into_grows}
 use Rattle.packing_rows.specs.WorkTableLaws.{length_row, open_least, record_row, open_same, with_entry, open_more, same_more, sized_more, room_for_one, orderly_more}
-use Rattle.pack_intern.specs.Interning.{build_is, AtIs}
-use Rattle.pack_finish.specs.FinishRow.{Lessened, row_node, Finishable}
-use Rattle.pack_close.specs.Closing.{Closable, closed_to, StepTo, StepIs, JoinedAt, ClosesTo, ClosingTo}
-use Rattle.pack_finish.specs.LeastLaws.{from_each, from_value, length_less, lessened_above}
+use Rattle.pack_intern.specs.Interning.{build_is, Ready, AtIs, InternIs}
+use Rattle.pack_intern.specs.declared.Placed.{Placed}
+use Rattle.pack_finish.specs.FinishRow.{Lessened, EachAtLeast}
+use Rattle.pack_finish.specs.FinishRowLaws.{part_high}
+use Rattle.pack_close.specs.Closing.{Closable, RowsFit, node_at, node_from, least_in, CanFinish, with_leasts, RowFinished, closed_to, StepTo, StepIs, JoinedAt, ClosesTo, ClosingTo}
+use Rattle.pack_finish.specs.LeastLaws.{from_each, from_value, length_less, lessened_row, lessened_above, lessened_part}
+
+-- ---- one node
+
+module _ (out : List ℕ) (first : ℕ) (cells : List (List ℕ)) (T : Tables) (d base : ℕ) (F : CanFinish out first cells T d base) where
+  -- the row subtracted from
+  pub finish_high : (n : ℕ) → n ≡ count_at T d → EachAtLeast base (take n (drop (256 * d) T.leasts))
+  finish_high n same = part_high d (count_at T d) n base T.leasts same F.high
+
+  pub finish_less : (part : List ℕ) (n : ℕ) → n ≡ count_at T d → part ≡ map (λ (m : ℕ). m - base) (take n (drop (256 * d) T.leasts))
+      → Lessened T.leasts (take (256 * d) T.leasts ++ (part ++ drop n (drop (256 * d) T.leasts))) (256 * d) (count_at T d) base
+  finish_less part n same is = lessened_part T.leasts part (256 * d) (count_at T d) n base same F.high.within is
+
+  module _ (leasts' : List ℕ) (less : Lessened T.leasts leasts' (256 * d) (count_at T d) base) where
+    pub finish_fits : RowsFit (with_leasts T leasts') d
+    finish_fits = record {
+      low = F.low;
+      few = F.few;
+      inputs_long = F.inputs_long;
+      leasts_long = omega (arith, F.leasts_long, less.long);
+      targets_long = F.targets_long;
+    }
+
+    module _ (fo : ℕ) (fo_is : fo ≡ cond (get_or T.finals d false) (get_or T.values d 0 - base) 0) where
+      node_same : node_at (with_leasts T leasts') d fo ≡ node_from T d base
+      node_same =
+          ap (λ (o : ℕ). node_at (with_leasts T leasts') d o) fo_is
+          ∙ ap (λ (l : List ℕ). builder_with (get_or T.finals d false) (cond (get_or T.finals d false) (get_or T.values d 0 - base) 0) (row_in T.inputs d (count_at T d)) l (row_in T.targets d (count_at T d)))
+          (lessened_row d less F.high.within)
+
+      pub finish_asked : {b : BuilderNode} → b ≡ node_at (with_leasts T leasts') d fo → Ready out first cells × RecordFits first b
+      finish_asked e = (F.ready, subst (RecordFits first) (sym (e ∙ node_same)) F.fits)
+
+      pub finish_done : {b : BuilderNode} → b ≡ node_at (with_leasts T leasts') d fo → {out' : List ℕ} {cells' : List (List ℕ)} {r : Option Placed}
+          → InternIs (intern (build_is out first cells) b) first out' cells' r → RowFinished out first cells T d base out' cells' (with_leasts T leasts') r
+      finish_done e {out'} {cells'} {r} w = record {
+        less = less;
+        rest = refl;
+        interned = subst (λ (b : BuilderNode). InternIs (intern (build_is out first cells) b) first out' cells' r) (e ∙ node_same) w;
+      }
 
 -- ---- the deepest node
 
 module _ (out : List ℕ) (first : ℕ) (cells : List (List ℕ)) (T : Tables) (e : ℕ) (C : Closable out first cells T (e + 1))
     (bytes : (i : ℕ) → get_or T.inputs i 0 < 256) (base : ℕ)
-    (least : base ≡ least_from (get_or T.finals (e + 1) false) (get_or T.values (e + 1) 0) (row_in T.leasts (e + 1) (count_at T (e + 1)))) where
+    (least : base ≡ least_in T (e + 1)) where
   abbrev d : ℕ
   d = e + 1
 
@@ -33,7 +77,7 @@ module _ (out : List ℕ) (first : ℕ) (cells : List (List ℕ)) (T : Tables) (
   B = build_is out first cells
 
   abbrev node : BuilderNode
-  node = row_node (get_or T.finals d false) (get_or T.values d 0) T.inputs T.leasts T.targets d n base
+  node = node_from T d base
 
   few : n ≤ 256
   few = C.orderly.few d (omega arith)
@@ -58,7 +102,16 @@ module _ (out : List ℕ) (first : ℕ) (cells : List (List ℕ)) (T : Tables) (
         targets_ok = C.orderly.targets_ok d (omega arith);
       }
 
-  pub finishable : Finishable out first cells (get_or T.finals d false) (get_or T.values d 0) T.inputs T.leasts T.targets d n base
+  pub row_fits : RowsFit T d
+  row_fits = record {
+    low = C.low;
+    few = few;
+    inputs_long = C.sized.inputs_long;
+    leasts_long = C.sized.leasts_long;
+    targets_long = C.sized.targets_long;
+  }
+
+  pub finishable : CanFinish out first cells T d base
   finishable =
       let s = C.sized in
       let low = C.low in

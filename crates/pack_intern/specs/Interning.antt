@@ -1,24 +1,21 @@
 -- Records interned in the lent output and the lent cells (document 02, N4), by the definition's `intern`.
 --     nodes_in out first        the nodes so far: they stand from 16 on, and the next is to stand at first
---     cell_of, cells_is          a lent cell as the definition's; all of them
+--     cells_is                   the lent cells as the definition's
 --     build_is out first cells  the nodes and the cells so far
 --     Laid out first           the output: 16 bytes 0, the nodes, and zeros from first on
 --     CellsFit first cells     every cell is empty or has an address of a node
 --     Ready                    what interning asks of output, cells and record
 --     InternIs                 what it answers and leaves, where the definition gives R
 -- Assumes nothing.
-use Rattle.std.specs.Prelude.{◌≡◌, Option, None, Some, ◌⊎◌, false, List, ◌++◌, map, ℕ, ◌+◌, ◌-◌, ◌≤◌, ◌<◌, length, get_or, take, drop, replicate}
+use Rattle.std.specs.Prelude.{◌≡◌, Option, None, Some, ◌⊎◌, false, List, ◌++◌, map, ℕ, ◌+◌, ◌-◌, ◌≤◌, ◌<◌, length, take, drop, replicate}
 use Rattle.format.specs.Packed.{BuilderNode, TargetOk, packed, packs_to_nothing}
 use Rattle.node_compile.specs.Parts.{RecordFits}
 use Rattle.packing.specs.Registry.{hash_of, Cell, Build, cell_at, row_of, Interned, write_node}
-use Rattle.registry.specs.Matching.{cell_with}
+use Rattle.registry.specs.Matching.{cell_of}
 use Rattle.pack_intern.specs.declared.Placed.{Placed}
 
 abbrev pub nodes_in : List ℕ → ℕ → List ℕ
 nodes_in out first = take (first - 16) (drop 16 out)
-
-abbrev pub cell_of : List ℕ → Cell
-cell_of c = cell_with (get_or c 0 0) (get_or c 1 0)
 
 abbrev pub cells_is : List (List ℕ) → List Cell
 cells_is cells = map cell_of cells

@@ -6,6 +6,7 @@
 -- Assumes nothing.
 use Rattle.std.specs.Prelude.{◌≡◌, Option, None, Some, Bool, true, false, cond, ◌&&◌, not, eqb, leb, get_or, take, drop, set, replicate, Ok, Err, Result, ℕ}
 use Rattle.std.proofs.Math.Path.{refl, ap, ap₂, subst}
+use Rattle.std.specs.Result.{result_ok}
 use Rattle.std.proofs.Common.{sym, ◌∙◌, eq-eqb, leb-true, leb-false, length-drop, take-append-drop, drop_of_length-le, length-take-le, take_all, take_at, drop_at, take-add}
 use Rattle.std.proofs.Math.Logic.{inl, inr}
 use mathlib.Core.List.{List, [], ◌∷◌, ◌++◌, append_assoc, append-nil}
@@ -21,11 +22,11 @@ use Rattle.node_compile.specs.Parts.{Fitted}
 use Rattle.packing.specs.Registry.{hash_of, Cell, Build, cell_at, row_of, matches, Interned, row_set, write_node, promote, intern}
 use Rattle.packing.proofs.FileLaws.{packed_some}
 use Rattle.packing.proofs.BuildLaws.{row_set_lem}
-use Rattle.registry.specs.Matching.{cell_with, matches_in, matches_in_lem, chosen, intern_by, intern_chosen}
+use Rattle.registry.specs.Matching.{cell_with, cell_of, matches_in, matches_in_lem, chosen, intern_by, intern_chosen}
 use Rattle.registry.specs.declared.Choice.{Choice}
 use Rattle.registry.specs.declared.Choice.TheVariants.{First, Second, Write}
 use Rattle.pack_intern.specs.declared.Placed.{Placed}
-use Rattle.pack_intern.specs.Interning.{nodes_in, cell_of, cells_is, build_is, Laid, CellFit, CellsFit, Ready, Writable, write_of, interned_with, placed, AtIs, InternIs}
+use Rattle.pack_intern.specs.Interning.{nodes_in, cells_is, build_is, Laid, CellFit, CellsFit, Ready, Writable, write_of, interned_with, placed, AtIs, InternIs}
 
 -- ---- the output
 
@@ -330,3 +331,7 @@ module _ (out : List ℕ) (first : ℕ) (cells : List (List ℕ)) (ready : Ready
         at = λ p q. cc;
         full = λ q. omega (arith, no_room p.0, ap length same);
       }
+
+  pub has_no_len : (part : List ℕ) (r : Result ℕ Refusal) → Fitted (packed first b) part₀ part r → None ≡ result_ok r → InternIs (write_of B b) first (out_after part) cells None
+  has_no_len part (Ok len) f e = absurd (let z : ◌≡◌ {A = ℕ} 0 1 = cc in omega arith)
+  has_no_len part (Err k) f e = has_no_room part (Err k) k f refl

@@ -1,14 +1,17 @@
 // One record interned: its address among the nodes so far, found through the cells or written after them.
 // A cell is an address and a hash, a row two cells, as in `RegistryCache` of src/raw/registry.rs.
-// inputs, outputs and targets are slices and no struct: they are rows of tables that the C caller lends one by one.
+// output, cells and first are three parameters and no struct: the place of the next node comes back as a result, and there is none where
+// the output has no room.
 #![tactic(auto)]
 
 ghost use Rattle.std.specs.Prelude.{◌≡◌, ◌+◌, ◌*◌, ◌/◌, ◌%◌, ◌≤◌, ◌<◌, length};
-ghost use Rattle.node_compile.specs.Compile.{builder_with};
+ghost use Rattle.node_compile.specs.Compile.{builder_is};
 ghost use Rattle.node_compile.specs.Parts.{RecordFits};
 ghost use Rattle.packing.specs.Registry.{row_set, intern};
-ghost use Rattle.pack_intern.specs.Interning.{cell_of, cells_is, build_is, Ready, Writable, write_of, InternIs};
+ghost use Rattle.registry.specs.Matching.{cell_of};
+ghost use Rattle.pack_intern.specs.Interning.{cells_is, build_is, Ready, Writable, write_of, InternIs};
 
+use node_record::BuilderNode;
 use registry::Choice;
 
 // Where a record is. There is none where it would have to be written, and the output has no room.
@@ -44,38 +47,18 @@ fn write_node(
     first: usize,
     i: usize,
     own_hash: u64,
-    is_final: bool,
-    final_output: u64,
-    inputs: &[u8],
-    outputs: &[u64],
-    targets: &[usize],
+    node: BuilderNode<'_>,
 ) -> Option<Placed>
-    requires { Writable output.old first cells.old i own_hash
-        (builder_with is_final final_output inputs.now outputs.now targets.now) }
-    ensures { InternIs
-        (write_of (build_is output.old first cells.old)
-        (builder_with is_final final_output inputs.now outputs.now targets.now))
+    requires { Writable output.old first cells.old i own_hash (builder_is node) }
+    ensures { InternIs (write_of (build_is output.old first cells.old) (builder_is node.entry))
         first output.new cells.new result }
 {
-    let done = node_compile::compile_record(
-        is_final,
-        final_output,
-        inputs,
-        outputs,
-        targets,
-        first,
-        &mut output[first..],
-    );
-    match done {
-        Ok(len) => {
-            let next = first + len;
-            let old = cells[i];
-            let addr = next - 1;
-            put_row(cells, i, [addr as u64, own_hash], old);
-            Some(Placed { addr, next })
-        }
-        Err(_) => None,
-    }
+    let len = node_compile::compile_record(node, first, &mut output[first..]).ok()?;
+    let next = first + len;
+    let old = cells[i];
+    let addr = next - 1;
+    put_row(cells, i, [addr as u64, own_hash], old);
+    Some(Placed { addr, next })
 }
 
 // The record's address: 0 for the record that packs to nothing, the address of an equal node in its row, or its own after it is
@@ -84,43 +67,23 @@ pub fn intern(
     output: &mut [u8],
     cells: &mut [[u64; 2]],
     first: usize,
-    is_final: bool,
-    final_output: u64,
-    inputs: &[u8],
-    outputs: &[u64],
-    targets: &[usize],
+    node: BuilderNode<'_>,
 ) -> Option<Placed>
-    requires { Ready output.old first cells.old
-        × RecordFits first (builder_with is_final final_output inputs.now outputs.now targets.now) }
-    ensures { InternIs
-        (intern (build_is output.old first cells.old)
-        (builder_with is_final final_output inputs.now outputs.now targets.now))
+    requires { Ready output.old first cells.old × RecordFits first (builder_is node) }
+    ensures { InternIs (intern (build_is output.old first cells.old) (builder_is node.entry))
         first output.new cells.new result }
 {
-    if node_compile::packs_to_nothing(is_final, inputs.len(), final_output) {
+    if node_compile::packs_to_nothing(node.is_final, node.inputs.len(), node.final_output) {
         return Some(Placed {
             addr: 0,
             next: first,
         });
     }
-    let own_hash = registry::hash(is_final, final_output, inputs, outputs, targets);
+    let own_hash = registry::hash(node);
     let i = row_of(own_hash, cells.len());
     let one = cells[i];
     let two = cells[i + 1];
-    let choice = registry::choose(
-        &output[..first],
-        one[0] as usize,
-        one[1],
-        two[0] as usize,
-        two[1],
-        own_hash,
-        is_final,
-        final_output,
-        inputs,
-        outputs,
-        targets,
-    );
-    match choice {
+    match registry::choose(&output[..first], one, two, own_hash, node) {
         Choice::First => Some(Placed {
             addr: one[0] as usize,
             next: first,
@@ -133,17 +96,6 @@ pub fn intern(
                 next: first,
             })
         }
-        Choice::Write => write_node(
-            output,
-            cells,
-            first,
-            i,
-            own_hash,
-            is_final,
-            final_output,
-            inputs,
-            outputs,
-            targets,
-        ),
+        Choice::Write => write_node(output, cells, first, i, own_hash, node),
     }
 }

@@ -56,12 +56,13 @@ pub fn begin_at(list: &[u8], i: usize) -> usize
     end_at(list, i - 1)
 }
 
-// The value of key i. No plainer without n: it is the count that the list begins with, and no length of a slice.
-pub fn value_at(list: &[u8], n: usize, i: usize) -> u64
-    requires { (n ≡ count_in list.now) × (8 + 4 * n + 8 * i + 8 ≤ length list.now) }
+// The value of key i.
+pub fn value_at(list: &[u8], i: usize) -> u64
+    requires { 8 + 4 * count_in list.now + 8 * i + 8 ≤ length list.now }
     ensures { result ≡ value_at list.now i }
 {
-    read_u64_le(&list[8 + 4 * n + 8 * i..])
+    let values = 8 + 4 * key_count(list);
+    read_u64_le(&list[values + 8 * i..])
 }
 
 // Whether the string a comes before the string b.
@@ -73,7 +74,7 @@ fn comes_before(a: &[u8], b: &[u8]) -> bool
 }
 
 // Whether no end is less than the one before, no key is too long, and the last end, 0 with no keys, is the total.
-// No plainer without n, here and below: it is the count that the list begins with, and no length of a slice.
+// n and total are the list's own, here and below: judge_list has read both, and gives them on.
 fn ends_ok(list: &[u8], n: usize, total: usize) -> bool
     requires { (n < 4294967296) × (8 + 12 * n ≤ length list.now) }
     ensures { Decides result (EndsOk list.now n total) }
@@ -121,8 +122,8 @@ pub fn judge_list(list: &[u8]) -> bool
     }
     let n = key_count(list);
     let total = key_bytes(list);
-    if list.len() != 8 + 12 * n + total {
+    if list.len() != 8 + 12 * n + total || !ends_ok(list, n, total) {
         return false;
     }
-    ends_ok(list, n, total) && keys_ascend(list, n, total)
+    keys_ascend(list, n, total)
 }

@@ -3,7 +3,7 @@
 --     NodeAt               a node is to be finished, and its row is known
 --     NodeAsked, NodeSteps what finishing it asks of some table of cells, and leaves of every table
 -- Assumes nothing.
-use Rattle.std.specs.Prelude.{◌≡◌, Some, None, ◌⊎◌, List, ℕ, ◌+◌, ◌*◌, ◌/◌, ◌%◌, ◌≤◌, ◌<◌, length}
+use Rattle.std.specs.Prelude.{◌≡◌, Option, Some, None, ◌⊎◌, List, ℕ, ◌+◌, ◌*◌, ◌/◌, ◌%◌, ◌≤◌, ◌<◌, length}
 use Rattle.packing.specs.Lists.{IsList, count_in, pairs_of}
 use Rattle.packing.specs.Registry.{hash_of}
 use Rattle.packing.specs.Packing.{pack_nodes}
@@ -14,7 +14,6 @@ use Rattle.pack_turn.specs.RowClosing.{pair_of}
 use Rattle.pack_ahead.specs.declared.Way.{Way}
 use Rattle.pack_ahead.specs.Ahead.{Underway, way_left, row_next}
 use Rattle.pack_node.specs.declared.Due.{Due}
-use Rattle.pack_node.specs.declared.NodeStep.{NodeStep}
 
 abbrev pub hash_next : Tables → ℕ → ℕ
 hash_next T d = hash_of (row_next T d)
@@ -30,18 +29,18 @@ pub record NodeAt (s : List ℕ) (cells : ℕ) (out : List ℕ) (table : List (L
   pub within : row + 1 < cells
 
 -- the two cells are those of the node's row, in some table
-pub record NodeAsked (s : List ℕ) (cells : ℕ) (out : List ℕ) (one two : Cell) (T : Tables) (next : ℕ) (w : Way) : Type 0 where
+pub record NodeAsked (s : List ℕ) (cells : ℕ) (out : List ℕ) (pair : List Cell) (T : Tables) (next : ℕ) (w : Way) : Type 0 where
   pub table : List (List ℕ)
   pub row : ℕ
   pub at : NodeAt s cells out table T next w row
-  pub taken : TakenFrom table row (pair_of one two)
+  pub taken : TakenFrom table row (pair_of pair)
   pub low : 0 < w.depth
 
 -- in every table that has them there
-pub record NodeSteps (s : List ℕ) (cells : ℕ) (out : List ℕ) (one two : Cell) (T : Tables) (next : ℕ) (w : Way) (out' : List ℕ) (T' : Tables) (r : NodeStep) : Type 0 where
-  pub at : (n : Due) → r.due ≡ Some n → (table : List (List ℕ)) (row : ℕ) → NodeAt s cells out table T next w row → TakenFrom table row (pair_of one two)
-      → NodeAt s cells out' (put_pair table row (pair_of r.one r.two)) T' n.next n.way n.row
+pub record NodeSteps (s : List ℕ) (cells : ℕ) (out : List ℕ) (pair : List Cell) (T : Tables) (next : ℕ) (w : Way) (out' : List ℕ) (back : List Cell) (T' : Tables) (r : Option Due) : Type 0 where
+  pub at : (n : Due) → r ≡ Some n → (table : List (List ℕ)) (row : ℕ) → NodeAt s cells out table T next w row → TakenFrom table row (pair_of pair)
+      → NodeAt s cells out' (put_pair table row (pair_of back)) T' n.next n.way n.row
   -- the nodes have no room
-  pub full : r.due ≡ None → (table : List (List ℕ)) (row : ℕ) → NodeAt s cells out table T next w row → TakenFrom table row (pair_of one two)
+  pub full : r ≡ None → (table : List (List ℕ)) (row : ℕ) → NodeAt s cells out table T next w row → TakenFrom table row (pair_of pair)
       → length out' < 16 + length (pack_nodes (pairs_of s) cells).build.nodes
-  pub less : (n : Due) → r.due ≡ Some n → way_left s n.way < way_left s w
+  pub less : (n : Due) → r ≡ Some n → way_left s n.way < way_left s w

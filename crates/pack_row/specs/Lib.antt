@@ -1,3 +1,2 @@
 pub mod Row
 pub mod RowLaws
-pub mod LessLaws

@@ -5,9 +5,11 @@
 --     TakenFrom            a table of one row is the row at i of the table cells
 --     RowGiven             what finding a node's row asks
 -- Assumes nothing.
-use Rattle.std.specs.Prelude.{◌≡◌, List, [], ◌∷◌, Bool, true, ℕ, ◌+◌, ◌*◌, ◌≤◌, ◌<◌, length, get_or, set}
+use Rattle.std.specs.Prelude.{◌≡◌, List, [], ◌∷◌, true, false, ℕ, ◌+◌, ◌*◌, ◌≤◌, ◌<◌, length, get_or, set}
 use Rattle.packing.specs.Registry.{Cell, cell_at, row_set, Interned}
+use Rattle.packing_rows.specs.WorkTables.{Tables, count_at}
 use Rattle.pack_finish.specs.FinishRow.{AllAtLeast}
+use Rattle.pack_close.specs.Closing.{RowsFit}
 
 abbrev pub pair_at : List Cell → ℕ → List Cell
 pair_at cells i = cell_at cells i ∷ cell_at cells (i + 1) ∷ []
@@ -28,12 +30,8 @@ pub record TakenFrom (cells : List (List ℕ)) (i : ℕ) (row : List (List ℕ))
 
 -- ---- the row of a node
 
-pub record RowGiven (cells d n base : ℕ) (final : Bool) (v : ℕ) (inputs leasts targets : List ℕ) : Type 0 where
+pub record RowGiven (cells d base : ℕ) (T : Tables) : Type 0 where
   pub two : 2 ≤ cells
-  pub low : d < 256
-  pub few : n ≤ 256
-  pub inputs_long : 65536 ≤ length inputs
-  pub leasts_long : 65536 ≤ length leasts
-  pub targets_long : 65536 ≤ length targets
-  pub high : AllAtLeast base leasts (256 * d) n
-  pub value_high : final ≡ true → base ≤ v
+  pub fits : RowsFit T d
+  pub high : AllAtLeast base T.leasts (256 * d) (count_at T d)
+  pub value_high : get_or T.finals d false ≡ true → base ≤ get_or T.values d 0

@@ -5,12 +5,9 @@
 --     Standing             one of the two; ended_as how a turn says the second
 --     turn_left             a number that falls with each step
 --     StepAsked, Steps     what a step asks of some table, and leaves of every table
---     RootAsked            what it asks of the root
---     TurnAfter            the turn after a node that is not the root, turn_after as a function of what is due
 -- Assumes nothing.
-use Rattle.std.specs.Prelude.{◌≡◌, ⊤, Bool, true, ◌⊎◌, List, ℕ, ◌+◌, ◌*◌, ◌/◌, ◌%◌, ◌≤◌, ◌<◌, length, Option, Some, None, Ok, Err, Result}
+use Rattle.std.specs.Prelude.{◌≡◌, ⊤, Bool, true, ◌⊎◌, List, ℕ, ◌+◌, ◌*◌, ◌/◌, ◌%◌, ◌≤◌, ◌<◌, length, Ok, Err, Result}
 use Rattle.format.specs.declared.Refusal.{Refusal}
-use Rattle.format.specs.Limits.{SPACE}
 use Rattle.packing.specs.Lists.{IsList, count_in, pairs_of}
 use Rattle.packing.specs.Packing.{pack_nodes, refused, pack_answer}
 use Rattle.packing_rows.specs.WorkTables.{Tables}
@@ -22,10 +19,8 @@ use Rattle.pack_run.specs.Running.{RunAt}
 use Rattle.pack_ahead.specs.Ahead.{Underway, way_left}
 use Rattle.pack_node.specs.NodeSteps.{hash_next}
 use Rattle.pack_node.specs.declared.Due.{Due}
-use Rattle.pack_node.specs.declared.NodeStep.{NodeStep}
 use Rattle.pack_step.specs.declared.Turn.{Turn}
 use Rattle.pack_step.specs.declared.Turn.TheVariants.{Next, Done}
-use Rattle.pack_step.specs.declared.Stepped.{Stepped}
 
 -- ---- before the run
 
@@ -72,29 +67,14 @@ turn_left s (Ok (Done p)) = 0
 turn_left s (Err why) = 0
 
 -- the two cells are those of the turn's row, in some table
-pub record StepAsked (s : List ℕ) (cells : ℕ) (out : List ℕ) (one two : Cell) (T : Tables) (n : Due) : Type 0 where
+pub record StepAsked (s : List ℕ) (cells : ℕ) (out : List ℕ) (pair : List Cell) (T : Tables) (n : Due) : Type 0 where
   pub tables : Bool
   pub table : List (List ℕ)
   pub standing : Standing s tables cells (length out) out table T (Ok (Next n))
-  pub taken : TakenFrom table n.row (pair_of one two)
-
-pub record RootAsked (s out : List ℕ) (one two : Cell) (T : Tables) (n : Due) : Type 0 where
-  pub cells : ℕ
-  pub asked : StepAsked s cells out one two T n
-  pub top : n.way.depth ≡ 0
+  pub taken : TakenFrom table n.row (pair_of pair)
 
 -- in every table that has them there
-pub record Steps (s : List ℕ) (cells : ℕ) (out : List ℕ) (one two : Cell) (T : Tables) (n : Due) (out' : List ℕ) (T' : Tables) (r : Stepped) : Type 0 where
-  pub stands : (tables : Bool) (table : List (List ℕ)) → Standing s tables cells (length out) out table T (Ok (Next n)) → TakenFrom table n.row (pair_of one two)
-      → Standing s tables cells (length out) out' (put_pair table n.row (pair_of r.one r.two)) T' r.turn
-  pub less : turn_left s r.turn < turn_left s (Ok (Next n))
-
-abbrev pub turn_after : Option Due → Result Turn Refusal
-turn_after (Some n) = Ok (Next n)
-turn_after None = Err SPACE
-
--- by what finishing the node leaves
-pub record TurnAfter (n : NodeStep) (r : Stepped) : Type 0 where
-  pub one_is : r.one ≡ n.one
-  pub two_is : r.two ≡ n.two
-  pub turn_is : r.turn ≡ turn_after n.due
+pub record Steps (s : List ℕ) (cells : ℕ) (out : List ℕ) (pair : List Cell) (T : Tables) (n : Due) (out' : List ℕ) (back : List Cell) (T' : Tables) (t : Result Turn Refusal) : Type 0 where
+  pub stands : (tables : Bool) (table : List (List ℕ)) → Standing s tables cells (length out) out table T (Ok (Next n)) → TakenFrom table n.row (pair_of pair)
+      → Standing s tables cells (length out) out' (put_pair table n.row (pair_of back)) T' t
+  pub less : turn_left s t < turn_left s (Ok (Next n))

@@ -2,10 +2,10 @@
 --     judged_list, -tables, -cells, -room, -sound      what is judged before the run
 --     stands_refused, stands_next, stands_done     where packing stands
 --     begin_refused, begin_started, begin_asked, begin_stands      the start
---     node_of_turn, node_asked_of, steps_node      a node that is not the root
+--     node_of_turn, node_asked_of, steps_next, steps_no_room      a node that is not the root
 --     root_in_pair, steps_placed, steps_full     the root
 -- Assumes nothing.
-use Rattle.std.specs.Prelude.{◌≡◌, ⊤, Option, None, Some, Ok, Err, Result, refl, Bool, true, false, List, [], ◌∷◌, ℕ, ◌+◌, ◌*◌, ◌/◌, ◌%◌, ◌≤◌, ◌<◌, length, get_or, replicate}
+use Rattle.std.specs.Prelude.{◌≡◌, ⊤, Option, None, Some, Ok, Err, Result, refl, Bool, true, false, List, [], ◌∷◌, ℕ, ◌+◌, ◌*◌, ◌/◌, ◌%◌, ◌≤◌, ◌<◌, length, replicate}
 use Rattle.std.proofs.Common.{sym, ap, ◌∙◌, subst, ⊎_elim, arith}
 use Rattle.std.proofs.lemmas.List.{length-replicate}
 use Rattle.format.specs.declared.Refusal.{Refusal}
@@ -16,10 +16,10 @@ use Rattle.packing.specs.Registry.{hash_of, row_of, intern}
 use Rattle.packing.specs.Packing.{pack_nodes, refused, pack_answer}
 use Rattle.packing.proofs.ListedLaws.{answer_list, answer_tables, answer_cells, answer_room}
 use Rattle.packing.proofs.TrailerLaws.{length_file}
-use Rattle.packing_rows.specs.WorkTables.{Tables, count_at}
+use Rattle.packing_rows.specs.WorkTables.{Tables}
 use Rattle.pack_intern.specs.Interning.{cells_is, build_is, InternIs}
 use Rattle.pack_intern.specs.declared.Placed.{Placed}
-use Rattle.pack_finish.specs.FinishRow.{row_node, Finishable}
+use Rattle.pack_close.specs.Closing.{node_from, CanFinish}
 use Rattle.pack_close.specs.OpenNodes.{tables_of, no_open}
 use Rattle.pack_close.specs.declared.Open.{Open}
 use Rattle.pack_cell.specs.declared.Cell.{Cell}
@@ -30,16 +30,14 @@ use Rattle.pack_run.specs.Running.{Blank, RunAt, Runs}
 use Rattle.pack_blank.specs.PackBlank.{tables_test}
 use Rattle.pack_blank.specs.PackBlankLaws.{sizes, zeros_again, blank_of}
 use Rattle.pack_node.specs.declared.Due.{Due}
-use Rattle.pack_node.specs.declared.NodeStep.{NodeStep}
 use Rattle.pack_node.specs.NodeSteps.{NodeAt, NodeAsked, NodeSteps}
 use Rattle.pack_node.specs.NodeStepsLaws.{row_of_record, put_length}
 use Rattle.pack_ahead.specs.declared.Way.{Way}
-use Rattle.pack_ahead.specs.Ahead.{way_with, Underway, way_left, Started, GoesAhead, row_next, RowAsked}
+use Rattle.pack_ahead.specs.Ahead.{way_with, Underway, Started, GoesAhead, row_next, RowAsked}
 use Rattle.pack_ahead.specs.AheadLaws.{underway_none, root_asked, root_done, row_asked}
 use Rattle.pack_step.specs.declared.Turn.{Turn}
 use Rattle.pack_step.specs.declared.Turn.TheVariants.{Next, Done}
-use Rattle.pack_step.specs.declared.Stepped.{Stepped}
-use Rattle.pack_step.specs.Standing.{Sound, Judged, Going, Ended, ended_as, Standing, turn_left, StepAsked, RootAsked, Steps, turn_after, TurnAfter}
+use Rattle.pack_step.specs.Standing.{Sound, Judged, Going, Ended, ended_as, Standing, StepAsked, Steps}
 
 -- ---- a result is one thing
 
@@ -176,8 +174,8 @@ module _ (s : List ℕ) (cells room : ℕ) (inputs leasts targets : List ℕ) (o
 
 -- ---- a step
 
-module _ {s : List ℕ} {cells : ℕ} {out : List ℕ} {one two : Cell} {T : Tables} {n : Due} {tables : Bool} {table : List (List ℕ)}
-    (st : Standing s tables cells (length out) out table T (Ok (Next n))) (taken : TakenFrom table n.row (pair_of one two)) where
+module _ (pair : List Cell) {s : List ℕ} {cells : ℕ} {out : List ℕ} {T : Tables} {n : Due} {tables : Bool} {table : List (List ℕ)}
+    (st : Standing s tables cells (length out) out table T (Ok (Next n))) (taken : TakenFrom table n.row (pair_of pair)) where
   G : Going s tables cells out table T n
   G = st.on n refl
 
@@ -202,14 +200,14 @@ module _ {s : List ℕ} {cells : ℕ} {out : List ℕ} {one two : Cell} {T : Tab
     none_left = ⊎_elim (λ l. absurd (omega arith)) (λ l. l) G.node
 
     abbrev node : BuilderNode
-    node = row_node (get_or T.finals 0 false) (get_or T.values 0 0) T.inputs T.leasts T.targets 0 (count_at T 0) 0
+    node = node_from T 0 0
 
-    F : Finishable out n.next table (get_or T.finals 0 false) (get_or T.values 0 0) T.inputs T.leasts T.targets 0 (count_at T 0) 0
+    F : CanFinish out n.next table T 0 0
     F = root_asked u G.sound.list G.sound.two top none_left
 
-    pub root_in_pair : Finishable out n.next (pair_of one two) (get_or T.finals 0 false) (get_or T.values 0 0) T.inputs T.leasts T.targets 0 (count_at T 0) 0
+    pub root_in_pair : CanFinish out n.next (pair_of pair) T 0 0
     root_in_pair = record {
-      ready = row_ready out n.next table n.row (pair_of one two) F.ready taken;
+      ready = row_ready out n.next table n.row (pair_of pair) F.ready taken;
       fits = F.fits;
       low = F.low;
       few = F.few;
@@ -223,51 +221,51 @@ module _ {s : List ℕ} {cells : ℕ} {out : List ℕ} {one two : Cell} {T : Tab
     root_row : n.row ≡ row_of (cells_is table) node
     root_row = row_of_record node_of_turn node (ap (row_next T) top)
 
-    module _ {out' : List ℕ} {c d : Cell} {p : Option Placed} (w : InternIs (intern (build_is out n.next (pair_of one two)) node) n.next out' (pair_of c d) p) (same : length out' ≡ length out) where
-      runs : Runs (pack_nodes (pairs_of s) cells) out' (put_pair table n.row (pair_of c d)) p
-      runs = root_done u G.sound.list G.sound.two top none_left (row_interned out n.next table n.row (pair_of one two) F.ready taken node root_row w refl)
+    module _ (back : List Cell) {out' : List ℕ} {p : Option Placed} (w : InternIs (intern (build_is out n.next (pair_of pair)) node) n.next out' (pair_of back) p) (same : length out' ≡ length out) where
+      runs : Runs (pack_nodes (pairs_of s) cells) out' (put_pair table n.row (pair_of back)) p
+      runs = root_done u G.sound.list G.sound.two top none_left (row_interned out n.next table n.row (pair_of pair) F.ready taken node root_row w refl)
 
-      root_count : length (put_pair table n.row (pair_of c d)) ≡ cells
-      root_count = put_length table n.row (pair_of c d) ∙ st.count
+      root_count : length (put_pair table n.row (pair_of back)) ≡ cells
+      root_count = put_length table n.row (pair_of back) ∙ st.count
 
-      pub root_stands : {T' : Tables} (at : Placed) → p ≡ Some at → Standing s tables cells (length out) out' (put_pair table n.row (pair_of c d)) T' (Ok (Done at))
+      pub root_stands : {T' : Tables} (at : Placed) → p ≡ Some at → Standing s tables cells (length out) out' (put_pair table n.row (pair_of back)) T' (Ok (Done at))
       root_stands at p_is = stands_done s tables cells (length out) same root_count at (G.sound, runs.at at p_is)
 
-      pub root_full : {T' : Tables} → p ≡ None → Standing s tables cells (length out) out' (put_pair table n.row (pair_of c d)) T' (Err SPACE)
+      pub root_full : {T' : Tables} → p ≡ None → Standing s tables cells (length out) out' (put_pair table n.row (pair_of back)) T' (Err SPACE)
       root_full f = stands_refused s tables cells (length out) same root_count (no_room s tables cells (length out) G.sound (omega (arith, runs.full f, same)))
 
-module _ {s out : List ℕ} {one two : Cell} {T : Tables} {n : Due} (a : RootAsked s out one two T n) {out' : List ℕ} {T' : Tables} {c d : Cell} {p : Option Placed}
-    (w : InternIs (intern (build_is out n.next (pair_of one two)) (row_node (get_or T.finals 0 false) (get_or T.values 0 0) T.inputs T.leasts T.targets 0 (count_at T 0) 0)) n.next out' (pair_of c d) p)
+module _ {s : List ℕ} {cells : ℕ} {out : List ℕ} {pair : List Cell} {T : Tables} {n : Due} (top : n.way.depth ≡ 0) (back : List Cell) {out' : List ℕ} {T' : Tables} {p : Option Placed}
+    (w : InternIs (intern (build_is out n.next (pair_of pair)) (node_from T 0 0)) n.next out' (pair_of back) p)
     (same : length out' ≡ length out) where
-  pub steps_placed : (cells : ℕ) (at : Placed) → p ≡ Some at → Steps s cells out one two T n out' T' (record { turn = Ok (Done at); one = c; two = d })
-  steps_placed cells at e = record { stands = λ tables table st taken. root_stands st taken a.top w same at e; less = omega arith }
+  pub steps_placed : (at : Placed) → p ≡ Some at → Steps s cells out pair T n out' back T' (Ok (Done at))
+  steps_placed at e = record { stands = λ tables table st taken. root_stands pair st taken top back w same at e; less = omega arith }
 
-  pub steps_full : (cells : ℕ) → p ≡ None → Steps s cells out one two T n out' T' (record { turn = Err SPACE; one = c; two = d })
-  steps_full cells e = record { stands = λ tables table st taken. root_full st taken a.top w same e; less = omega arith }
+  pub steps_full : p ≡ None → Steps s cells out pair T n out' back T' (Err SPACE)
+  steps_full e = record { stands = λ tables table st taken. root_full pair st taken top back w same e; less = omega arith }
 
 -- ---- a node that is not the root
 
-pub node_asked_of : {s : List ℕ} {cells : ℕ} {out : List ℕ} {one two : Cell} {T : Tables} {n : Due} → StepAsked s cells out one two T n → 0 < n.way.depth
-    → NodeAsked s cells out one two T n.next n.way
-node_asked_of {n = n} a l = record { table = a.table; row = n.row; at = node_of_turn a.standing a.taken; taken = a.taken; low = l }
+pub node_asked_of : {s : List ℕ} {cells : ℕ} {out : List ℕ} {pair : List Cell} {T : Tables} {n : Due} → StepAsked s cells out pair T n → 0 < n.way.depth
+    → NodeAsked s cells out pair T n.next n.way
+node_asked_of {pair = pair} {n = n} a l = record { table = a.table; row = n.row; at = node_of_turn pair a.standing a.taken; taken = a.taken; low = l }
 
-module _ {s : List ℕ} {cells : ℕ} {out : List ℕ} {one two : Cell} {T : Tables} {n : Due} {out' : List ℕ} {T' : Tables} {m : NodeStep}
-    (w : NodeSteps s cells out one two T n.next n.way out' T' m) (same : length out' ≡ length out) where
-  module _ (tables : Bool) (table : List (List ℕ)) (st : Standing s tables cells (length out) out table T (Ok (Next n))) (taken : TakenFrom table n.row (pair_of one two)) where
+module _ {s : List ℕ} {cells : ℕ} {out : List ℕ} {pair : List Cell} {T : Tables} {n : Due} {out' : List ℕ} {back : List Cell} {T' : Tables} {m : Option Due}
+    (w : NodeSteps s cells out pair T n.next n.way out' back T' m) (same : length out' ≡ length out) where
+  module _ (tables : Bool) (table : List (List ℕ)) (st : Standing s tables cells (length out) out table T (Ok (Next n))) (taken : TakenFrom table n.row (pair_of pair)) where
     g : Going s tables cells out table T n
     g = st.on n refl
 
-    count' : length (put_pair table n.row (pair_of m.one m.two)) ≡ cells
-    count' = put_length table n.row (pair_of m.one m.two) ∙ st.count
+    count' : length (put_pair table n.row (pair_of back)) ≡ cells
+    count' = put_length table n.row (pair_of back) ∙ st.count
 
-    full_stands : m.due ≡ None → Standing s tables cells (length out) out' (put_pair table n.row (pair_of m.one m.two)) T' (Err SPACE)
+    full_stands : m ≡ None → Standing s tables cells (length out) out' (put_pair table n.row (pair_of back)) T' (Err SPACE)
     full_stands d =
-        let short = w.full d table n.row (node_of_turn st taken) taken in
+        let short = w.full d table n.row (node_of_turn pair st taken) taken in
         stands_refused s tables cells (length out) same count' (no_room s tables cells (length out) g.sound (omega (arith, short, same)))
 
-    next_stands : (k : Due) → m.due ≡ Some k → Standing s tables cells (length out) out' (put_pair table n.row (pair_of m.one m.two)) T' (Ok (Next k))
+    next_stands : (k : Due) → m ≡ Some k → Standing s tables cells (length out) out' (put_pair table n.row (pair_of back)) T' (Ok (Next k))
     next_stands k d =
-        let A = w.at k d table n.row (node_of_turn st taken) taken in
+        let A = w.at k d table n.row (node_of_turn pair st taken) taken in
         stands_next s tables cells (length out) same count' k
         (record {
           sound = g.sound;
@@ -277,15 +275,11 @@ module _ {s : List ℕ} {cells : ℕ} {out : List ℕ} {one two : Cell} {T : Tab
           within = A.within;
         })
 
-  steps_after : {r : Stepped} → r.one ≡ m.one → r.two ≡ m.two → (d : Option Due) → m.due ≡ d → r.turn ≡ turn_after d → Steps s cells out one two T n out' T' r
-  steps_after p q (Some k) d e = record {
-    stands = λ tables table st taken. rw (p, q, e) (next_stands tables table st taken k d);
-    less = let l = w.less k d in rw e (omega arith);
-  }
-  steps_after p q None d e = record {
-    stands = λ tables table st taken. rw (p, q, e) (full_stands tables table st taken d);
-    less = rw e (omega arith);
+  pub steps_next : (k : Due) → m ≡ Some k → Steps s cells out pair T n out' back T' (Ok (Next k))
+  steps_next k d = record {
+    stands = λ tables table st taken. next_stands tables table st taken k d;
+    less = let l = w.less k d in omega arith;
   }
 
-  pub steps_node : {r : Stepped} → TurnAfter m r → Steps s cells out one two T n out' T' r
-  steps_node a = steps_after a.one_is a.two_is m.due refl a.turn_is
+  pub steps_no_room : m ≡ None → Steps s cells out pair T n out' back T' (Err SPACE)
+  steps_no_room d = record { stands = λ tables table st taken. full_stands tables table st taken d; less = omega arith }

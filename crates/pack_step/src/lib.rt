@@ -1,19 +1,18 @@
-// Packing that stops at each finished node: a turn says which row of cells the next node wants, and a step is given that row by value.
+// Packing that stops at each finished node: a turn says which row of cells the next node wants, and a step is lent that row.
 // So whoever has the table of cells takes two of them, makes a step, and puts two back.
-// inputs, leasts and targets are slices and no struct: the C caller lends them one by one.
 #![tactic(auto)]
 
 ghost use Rattle.std.specs.Prelude.{◌≡◌, List, ◌∷◌, [], ℕ, length, replicate};
-ghost use Rattle.pack_close.specs.OpenNodes.{no_open, tables_of};
+ghost use Rattle.pack_close.specs.OpenNodes.{no_open, tables_in, tables_of};
 ghost use Rattle.pack_blank.specs.PackBlank.{tables_test};
-ghost use Rattle.pack_step.specs.Standing.{Judged, Standing, RootAsked, StepAsked, Steps, TurnAfter};
+ghost use Rattle.pack_step.specs.Standing.{Judged, Standing, StepAsked, Steps};
 
 use format::{FIRST_NODE, Refusal};
 use pack_ahead::Way;
 use pack_cell::Cell;
-use pack_close::Open;
+use pack_close::Tables;
 use pack_intern::Placed;
-use pack_node::{Due, NodeStep};
+use pack_node::Due;
 
 // Where packing stands between two nodes.
 #[derive(Clone, Copy)]
@@ -22,14 +21,6 @@ pub enum Turn {
     Next(Due),
     // every node has its place, and this is the root's
     Done(Placed),
-}
-
-// A step made: the turn after it, or SPACE where the output had no room, and the row as it is to be put back.
-#[derive(Clone, Copy)]
-pub struct Stepped {
-    pub turn: Result<Turn, Refusal>,
-    pub one: Cell,
-    pub two: Cell,
 }
 
 // ---- the start
@@ -48,13 +39,7 @@ fn judged(
     if !pack_list::judge_list(list) {
         return Err(Refusal::List);
     }
-    if !pack_blank::tables_fit(inputs, leasts, targets) {
-        return Err(Refusal::Space);
-    }
-    if cells < 2 {
-        return Err(Refusal::Space);
-    }
-    if room < 32 {
+    if !pack_blank::tables_fit(inputs, leasts, targets) || cells < 2 || room < 32 {
         return Err(Refusal::Space);
     }
     Ok(())
@@ -65,26 +50,30 @@ pub fn begin(
     list: &[u8],
     room: usize,
     cells: usize,
-    inputs: &[u8],
-    leasts: &[u64],
-    targets: &[usize],
-    nodes: &mut Open,
+    tables: &mut Tables<'_>,
 ) -> Result<Turn, Refusal>
-    requires { nodes.old ≡ no_open }
-    ensures { (out : List ℕ) (table : List (List ℕ)) → out ≡ replicate room 0 → table ≡ replicate cells (1 ∷ 0 ∷ []) → Standing list.now
-        (tables_test (length inputs.now) (length leasts.now) (length targets.now)) cells room out table
-        (tables_of inputs.now leasts.now targets.now nodes.new) result }
+    requires { tables.old.nodes ≡ no_open }
+    ensures { ((out : List ℕ) (table : List (List ℕ)) → out ≡ replicate room 0 → table ≡ replicate cells (1 ∷ 0 ∷ []) → Standing list.now
+        (tables_test (length tables.old.inputs.now) (length tables.old.leasts.now) (length tables.old.targets.now)) cells room out table
+        (tables_in tables.new) result)
+        × (tables_in tables.new ≡ tables_of tables.old.inputs.now tables.old.leasts.now tables.old.targets.now tables.new.nodes) }
 {
-    judged(list, room, cells, inputs.len(), leasts.len(), targets.len())?;
-    let n = pack_list::key_count(list);
+    judged(
+        list,
+        room,
+        cells,
+        tables.inputs.len(),
+        tables.leasts.len(),
+        tables.targets.len(),
+    )?;
     let start = Way {
         depth: 0,
         to: 0,
         keys: 0,
     };
-    let way = pack_ahead::ahead(list, n, start, nodes);
+    let way = pack_ahead::ahead(list, start, &mut tables.nodes);
     let d = way.depth;
-    let row = pack_ahead::row_next(cells, d, inputs, leasts, targets, nodes);
+    let row = pack_ahead::row_next(cells, d, tables);
     Ok(Turn::Next(Due {
         next: FIRST_NODE,
         way,
@@ -94,84 +83,26 @@ pub fn begin(
 
 // ---- a step
 
-// Finishes the root, whose row has these two cells.
-fn step_root(
-    list: &[u8],
-    output: &mut [u8],
-    one: Cell,
-    two: Cell,
-    due: Due,
-    inputs: &[u8],
-    leasts: &mut [u64],
-    targets: &[usize],
-    nodes: &Open,
-) -> Stepped
-    requires { RootAsked list.now output.old one two
-        (tables_of inputs.now leasts.old targets.now nodes.now) due }
-    ensures { (cells : ℕ) → Steps list.now cells output.old one two
-        (tables_of inputs.now leasts.old targets.now nodes.now)
-        due output.new
-        (tables_of inputs.now leasts.new targets.now nodes.now)
-        result }
-{
-    let n = nodes.counts[0];
-    let is_final = nodes.finals[0];
-    let value = nodes.values[0];
-    let done = pack_turn::root_in_row(
-        output, one, two, due.next, n, is_final, value, inputs, leasts, targets,
-    );
-    Stepped {
-        turn: match done.placed {
-            Some(at) => Ok(Turn::Done(at)),
-            None => Err(Refusal::Space),
-        },
-        one: done.one,
-        two: done.two,
-    }
-}
-
-// The turn after a node that is not the root.
-fn after_node(made: NodeStep) -> Stepped
-    ensures { TurnAfter made result }
-{
-    Stepped {
-        turn: match made.due {
-            Some(due) => Ok(Turn::Next(due)),
-            None => Err(Refusal::Space),
-        },
-        one: made.one,
-        two: made.two,
-    }
-}
-
-// Finishes the node that is due, whose row has these two cells, and opens keys until the next has to be finished.
+// Finishes the node that is due, whose row has these two cells, and opens keys until the next has to be finished, or places the root.
+// Refuses by SPACE where the output has no room.
 pub fn step(
     list: &[u8],
     cells: usize,
     output: &mut [u8],
-    one: Cell,
-    two: Cell,
+    row: &mut [Cell; 2],
     due: Due,
-    inputs: &mut [u8],
-    leasts: &mut [u64],
-    targets: &mut [usize],
-    nodes: &mut Open,
-) -> Stepped
-    requires { StepAsked list.now cells output.old one two
-        (tables_of inputs.old leasts.old targets.old nodes.old) due }
-    ensures { Steps list.now cells output.old one two
-        (tables_of inputs.old leasts.old targets.old nodes.old)
-        due output.new
-        (tables_of inputs.new leasts.new targets.new nodes.new)
-        result }
+    tables: &mut Tables<'_>,
+) -> Result<Turn, Refusal>
+    requires { StepAsked list.now cells output.old row.old (tables_in tables.old) due }
+    ensures { Steps list.now cells output.old row.old (tables_in tables.old) due
+        output.new row.new (tables_in tables.new) result }
 {
+    let first = due.next;
     let way = due.way;
     if way.depth == 0 {
-        return step_root(list, output, one, two, due, inputs, leasts, targets, nodes);
+        let at = pack_turn::root_in_row(output, row, first, tables).ok_or(Refusal::Space)?;
+        return Ok(Turn::Done(at));
     }
-    let first = due.next;
-    let made = pack_node::node_in_row(
-        list, cells, output, one, two, first, way, inputs, leasts, targets, nodes,
-    );
-    after_node(made)
+    let made = pack_node::node_in_row(list, cells, output, row, first, way, tables);
+    Ok(Turn::Next(made.ok_or(Refusal::Space)?))
 }

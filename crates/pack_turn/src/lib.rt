@@ -1,119 +1,81 @@
-// The deepest open node, and at the end the root, finished in the two cells of its row, which are given and given back by value.
-// inputs, leasts and targets are slices and no struct: the C caller lends them one by one.
-// A row is two cells and no array: they are taken from the table and put back one by one, and the definitions name each.
+// The deepest open node, and at the end the root, finished in the two cells of its row, which are lent.
 #![tactic(auto)]
 
-ghost use Rattle.std.specs.Prelude.{◌≡◌, ◌+◌};
+ghost use Rattle.std.specs.Prelude.{◌≡◌, ◌+◌, length};
 ghost use Rattle.packing.specs.Registry.{intern};
-ghost use Rattle.pack_intern.specs.Interning.{build_is, InternIs};
-ghost use Rattle.pack_finish.specs.FinishRow.{row_node, Finishable};
-ghost use Rattle.pack_close.specs.Closing.{Closable};
-ghost use Rattle.pack_close.specs.OpenNodes.{tables_of};
+ghost use Rattle.pack_intern.specs.Interning.{cells_is, build_is, InternIs};
+ghost use Rattle.pack_close.specs.Closing.{Closable, CanFinish, node_from, with_leasts};
+ghost use Rattle.pack_close.specs.OpenNodes.{tables_in};
 ghost use Rattle.pack_turn.specs.RowClosing.{pair_of, ClosesInRow};
 
 use pack_cell::Cell;
-use pack_close::Open;
+use pack_close::Tables;
 use pack_intern::Placed;
 
-// What finishing a node leaves.
-#[derive(Clone, Copy)]
-pub struct RowClosed {
-    // the place past the nodes, where the output had room
-    pub next: Option<usize>,
-    // the row afterwards
-    pub one: Cell,
-    pub two: Cell,
+// ---- a row as a table of cells
+
+// The two cells as the packer takes them, an address and a hash each.
+fn table_of(row: [Cell; 2]) -> [[u64; 2]; 2]
+    ensures { result ≡ pair_of row }
+{
+    [[row[0].addr, row[0].hash], [row[1].addr, row[1].hash]]
 }
+
+// And back.
+fn row_of(table: [[u64; 2]; 2]) -> [Cell; 2]
+    requires { length table ≡ 2 }
+    ensures { cells_is table ≡ cells_is (pair_of result) }
+{
+    let [one, two] = table;
+    [
+        Cell {
+            addr: one[0],
+            hash: one[1],
+        },
+        Cell {
+            addr: two[0],
+            hash: two[1],
+        },
+    ]
+}
+
+// ---- a node finished
 
 // Finishes the node at depth e + 1, the deepest, in the row of these two cells, and adds its transition to the node at depth e.
+// Answers the place past the nodes, or nothing where the output has no room.
 pub fn close_in_row(
     output: &mut [u8],
-    one: Cell,
-    two: Cell,
+    row: &mut [Cell; 2],
     first: usize,
     e: usize,
-    inputs: &mut [u8],
-    leasts: &mut [u64],
-    targets: &mut [usize],
-    nodes: &mut Open,
-) -> RowClosed
-    requires { Closable output.old first (pair_of one two)
-        (tables_of inputs.old leasts.old targets.old nodes.old) (e + 1) }
-    ensures { ClosesInRow output.old first (pair_of one two)
-        (tables_of inputs.old leasts.old targets.old nodes.old)
-        e output.new
-        (tables_of inputs.new leasts.new targets.new nodes.new)
-        result × (nodes.new.led ≡ nodes.old.led) }
+    tables: &mut Tables<'_>,
+) -> Option<usize>
+    requires { Closable output.old first (pair_of row.old) (tables_in tables.old) (e + 1) }
+    ensures { ClosesInRow output.old first (pair_of row.old) (tables_in tables.old)
+        e output.new row.new (tables_in tables.new) result × (tables.new.nodes.led ≡ tables.old.nodes.led) }
 {
-    let a: [u64; 2] = [one.addr, one.hash];
-    let b: [u64; 2] = [two.addr, two.hash];
-    let mut row: [[u64; 2]; 2] = [a, b];
+    let mut table = table_of(*row);
     let d = e + 1;
-    let next = pack_close::close_to(
-        output, &mut row, first, d, e, inputs, leasts, targets, nodes,
-    );
-    let c = row[0];
-    let f = row[1];
-    RowClosed {
-        next,
-        one: Cell {
-            addr: c[0],
-            hash: c[1],
-        },
-        two: Cell {
-            addr: f[0],
-            hash: f[1],
-        },
-    }
+    let next = tables.close_to(output, &mut table, first, d, e);
+    *row = row_of(table);
+    next
 }
 
-// What finishing the root leaves.
-#[derive(Clone, Copy)]
-pub struct RowPlaced {
-    // where it is, where the output had room
-    pub placed: Option<Placed>,
-    // the row afterwards
-    pub one: Cell,
-    pub two: Cell,
-}
-
-// Finishes the root, whose n transitions stand in row 0, in the row of these two cells.
-// No plainer by slices: the definitions name a row of the three tables by its number and n.
+// Finishes the root in the row of these two cells.
 pub fn root_in_row(
     output: &mut [u8],
-    one: Cell,
-    two: Cell,
+    row: &mut [Cell; 2],
     first: usize,
-    n: usize,
-    is_final: bool,
-    value: u64,
-    inputs: &[u8],
-    leasts: &mut [u64],
-    targets: &[usize],
-) -> RowPlaced
-    requires { Finishable output.old first (pair_of one two) is_final value inputs.now leasts.old targets.now 0 n 0 }
+    tables: &mut Tables<'_>,
+) -> Option<Placed>
+    requires { CanFinish output.old first (pair_of row.old) (tables_in tables.old) 0 0 }
     ensures { InternIs
-        (intern (build_is output.old first (pair_of one two))
-        (row_node is_final value inputs.now leasts.old targets.now 0 n 0))
-        first output.new (pair_of result.one result.two) result.placed }
+        (intern (build_is output.old first (pair_of row.old)) (node_from (tables_in tables.old) 0 0))
+        first output.new (pair_of row.new) result
+        × (tables_in tables.new ≡ with_leasts (tables_in tables.old) tables.new.leasts.now) }
 {
-    let a: [u64; 2] = [one.addr, one.hash];
-    let b: [u64; 2] = [two.addr, two.hash];
-    let mut row: [[u64; 2]; 2] = [a, b];
-    let placed = pack_finish::finish_row(
-        output, &mut row, first, 0, n, 0, is_final, value, inputs, leasts, targets,
-    );
-    let c = row[0];
-    let f = row[1];
-    RowPlaced {
-        placed,
-        one: Cell {
-            addr: c[0],
-            hash: c[1],
-        },
-        two: Cell {
-            addr: f[0],
-            hash: f[1],
-        },
-    }
+    let mut table = table_of(*row);
+    let placed = tables.finish_row(output, &mut table, first, 0, 0);
+    *row = row_of(table);
+    placed
 }

@@ -4,9 +4,7 @@
 // The two bounds are two values and no pair: each is taken by itself.
 #![tactic(auto)]
 
-ghost use Rattle.std.specs.Prelude.{◌≡◌, ◌<◌, length};
-ghost use Rattle.format.specs.Limits.{max_path};
-ghost use Rattle.format.specs.Strings as S;
+ghost use Rattle.std.specs.Prelude.{◌<◌, length};
 ghost use Rattle.stream_start.specs.Views.{bound_of, view_is};
 ghost use Rattle.pattern.specs.Pattern.{start_by, next_by};
 ghost use Rattle.patterned_held.specs.HeldPatterns.{held_is, given_is};
@@ -25,7 +23,8 @@ pub struct Patterned {
     pub pattern: Pattern,
 }
 
-// What a call of next gives back.
+// What a call of next gives back: its answer, and the reading after it.
+// The answer stands beside the reading, and the two are no Result: a caller may go on with the reading that is given back, after a refusal too.
 #[derive(Clone, Copy)]
 pub struct PatternedStep {
     pub answer: Result<Option<(usize, u64)>, Refusal>,

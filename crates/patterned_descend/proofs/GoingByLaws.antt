@@ -9,8 +9,8 @@ use mathlib.Core.Bool.{Bool, true, false, cond, ◌&&◌}
 use mathlib.Core.List.{List, [], ◌∷◌, ◌++◌}
 use Prim.Native.Nat.{ℕ, suc, ◌+◌, ◌-◌, ◌<◌, ◌≤◌}
 use native.Mathlib.Omega.{arith}
-use borrow.Author.Tests.{le-leb, lt-leb, leb-true, leb-false, ltb-true}
-use lib.Dec.{ltb, leb}
+use borrow.Author.Tests.{ltb-true}
+use lib.Dec.{ltb}
 use lib.ListN.{length, get_or, take, drop, length-drop}
 use lib.Seq.{length-take-le}
 use Rattle.format.specs.Limits.{max_sum, DEEP, SUM}
@@ -31,7 +31,6 @@ use Rattle.pattern.specs.Pattern.{Pattern, start_test, fits_test, ended, halted,
 use Rattle.pattern.specs.FitCount.{fit_count, place_test, goes_on, key_fits}
 use Rattle.pattern.proofs.CountLaws.{fits_by_count, tells_count, tells_last, count_on}
 use Rattle.pattern.proofs.TurnLaws.{live_test, turn_popped, turn_deep, turn_past, turn_on, turn_key, turn_final}
-use Rattle.patterned_descend.specs.declared.Down.{Down}
 use Rattle.patterned_descend.specs.declared.Down.TheVariants.{Found, Passed, Stuck}
 use Rattle.patterned_descend.specs.Descents.{Pushed, Follows, DescendsBy}
 use Rattle.patterned_descend.proofs.FollowLaws.{live_by, room_of}

@@ -3,9 +3,9 @@
 --     down_seen .. r         what the descent answered, read against the four arrays
 --     DescendsBy            what the descent answers: the walk from its levels, with less to do where it goes on
 -- Assumes nothing.
-use Rattle.std.specs.Prelude.{◌≡◌, true, cond, List, ◌∷◌, ℕ, ◌+◌, ◌-◌, ◌≤◌, ◌<◌, leb, take, drop, Ok, Err, Result}
+use Rattle.std.specs.Prelude.{◌≡◌, true, List, ◌∷◌, ℕ, ◌+◌, ◌-◌, ◌≤◌, ◌<◌, take, drop, Ok, Err, Result}
 use Rattle.format.specs.declared.Refusal.{Refusal}
-use Rattle.format.specs.Limits.{max_levels, max_sum, SUM}
+use Rattle.format.specs.Limits.{max_levels, max_sum}
 use Rattle.format.specs.Node as F
 use Rattle.format.specs.Node.{sound}
 use Rattle.format.specs.Paths.{Fst, fst_with, node_in}

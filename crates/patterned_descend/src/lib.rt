@@ -1,8 +1,8 @@
 // The descent of a reading by pattern: from a level that can go on down to a key that fits, or to a level that cannot go on.
-// The total goes down beside the stack, which holds levels alone.
+// The total is a number of its own and no field of the stack: a range goes down the same stack and counts no transitions.
 #![tactic(auto)]
 
-ghost use Rattle.std.specs.Prelude.{◌≡◌, true, ◌∷◌, ◌≤◌, ◌<◌, length, take, drop, get_or};
+ghost use Rattle.std.specs.Prelude.{◌≡◌, true, ◌∷◌, ◌≤◌, ◌<◌, take, drop, get_or};
 ghost use Rattle.format.specs.Limits.{max_path, max_levels};
 ghost use Rattle.format.specs.View.{fst_is};
 ghost use Rattle.node.specs.Read.{meaning};
@@ -43,13 +43,9 @@ fn follow(fst: FstRef<'_>, k: usize, node: Node, stack: &mut Stack) -> Result<No
     are_bytes(fst.bytes);
     let i = usize::from(stack.trans[k]);
     let out = node::output(fst.bytes, node, i);
-    let Some(sum) = stack.outs[k].checked_add(out) else {
-        return Err(Refusal::Sum);
-    };
+    let sum = stack.outs[k].checked_add(out).ok_or(Refusal::Sum)?;
     let target = node::transition_addr(fst.bytes, node, i);
-    let Ok(n) = node::node_at(fst, target) else {
-        return Err(Refusal::Node);
-    };
+    let n = node::node_at(fst, target)?;
     let inp = node::input(fst.bytes, node, i);
     stack.trans[k] = (i + 1) as u16;
     let top = k + 1;

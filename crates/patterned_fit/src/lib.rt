@@ -2,7 +2,7 @@
 // That at most 255 positions are stated is asked where they are read: a pattern made by hand may state more, and a call refuses it.
 #![tactic(auto)]
 
-ghost use Rattle.std.specs.Prelude.{◌≡◌, cond, ◌&&◌, suc, ◌-◌, ◌≤◌, ◌<◌, ltb, length, take, drop};
+ghost use Rattle.std.specs.Prelude.{◌≡◌, cond, ◌&&◌, suc, ◌-◌, ◌≤◌, ◌<◌, ltb, take, drop};
 ghost use Rattle.format.specs.Limits.{max_path, max_levels};
 ghost use Rattle.pattern.specs.Pattern.{at_test};
 ghost use Rattle.pattern.specs.FitCount.{fit_count, place_test, goes_on, key_fits};

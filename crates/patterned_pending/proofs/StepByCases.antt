@@ -1,6 +1,7 @@
 -- The cases of a step by pattern, each by what leads to it: the answer, the reading and the buffer.
 --     filled r k t q      the reading with k levels of the stack of q, and the total t
 --     walks_is            what a walk ensures of its answer, of what that answer is
+--     ended_is, found_is  what a walk comes to, by what it found
 --     after-..            what the walk leads to
 --     inputs-..           the key, out of the inputs after the first
 --     pending-..          the pending empty key
@@ -8,7 +9,7 @@
 -- Assumes nothing.
 use mathlib.Core.Path.{◌≡◌, refl, ◌∙◌, ap}
 use mathlib.Core.Path.{subst}
-use Rattle.std.specs.Prelude.{Result, Ok, Some, None}
+use Rattle.std.specs.Prelude.{Result, Ok, Some, None, Option as Maybe}
 use Rattle.format.specs.declared.Refusal.{Refusal}
 use mathlib.Core.Bool.{Bool, true, false}
 use mathlib.Core.Option.{some}
@@ -26,9 +27,9 @@ use Rattle.stream_step.specs.declared.Step.{Step}
 use Rattle.stream_step.specs.Stepped.{Stepped}
 use Rattle.stream_step.specs.Steps.{placed_at, ended_at}
 use Rattle.pattern.specs.Pattern as P
-use Rattle.pattern.specs.Pattern.{fits_test, WentBy, found, ended, halted, after_walk, pending_by}
+use Rattle.pattern.specs.Pattern.{fits_test, WentBy, found, ended, after_walk, pending_by}
 use Rattle.patterned_fit.specs.Positions.{positions_is}
-use Rattle.patterned_walk.specs.declared.Walked.{Walked}
+use Rattle.stream_descend.specs.declared.Followed.{Followed}
 use Rattle.patterned_walk.specs.Walks.{WalksBy}
 use Rattle.patterned_pending.specs.PendingWalks.{walk_of}
 
@@ -48,8 +49,15 @@ filled r k t q = record {
 
 -- ---- the walk
 
-pub walks_is : {want : WentBy} {xs is ps os : List ℕ} {r r' : Result Walked Refusal} → WalksBy want xs is ps os r → r ≡ r' → WalksBy want xs is ps os r'
-walks_is {want} {xs} {is} {ps} {os} h e = subst (λ (x : Result Walked Refusal). WalksBy want xs is ps os x) e h
+pub walks_is : {want : WentBy} {xs is ps os : List ℕ} {r r' : Result Followed Refusal} → WalksBy want xs is ps os r → r ≡ r' → WalksBy want xs is ps os r'
+walks_is {want} {xs} {is} {ps} {os} h e = subst (λ (x : Result Followed Refusal). WalksBy want xs is ps os x) e h
+
+-- no key is found, or one is
+pub ended_is : (g : Followed) → g.found ≡ None → ◌≡◌ {A = Result Followed Refusal} (Ok g) (Ok (record { found = None; total = g.total }))
+ended_is g e = ap (λ (o : Maybe (ℕ × ℕ)). Ok (record { found = o; total = g.total })) e
+
+pub found_is : (g : Followed) → (q : ℕ × ℕ) → g.found ≡ Some q → ◌≡◌ {A = Result Followed Refusal} (Ok g) (Ok (record { found = Some q; total = g.total }))
+found_is g q e = ap (λ (o : Maybe (ℕ × ℕ)). Ok (record { found = o; total = g.total })) e
 
 module _ (r : Reading) (w : WentBy) where
   pub after_ended : (buf : List ℕ) (t : ℕ) → w ≡ ended t → (x : Step) → Stepped (ended_at (view_is r) t) buf buf x → Stepped (after_walk (view_is r) w) buf buf x

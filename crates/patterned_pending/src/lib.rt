@@ -13,7 +13,7 @@ ghost use Rattle.patterned_pending.specs.PendingWalks.{walk_of};
 
 use format::FstRef;
 use patterned_held::Pattern;
-use patterned_walk::{Walked, walk_by};
+use patterned_walk::walk_by;
 use stream_bounds::exceeded;
 use stream_start::Reading;
 use stream_step::{Step, ended, placed};
@@ -26,33 +26,35 @@ pub fn walk(fst: FstRef<'_>, reading: Reading, pattern: Pattern, key: &mut [u8])
         (view_is reading)) key.old key.new result }
 {
     let mut stack = reading.stack;
-    let walked = walk_by(
+    let walked = match walk_by(
         fst,
         reading.levels,
         reading.total,
         &mut stack,
         reading.upper(),
         &pattern,
-    );
-    match walked {
-        Err(why) => Step {
-            answer: Err(why),
-            reading,
-        },
-        Ok(Walked::Ended(total)) => ended(reading, total),
-        Ok(Walked::Found(k, value, total)) => {
-            key[..k].copy_from_slice(&stack.inps[1..k + 1]);
-            Step {
-                answer: Ok(Some((k, value))),
-                reading: Reading {
-                    empty_output: None,
-                    total,
-                    levels: k + 1,
-                    stack,
-                    ..reading
-                },
-            }
+    ) {
+        Ok(walked) => walked,
+        Err(why) => {
+            return Step {
+                answer: Err(why),
+                reading,
+            };
         }
+    };
+    let Some((k, value)) = walked.found else {
+        return ended(reading, walked.total);
+    };
+    key[..k].copy_from_slice(&stack.inps[1..k + 1]);
+    Step {
+        answer: Ok(Some((k, value))),
+        reading: Reading {
+            empty_output: None,
+            total: walked.total,
+            levels: k + 1,
+            stack,
+            ..reading
+        },
     }
 }
 

@@ -26,7 +26,6 @@ use Rattle.pattern.proofs.CountLaws.{tells_count, tells_all}
 use Rattle.pattern.proofs.TurnLaws.{turn_end}
 use Rattle.patterned_descend.specs.declared.Down.{Down}
 use Rattle.patterned_descend.specs.Descents.{down_seen, down_at, DescendsBy}
-use Rattle.patterned_walk.specs.declared.Walked.TheVariants.{Found, Ended}
 use Rattle.patterned_walk.specs.Walks.{Told, pop_seen, PopsBy, WalksBy}
 use Rattle.patterned_walk.proofs.PopByLaws.{told_key}
 
@@ -51,7 +50,7 @@ module _ {s : List ℕ} {v root : ℕ} {p : Pattern} {hi : Bound} {want : WentBy
   f = fst_with s v root
 
   -- no level is left
-  pub walking_end : n ≤ 0 → WalksBy want xs is ps os (Ok (Ended t))
+  pub walking_end : n ≤ 0 → WalksBy want xs is ps os (Ok (record { found = None; total = t }))
   walking_end h = record {
     low = omega arith;
     inps_len = w.arrays.inps_len;
@@ -71,7 +70,7 @@ module _ {s : List ℕ} {v root : ℕ} {p : Pattern} {hi : Bound} {want : WentBy
     pops_is : (r' : Result (Option (ℕ × Node)) Unsound) → r ≡ r' → pop_seen f p hi t xs is ps os r' ≡ want
     pops_is r' e = ap (pop_seen f p hi t xs is ps os) (sym e) ∙ pops.seen is os p told hi t ∙ w.same
 
-    pub walking_empty : r ≡ Ok None → WalksBy want xs is ps os (Ok (Ended t))
+    pub walking_empty : r ≡ Ok None → WalksBy want xs is ps os (Ok (record { found = None; total = t }))
     walking_empty e = record { low = omega arith; inps_len = w.arrays.inps_len; seen = pops_is (Ok None) e }
 
     pub walking_bad : (u : Unsound) → r ≡ Err u → WalksBy want xs is ps os (Err NODE)
@@ -90,10 +89,10 @@ module _ {s : List ℕ} {v root : ℕ} {p : Pattern} {hi : Bound} {want : WentBy
         down_is : (d' : Result Down Refusal) → d ≡ d' → down_seen f p hi xs' is' ps' os' d' ≡ want
         down_is d' q = ap (down_seen f p hi xs' is' ps' os') (sym q) ∙ down.seen ∙ pops_is (Ok (Some (k, m))) e
 
-        pub walking_found : (j x u : ℕ) → d ≡ Ok (Down.Found j x u) → WalksBy want xs' is' ps' os' (Ok (Found j x u))
+        pub walking_found : (j x u : ℕ) → d ≡ Ok (Down.Found j x u) → WalksBy want xs' is' ps' os' (Ok (record { found = Some (j, x); total = u }))
         walking_found j x u q = record { low = rw (ap down_at q) at down.low; inps_len = down.arrays.inps_len; seen = down_is (Ok (Down.Found j x u)) q }
 
-        pub walking_passed : (u : ℕ) → d ≡ Ok (Down.Passed u) → WalksBy want xs' is' ps' os' (Ok (Ended u))
+        pub walking_passed : (u : ℕ) → d ≡ Ok (Down.Passed u) → WalksBy want xs' is' ps' os' (Ok (record { found = None; total = u }))
         walking_passed u q = record { low = omega arith; inps_len = down.arrays.inps_len; seen = down_is (Ok (Down.Passed u)) q }
 
         pub walking_halted : (why : Refusal) → d ≡ Err why → WalksBy want xs' is' ps' os' (Err why)

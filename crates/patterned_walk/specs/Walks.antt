@@ -1,7 +1,7 @@
 -- What the walk by pattern answers, and what it leans on.
 --     Told                  what a number tells of each level
 --     PopsBy                what the pops answer: the walk from the level that they find is the walk from all levels
---     walked_seen, WalksBy   what the walk answered, read against the four arrays; its contract
+--     found_seen, walked_seen, WalksBy   what the walk answered, read against the four arrays; its contract
 -- Assumes nothing.
 use Rattle.std.specs.Prelude.{◌≡◌, Bool, true, List, ◌∷◌, ℕ, ◌-◌, ◌≤◌, ◌<◌, length, get_or, take, drop, Ok, Err, Some, None, Result, Option}
 use Rattle.format.specs.declared.Refusal.{Refusal}
@@ -15,8 +15,8 @@ use Rattle.stream_start.specs.Views.{level_at, stack_is}
 use Rattle.stream_pop.specs.Pops.{Ready}
 use Rattle.pattern.specs.Pattern.{Pattern, WentBy, found, ended, halted, walk_by}
 use Rattle.pattern.specs.FitCount.{goes_on, Tells}
-use Rattle.patterned_walk.specs.declared.Walked.{Walked}
-use Rattle.patterned_walk.specs.declared.Walked.TheVariants.{Found, Ended}
+use Rattle.stream_descend.specs.declared.Followed.{Followed}
+use Rattle.stream_descend.specs.Descent.{down_at}
 
 -- ---- the pops
 
@@ -44,17 +44,15 @@ pub record PopsBy (s : List ℕ) (v root n : ℕ) (rest : Bool) (xs ps : List �
 
 -- ---- the walk
 
-abbrev pub walked_seen : List ℕ → List ℕ → List ℕ → List ℕ → Result Walked Refusal → WentBy
-walked_seen xs is ps os (Ok (Found k v t)) = found (level_at k xs is ps os ∷ stack_is k xs is ps os) v t
-walked_seen xs is ps os (Ok (Ended t)) = ended t
+abbrev pub found_seen : List ℕ → List ℕ → List ℕ → List ℕ → Option (ℕ × ℕ) → ℕ → WentBy
+found_seen xs is ps os (Some (k, v)) t = found (level_at k xs is ps os ∷ stack_is k xs is ps os) v t
+found_seen xs is ps os None t = ended t
+
+abbrev pub walked_seen : List ℕ → List ℕ → List ℕ → List ℕ → Result Followed Refusal → WentBy
+walked_seen xs is ps os (Ok r) = found_seen xs is ps os r.found r.total
 walked_seen xs is ps os (Err n) = halted n
 
-abbrev pub walked_at : Result Walked Refusal → ℕ
-walked_at (Ok (Found k v t)) = k
-walked_at (Ok (Ended t)) = 0
-walked_at (Err n) = 0
-
-pub record WalksBy (want : WentBy) (xs is ps os : List ℕ) (r : Result Walked Refusal) : Type 0 where
-  pub low : walked_at r < max_levels
+pub record WalksBy (want : WentBy) (xs is ps os : List ℕ) (r : Result Followed Refusal) : Type 0 where
+  pub low : down_at r < max_levels
   pub inps_len : length is ≡ max_levels
   pub seen : walked_seen xs is ps os r ≡ want

@@ -3,7 +3,7 @@
 // The number of levels stands beside the stack: a walk knows it only at its end.
 #![tactic(auto)]
 
-ghost use Rattle.std.specs.Prelude.{◌≡◌, ◌≤◌, ◌<◌, length, take};
+ghost use Rattle.std.specs.Prelude.{◌≤◌, ◌<◌};
 ghost use Rattle.format.specs.Limits.{max_path, max_levels};
 ghost use Rattle.format.specs.View.{fst_is};
 ghost use Rattle.stream_start.specs.Views.{bound_of, stack_of};
@@ -16,17 +16,13 @@ use node::{Node, Unsound};
 use patterned_descend::{Down, descend_by};
 use patterned_fit::Pattern;
 use std::ops::Bound;
+use stream_descend::Followed;
 use stream_levels::Stack;
-
-// What the walk finds: the place of the level where a key ends, the key's value and the total; the total at the end.
-#[derive(Clone, Copy)]
-pub enum Walked {
-    Found(usize, u64, u64),
-    Ended(u64),
-}
 
 // The highest of the first levels that can go on, with its node, if one can: it has a transition left, and its bytes fit the pattern's start. Each level that
 // is looked at is judged, as a reading can be made by hand.
+// The loop is that of stream_pop's `highest` with another test: one function with the test as a closure would promise in words of that closure, and each of the
+// two would still state its own promise over it.
 fn pop_by(
     fst: FstRef<'_>,
     stack: &Stack,
@@ -56,7 +52,7 @@ pub fn walk_by(
     stack: &mut Stack,
     upper: Bound<&[u8]>,
     pattern: &Pattern,
-) -> Result<Walked, Refusal>
+) -> Result<Followed, Refusal>
     requires levels_le_max_levels { (levels ≤ max_levels) × (fst.root < 4294967296) × (pattern.now.len ≤ max_path) }
     ensures { WalksBy (walk_by (fst_is fst.entry) (held_is pattern.now) (bound_of upper.entry)
         (stack_of levels stack.old) total) stack.new.addrs stack.new.inps stack.new.trans
@@ -66,20 +62,23 @@ pub fn walk_by(
     let mut n = levels;
     let mut t = total;
     let mut fit = pattern.fit_of(stack, levels);
-    // by hand: where a descent cannot go on, the walk goes on from the levels that it left
+    // a `while`: where a descent cannot go on, the walk goes on from the levels that it left
     while 0 < n {
-        let Ok(popped) = pop_by(fst, stack, n, fit, pattern) else {
-            return Err(Refusal::Node);
-        };
-        let Some((top, m)) = popped else {
-            return Ok(Walked::Ended(t));
+        let Some((top, m)) = pop_by(fst, stack, n, fit, pattern)? else {
+            return Ok(Followed {
+                found: None,
+                total: t,
+            });
         };
         match descend_by(fst, top, m, t, stack, upper, pattern)? {
             Down::Found(k, value, total) => {
-                return Ok(Walked::Found(k, value, total));
+                return Ok(Followed {
+                    found: Some((k, value)),
+                    total,
+                });
             }
             Down::Passed(total) => {
-                return Ok(Walked::Ended(total));
+                return Ok(Followed { found: None, total });
             }
             // the bytes of the levels that are left fit the pattern's start
             Down::Stuck(k, total) => {
@@ -89,5 +88,8 @@ pub fn walk_by(
             }
         }
     }
-    Ok(Walked::Ended(t))
+    Ok(Followed {
+        found: None,
+        total: t,
+    })
 }

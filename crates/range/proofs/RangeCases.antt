@@ -3,13 +3,12 @@
 --     start_halted, start_began     what the start answers, by the walk along the lower bound
 --     start_ready              where it began, the levels can be gone on from
 -- Assumes nothing.
-use mathlib.Core.Path.{◌≡◌, refl, sym, ap, ap₂, subst, ◌∙◌}
+use mathlib.Core.Path.{◌≡◌, refl, sym, ap₂, subst, ◌∙◌}
 use Rattle.format.specs.declared.Refusal.{Refusal}
 use mathlib.Core.Bool.{true, false}
 use mathlib.Core.Option.{Option}
 use mathlib.Core.List.{List}
 use Prim.Native.Nat.{ℕ, ◌≤◌}
-use native.Mathlib.Omega.{arith}
 use lib.Dec.{leb}
 use lib.ListN.{length}
 use Rattle.buffers.specs.DecideLaws.{decides_and, decides_le}
@@ -21,7 +20,7 @@ use Rattle.format.specs.Strings.{Bound}
 use Rattle.format.specs.Laws.OpeningLaws.{version_blank, version_some}
 use Rattle.reading.specs.Reading as R
 use Rattle.reading.specs.Reading.{Level, got, bounds_test, bound_bytes, start, started}
-use Rattle.paging.specs.Paging.{Page, refused_page, room_test, page_from, range}
+use Rattle.paging.specs.Paging.{refused_page, room_test, page_from, range}
 use Rattle.stream_start.specs.Views.{stack_is}
 use Rattle.stream_start.specs.StackLaws.{stack_length}
 use Rattle.stream_start.specs.Starts.{BlankTold, pending_from, walk_from, reading_at, start_from}

@@ -1,6 +1,7 @@
 // A range in one call (src/raw/mod.rs: `range`, `ge` to `lt`, and the loop of `next` over it): up to so many keys between two bounds, each in a row of
 // 256 bytes with its value beside it, on any file, admitted or not.
-// rows and values are two slices and no struct: the C caller lends them one by one, and the definitions speak of each.
+// rows and values are two slices and no struct: the C caller lends two, a row is written by a function that takes the rows alone, and the definitions speak of
+// each, so that a struct would only be taken apart again.
 // The two bounds are two values and no pair: each is taken by itself.
 // How many keys are asked for is a number of its own, and no length of rows or values.
 #![tactic(auto)]
@@ -14,10 +15,10 @@ ghost use Rattle.range_fill.specs.RangedRows.{OpensAs, RangedBy};
 use format::{FstRef, Refusal};
 use range_all::fill_all;
 use range_fill::{Ranged, refused};
-use range_rows::{bounds_right, has_room};
+use range_rows::has_room;
 use std::ops::Bound;
 use stream_levels::Stack;
-use stream_start::{pending_at, start_levels};
+use stream_start::{bounds_right, pending_at, start_levels};
 
 // The walk, where the file opens, the bounds are short and the buffers have room. The start's levels are written to a stack of its own and read on there.
 fn range_from(

@@ -1,5 +1,6 @@
 // The keys of a range after its start: a pending empty key first, then the loop.
-// rows and values are two slices and no struct: the C caller lends them one by one, and the definitions speak of each.
+// rows and values are two slices and no struct: the C caller lends two, a row is written by a function that takes the rows alone, and the definitions speak of
+// each, so that a struct would only be taken apart again.
 // The number of levels stands beside the stack: a walk knows it only at its end.
 // How many keys are asked for is a number of its own, and no length of rows or values.
 #![tactic(auto)]
@@ -50,7 +51,7 @@ pub fn fill_all(
                     stop: Ok(Stop::End),
                 };
             }
-            put_row(&[], 0, 0, rows);
+            put_row(&[], 0, rows);
             values[0] = value;
             fill(fst, levels, stack, upper, 1, most, rows, values)
         }

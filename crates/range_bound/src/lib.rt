@@ -2,12 +2,13 @@
 // the first byte that does not.
 #![tactic(auto)]
 
-ghost use Rattle.std.specs.Prelude.{◌≡◌, List, ℕ, ◌+◌, ◌≤◌, ◌<◌, length, take, drop, set};
+ghost use Rattle.std.specs.Prelude.{List, ℕ, ◌+◌, ◌<◌, length, drop, set};
 ghost use Rattle.format.specs.Limits.{max_levels};
 ghost use Rattle.reading.specs.Reading as R;
 ghost use Rattle.stream_start.specs.Views.{bound_of};
 ghost use Rattle.range_bound.specs.Besides.{end_at, SideOf, Beside, Followed, CutTo};
 
+use std::cmp::Ordering;
 use std::ops::Bound;
 use stream_levels::Stack;
 
@@ -30,21 +31,20 @@ pub struct Standing {
 fn against(x: u8, k: usize, bound: &[u8], excluded: bool) -> Side
     ensures { SideOf (end_at excluded bound.now) bound.now k x result }
 {
-    if bound.len() <= k {
+    let Some(y) = bound.get(k) else {
         return Side::Past;
+    };
+    match x.cmp(y) {
+        Ordering::Less => Side::Below,
+        Ordering::Greater => Side::Past,
+        Ordering::Equal => {
+            // the bound's own key
+            if k + 1 == bound.len() && excluded {
+                return Side::Past;
+            }
+            Side::Along
+        }
     }
-    let y = bound[k];
-    if x < y {
-        return Side::Below;
-    }
-    if y < x {
-        return Side::Past;
-    }
-    // the bound's own key
-    if k + 1 == bound.len() && excluded {
-        return Side::Past;
-    }
-    Side::Along
 }
 
 // A byte x after k bytes that agree with a bound.

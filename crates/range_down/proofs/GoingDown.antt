@@ -32,6 +32,7 @@ use Rattle.range_bound.specs.Besides.{Beside, Followed}
 use Rattle.range_bound.specs.BesideLaws.{beside_within}
 use Rattle.range_node.specs.Entries.{Leads, SoundTo}
 use Rattle.range_node.specs.EntriesLaws.{sound_less, sound_set}
+use Rattle.range_down.specs.declared.Next.{Next}
 use Rattle.range_down.specs.Downs.{down_from, went_seen, went_at, found_at, DescendsOn}
 use Rattle.range_down.proofs.RangeDescent.{down_deep, down_sum, down_bad, down_passed, down_final, down_on}
 
@@ -64,7 +65,7 @@ going_none f hi b xs is ps os k same over l w sounds leads beside = record {
 }
 
 -- a key's value, where it fits or not
-pub found_fits : (k sum end s v : ℕ) → sum + end ≤ max_sum → v ≡ sum + end → Ok (Some (k, v, s)) ≡ found_at k sum end s
+pub found_fits : (k sum end s v : ℕ) → sum + end ≤ max_sum → v ≡ sum + end → Ok (Some (record { level = k; value = v; same = s })) ≡ found_at k sum end s
 found_fits k sum end s v h e = rw (le-leb (sum + end) max_sum h, e)
 
 pub found_past : (k sum end s : ℕ) → max_sum < sum + end → Err SUM ≡ found_at k sum end s
@@ -73,7 +74,7 @@ found_past k sum end s h = rw (lt-leb (sum + end) max_sum h)
 found_low : (k sum end s n : ℕ) → k < n → went_at (found_at k sum end s) < n
 found_low k sum end s n h = go (leb (sum + end) max_sum)
   where
-    go : (b : Bool) → went_at (cond {A = Result (Option (ℕ × ℕ × ℕ)) Refusal} b (Ok (Some (k, sum + end, s))) (Err SUM)) < n
+    go : (b : Bool) → went_at (cond {A = Result (Option Next) Refusal} b (Ok (Some (record { level = k; value = sum + end; same = s }))) (Err SUM)) < n
     go true = h
     go false = omega arith
 
@@ -82,18 +83,18 @@ found_seen : (xs is ps os : List ℕ) (k sum end s t : ℕ)
     ≡ cond (leb (sum + end) max_sum) (R.found (level_at k xs is ps os ∷ stack_is k xs is ps os) (sum + end) t) (R.Went.halted SUM)
 found_seen xs is ps os k sum end s t = go (leb (sum + end) max_sum)
   where
-    go : (b : Bool) → went_seen xs is ps os t (cond b (Ok (Some (k, sum + end, s))) (Err SUM))
+    go : (b : Bool) → went_seen xs is ps os t (cond b (Ok (Some (record { level = k; value = sum + end; same = s }))) (Err SUM))
         ≡ cond b (R.found (level_at k xs is ps os ∷ stack_is k xs is ps os) (sum + end) t) (R.Went.halted SUM)
     go true = refl
     go false = refl
 
-found_is : (k sum end s k' v' s' : ℕ) → found_at k sum end s ≡ Ok (Some (k', v', s')) → (k ≡ k') × (s ≡ s')
-found_is k sum end s k' v' s' = go (leb (sum + end) max_sum)
+found_is : (k sum end s : ℕ) (q : Next) → found_at k sum end s ≡ Ok (Some q) → (k ≡ q.level) × (s ≡ q.same)
+found_is k sum end s q = go (leb (sum + end) max_sum)
   where
-    go : (b : Bool) → cond {A = Result (Option (ℕ × ℕ × ℕ)) Refusal} b (Ok (Some (k, sum + end, s))) (Err SUM) ≡ Ok (Some (k', v', s')) → (k ≡ k') × (s ≡ s')
+    go : (b : Bool) → cond {A = Result (Option Next) Refusal} b (Ok (Some (record { level = k; value = sum + end; same = s }))) (Err SUM) ≡ Ok (Some q) → (k ≡ q.level) × (s ≡ q.same)
     go true e =
-        let q : ◌≡◌ {A = ℕ × ℕ × ℕ} (k, sum + end, s) (k', v', s') = cc in
-        (ap (λ (p : ℕ × ℕ × ℕ). p.0) q, ap (λ (p : ℕ × ℕ × ℕ). p.2) q)
+        let z : ◌≡◌ {A = Next} (record { level = k; value = sum + end; same = s }) q = cc in
+        (ap (λ (p : Next). p.level) z, ap (λ (p : Next). p.same) z)
     go false e = absurd (let z : ◌≡◌ {A = ℕ} 0 1 = cc in omega arith)
 
 module _ {f : Fst} {hi : Bound} {b : List ℕ} {want : ℕ → R.Went} {xs is ps os : List ℕ} {k same : ℕ} {over : Bool} (g : Going f hi b want xs is ps os k same over) where
@@ -114,7 +115,7 @@ module _ {f : Fst} {hi : Bound} {b : List ℕ} {want : ℕ → R.Went} {xs is ps
     low = omega arith;
     arrays = g.arrays;
     sound = first_sound;
-    beside = λ j v s q. absurd (let z : ◌≡◌ {A = ℕ} 0 1 = cc in omega arith);
+    beside = λ j q. absurd (let z : ◌≡◌ {A = ℕ} 0 1 = cc in omega arith);
     from = λ t. let w = g.from t in record { total = 0; seen = sym (w.same ∙ down_deep k f hi l m below w.total h) };
   }
 
@@ -150,7 +151,7 @@ module _ {f : Fst} {hi : Bound} {b : List ℕ} {want : ℕ → R.Went} {xs is ps
           low = omega arith;
           arrays = g.arrays;
           sound = first_sound;
-          beside = λ j v s q. absurd (let z : ◌≡◌ {A = ℕ} 0 1 = cc in omega arith);
+          beside = λ j q. absurd (let z : ◌≡◌ {A = ℕ} 0 1 = cc in omega arith);
           from = λ t. let w = g.from t in record { total = 0; seen = sym (w.same ∙ down_sum k f hi l m below w.total hk (rw out_is at h)) };
         }
 
@@ -166,7 +167,7 @@ module _ {f : Fst} {hi : Bound} {b : List ℕ} {want : ℕ → R.Went} {xs is ps
             low = omega arith;
             arrays = g.arrays;
             sound = first_sound;
-            beside = λ j v s q. absurd (let z : ◌≡◌ {A = ℕ} 0 1 = cc in omega arith);
+            beside = λ j q. absurd (let z : ◌≡◌ {A = ℕ} 0 1 = cc in omega arith);
             from = λ t. let w = g.from t in record { total = 0; seen = sym (w.same ∙ down_bad k f hi l m below w.total hk fit (rw target_is at bad)) };
           }
 
@@ -237,7 +238,7 @@ module _ {f : Fst} {hi : Bound} {b : List ℕ} {want : ℕ → R.Went} {xs is ps
               low = omega arith;
               arrays = g.arrays;
               sound = first_sound;
-              beside = λ j v s q. absurd (let z : ◌≡◌ {A = ℕ} 0 1 = cc in omega arith);
+              beside = λ j q. absurd (let z : ◌≡◌ {A = ℕ} 0 1 = cc in omega arith);
               from = λ t.
                   let w = g.from t in
                   record {
@@ -250,7 +251,7 @@ module _ {f : Fst} {hi : Bound} {b : List ℕ} {want : ℕ → R.Went} {xs is ps
               p : passes_test hi (take (k + 1) (drop 1 is⁺)) ≡ false
               p = within.0
 
-              pub going_final : (end : ℕ) → (n.final ≡ true) × (end ≡ n.final_output) → (r : Result (Option (ℕ × ℕ × ℕ)) Refusal) → r ≡ found_at (k + 1) sum end s⁺
+              pub going_final : (end : ℕ) → (n.final ≡ true) × (end ≡ n.final_output) → (r : Result (Option Next) Refusal) → r ≡ found_at (k + 1) sum end s⁺
                   → DescendsOn f hi b want xs⁺ is⁺ ps⁺ os⁺ r
               going_final end ended r er = record {
                 low = rw er (found_low (k + 1) sum end s⁺ 256 (omega arith));
@@ -258,9 +259,9 @@ module _ {f : Fst} {hi : Bound} {b : List ℕ} {want : ℕ → R.Went} {xs is ps
                 sound =
                     sound_less f xs⁺ (went_at r + 1) (k + 1 + 1) sounds⁺
                     (omega (arith, ap went_at er, found_low (k + 1) sum end s⁺ (k + 1 + 1) (omega arith)));
-                beside = λ j v s q.
-                    let w = found_is (k + 1) sum end s⁺ j v s (sym er ∙ q) in
-                    subst (λ (i : ℕ). Beside hi b (drop 1 is⁺) i s false) w.0
+                beside = λ j q.
+                    let w = found_is (k + 1) sum end s⁺ j (sym er ∙ q) in
+                    subst (λ (i : ℕ). Beside hi b (drop 1 is⁺) i j.same false) w.0
                     (subst (λ (i : ℕ). Beside hi b (drop 1 is⁺) (k + 1) i false) w.1 (beside_within within.1 p));
                 from = λ t.
                     let w = g.from t in

@@ -2,7 +2,7 @@
 // judged once, as it is entered, and read by its address after that.
 #![tactic(auto)]
 
-ghost use Rattle.std.specs.Prelude.{◌≡◌, ◌+◌, ◌<◌, drop, get_or};
+ghost use Rattle.std.specs.Prelude.{◌+◌, ◌<◌, drop, get_or};
 ghost use Rattle.format.specs.Limits.{max_levels};
 ghost use Rattle.format.specs.View.{fst_is};
 ghost use Rattle.reading.specs.Reading as R;
@@ -17,16 +17,23 @@ use range_node::{meet, take};
 use std::ops::Bound;
 use stream_levels::Stack;
 
+// The next key of a range: the level where it ends, its value, and how many of its leading bytes agree with the upper bound.
+#[derive(Clone, Copy)]
+pub struct Next {
+    pub level: usize,
+    pub value: u64,
+    pub same: usize,
+}
+
 // From the level at top down to the next key by each level's next transition. Every level up to top is that of a judged node, and so is every level
-// that is written here. The key up to top stands to the upper bound as standing says. `Ok(Some((level, value, same)))`: the level where the key ends, its
-// value, and how many of its leading bytes agree with the bound. `Ok(None)`: the key that is next passes the bound.
+// that is written here. The key up to top stands to the upper bound as standing says. `Ok(None)`: the key that is next passes the bound.
 pub fn descend(
     fst: FstRef<'_>,
     top: usize,
     stack: &mut Stack,
     upper: Bound<&[u8]>,
-    standing: Standing,
-) -> Result<Option<(usize, u64, usize)>, Refusal>
+    mut standing: Standing,
+) -> Result<Option<Next>, Refusal>
     requires top_lt_max_levels { (top < max_levels) × (fst.root < 4294967296)
         × SoundTo (fst_is fst) stack.old.addrs (top + 1)
         × Leads (fst_is fst) (get_or stack.old.addrs top 0) (get_or stack.old.trans top 0)
@@ -40,19 +47,14 @@ pub fn descend(
         stack.new.inps stack.new.trans stack.new.outs result }
 {
     are_bytes(fst.bytes);
-    let mut standing = standing;
     // a reading has at most 256 levels
     for k in top..MAX_KEY {
         let addr = stack.addrs[k] as usize;
         let i = stack.trans[k] as usize;
         let edge = take(fst, addr, i);
-        let Some(sum) = stack.outs[k].checked_add(edge.out) else {
-            return Err(Refusal::Sum);
-        };
+        let sum = stack.outs[k].checked_add(edge.out).ok_or(Refusal::Sum)?;
         let target = edge.addr;
-        let Ok(ending) = meet(fst, target) else {
-            return Err(Refusal::Node);
-        };
+        let ending = meet(fst, target)?;
         let inp = edge.inp;
         let Some(same) = standing.follow(inp, k, upper) else {
             return Ok(None);
@@ -60,13 +62,18 @@ pub fn descend(
         standing.same = same;
         stack.trans[k] = (i + 1) as u16;
         let next = k + 1;
+        // not by `Stack::put`, which promises the levels as a list: what is asked of the next turn speaks of each address by its place (SoundTo)
         stack.addrs[next] = target as u32;
         stack.inps[next] = inp;
         stack.trans[next] = 0;
         stack.outs[next] = sum;
         if let Some(end) = ending {
             let value = sum.checked_add(end).ok_or(Refusal::Sum)?;
-            return Ok(Some((next, value, same)));
+            return Ok(Some(Next {
+                level: next,
+                value,
+                same,
+            }));
         }
     }
     Err(Refusal::Deep)

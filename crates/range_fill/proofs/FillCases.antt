@@ -12,7 +12,7 @@ use mathlib.Core.List.{List, ◌∷◌}
 use Prim.Native.Nat.{ℕ, ◌+◌, ◌-◌, ◌*◌, ◌≤◌, ◌<◌}
 use native.Mathlib.Omega.{arith}
 use lib.ListN.{length, take, drop, set, length-drop, length-set}
-use lib.Seq.{length-take-le, take-take}
+use lib.Seq.{length-take-le}
 use Rattle.buffers.specs.Put.{put}
 use Rattle.buffers.specs.PutLaws.{length_put}
 use Rattle.format.specs.Limits.{max_path, max_levels}
@@ -24,6 +24,7 @@ use Rattle.stream_start.specs.Views.{Arrays, stack_is}
 use Rattle.stream_start.specs.StackLaws.{stack_length}
 use Rattle.range_bound.specs.Besides.{Beside}
 use Rattle.range_node.specs.Entries.{SoundTo}
+use Rattle.range_down.specs.declared.Next.{Next}
 use Rattle.range_turn.specs.Turns.{view_at, step_of, Turned, goes_on, ends, stops}
 use Rattle.range_turn.specs.StartStateLaws.{next_walk}
 use Rattle.range_fill.specs.declared.Stop.TheVariants as Why
@@ -49,8 +50,8 @@ record KeyTurn (f : Fst) (len : ℕ) (hi : S.Bound) (b : List ℕ) (n t : ℕ) (
   reading : (step_of f len hi n t levels).reading ≡ view_at len hi n after (stack_is (k + 1) xs is ps os)
 
 module _ {f : Fst} {len : ℕ} {hi : S.Bound} {b : List ℕ} {n t : ℕ} {levels : List Level} {xs is ps os : List ℕ} where
-  key_turn : {k v s : ℕ} → Turned f len hi b n t levels xs is ps os (Ok (Some (k, v, s))) → KeyTurn f len hi b n t levels xs is ps os k v s
-  key_turn (goes_on k v s t' low arrays sounds beside a r) = record { low = low; arrays = arrays; sounds = sounds; beside = beside; after = t'; answer = a; reading = r }
+  key_turn : {q : Next} → Turned f len hi b n t levels xs is ps os (Ok (Some q)) → KeyTurn f len hi b n t levels xs is ps os q.level q.value q.same
+  key_turn (goes_on q t' low arrays sounds beside a r) = record { low = low; arrays = arrays; sounds = sounds; beside = beside; after = t'; answer = a; reading = r }
 
   end_turn : Turned f len hi b n t levels xs is ps os (Ok None) → (step_of f len hi n t levels).answer ≡ end
   end_turn (ends e) = e
@@ -102,7 +103,7 @@ module _ {s : List ℕ} {version root : ℕ} (o : OpensAs s version root) {hi : 
       let e : count ≡ most = omega (arith, q.within) in
       subst (λ (j : ℕ). RangedBy w rs rows vs values (record { count = j; stop = Ok Why.More })) e (filled_more q full)
 
-  module _ (left : count < most) {xs' is' ps' os' : List ℕ} {r : Result (Option (ℕ × ℕ × ℕ)) Refusal}
+  module _ (left : count < most) {xs' is' ps' os' : List ℕ} {r : Result (Option Next) Refusal}
       (turned : (t : ℕ) → Turned (fst_with s version root) (length s) hi b n t (stack_is levels xs is ps os) xs' is' ps' os' r) where
     pub going_end : r ≡ Ok None → (t : ℕ) → FilledFrom s (r₀ t) first most rows₀ rows values₀ values (record { count = count; stop = Ok Why.End })
     going_end e t w rs vs f =
@@ -119,7 +120,16 @@ module _ {s : List ℕ} {version root : ℕ} (o : OpensAs s version root) {hi : 
         (ap (λ (q : Step). q.answer) (called u)
         ∙ refused_turn (subst (Turned (fst_with s version root) (length s) hi b n u (stack_is levels xs is ps os) xs' is' ps' os') e (turned u)))
 
-    module _ (k v agreed : ℕ) (e : r ≡ Ok (Some (k, v, agreed))) where
+    module _ (one : Next) (e : r ≡ Ok (Some one)) where
+      abbrev k : ℕ
+      k = one.level
+
+      abbrev v : ℕ
+      v = one.value
+
+      abbrev agreed : ℕ
+      agreed = one.same
+
       found : (t : ℕ) → KeyTurn (fst_with s version root) (length s) hi b n t (stack_is levels xs is ps os) xs' is' ps' os' k v agreed
       found t = key_turn (subst (Turned (fst_with s version root) (length s) hi b n t (stack_is levels xs is ps os) xs' is' ps' os') e (turned t))
 
@@ -130,18 +140,21 @@ module _ {s : List ℕ} {version root : ℕ} (o : OpensAs s version root) {hi : 
       inputs_len_lem : length is' ≡ max_levels
       inputs_len_lem = (found 0).arrays.inps_len
 
-      pub inputs_hold : k ≤ length (take 255 (drop 1 is'))
-      inputs_hold = rw (length-take-le 255 (drop 1 is') (simp length-drop (omega (arith, inputs_len_lem)))) (omega (arith, key_low, inputs_len_lem))
+      -- the key is the k inputs after the first
+      pub key_len : length (take (k + 1 - 1) (drop 1 is')) ≡ k
+      key_len =
+          let q : k + 1 - 1 ≡ k = omega arith in
+          ap (λ (j : ℕ). length (take j (drop 1 is'))) q ∙ length-take-le k (drop 1 is') (simp length-drop (omega (arith, inputs_len_lem, key_low)))
 
       pub row_within : count * 256 + row_len ≤ length rows
       row_within = omega (arith, g.rows_len)
 
-      pub going_key : {rows' : List ℕ} → rows' ≡ put rows (count * 256) (k ∷ take k (take 255 (drop 1 is')))
+      pub going_key : {rows' : List ℕ} → rows' ≡ put rows (count * 256) (length (take (k + 1 - 1) (drop 1 is')) ∷ take (k + 1 - 1) (drop 1 is'))
           → Going (fst_with s version root) s hi b n r₀ first most rows₀ values₀ rows' (set values count v) xs' is' ps' os' (k + 1) (count + 1) agreed false
       going_key {rows'} put_is =
-          let same : take k (take 255 (drop 1 is')) ≡ take k (drop 1 is') = take-take k 255 (drop 1 is') (omega (arith, key_low, inputs_len_lem)) in
+          let q : k + 1 - 1 ≡ k = omega arith in
           let len : length (take k (drop 1 is')) ≡ k = length-take-le k (drop 1 is') (simp length-drop (omega (arith, inputs_len_lem, key_low))) in
-          let put_key : rows' ≡ put rows (count * 256) (k ∷ take k (drop 1 is')) = put_is ∙ ap (λ (l : List ℕ). put rows (count * 256) (k ∷ l)) same in
+          let put_key : rows' ≡ put rows (count * 256) (k ∷ take k (drop 1 is')) = put_is ∙ ap₂ (λ (j : ℕ) (l : List ℕ). put rows (count * 256) (j ∷ l)) key_len (ap (λ (j : ℕ). take j (drop 1 is')) q) in
           record {
             arrays = (found 0).arrays;
             few = omega (arith, key_low);

@@ -1,5 +1,6 @@
 // The loop of a range: the keys after the levels in the caller's stack, each in a row of 256 bytes with its value beside it.
-// rows and values are two slices and no struct: the C caller lends them one by one, and the definitions speak of each.
+// rows and values are two slices and no struct: the C caller lends two, a row is written by a function that takes the rows alone, and the definitions speak of
+// each, so that a struct would only be taken apart again.
 // The number of levels stands beside the stack: a walk knows it only at its end.
 // How many keys are asked for is a number of its own, and no length of rows or values.
 #![tactic(auto)]
@@ -79,12 +80,15 @@ pub fn fill(
                     stop: Err(why),
                 };
             }
-            Ok(Some((k, value, same))) => {
+            Ok(Some(next)) => {
                 // a key that is handed out does not pass the bound
-                standing = Standing { same, over: false };
-                put_row(&stack.inps[1..], k, count * ROW, rows);
-                values[count] = value;
-                height = k + 1;
+                standing = Standing {
+                    same: next.same,
+                    over: false,
+                };
+                put_row(&stack.inps[1..=next.level], count * ROW, rows);
+                values[count] = next.value;
+                height = next.level + 1;
             }
         }
     }

@@ -12,7 +12,7 @@ use Prim.Native.Nat.{ℕ, ◌<◌, ◌≤◌}
 use native.Mathlib.Omega.{arith}
 use lib.ListN.{length, get_or}
 use Rattle.format.specs.Node as F
-use Rattle.format.specs.Node.{SoundAt, node_at, node_of, sound, transition_at}
+use Rattle.format.specs.Node.{SoundAt, node_at, node_of, sound}
 use Rattle.format.specs.Laws.NodeLaws.{node_at_cases, node_at_sound, not_final}
 use Rattle.format.specs.Paths.{Fst, node_in}
 use Rattle.node_sound.specs.JudgingLaws.{sound_low}

@@ -18,6 +18,7 @@ use Rattle.stream_start.specs.Views.{Arrays, level_at, stack_is}
 use Rattle.stream_start.specs.StackLaws.{stack_more, stack_length, key_stack}
 use Rattle.range_bound.specs.Besides.{Beside}
 use Rattle.range_node.specs.Entries.{SoundTo}
+use Rattle.range_down.specs.declared.Next.{Next}
 use Rattle.range_down.specs.Downs.{down_from, went_seen, DescendsOn}
 use Rattle.range_turn.specs.Turns.{view_at, step_of, TopAt, Turned, goes_on, ends, stops}
 
@@ -52,19 +53,19 @@ module _ (f : Fst) (len : ℕ) (hi : S.Bound) (b : List ℕ) (n t levels : ℕ) 
     pub turn_passed : (t' : ℕ) → w ≡ passed t' → Turned f len hi b n t stack xs is ps os (Ok None)
     turn_passed t' e = ends (ap (λ (o : Step). o.answer) (step_down ∙ ap (after_descend view) e))
 
-    pub turn_found : (k v s t' : ℕ) → k < max_levels → Arrays xs is ps os → SoundTo f xs (k + 1) → Beside hi b (drop 1 is) k s false
-        → w ≡ found (level_at k xs is ps os ∷ stack_is k xs is ps os) v t' → Turned f len hi b n t stack xs is ps os (Ok (Some (k, v, s)))
-    turn_found k v s t' low arrays sounds beside e =
+    pub turn_found : (q : Next) (t' : ℕ) → q.level < max_levels → Arrays xs is ps os → SoundTo f xs (q.level + 1) → Beside hi b (drop 1 is) q.level q.same false
+        → w ≡ found (level_at q.level xs is ps os ∷ stack_is q.level xs is ps os) q.value t' → Turned f len hi b n t stack xs is ps os (Ok (Some q))
+    turn_found q t' low arrays sounds beside e =
         let o = step_down ∙ ap (after_descend view) e in
-        goes_on k v s t' low arrays sounds beside
-        (ap (λ (q : Step). q.answer) o ∙ ap (λ (x : List ℕ). key x v) (key_stack k xs is ps os (omega (arith, arrays.inps_len))))
-        (ap (λ (q : Step). q.reading) o ∙ ap (λ (z : List Level). view_at len hi n t' z) (sym (stack_more k xs is ps os)))
+        goes_on q t' low arrays sounds beside
+        (ap (λ (x : Step). x.answer) o ∙ ap (λ (x : List ℕ). key x q.value) (key_stack q.level xs is ps os (omega (arith, arrays.inps_len))))
+        (ap (λ (x : Step). x.reading) o ∙ ap (λ (z : List Level). view_at len hi n t' z) (sym (stack_more q.level xs is ps os)))
 
   -- what the descent answers is the turn
-  pub turn_went : {k₀ : ℕ} → TopAt f ys qs levels k₀ → (r : Result (Option (ℕ × ℕ × ℕ)) Refusal) → DescendsOn f hi b (down_from f hi ys js qs us k₀) xs is ps os r
+  pub turn_went : {k₀ : ℕ} → TopAt f ys qs levels k₀ → (r : Result (Option Next) Refusal) → DescendsOn f hi b (down_from f hi ys js qs us k₀) xs is ps os r
       → Turned f len hi b n t stack xs is ps os r
   turn_went at (Err c) d = let seen = d.from t in turn_halted at (went_seen xs is ps os seen.total (Err c)) seen.seen c refl
   turn_went at (Ok None) d = let seen = d.from t in turn_passed at (went_seen xs is ps os seen.total (Ok None)) seen.seen seen.total refl
-  turn_went at (Ok (Some (k, v, s))) d =
+  turn_went at (Ok (Some q)) d =
       let seen = d.from t in
-      turn_found at (went_seen xs is ps os seen.total (Ok (Some (k, v, s)))) seen.seen k v s seen.total d.low d.arrays d.sound (d.beside k v s refl) refl
+      turn_found at (went_seen xs is ps os seen.total (Ok (Some q))) seen.seen q seen.total d.low d.arrays d.sound (d.beside q refl) refl

@@ -16,6 +16,7 @@ use Rattle.reading.specs.Reading.{View, Level, key, end, after_pop, top, used_up
 use Rattle.stream_start.specs.Views.{Arrays, level_at, stack_is}
 use Rattle.range_bound.specs.Besides.{Beside}
 use Rattle.range_node.specs.Entries.{SoundTo}
+use Rattle.range_down.specs.declared.Next.{Next}
 
 abbrev pub view_at : ℕ → S.Bound → ℕ → ℕ → List Level → View
 view_at len hi n t levels = record { len = len; bound = hi; bound_len = n; empty = none; total = t; levels = levels }
@@ -35,9 +36,10 @@ pub record Tops (f : Fst) (xs ps : List ℕ) (levels : ℕ) (r : Option ℕ) : T
   pub at : (k : ℕ) → r ≡ Some k → TopAt f xs ps levels k
   pub none_left : r ≡ None → (is os : List ℕ) → pop f (stack_is levels xs is ps os) ≡ used_up
 
--- a key ends at level k, its bytes are the inputs after the first, and s of them agree with the upper bound, whose bytes are b
-pub data Turned (f : Fst) (len : ℕ) (hi : S.Bound) (b : List ℕ) (n t : ℕ) (levels : List Level) (xs is ps os : List ℕ) : Result (Option (ℕ × ℕ × ℕ)) Refusal → Type 0 where
-  goes_on : (k v s t' : ℕ) → k < max_levels → Arrays xs is ps os → SoundTo f xs (k + 1) → Beside hi b (drop 1 is) k s false → (step_of f len hi n t levels).answer ≡ key (take k (drop 1 is)) v
-      → (step_of f len hi n t levels).reading ≡ view_at len hi n t' (stack_is (k + 1) xs is ps os) → Turned f len hi b n t levels xs is ps os (Ok (Some (k, v, s)))
+-- a key ends at its level, its bytes are the inputs after the first, and so many of them agree with the upper bound, whose bytes are b
+pub data Turned (f : Fst) (len : ℕ) (hi : S.Bound) (b : List ℕ) (n t : ℕ) (levels : List Level) (xs is ps os : List ℕ) : Result (Option Next) Refusal → Type 0 where
+  goes_on : (q : Next) (t' : ℕ) → q.level < max_levels → Arrays xs is ps os → SoundTo f xs (q.level + 1) → Beside hi b (drop 1 is) q.level q.same false
+      → (step_of f len hi n t levels).answer ≡ key (take q.level (drop 1 is)) q.value
+      → (step_of f len hi n t levels).reading ≡ view_at len hi n t' (stack_is (q.level + 1) xs is ps os) → Turned f len hi b n t levels xs is ps os (Ok (Some q))
   ends : (step_of f len hi n t levels).answer ≡ end → Turned f len hi b n t levels xs is ps os (Ok None)
   stops : (c : Refusal) → (step_of f len hi n t levels).answer ≡ R.Answer.refused c → Turned f len hi b n t levels xs is ps os (Err c)

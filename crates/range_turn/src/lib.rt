@@ -3,7 +3,7 @@
 // The number of levels stands beside the stack: a walk knows it only at its end.
 #![tactic(auto)]
 
-ghost use Rattle.std.specs.Prelude.{◌≡◌, ℕ, ◌-◌, ◌≤◌, ◌<◌, drop};
+ghost use Rattle.std.specs.Prelude.{ℕ, ◌-◌, ◌≤◌, ◌<◌, drop};
 ghost use Rattle.format.specs.Limits.{max_levels};
 ghost use Rattle.format.specs.View.{fst_is};
 ghost use Rattle.reading.specs.Reading as R;
@@ -14,7 +14,7 @@ ghost use Rattle.range_turn.specs.Turns.{Tops, Turned};
 
 use format::{FstRef, Refusal};
 use range_bound::Standing;
-use range_down::descend;
+use range_down::{Next, descend};
 use range_node::count_of;
 use std::ops::Bound;
 use stream_levels::Stack;
@@ -35,15 +35,14 @@ fn highest(fst: FstRef<'_>, stack: &Stack, levels: usize) -> Option<usize>
 }
 
 // One step of the first levels to the next key: its bytes are the inputs after the first. The key of the levels given stands to the upper bound as standing
-// says. `Ok(Some((level, value, same)))`: the level where the next key ends, its value, and how many of its leading bytes agree with the bound.
-// `Ok(None)`: no key is left, or the next one passes the bound.
+// says. `Ok(None)`: no key is left, or the next one passes the bound.
 pub fn step_on(
     fst: FstRef<'_>,
     levels: usize,
     stack: &mut Stack,
     upper: Bound<&[u8]>,
     standing: Standing,
-) -> Result<Option<(usize, u64, usize)>, Refusal>
+) -> Result<Option<Next>, Refusal>
     requires levels_le_max_levels { (levels ≤ max_levels) × (fst.root < 4294967296)
         × SoundTo (fst_is fst) stack.old.addrs levels
         × Beside (bound_of upper) (R.bound_bytes (bound_of upper))

@@ -1,12 +1,14 @@
 -- A cell against a record, by the file as the code has it: 16 bytes 0 and the nodes so far.
+--     Paired b              the record b has an output and a target for each input
 --     cell_with a h         the cell of an address and a hash
+--     cell_of c             the cell that the code's c is
 --     matches_in file b c   the cell c is not empty, its hash is b's, and the node at its address is the record b
 --     matches_in_lem           this is `matches` of the nodes
 --     Choice               what a row's two cells say: the first matches, or the second, or none
 --     chosen x y           the choice, where the first cell matches by x and the second by y
 --     intern_chosen        a record's address by the choice
 -- Assumes nothing.
-use Rattle.std.specs.Prelude.{◌≡◌, ℕ, ◌+◌, ◌-◌, Bool, true, false, cond, not, ◌&&◌, List, ◌++◌, length, replicate, ◌==◌, refl}
+use Rattle.std.specs.Prelude.{◌≡◌, ℕ, ◌+◌, ◌-◌, Bool, true, false, cond, not, ◌&&◌, List, ◌++◌, length, get_or, replicate, ◌==◌, refl}
 use Rattle.std.proofs.Common.{ap, arith, length-append}
 use Rattle.std.proofs.lemmas.List.{length-replicate}
 use Rattle.format.specs.Node.{node_at}
@@ -15,8 +17,15 @@ use Rattle.packing.specs.Registry.{hash_of, Cell, Build, cell_at, row_of, same_n
 use Rattle.registry.specs.declared.Choice.{Choice}
 use Rattle.registry.specs.declared.Choice.TheVariants.{First, Second, Write}
 
+pub record Paired (b : BuilderNode) : Type 0 where
+  pub outputs_len : length b.outputs ≡ length b.inputs
+  pub targets_len : length b.targets ≡ length b.inputs
+
 abbrev pub cell_with : ℕ → ℕ → Cell
 cell_with a h = record { addr = a; hash = h }
+
+abbrev pub cell_of : List ℕ → Cell
+cell_of c = cell_with (get_or c 0 0) (get_or c 1 0)
 
 abbrev pub matches_in : List ℕ → BuilderNode → Cell → Bool
 matches_in file b c = not (c.addr == 1) && (c.hash == hash_of b && same_node (node_at file 2 (length file - 1) c.addr) b)

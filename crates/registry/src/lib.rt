@@ -1,18 +1,17 @@
 // Equal nodes shared through a table of cells: a record's hash, and whether a stored node is the record.
 // Ports `Registry::hash` of src/raw/registry.rs and the comparison of `RegistryCache::entry`, which here reads the node back.
-// inputs, outputs and targets are slices and no struct: they are rows of tables that the C caller lends one by one, and as many as each other by what each
-// contract asks.
 #![tactic(auto)]
 
 ghost use Rattle.std.specs.Prelude.{◌≡◌, ◌-◌, ◌≤◌, length};
 ghost use Rattle.format.specs.Node.{transitions_of, node_at};
 ghost use Rattle.node.specs.Read.{transitions_in, Readable};
-ghost use Rattle.node_compile.specs.Compile.{builder_with};
+ghost use Rattle.node_compile.specs.Compile.{builder_is};
 ghost use Rattle.packing.specs.Registry.{fnv_step, hash_of, same_transitions, same_node};
-ghost use Rattle.registry.specs.Matching.{cell_with, matches_in, chosen};
+ghost use Rattle.registry.specs.Matching.{Paired, cell_of, matches_in, chosen};
 
 use format::FstRef;
 use node::Node;
+use node_record::BuilderNode;
 
 // ---- the hash
 
@@ -31,23 +30,16 @@ fn hash_transition(h: u64, inp: u8, out: u64, addr: usize) -> u64
     fnv_step(fnv_step(fnv_step(h, u64::from(inp)), out), addr as u64)
 }
 
-// The hash of the record of these parts.
-pub fn hash(
-    is_final: bool,
-    final_output: u64,
-    inputs: &[u8],
-    outputs: &[u64],
-    targets: &[usize],
-) -> u64
-    requires { (length outputs.now ≡ length inputs.now)
-        × (length targets.now ≡ length inputs.now) }
-    ensures { result ≡ hash_of
-        (builder_with is_final final_output inputs.now outputs.now targets.now) }
+// The record's hash. That the three lists are as long as each other (`Paired`) is asked here and below, and not promised by `BuilderNode`:
+// node_compile's `compile` takes records where they are not, and refuses them.
+pub fn hash(node: BuilderNode<'_>) -> u64
+    requires { Paired (builder_is node) }
+    ensures { result ≡ hash_of (builder_is node.entry) }
 {
-    let seed = fnv_step(14695981039346656037, u64::from(is_final));
-    let mut h = fnv_step(seed, final_output);
-    for (i, inp) in inputs.iter().enumerate() {
-        h = hash_transition(h, *inp, outputs[i], targets[i]);
+    let seed = fnv_step(14695981039346656037, u64::from(node.is_final));
+    let mut h = fnv_step(seed, node.final_output);
+    for (i, inp) in node.inputs.iter().enumerate() {
+        h = hash_transition(h, *inp, node.outputs[i], node.targets[i]);
     }
     h
 }
@@ -55,47 +47,29 @@ pub fn hash(
 // ---- the comparison
 
 // Whether the transitions of a judged node are those of the record. No derived equality, here and below: one side lies in the file, the other in three slices.
-fn same_transitions(
-    file: &[u8],
-    node: Node,
-    inputs: &[u8],
-    outputs: &[u64],
-    targets: &[usize],
-) -> bool
-    requires { Readable file.now node
-        × (length outputs.now ≡ length inputs.now)
-        × (length targets.now ≡ length inputs.now) }
-    ensures { result ≡ same_transitions (transitions_in file.now node)
-        (transitions_of inputs.now outputs.now targets.now) }
+fn same_transitions(file: &[u8], stored: Node, node: BuilderNode<'_>) -> bool
+    requires { Readable file.now stored × Paired (builder_is node) }
+    ensures { result ≡ same_transitions (transitions_in file.now stored)
+        (transitions_of node.entry.inputs.now node.entry.outputs.now node.entry.targets.now) }
 {
-    if inputs.len() != node.ntrans {
+    if node.inputs.len() != stored.ntrans {
         return false;
     }
-    for (i, inp) in inputs.iter().enumerate() {
-        let t = node::transition(file, node, i);
-        if (t.inp, t.out, t.addr) != (*inp, outputs[i], targets[i]) {
+    for (i, inp) in node.inputs.iter().enumerate() {
+        let t = node::transition(file, stored, i);
+        if (t.inp, t.out, t.addr) != (*inp, node.outputs[i], node.targets[i]) {
             return false;
         }
     }
     true
 }
 
-// Whether the node that is stored at addr among the nodes so far is the record of these parts. The file is 16 bytes and the nodes,
+// Whether the node that is stored at addr among the nodes so far is the record. The file is 16 bytes and the nodes,
 // so its last byte is the last node's.
-pub fn same_node(
-    file: &[u8],
-    addr: usize,
-    is_final: bool,
-    final_output: u64,
-    inputs: &[u8],
-    outputs: &[u64],
-    targets: &[usize],
-) -> bool
-    requires { (1 ≤ length file.now)
-        × (length outputs.now ≡ length inputs.now)
-        × (length targets.now ≡ length inputs.now) }
+pub fn same_node(file: &[u8], addr: usize, node: BuilderNode<'_>) -> bool
+    requires { (1 ≤ length file.now) × Paired (builder_is node) }
     ensures { result ≡ same_node (node_at file.now 2 (length file.now - 1) addr)
-        (builder_with is_final final_output inputs.now outputs.now targets.now) }
+        (builder_is node.entry) }
 {
     let judged = node::node_at(
         FstRef {
@@ -106,10 +80,10 @@ pub fn same_node(
         addr,
     );
     match judged {
-        Ok(node) => {
-            node.is_final == is_final
-                && (node.final_output == final_output
-                    && same_transitions(file, node, inputs, outputs, targets))
+        Ok(stored) => {
+            stored.is_final == node.is_final
+                && (stored.final_output == node.final_output
+                    && same_transitions(file, stored, node))
         }
         Err(_) => false,
     }
@@ -129,84 +103,40 @@ pub enum Choice {
     Write,
 }
 
-// Whether the cell of this address and hash has the record, whose own hash is given. Another hash is enough to tell that it has not; an
+// Whether the cell, an address and a hash, has the record, whose own hash is given. Another hash is enough to tell that it has not; an
 // equal one is not enough, so the node is read back.
-fn matches(
-    file: &[u8],
-    addr: usize,
-    cell_hash: u64,
-    own_hash: u64,
-    is_final: bool,
-    final_output: u64,
-    inputs: &[u8],
-    outputs: &[u64],
-    targets: &[usize],
-) -> bool
-    requires { (1 ≤ length file.now)
-        × (length outputs.now ≡ length inputs.now)
-        × (length targets.now ≡ length inputs.now)
-        × (own_hash ≡ hash_of
-        (builder_with is_final final_output inputs.now outputs.now targets.now)) }
-    ensures { result ≡ matches_in file.now
-        (builder_with is_final final_output inputs.now outputs.now targets.now)
-        (cell_with addr cell_hash) }
+fn matches(file: &[u8], cell: [u64; 2], own_hash: u64, node: BuilderNode<'_>) -> bool
+    requires { (1 ≤ length file.now) × Paired (builder_is node)
+        × (own_hash ≡ hash_of (builder_is node)) }
+    ensures { result ≡ matches_in file.now (builder_is node.entry) (cell_of cell) }
 {
+    let addr = cell[0] as usize;
     if addr == NONE_ADDRESS {
         return false;
     }
-    if cell_hash != own_hash {
+    if cell[1] != own_hash {
         return false;
     }
-    same_node(file, addr, is_final, final_output, inputs, outputs, targets)
+    same_node(file, addr, node)
 }
 
 // Which of a row's two cells has the record: the first is asked first.
 pub fn choose(
     file: &[u8],
-    first: usize,
-    first_hash: u64,
-    second: usize,
-    second_hash: u64,
+    first: [u64; 2],
+    second: [u64; 2],
     own_hash: u64,
-    is_final: bool,
-    final_output: u64,
-    inputs: &[u8],
-    outputs: &[u64],
-    targets: &[usize],
+    node: BuilderNode<'_>,
 ) -> Choice
-    requires { (1 ≤ length file.now)
-        × (length outputs.now ≡ length inputs.now)
-        × (length targets.now ≡ length inputs.now)
-        × (own_hash ≡ hash_of
-        (builder_with is_final final_output inputs.now outputs.now targets.now)) }
-    ensures { result ≡ chosen
-        (matches_in file.now (builder_with is_final final_output inputs.now outputs.now targets.now) (cell_with first first_hash))
-        (matches_in file.now (builder_with is_final final_output inputs.now outputs.now targets.now) (cell_with second second_hash)) }
+    requires { (1 ≤ length file.now) × Paired (builder_is node)
+        × (own_hash ≡ hash_of (builder_is node)) }
+    ensures { result ≡ chosen (matches_in file.now (builder_is node.entry) (cell_of first))
+        (matches_in file.now (builder_is node.entry) (cell_of second)) }
 {
-    if matches(
-        file,
-        first,
-        first_hash,
-        own_hash,
-        is_final,
-        final_output,
-        inputs,
-        outputs,
-        targets,
-    ) {
+    if matches(file, first, own_hash, node) {
         return Choice::First;
     }
-    if matches(
-        file,
-        second,
-        second_hash,
-        own_hash,
-        is_final,
-        final_output,
-        inputs,
-        outputs,
-        targets,
-    ) {
+    if matches(file, second, own_hash, node) {
         return Choice::Second;
     }
     Choice::Write

@@ -1,13 +1,10 @@
 // Replays recorded answers of the conversion of version 1 files, with no Rust at hand. The list on standard input has files, each with conversions in
 // buffers of any length (README.md). Each is asked again, and the answer, the new file, the table of new addresses and the two work tables are held to what
 // is recorded. A difference changes a count that is written.
-// A record of the list is its entry beside the list, and no slice: a claim over it asks that it lies in the list (`Within`).
 #![tactic(auto)]
 
-ghost use Rattle.replay_list.specs.Records.{Within};
-
-use format::{MAX_LEN, Refusal};
-use replay_list::{Entry, FILE, KEPT, at_most, number};
+use format::MAX_LEN;
+use replay_list::{Entry, FILE, KEPT, answer_number, at_most, number};
 use std::io;
 use std::io::Read;
 
@@ -23,7 +20,7 @@ const KEPT32: u32 = 2_863_311_530;
 const KEPT64: u64 = 12_297_829_382_473_034_410;
 
 // What a refusal is added to, in a record's answer: no file of the list is as long.
-const REFUSED: u64 = 20_000;
+const REFUSED: u16 = 20_000;
 
 // The kinds of record beside the file.
 const NEW_FILE: u64 = 2;
@@ -32,17 +29,10 @@ const NEW_ADDRESSES: u64 = 3;
 
 const WORK_TABLES: u64 = 4;
 
-// An answer as it is recorded: the new file's length, or a refusal.
-fn answer_number(answer: Result<usize, Refusal>) -> u64 {
-    answer.map_or_else(|why| REFUSED + u64::from(u8::from(why)), |n| n as u64)
-}
-
 // ---- the new file
 
 // Whether a conversion within the recorded limit, in an output of the recorded length, answers and writes as recorded.
-fn writes_alike(list: &[u8], file: &[u8], entry: Entry) -> bool
-    requires { Within list.now entry }
-{
+fn writes_alike(file: &[u8], entry: Entry<'_>) -> bool {
     let limit = at_most(entry.b, MAX_LEN);
     let space = at_most(entry.c, 4096);
     let mut depths = [KEPT16; CELLS];
@@ -57,10 +47,7 @@ fn writes_alike(list: &[u8], file: &[u8], entry: Entry) -> bool
         &mut out[..space],
         &mut table,
     );
-    if answer_number(answer) != entry.a {
-        return false;
-    }
-    replay_list::same_bytes(list, entry.part, entry.len, &out)
+    answer_number(answer, REFUSED) == entry.a && replay_list::same_bytes(entry.part, &out)
 }
 
 // ---- the table of new addresses
@@ -85,9 +72,7 @@ fn entries(written: &[u32], others: &[u32]) -> Option<usize> {
 }
 
 // Whether a conversion with a table and work tables of the recorded lengths answers as recorded, and leaves the table so.
-fn addresses_alike(list: &[u8], file: &[u8], entry: Entry) -> bool
-    requires { Within list.now entry }
-{
+fn addresses_alike(file: &[u8], entry: Entry<'_>) -> bool {
     let lent = at_most(entry.b, CELLS);
     let work = at_most(entry.c, CELLS);
     let mut depths = [KEPT16; CELLS];
@@ -101,38 +86,29 @@ fn addresses_alike(list: &[u8], file: &[u8], entry: Entry) -> bool
         &mut out,
         &mut table[..lent],
     );
-    if answer_number(answer) != entry.a {
+    if answer_number(answer, REFUSED) != entry.a {
         return false;
     }
-    let written = if entry.a < REFUSED {
+    let written = if entry.a < u64::from(REFUSED) {
         file.len().min(CELLS)
     } else {
         0
     };
-    if entries(&table[..written], &table[written..]) != Some(entry.len / 6) {
-        return false;
-    }
-    rows_alike(&list[entry.part..entry.part + entry.len], &table)
+    entries(&table[..written], &table[written..]) == Some(entry.part.len() / 6)
+        && rows_alike(entry.part, &table)
 }
 
 // ---- the work tables
 
-// Whether the entries of two pairs of work tables are the same.
-fn tables_alike(
-    depths: &[u16; CELLS],
-    sums: &[u64; CELLS],
-    depths_want: &[u16; CELLS],
-    sums_want: &[u64; CELLS],
-) -> bool {
-    depths == depths_want && sums == sums_want
-}
-
 // Whether a conversion within the recorded limit, with an output and work tables of the recorded lengths, answers as recorded and leaves the work tables as
 // admission does, which the list of whole files replays.
-fn restores_alike(file: &[u8], limit: u64, space: u64, entry: Entry) -> bool {
+fn restores_alike(file: &[u8], entry: Entry<'_>) -> bool {
+    if entry.part.len() != 6 {
+        return false;
+    }
     let work = at_most(entry.c, CELLS);
-    let most = at_most(limit, MAX_LEN);
-    let room = at_most(space, 4096);
+    let most = at_most(number(entry.part, 0, 4), MAX_LEN);
+    let room = at_most(number(entry.part, 4, 2), 4096);
     let mut depths = [KEPT16; CELLS];
     let mut sums = [KEPT64; CELLS];
     let mut table = [KEPT32; CELLS];
@@ -148,41 +124,27 @@ fn restores_alike(file: &[u8], limit: u64, space: u64, entry: Entry) -> bool {
     let mut depths_want = [KEPT16; CELLS];
     let mut sums_want = [KEPT64; CELLS];
     let _ = admission::admit(file, &mut depths_want[..work], &mut sums_want[..work]);
-    if answer_number(answer) != entry.a {
-        return false;
-    }
-    tables_alike(&depths, &sums, &depths_want, &sums_want)
+    answer_number(answer, REFUSED) == entry.a && depths == depths_want && sums == sums_want
 }
 
 // ---- the records
 
 // Whether a record that is about this file is answered as recorded.
-fn alike(list: &[u8], file: &[u8], entry: Entry) -> bool
-    requires { Within list.now entry }
-{
-    if entry.kind == NEW_FILE {
-        return writes_alike(list, file, entry);
+fn alike(file: &[u8], entry: Entry<'_>) -> bool {
+    match entry.kind {
+        NEW_FILE => writes_alike(file, entry),
+        NEW_ADDRESSES => addresses_alike(file, entry),
+        WORK_TABLES => restores_alike(file, entry),
+        kind => kind == FILE,
     }
-    if entry.kind == NEW_ADDRESSES {
-        return addresses_alike(list, file, entry);
-    }
-    if entry.kind == WORK_TABLES {
-        if entry.len != 6 {
-            return false;
-        }
-        let limit = number(list, entry.part, 4);
-        let space = number(list, entry.part + 4, 2);
-        return restores_alike(file, limit, space, entry);
-    }
-    entry.kind == FILE
 }
 
 fn main(rt: HostRuntime) -> io::Result<()> {
     let mut list = Vec::new(rt.alloc());
     rt.stdin().take(LIST).read_to_end(&mut list)?;
     let mut counts = [0u64; 16];
-    replay_list::replay(&list, &mut counts, |whole, entry, file, tallies| {
-        replay_list::tally(tallies, entry.kind, alike(whole, file, entry));
+    replay_list::replay(&list, &mut counts, |entry, file, tallies| {
+        replay_list::tally(tallies, entry.kind, alike(file, entry));
         Ok(())
     })?;
     replay_list::line(&rt, &counts, 1, b"files")?;

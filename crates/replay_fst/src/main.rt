@@ -2,11 +2,9 @@
 // files, each with what opening and admission answer and with lookups (README.md). Each is asked
 // again, and the answers, both tables and the key buffer are held to what is recorded. A difference
 // changes a count that is written.
-// A record of the list is its entry beside the list, and no slice: a claim over it asks that it lies in the list (`Within`).
 #![tactic(auto)]
 
-ghost use Rattle.std.specs.Prelude.{◌≡◌, ◌+◌, ◌*◌, ◌≤◌, ◌<◌, length, IfSome};
-ghost use Rattle.replay_list.specs.Records.{Within};
+ghost use Rattle.std.specs.Prelude.{◌≤◌, IfSome};
 
 use format::Refusal;
 use fst::Meta;
@@ -34,54 +32,30 @@ const VALUE: u64 = 5;
 
 // ---- opening
 
-// Whether what a file says is what stands at place at of the list.
-fn meta_alike(list: &[u8], at: usize, meta: Meta) -> bool
-    requires { at + 40 ≤ length list.now }
-{
-    if number(list, at, 8) != meta.version {
-        return false;
-    }
-    if number(list, at + 8, 8) != meta.ty {
-        return false;
-    }
-    if number(list, at + 16, 8) != meta.len {
-        return false;
-    }
-    if number(list, at + 24, 8) != meta.root as u64 {
-        return false;
-    }
-    // 2^32 where there is no checksum
-    number(list, at + 32, 8) == meta.checksum.map_or(4_294_967_296, u64::from)
+// Whether a part is what a file says: 8 bytes each for version, type, number of keys, root and checksum, 2^32 for none.
+fn meta_alike(part: &[u8], meta: Meta) -> bool {
+    part.len() == 40
+        && number(part, 0, 8) == meta.version
+        && number(part, 8, 8) == meta.ty
+        && number(part, 16, 8) == meta.len
+        && number(part, 24, 8) == meta.root as u64
+        && number(part, 32, 8) == meta.checksum.map_or(4_294_967_296, u64::from)
 }
 
-fn opens_alike(list: &[u8], file: &[u8], entry: Entry) -> bool
-    requires { Within list.now entry }
-{
+fn opens_alike(file: &[u8], entry: Entry<'_>) -> bool {
     match fst::open(file) {
         Err(why) => u64::from(u8::from(why)) == entry.a,
-        Ok(meta) => {
-            if entry.len != 40 {
-                return false;
-            }
-            meta_alike(list, entry.part, meta)
-        }
+        Ok(meta) => meta_alike(entry.part, meta),
     }
 }
 
 // ---- admission
 
-// Whether the entries of the nodes are those of n rows from place at of the list: address 2, depth
-// 2, sum 8.
-fn rows_alike(list: &[u8], at: usize, n: usize, depths: &[u16; CELLS], sums: &[u64; CELLS]) -> bool
-    requires { at + 12 * n ≤ length list.now }
-{
-    for i in 0..n {
-        let row = at + 12 * i;
-        let addr = at_most(number(list, row, 2), CELLS - 1);
-        if u64::from(depths[addr]) != number(list, row + 2, 2) {
-            return false;
-        }
-        if sums[addr] != number(list, row + 4, 8) {
+// Whether the entries of the nodes are those of the rows: address 2, depth 2, sum 8.
+fn rows_alike(rows: &[u8], depths: &[u16; CELLS], sums: &[u64; CELLS]) -> bool {
+    for row in rows.chunks_exact(12) {
+        let addr = at_most(number(row, 0, 2), CELLS - 1);
+        if u64::from(depths[addr]) != number(row, 2, 2) || sums[addr] != number(row, 4, 8) {
             return false;
         }
     }
@@ -106,43 +80,33 @@ fn cell(depth: u16, sum: u64, written: bool) -> Option<usize>
 // what they never are.
 fn entries(depths: &[u16; CELLS], sums: &[u64; CELLS], n: usize) -> Option<usize> {
     let mut there = 0;
+    // by index: that the count fits is proved from the place, and the proof has no place of a zip that is enumerated
     for (i, depth) in depths.iter().enumerate() {
         there += cell(*depth, sums[i], i < n)?;
     }
     Some(there)
 }
 
-// Whether both tables are as recorded: so many entries written, and of those the rows of the part,
-// the others 0.
-fn tables_alike(list: &[u8], entry: Entry, depths: &[u16; CELLS], sums: &[u64; CELLS]) -> bool
-    requires { Within list.now entry }
-{
-    let rows = entry.len / 12;
-    if entries(depths, sums, entry.c as usize) != Some(rows) {
-        return false;
-    }
-    rows_alike(list, entry.part, rows, depths, sums)
+// Whether both tables are as recorded: so many entries written, and of those the rows of the part, the others 0.
+fn tables_alike(entry: Entry<'_>, depths: &[u16; CELLS], sums: &[u64; CELLS]) -> bool {
+    entries(depths, sums, entry.c as usize) == Some(entry.part.len() / 12)
+        && rows_alike(entry.part, depths, sums)
 }
 
 // Whether a file is admitted or refused as recorded, in tables of the recorded length, and leaves
 // them as it should.
-fn admits_alike(list: &[u8], file: &[u8], entry: Entry) -> bool
-    requires { Within list.now entry }
-{
+fn admits_alike(file: &[u8], entry: Entry<'_>) -> bool {
     let lent = at_most(entry.b, CELLS);
     let mut depths = [KEPT16; CELLS];
     let mut sums = [KEPT64; CELLS];
     let answer = admission::admit(file, &mut depths[..lent], &mut sums[..lent]);
-    if begins_number(answer) != entry.a {
-        return false;
-    }
-    tables_alike(list, entry, &depths, &sums)
+    begins_number(answer) == entry.a && tables_alike(entry, &depths, &sums)
 }
 
 // ---- lookup
 
-fn gets_alike(file: &[u8], key: &[u8], entry: Entry) -> bool {
-    match lookup::get(file, key) {
+fn gets_alike(file: &[u8], entry: Entry<'_>) -> bool {
+    match lookup::get(file, entry.part) {
         Ok(Some(v)) => entry.a == 0 && v == entry.b,
         Ok(None) => entry.a == 100,
         Err(why) => u64::from(u8::from(why)) == entry.a,
@@ -158,46 +122,30 @@ fn key_number(answer: Result<Option<usize>, Refusal>) -> u64 {
     }
 }
 
-fn finds_alike(list: &[u8], file: &[u8], entry: Entry) -> bool
-    requires { Within list.now entry }
-{
+fn finds_alike(file: &[u8], entry: Entry<'_>) -> bool {
     let space = at_most(entry.c, 4096);
     let mut key = [KEPT; 4096];
     let answer = lookup_key::get_key(file, entry.b, &mut key[..space]);
-    if key_number(answer) != entry.a {
-        return false;
-    }
-    replay_list::same_bytes(list, entry.part, entry.len, &key)
+    key_number(answer) == entry.a && replay_list::same_bytes(entry.part, &key)
 }
 
 // ---- the list
 
 // Whether a record that is about this file is answered as recorded.
-fn alike(list: &[u8], file: &[u8], entry: Entry) -> bool
-    requires { Within list.now entry }
-{
-    if entry.kind == OPENING {
-        return opens_alike(list, file, entry);
+fn alike(file: &[u8], entry: Entry<'_>) -> bool {
+    match entry.kind {
+        OPENING => opens_alike(file, entry),
+        ADMISSION => admits_alike(file, entry),
+        KEY => gets_alike(file, entry),
+        VALUE => finds_alike(file, entry),
+        kind => kind == FILE,
     }
-    if entry.kind == ADMISSION {
-        return admits_alike(list, file, entry);
-    }
-    if entry.kind == KEY {
-        let from = entry.part;
-        let to = replay_list::end_of(list, entry);
-        return gets_alike(file, &list[from..to], entry);
-    }
-    if entry.kind == VALUE {
-        return finds_alike(list, file, entry);
-    }
-    entry.kind == FILE
 }
 
 // Every record of the list.
 fn replay(list: &[u8], counts: &mut [u64; 16]) -> io::Result<()> {
-    replay_list::replay(list, counts, |whole, entry, file, tallies| {
-        let same = alike(whole, file, entry);
-        replay_list::tally(tallies, entry.kind, same);
+    replay_list::replay(list, counts, |entry, file, tallies| {
+        replay_list::tally(tallies, entry.kind, alike(file, entry));
         Ok(())
     })
 }

@@ -1,6 +1,6 @@
 -- What a buffer is held to, and how answers are counted.
---     wanted_at s at n i    byte i of a buffer that is to hold the n bytes at place at of the list s, and then what it held
---     Holds s at n buf     the buffer holds them
+--     wanted_at s i         byte i of a buffer that is to hold the bytes s, and then what it held
+--     Holds s buf          the buffer holds them
 --     AllKept bs           each byte is what a buffer holds before it is lent
 --     smaller n most       the smaller of the two
 --     more_at c k           the counts with one more at place k, up to 2^64 - 1
@@ -9,12 +9,12 @@
 use Rattle.std.specs.Prelude.{◌≡◌, Bool, cond, List, ℕ, ◌+◌, ◌*◌, ◌≤◌, ◌<◌, ltb, length, get_or, set}
 
 -- 170 is what every buffer holds before it is lent
-unfoldable pub wanted_at : List ℕ → ℕ → ℕ → ℕ → ℕ
-wanted_at s at n i = cond (ltb i n) (get_or s (at + i) 0) 170
+unfoldable pub wanted_at : List ℕ → ℕ → ℕ
+wanted_at s i = cond (ltb i (length s)) (get_or s i 0) 170
 
-pub record Holds (s : List ℕ) (at n : ℕ) (buf : List ℕ) : Type 0 where
-  pub fits : n ≤ 4096
-  pub bytes : (i : ℕ) → i < 4096 → get_or buf i 0 ≡ wanted_at s at n i
+pub record Holds (s buf : List ℕ) : Type 0 where
+  pub fits : length s ≤ 4096
+  pub bytes : (i : ℕ) → i < 4096 → get_or buf i 0 ≡ wanted_at s i
 
 abbrev pub AllKept : List ℕ → Type 0
 AllKept bs = (i : ℕ) → i < length bs → get_or bs i 0 ≡ 170

@@ -1,14 +1,13 @@
 // A list of recorded answers, as the replay programs read it: its records, what they are about,
 // bytes that are held to a part of it, and the counts that a program writes (oracle/README.md, "The
 // replay lists").
-// A record of the list is its entry beside the list, and no slice: a claim over it asks that it lies in the list (`Within`).
 #![tactic(auto)]
 
-ghost use Rattle.std.specs.Prelude.{◌≡◌, ◌+◌, ◌*◌, ◌≤◌, ◌<◌, length, take, drop};
+ghost use Rattle.std.specs.Prelude.{◌≡◌, ◌+◌, ◌*◌, ◌≤◌, ◌<◌, length, take, drop, IfSome};
 ghost use Rattle.buffers.specs.Decide.{Decides};
 ghost use Rattle.format.specs.Bytes.{le};
-ghost use Rattle.replay_list.specs.Records.{Within, parsed_at, asked_place};
-ghost use Rattle.replay_list.specs.Recorded.{start_number, answer_test};
+ghost use Rattle.replay_list.specs.Records.{entry_is, parsed_is, parsed_at, asked_file};
+ghost use Rattle.replay_list.specs.Recorded.{start_number, answer_number, answer_test};
 ghost use Rattle.replay_list.specs.Tallies.{AllKept, Holds, smaller, more_at, tallied};
 
 use format::Refusal;
@@ -19,38 +18,31 @@ pub const FILE: u64 = 1;
 // What a buffer of the programs holds before it is lent.
 pub const KEPT: u8 = 170;
 
-// A record of the list: its numbers, and where its part stands in the list.
+// A record of the list: its numbers, and its part.
 #[derive(Clone, Copy)]
-pub struct Entry {
+pub struct Entry<'l> {
     pub kind: u64,
     pub a: u64,
     pub b: u64,
     pub c: u64,
-    pub part: usize,
-    pub len: usize,
-}
-
-// Where the file that is asked stands in the list.
-#[derive(Clone, Copy)]
-pub struct Place {
-    pub from: usize,
-    pub to: usize,
+    pub part: &'l [u8],
 }
 
 // ---- the records
 
-// The number of size bytes at place at of the list.
-pub fn number(list: &[u8], at: usize, size: usize) -> u64
-    requires { (at + size ≤ length list.now) × (size ≤ 8) }
-    ensures { result ≡ le (take size (drop at list.now)) }
+// The number of size bytes at place at.
+pub fn number(bytes: &[u8], at: usize, size: usize) -> u64
+    requires { (at + size ≤ length bytes.now) × (size ≤ 8) }
+    ensures { result ≡ le (take size (drop at bytes.now)) }
 {
-    le_bytes::unpack_uint(&list[at..], size)
+    le_bytes::unpack_uint(&bytes[at..], size)
 }
 
 // The record at place at, or none where the list ends within it.
 #[tactic(auto, unfolding(crate::specs::Records::parsed_at))]
-pub fn parse(list: &[u8], at: usize) -> Option<Entry>
-    ensures { result ≡ parsed_at list.now at }
+pub fn parse(list: &[u8], at: usize) -> Option<Entry<'_>>
+    ensures value { parsed_is result ≡ parsed_at list.now at }
+    ensures within { IfSome result (λ entry. at + 15 + length entry.part.now ≤ length list.now) }
 {
     if list.len() <= at {
         return None;
@@ -67,40 +59,25 @@ pub fn parse(list: &[u8], at: usize) -> Option<Entry>
     let a = number(list, at + 1, 2);
     let b = number(list, at + 3, 8);
     let c = number(list, at + 11, 2);
+    let from = at + 15;
+    let part = &list[from..from + len];
     Some(Entry {
         kind,
         a,
         b,
         c,
-        part: at + 15,
-        len,
+        part,
     })
 }
 
-// Where a record ends.
-pub fn end_of(list: &[u8], entry: Entry) -> usize
-    requires { Within list.now entry }
-    ensures { result ≡ entry.part + entry.len }
+// The file that a record is about: its own part if it is a file, else the file before it.
+pub fn file_of<'l>(entry: Entry<'l>, file: &'l [u8]) -> &'l [u8]
+    ensures { result.now ≡ asked_file (entry_is entry.entry) file.now }
 {
-    entry.part + entry.len
+    if entry.kind == FILE { entry.part } else { file }
 }
 
-// The file that a record is about: its own part, or the file before it.
-#[tactic(auto, unfolding(crate::specs::Records::asked_place))]
-pub fn place_of(list: &[u8], entry: Entry, place: Place) -> Place
-    requires { Within list.now entry }
-    ensures { result ≡ asked_place entry place }
-{
-    if entry.kind == FILE {
-        return Place {
-            from: entry.part,
-            to: entry.part + entry.len,
-        };
-    }
-    place
-}
-
-// ---- readings
+// ---- answers
 
 // How a start or an admission is recorded: 0 where it is not refused, else the refusal. No plainer by `map_or_else`: it takes the refusal's case first.
 pub fn begins_number(answer: Result<(), Refusal>) -> u64
@@ -109,6 +86,16 @@ pub fn begins_number(answer: Result<(), Refusal>) -> u64
     match answer {
         Ok(()) => 0,
         Err(why) => u64::from(u8::from(why)),
+    }
+}
+
+// How the answer of a call that writes is recorded: the number of bytes, or the refusal added to a number that no count of bytes reaches.
+pub fn answer_number(answer: Result<usize, Refusal>, added: u16) -> u64
+    ensures { result ≡ answer_number answer added }
+{
+    match answer {
+        Ok(n) => n as u64,
+        Err(why) => u64::from(added) + u64::from(u8::from(why)),
     }
 }
 
@@ -132,16 +119,15 @@ fn all_kept(bytes: &[u8]) -> bool
     bytes.iter().all(|x| *x == KEPT)
 }
 
-// Whether a buffer holds the n bytes from place at of the list at its front, and behind them what
-// it held.
-pub fn same_bytes(list: &[u8], at: usize, n: usize, buffer: &[u8; 4096]) -> bool
-    requires { at + n ≤ length list.now }
-    ensures { Decides result (Holds list.now at n buffer.now) }
+// Whether a buffer holds these bytes at its front, and behind them what it held.
+pub fn same_bytes(part: &[u8], buffer: &[u8; 4096]) -> bool
+    ensures { Decides result (Holds part.now buffer.now) }
 {
+    let n = part.len();
     if 4096 < n {
         return false;
     }
-    if buffer[..n] != list[at..at + n] {
+    if &buffer[..n] != part {
         return false;
     }
     all_kept(&buffer[n..])
@@ -191,17 +177,15 @@ pub fn line(rt: &impl Print, counts: &[u64; 16], kind: usize, name: &[u8]) -> io
 
 // ---- the list
 
-// Goes through the records of a list, which ends with the last of them: hands the list, each record, and the file that it is about, to `one`,
-// which counts it.
-pub fn replay<F: FnMut(&[u8], Entry, &[u8], &mut [u64; 16]) -> io::Result<()>>(
+// Goes through the records of a list, which ends with the last of them: hands each record and the file that it is about to `one`, which counts it.
+pub fn replay<F: FnMut(Entry<'_>, &[u8], &mut [u64; 16]) -> io::Result<()>>(
     list: &[u8],
     counts: &mut [u64; 16],
     mut one: F,
 ) -> io::Result<()>
-    requires { (f : F) (whole : _) (entry : _) (file : _) (tallies : _) → Within whole.now entry
-        → F.pre f whole entry file tallies }
+    requires { F.IsAlwaysCallable one }
 {
-    let mut place = Place { from: 0, to: 0 };
+    let mut file: &[u8] = &[];
     let mut at = 0;
     // by place: each record says where the next begins
     while at < list.len() {
@@ -209,11 +193,9 @@ pub fn replay<F: FnMut(&[u8], Entry, &[u8], &mut [u64; 16]) -> io::Result<()>>(
             tally(counts, 0, false);
             return Ok(());
         };
-        place = place_of(list, entry, place);
-        let from = place.from;
-        let to = place.to;
-        one(list, entry, &list[from..to], counts)?;
-        at = end_of(list, entry);
+        file = file_of(entry, file);
+        one(entry, file, counts)?;
+        at += 15 + entry.part.len();
     }
     Ok(())
 }

@@ -1,11 +1,7 @@
 // Replays recorded readings by pattern, with no Rust at hand. The list on standard input has files, each with starts and the calls
 // of next after them (README.md). Each is asked again, and the answer, the total, the number of levels and the key buffer are held
 // to what is recorded. A difference changes a count that is written.
-// A record of the list is its entry beside the list, and no slice: a claim over it asks that it lies in the list (`Within`).
 #![tactic(auto)]
-
-ghost use Rattle.std.specs.Prelude.{◌+◌, ◌*◌, ◌≤◌, ◌<◌, length};
-ghost use Rattle.replay_list.specs.Records.{Within};
 
 use patterned::Patterned;
 use patterned_held::Pattern;
@@ -30,109 +26,58 @@ const ROOM: usize = 300;
 
 // ---- starts
 
-// The positions that a record gives, each of 2 bytes, from place at of the list.
-fn fill_positions(list: &[u8], at: usize, n: usize, positions: &mut [u16; ROOM])
-    requires { (at + 2 * n ≤ length list.now) × (n ≤ 300) }
-{
-    for i in 0..n {
-        let from = at + 2 * i;
-        positions[i] = u16::from_le_bytes([list[from], list[from + 1]]);
-    }
-}
-
-// Starts again. The answer is the reading that it gives, or where it is refused the one before.
-fn replay_start(
-    list: &[u8],
-    file: &[u8],
-    entry: Entry,
-    here: Patterned,
-    counts: &mut [u64; 16],
-) -> Patterned
-    requires { Within list.now entry }
-{
+// Starts again, from positions of 2 bytes each and two bounds: whether it is answered as recorded. The reading that it gives is left in `here`, or where
+// it is refused the one before.
+fn replay_start(here: &mut Patterned, file: &[u8], entry: Entry<'_>) -> bool {
     let n = at_most(entry.b % 65_536, ROOM);
-    if entry.len < 2 * n {
-        replay_list::tally(counts, START, false);
-        return here;
+    if entry.part.len() < 2 * n {
+        return false;
     }
+    let (listed, bounds) = entry.part.split_at(2 * n);
     let mut positions = [0u16; ROOM];
-    fill_positions(list, entry.part, n, &mut positions);
-    let from = entry.part + 2 * n;
-    let between = from + at_most(entry.b / 65_536, entry.len - 2 * n);
-    let to = replay_list::end_of(list, entry);
-    let rest = 9 <= entry.c;
+    for (position, bytes) in positions.iter_mut().zip(listed.chunks_exact(2)) {
+        *position = u16::from_le_bytes([bytes[0], bytes[1]]);
+    }
+    let (low, high) = bounds.split_at(at_most(entry.b / 65_536, bounds.len()));
     let kinds = entry.c % 9;
-    let started = patterned::start(
-        file,
-        &positions[..n],
-        rest,
-        bound_with(kinds / 3, &list[from..between]),
-        bound_with(kinds % 3, &list[between..to]),
-    );
-    match started {
+    let lower = bound_with(kinds / 3, low);
+    let upper = bound_with(kinds % 3, high);
+    match patterned::start(file, &positions[..n], 9 <= entry.c, lower, upper) {
         Ok(begun) => {
-            replay_list::tally(counts, START, entry.a == 0);
-            begun
+            *here = begun;
+            entry.a == 0
         }
-        Err(why) => {
-            replay_list::tally(counts, START, begins_number(Err(why)) == entry.a);
-            here
-        }
+        Err(why) => begins_number(Err(why)) == entry.a,
     }
 }
 
 // ---- calls of next
 
-// Whether the reading's total and levels after a call, and the buffer, are what is recorded.
-fn left_alike(list: &[u8], entry: Entry, total: u64, levels: usize, key: &[u8; 4096]) -> bool
-    requires { Within list.now entry }
-{
-    if entry.len < 10 {
-        return false;
-    }
-    if number(list, entry.part, 8) != total {
-        return false;
-    }
-    if number(list, entry.part + 8, 2) != levels as u64 {
-        return false;
-    }
-    replay_list::same_bytes(list, entry.part + 10, entry.len - 10, key)
+// Whether the reading after a call, by its total and its levels, and the buffer are what is recorded.
+fn left_alike(part: &[u8], after: Reading, key: &[u8; 4096]) -> bool {
+    10 <= part.len()
+        && number(part, 0, 8) == after.total
+        && number(part, 8, 2) == after.levels as u64
+        && replay_list::same_bytes(&part[10..], key)
 }
 
-// Calls next again. The answer is the reading that it leaves.
-fn replay_next(
-    list: &[u8],
-    file: &[u8],
-    entry: Entry,
-    here: Patterned,
-    counts: &mut [u64; 16],
-) -> Patterned
-    requires { Within list.now entry }
-{
+// Calls next again: whether it is answered as recorded. The reading that it leaves is left in `here`.
+fn replay_next(here: &mut Patterned, file: &[u8], entry: Entry<'_>) -> bool {
     let space = at_most(entry.c, 4096);
     let mut key = [KEPT; 4096];
-    let step = patterned::next(file, here, &mut key[..space]);
-    let after = step.patterned;
-    let told = answer_alike(step.answer, entry.a, entry.b);
-    let left = left_alike(list, entry, after.reading.total, after.reading.levels, &key);
-    replay_list::tally(counts, NEXT, told & left);
-    after
+    let step = patterned::next(file, *here, &mut key[..space]);
+    *here = step.patterned;
+    answer_alike(step.answer, entry.a, entry.b)
+        && left_alike(entry.part, step.patterned.reading, &key)
 }
 
 // ---- what no start gives
 
-// The reading that was left, with so many levels and positions stated.
-fn stated(here: Patterned, levels: usize, len: usize) -> Patterned {
-    Patterned {
-        reading: Reading {
-            levels,
-            ..here.reading
-        },
-        pattern: Pattern {
-            len,
-            ..here.pattern
-        },
-    }
+// The reading that was left, with so many levels and positions stated: whether the record has no part.
+fn replay_stated(here: &mut Patterned, entry: Entry<'_>) -> bool {
+    here.reading.levels = entry.a as usize;
+    here.pattern.len = entry.b as usize;
+    entry.part.is_empty()
 }
 
 // A reading of nothing, by a pattern that has no position.
@@ -149,43 +94,19 @@ fn nothing() -> Patterned {
 
 // ---- the list
 
-// Replays one record that is about this file, with the reading that the records before it left.
-fn replay_one(
-    list: &[u8],
-    file: &[u8],
-    entry: Entry,
-    here: Patterned,
-    counts: &mut [u64; 16],
-) -> Patterned
-    requires { Within list.now entry }
-{
-    if entry.kind == START {
-        return replay_start(list, file, entry, here, counts);
-    }
-    if entry.kind == NEXT {
-        return replay_next(list, file, entry, here, counts);
-    }
-    if entry.kind == HELD {
-        replay_list::tally(counts, HELD, entry.len == 0);
-        return stated(here, entry.a as usize, entry.b as usize);
-    }
-    replay_list::tally(counts, entry.kind, entry.kind == FILE);
-    here
-}
-
 // Every record of the list, each with the reading that the one before left.
 fn replay(list: &[u8], counts: &mut [u64; 16]) -> io::Result<()> {
     let mut here = nothing();
-    replay_list::replay(
-        list,
-        counts,
-        |whole, entry, file, tallies|
-            requires { Within whole.now entry }
-        {
-            here = replay_one(whole, file, entry, here, tallies);
-            Ok(())
-        },
-    )
+    replay_list::replay(list, counts, |entry, file, tallies| {
+        let same = match entry.kind {
+            START => replay_start(&mut here, file, entry),
+            NEXT => replay_next(&mut here, file, entry),
+            HELD => replay_stated(&mut here, entry),
+            kind => kind == FILE,
+        };
+        replay_list::tally(tallies, entry.kind, same);
+        Ok(())
+    })
 }
 
 fn main(rt: HostRuntime) -> io::Result<()> {

@@ -6,22 +6,14 @@
 
 ghost use Rattle.std.specs.Prelude.{◌≡◌, true, ◌≤◌, length};
 ghost use Rattle.std.proofs.Math.Option.{some};
-ghost use Rattle.format.specs.Limits as L;
 ghost use Rattle.turns.specs.Turns as T;
 ghost use Rattle.stream.specs.Plains.{plain_is};
 ghost use Rattle.seats_turn.specs.SeatViews.{seats_is};
-ghost use Rattle.seats.specs.SeatCalls.{SeatChanged, DispatchTold};
+ghost use Rattle.seats.specs.SeatCalls.{changed_is, DispatchTold};
 
 use format::Refusal;
 use seats_turn::{LAST_SEAT, Seats};
 use stream::Plain;
-
-// What seating and raising give back. After a refusal the seats are those given.
-#[derive(Clone, Copy)]
-pub struct Seated {
-    pub answer: Result<(), Refusal>,
-    pub seats: Seats,
-}
 
 // What a dispatch answers: the seat served, with the length of its key in the buffer and its value; the seat served, whose reading is at its end;
 // or that nobody waits.
@@ -32,10 +24,10 @@ pub enum Served {
     Nobody,
 }
 
-// What a dispatch gives back: its answer, or why it refuses, and the seats, which are those given after a refusal.
+// What a dispatch gives back: its answer, and the seats after it.
 #[derive(Clone, Copy)]
 pub struct Dispatched {
-    pub served: Result<Served, Refusal>,
+    pub served: Served,
     pub seats: Seats,
 }
 
@@ -46,61 +38,38 @@ pub fn new() -> Seats
     seats_turn::no_seats()
 }
 
-// SEAT, with the seats as they were.
-fn refused(seats: Seats) -> Seated
-    ensures { SeatChanged (T.Done.refused L.SEAT) (seats_is seats) result }
-{
-    Seated {
-        answer: Err(Refusal::Seat),
-        seats,
-    }
-}
-
 // The seat holds this reading from now on, also where it held another; its request stays as it was. SEAT for a number over 7 and for seats that are
 // not right.
-pub fn seat(seats: Seats, number: usize, reading: Plain) -> Seated
-    ensures { SeatChanged (T.seat (seats_is seats) number (plain_is reading)) (seats_is seats)
-        result }
+pub fn seat(seats: Seats, number: usize, reading: Plain) -> Result<Seats, Refusal>
+    ensures { changed_is result ≡ T.seat (seats_is seats) number (plain_is reading) }
 {
-    if LAST_SEAT < number {
-        return refused(seats);
-    }
-    if !seats_turn::seats_right(seats) {
-        return refused(seats);
+    if LAST_SEAT < number || !seats_turn::seats_right(seats) {
+        return Err(Refusal::Seat);
     }
     let waiting = seats.seats[number].waiting;
     let placed = seats_turn::Seat {
         reading: Some(reading),
         waiting,
     };
-    Seated {
-        answer: Ok(()),
-        seats: seats_turn::put_seat(seats, seats.last, number, placed),
-    }
+    Ok(seats_turn::put_seat(seats, seats.last, number, placed))
 }
 
 // The seat waits; raising again changes nothing. SEAT for a number over 7, for seats that are not right, and for a seat without a reading.
-pub fn raise(seats: Seats, number: usize) -> Seated
-    ensures { SeatChanged (T.raise (seats_is seats) number) (seats_is seats) result }
+pub fn raise(seats: Seats, number: usize) -> Result<Seats, Refusal>
+    ensures { changed_is result ≡ T.raise (seats_is seats) number }
 {
-    if LAST_SEAT < number {
-        return refused(seats);
-    }
-    if !seats_turn::seats_right(seats) {
-        return refused(seats);
+    if LAST_SEAT < number || !seats_turn::seats_right(seats) {
+        return Err(Refusal::Seat);
     }
     let reading = seats.seats[number].reading;
     if reading.is_none() {
-        return refused(seats);
+        return Err(Refusal::Seat);
     }
     let waits = seats_turn::Seat {
         reading,
         waiting: true,
     };
-    Seated {
-        answer: Ok(()),
-        seats: seats_turn::put_seat(seats, seats.last, number, waits),
-    }
+    Ok(seats_turn::put_seat(seats, seats.last, number, waits))
 }
 
 // The seats after one was served: it holds the reading that its call gave back and waits no more, and the next turn begins after it.
@@ -116,53 +85,41 @@ fn kept(seats: Seats, number: usize, reading: Plain) -> Seats
 }
 
 // One call of the reading of the seat whose turn it is.
-fn serve(file: &[u8], seats: Seats, number: usize, key: &mut [u8]) -> Dispatched
+fn serve(file: &[u8], seats: Seats, number: usize, key: &mut [u8]) -> Result<Dispatched, Refusal>
     requires { (T.right_test (seats_is seats) ≡ true) × (T.turn (seats_is seats) ≡ some number) }
     ensures { DispatchTold (T.dispatch file.now (seats_is seats)
         (length key.old)) (seats_is seats) key.old key.new result }
 {
     let Some(reading) = seats.seats[number].reading else {
-        return Dispatched {
-            served: Err(Refusal::Seat),
-            seats,
-        };
+        return Err(Refusal::Seat);
     };
     let step = stream::next(file, reading, key);
-    let served = match step.answer {
-        Ok(Some((n, value))) => Served::Key(number as u8, n, value),
-        Ok(None) => Served::End(number as u8),
-        Err(why) => {
-            return Dispatched {
-                served: Err(why),
-                seats,
-            };
-        }
+    let found = step.answer?;
+    let served = match found {
+        Some((n, value)) => Served::Key(number as u8, n, value),
+        None => Served::End(number as u8),
     };
-    Dispatched {
-        served: Ok(served),
+    Ok(Dispatched {
+        served,
         seats: kept(seats, number, step.plain),
-    }
+    })
 }
 
 // Serves the first waiting seat after the one served last with one call of its reading. SEAT for seats that are not right, whichever seat is at
 // fault; with nobody waiting neither the file nor the buffer is judged; else the refusals of stream::next for that seat's reading. The buffer is
 // written only where a key is handed out.
-pub fn dispatch(file: &[u8], seats: Seats, key: &mut [u8]) -> Dispatched
+pub fn dispatch(file: &[u8], seats: Seats, key: &mut [u8]) -> Result<Dispatched, Refusal>
     ensures { DispatchTold (T.dispatch file.now (seats_is seats)
         (length key.old)) (seats_is seats) key.old key.new result }
 {
     if !seats_turn::seats_right(seats) {
-        return Dispatched {
-            served: Err(Refusal::Seat),
-            seats,
-        };
+        return Err(Refusal::Seat);
     }
-    let turn = seats_turn::turn_of(seats);
-    match turn {
-        None => Dispatched {
-            served: Ok(Served::Nobody),
+    match seats_turn::turn_of(seats) {
+        None => Ok(Dispatched {
+            served: Served::Nobody,
             seats,
-        },
+        }),
         Some(number) => serve(file, seats, number, key),
     }
 }

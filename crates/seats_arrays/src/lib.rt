@@ -30,13 +30,14 @@ pub fn plain_at(
         addrs.now inps.now trans.now outs.now
         keys.now) number }
 {
-    let h = heads[number];
-    let b = bounds[number];
-    let a = addrs[number];
-    let i = inps[number];
-    let t = trans[number];
-    let o = outs[number];
-    let reading = reading_of(h, b, a, i, t, o);
+    let reading = reading_of(
+        heads[number],
+        bounds[number],
+        addrs[number],
+        inps[number],
+        trans[number],
+        outs[number],
+    );
     Plain {
         reading,
         keys: keys[number],
@@ -62,9 +63,8 @@ pub fn put_plain(
         keys.old) (rows heads.new bounds.new addrs.new
         inps.new trans.new outs.new keys.new) }
 {
-    let reading = plain.reading;
     put(
-        reading,
+        plain.reading,
         &mut heads[number],
         &mut bounds[number],
         &mut addrs[number],
@@ -102,18 +102,12 @@ pub fn put_rows(
         (rows heads.new bounds.new addrs.new inps.new
         trans.new outs.new keys.new) }
 {
-    let h = *head;
-    let b = *bound;
-    let a = *addr;
-    let i = *inp;
-    let t = *tran;
-    let o = *out;
-    heads[number] = h;
-    bounds[number] = b;
-    addrs[number] = a;
-    inps[number] = i;
-    trans[number] = t;
-    outs[number] = o;
+    heads[number] = *head;
+    bounds[number] = *bound;
+    addrs[number] = *addr;
+    inps[number] = *inp;
+    trans[number] = *tran;
+    outs[number] = *out;
     keys[number] = to_come;
 }
 

@@ -1,4 +1,5 @@
-// What the flags of eight seats in arrays say: whether they can be right, and whose turn it is.
+// What the flags of eight seats in arrays say: whether they can be right, and whose turn it is. `seats_turn` answers the same of seats that are one value;
+// here the C caller lends the flags, and no reading is copied for them.
 #![tactic(auto)]
 
 ghost use Rattle.std.specs.Prelude.{◌≤◌};

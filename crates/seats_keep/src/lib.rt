@@ -1,21 +1,13 @@
-// What is kept of a seat that was served, in the arrays of `seats_arrays`: the reading that its call gave back, unless it was refused.
+// What is kept of a seat that was served, in the arrays of `seats_arrays`: the reading that its call gave back.
 // What the C caller lends goes down one by one: the C interface.
 #![tactic(auto)]
 
-ghost use Rattle.std.specs.Prelude.{◌≡◌, ◌<◌};
+ghost use Rattle.std.specs.Prelude.{◌<◌};
 ghost use Rattle.seats_arrays.specs.SeatArrays.{rows};
-ghost use Rattle.seats_keep.specs.Keeps.{is_refused, KeptIn};
+ghost use Rattle.seats_keep.specs.Keeps.{KeptIn};
 
-use format::Refusal;
 use seats_arrays::{put_flag, put_plain};
 use stream::Plain;
-
-// Whether a call was refused.
-pub fn is_refused(answer: Result<Option<(usize, u64)>, Refusal>) -> bool
-    ensures { result ≡ is_refused answer }
-{
-    answer.is_err()
-}
 
 // A seat was served: it holds the reading that its call gave back and waits no more, and the next turn begins after it.
 pub fn keep(

@@ -19,7 +19,7 @@ pub struct Seat {
     pub waiting: bool,
 }
 
-// The eight seats, passed by value, and the seat that was served last.
+// The eight seats and the number of the one that was served last. There is no heap: a call takes them by value and answers them as they are after it.
 #[derive(Clone, Copy)]
 pub struct Seats {
     pub last: usize,

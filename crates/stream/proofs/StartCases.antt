@@ -1,24 +1,23 @@
 -- A start of a plain reading, a law for each way out.
 --     then_refused, then_halted, then_begun     a start without the number, and then the number
---     plain_refused, plain_lower, plain_upper, plain_table     the refusals before them
+--     plain_refused, plain_bound, plain_table     the refusals before them
 --     plain_then                                the rest
 -- Assumes nothing.
 use mathlib.Core.Path.{◌≡◌, sym, ap, ◌∙◌}
 use Rattle.std.specs.Prelude.{Ok, Err, Result}
 use Rattle.format.specs.declared.Refusal.{Refusal}
+use mathlib.Core.Bool.{true, false}
 use mathlib.Core.List.{List}
 use Prim.Native.Nat.{ℕ, ◌≤◌, ◌<◌}
 use borrow.Author.Tests.{le-leb, lt-leb}
-use lib.Dec.{leb}
 use lib.ListN.{length}
-use Rattle.format.specs.Limits.{max_path, BOUND, SPACE}
+use Rattle.format.specs.Limits.{BOUND, SPACE}
 use Rattle.format.specs.Opening as O
 use Rattle.format.specs.Opening.{Meta, opening}
 use Rattle.format.specs.Paths.{fst_of}
 use Rattle.format.specs.Strings as S
 use Rattle.reading.specs.Reading as R
-use Rattle.reading.specs.Reading.{bound_bytes}
-use Rattle.reading.proofs.WholeLaws.{both_false}
+use Rattle.reading.specs.Reading.{bounds_test}
 use Rattle.plain.specs.Numbers.{Tally, number}
 use Rattle.plain.specs.Plain as P
 use Rattle.plain.specs.Plain.{plain_with, begun, start_plain, then_number}
@@ -46,21 +45,15 @@ module _ (s : List ℕ) (lo hi : S.Bound) (c : List ℕ) where
   plain_refused n e = rw e
 
   module _ (m : Meta) (opens : opening s ≡ O.opened m) where
-    pub plain_lower : max_path < length (bound_bytes lo) → start_plain s lo hi c ≡ P.Begun.refused BOUND
+    pub plain_bound : bounds_test lo hi ≡ false → start_plain s lo hi c ≡ P.Begun.refused BOUND
     unfolding start_plain
-    plain_lower h = let a = lt-leb (length (bound_bytes lo)) max_path h in rw (opens, a)
+    plain_bound e = rw (opens, e)
 
-    pub plain_upper : max_path < length (bound_bytes hi) → start_plain s lo hi c ≡ P.Begun.refused BOUND
-    unfolding start_plain
-    plain_upper h =
-        let b = lt-leb (length (bound_bytes hi)) max_path h in
-        rw (opens, b, both_false (leb (length (bound_bytes lo)) max_path))
-
-    module _ (a : length (bound_bytes lo) ≤ max_path) (b : length (bound_bytes hi) ≤ max_path) where
+    module _ (short : bounds_test lo hi ≡ true) where
       pub plain_table : length c < length s → start_plain s lo hi c ≡ P.Begun.refused SPACE
       unfolding start_plain
-      plain_table h = rw (opens, le-leb (length (bound_bytes lo)) max_path a, le-leb (length (bound_bytes hi)) max_path b, lt-leb (length s) (length c) h)
+      plain_table h = rw (opens, short, lt-leb (length s) (length c) h)
 
       pub plain_then : length s ≤ length c → start_plain s lo hi c ≡ then_number (R.start s lo hi) (number (fst_of s m) c lo hi)
       unfolding start_plain
-      plain_then h = rw (opens, le-leb (length (bound_bytes lo)) max_path a, le-leb (length (bound_bytes hi)) max_path b, le-leb (length s) (length c) h)
+      plain_then h = rw (opens, short, le-leb (length s) (length c) h)

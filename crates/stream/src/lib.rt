@@ -3,7 +3,7 @@
 // The two bounds are two values and no pair: each is taken by itself.
 #![tactic(auto)]
 
-ghost use Rattle.std.specs.Prelude.{◌≤◌, ◌<◌, ◌≡◌, length};
+ghost use Rattle.std.specs.Prelude.{◌<◌, ◌≡◌, length};
 ghost use Rattle.format.specs.Limits.{max_path};
 ghost use Rattle.format.specs.View.{fst_is};
 ghost use Rattle.reading.specs.Reading as R;
@@ -16,7 +16,7 @@ ghost use Rattle.stream.specs.Plains.{plain_is, begun_is, CallGave, PlainStepped
 
 use format::{FstRef, MAX_KEY, Refusal};
 use std::ops::Bound;
-use stream_start::{Reading, len_of};
+use stream_start::{Reading, bounds_right};
 
 // A plain reading, passed by value.
 #[derive(Clone, Copy)]
@@ -27,6 +27,7 @@ pub struct Plain {
 }
 
 // What a call gives back: its answer, and the reading after it.
+// The answer stands beside the reading, and the two are no Result: a caller may go on with the reading that is given back, after a refusal too.
 #[derive(Clone, Copy)]
 pub struct Step {
     pub answer: Result<Option<(usize, u64)>, Refusal>,
@@ -65,7 +66,7 @@ pub fn start(
         (bound_of lower.entry) (bound_of upper.entry) counts.now }
 {
     let m = fst::open(file)?;
-    if MAX_KEY < len_of(lower) || MAX_KEY < len_of(upper) {
+    if !bounds_right(lower, upper) {
         return Err(Refusal::Bound);
     }
     let short = counts.len() < file.len();

@@ -80,14 +80,12 @@ pub fn reading_of(
 ) -> Reading
     ensures { result ≡ held_is (held head bound addrs inps trans outs) }
 {
-    let kind = kind_of(head[1]);
-    let empty_output = pending_of(head[3], head[4]);
     Reading {
         len: head[0] as usize,
-        kind,
+        kind: kind_of(head[1]),
         bound_len: head[2] as usize,
         bound,
-        empty_output,
+        empty_output: pending_of(head[3], head[4]),
         total: head[5],
         levels: head[6] as usize,
         stack: Stack {
@@ -103,14 +101,12 @@ pub fn reading_of(
 fn head_of(reading: Reading) -> [u64; 7]
     ensures { result ≡ head_as reading }
 {
-    let kind = reading.kind;
-    let empty = reading.empty_output;
     [
         reading.len as u64,
-        kind_number(kind),
+        kind_number(reading.kind),
         reading.bound_len as u64,
-        pending_flag(empty),
-        pending_value(empty),
+        pending_flag(reading.empty_output),
+        pending_value(reading.empty_output),
         reading.total,
         reading.levels as u64,
     ]
@@ -129,9 +125,8 @@ pub fn put(
     ensures { held head.new bound.new addrs.new
         inps.new trans.new outs.new ≡ held_as reading }
 {
+    *head = head_of(reading);
     // each by a variable: tried straight, and no proof is made where a field that is an array is stored so
-    let h = head_of(reading);
-    *head = h;
     let b = reading.bound;
     *bound = b;
     let Stack {
@@ -160,7 +155,6 @@ pub fn put_plain(
     ensures { PlainPut plain (held head.new bound.new addrs.new
         inps.new trans.new outs.new) keys.new }
 {
-    let reading = plain.reading;
-    put(reading, head, bound, addrs, inps, trans, outs);
+    put(plain.reading, head, bound, addrs, inps, trans, outs);
     *keys = [plain.keys];
 }

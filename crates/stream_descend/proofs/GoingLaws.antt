@@ -1,17 +1,14 @@
 -- The descent over the arrays: a turn, and each way out of it.
 --     Going ..                        from level k on, the answer is the one that is wanted
 --     target_fits, place_fits         a target fits 32 bits, and a place 16
---     value_fits, value_past          a key's value, where the sum of the two fits or not
 --     going-..                        the contract at each way out, and the next turn
 -- Assumes nothing.
 use mathlib.Core.Path.{◌≡◌, refl, sym, ◌∙◌, ap}
-use Rattle.std.specs.Prelude.{Ok, Err, Some, None, Option, Result, SomeIff}
-use Rattle.std.specs.Option.{ok_or}
-use Rattle.format.specs.declared.Refusal.{Refusal}
+use Rattle.std.specs.Prelude.{Ok, Err, Some, None}
 use mathlib.Core.Bool.{true, false, cond, true≢false}
 use mathlib.Core.Logic.{⊎_elim}
 use mathlib.Core.List.{List, ◌∷◌}
-use Prim.Native.Nat.{ℕ, ◌+◌, ◌-◌, ◌^◌, ◌<◌, ◌≤◌}
+use Prim.Native.Nat.{ℕ, ◌+◌, ◌-◌, ◌<◌, ◌≤◌}
 use native.Mathlib.Omega.{arith}
 use borrow.Author.Tests.{le-leb, lt-leb}
 use lib.Dec.{leb}
@@ -28,22 +25,12 @@ use Rattle.node.specs.declared.Node.{Node}
 use Rattle.node.specs.Read.{meaning, Readable, transitions_in}
 use Rattle.node.specs.ReadLaws.{length_node_transitions}
 use Rattle.reading.specs.Reading.{Level, passes_test, key_of, counted, Went, found, next_trans, child, stepped}
-use Rattle.stream_descend.specs.declared.Down.TheVariants.{Found, Passed}
 use Rattle.stream_start.specs.Views.{Arrays, level_at, stack_is}
 use Rattle.stream_pop.specs.Pops.{Ready}
 use Rattle.stream_pop.specs.ReadyLaws.{ready_place, ready_target}
 use Rattle.stream_descend.specs.Descent.{down_from, Descends}
 use Rattle.stream_start.specs.StackLaws.{key_stack, pushed_top, pushed_below}
 use Rattle.stream_descend.proofs.DescendLaws.{down_deep, down_sum, down_bad, down_passed, down_final, down_on}
-
-module _ (a b : ℕ) {r : Result ℕ Refusal} where
-  pub value_fits : {x : ℕ} → r ≡ Ok x → (o : Option ℕ) → SomeIff o (a + b < 2 ^ 64) (a + b) → r ≡ ok_or o SUM → (a + b ≤ max_sum) × (x ≡ a + b)
-  value_fits {x} e None h is = absurd (let z : ◌≡◌ {A = ℕ} 0 1 = cc in omega arith)
-  value_fits {x} e (Some y) h is = let same : x ≡ y = cc in (omega (arith, h.0), omega (arith, h.1))
-
-  pub value_past : {n : Refusal} → r ≡ Err n → (o : Option ℕ) → SomeIff o (a + b < 2 ^ 64) (a + b) → r ≡ ok_or o SUM → (max_sum < a + b) × (n ≡ SUM)
-  value_past {n} e None h is = (omega (arith, h), cc)
-  value_past {n} e (Some y) h is = absurd (let z : ◌≡◌ {A = ℕ} 0 1 = cc in omega arith)
 
 pub record Going (s : List ℕ) (v root : ℕ) (hi : Bound) (want : Went) (xs is ps os : List ℕ) (k : ℕ) (m : Node) (t : ℕ) : Type 0 where
   pub low : k < 256
@@ -160,7 +147,7 @@ module _ {s : List ℕ} {v root : ℕ} {hi : Bound} {want : Went} {xs is ps os :
               ∙ key_stack (k + 1) xs⁺ is⁺ ps⁺ os⁺ (omega (arith, len⁺))
               ∙ ap (λ (j : ℕ). take j (drop 1 is⁺)) (sym same)
 
-          pub going_passed : passes_test hi (take (k + 1 + 1 - 1) (drop 1 is⁺)) ≡ true → Descends want xs⁺ is⁺ ps⁺ os⁺ (Ok (Passed u))
+          pub going_passed : passes_test hi (take (k + 1 + 1 - 1) (drop 1 is⁺)) ≡ true → Descends want xs⁺ is⁺ ps⁺ os⁺ (Ok (record { found = None; total = u }))
           going_passed p = record {
             low = omega arith;
             len = len⁺;
@@ -178,7 +165,7 @@ module _ {s : List ℕ} {v root : ℕ} {hi : Bound} {want : Went} {xs is ps os :
                 ∙ sym (rw (top⁺, below⁺, eu, sum_is))
 
             pub going_final : n.is_final ≡ true → sum + n.final_output ≤ max_sum → {x : ℕ} → x ≡ sum + n.final_output
-                → Descends want xs⁺ is⁺ ps⁺ os⁺ (Ok (Found (k + 1) x u))
+                → Descends want xs⁺ is⁺ ps⁺ os⁺ (Ok (record { found = Some (k + 1, x); total = u }))
             going_final e h {x} ex = record {
               low = omega arith;
               len = len⁺;

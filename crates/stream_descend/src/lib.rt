@@ -1,5 +1,5 @@
 // The descent of a reading: from a level that has a transition left down to the next key.
-// The total goes down beside the stack, which holds levels alone.
+// The total is a number of its own and no field of the stack: a range goes down the same stack and counts no transitions.
 #![tactic(auto)]
 
 ghost use Rattle.std.specs.Prelude.{◌≡◌, ◌<◌, get_or};
@@ -15,12 +15,12 @@ use std::ops::Bound;
 use stream_bounds::exceeded;
 use stream_levels::Stack;
 
-// What the descent finds: the place of the level where a key ends, the key's value and the total; or the total where the upper bound
-// is passed.
+// What a walk comes to, and how many transitions were followed by then: the place of the level where a key ends and the key's value, or none where the
+// upper bound is passed or no level is left.
 #[derive(Clone, Copy)]
-pub enum Down {
-    Found(usize, u64, u64),
-    Passed(u64),
+pub struct Followed {
+    pub found: Option<(usize, u64)>,
+    pub total: u64,
 }
 
 // The total, with one transition more.
@@ -39,7 +39,7 @@ pub fn descend(
     total: u64,
     stack: &mut Stack,
     upper: Bound<&[u8]>,
-) -> Result<Down, Refusal>
+) -> Result<Followed, Refusal>
     requires top_lt_max_levels { (top < max_levels) × (fst.root < 4294967296) × Ready fst.bytes.now fst.version fst.root
         (get_or stack.old.addrs top 0) (get_or stack.old.trans top 0) node }
     ensures { Descends (down_from fst.entry.bytes.now fst.entry.version fst.entry.root
@@ -54,13 +54,9 @@ pub fn descend(
     for k in top..MAX_KEY {
         let i = usize::from(stack.trans[k]);
         let out = node::output(fst.bytes, m, i);
-        let Some(sum) = stack.outs[k].checked_add(out) else {
-            return Err(Refusal::Sum);
-        };
+        let sum = stack.outs[k].checked_add(out).ok_or(Refusal::Sum)?;
         let target = node::transition_addr(fst.bytes, m, i);
-        let Ok(n) = node::node_at(fst, target) else {
-            return Err(Refusal::Node);
-        };
+        let n = node::node_at(fst, target)?;
         let inp = node::input(fst.bytes, m, i);
         stack.trans[k] = (i + 1) as u16;
         let next = k + 1;
@@ -70,11 +66,17 @@ pub fn descend(
         stack.outs[next] = sum;
         t = counted(t);
         if exceeded(upper, &stack.inps[1..=next]) {
-            return Ok(Down::Passed(t));
+            return Ok(Followed {
+                found: None,
+                total: t,
+            });
         }
         if n.is_final {
             let value = sum.checked_add(n.final_output).ok_or(Refusal::Sum)?;
-            return Ok(Down::Found(next, value, t));
+            return Ok(Followed {
+                found: Some((next, value)),
+                total: t,
+            });
         }
         m = n;
     }

@@ -8,7 +8,7 @@ ghost use Rattle.stream_levels.specs.Stacks.{Arrays, stack_of, no_levels, LevelP
 
 use format::LEVELS;
 
-// The levels, the first at place 0, and how many they are stands beside them. Four arrays, as the C caller holds
+// The levels, the first at place 0. How many of them are in use is a number of its own: a walk knows it only at its end. Four arrays, as the C caller holds
 // a reading's levels; an array of levels would take 16 bytes a level in the place of 15, on the stack of each call that has a reading.
 #[derive(Clone, Copy)]
 pub struct Stack {

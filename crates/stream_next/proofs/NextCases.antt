@@ -32,8 +32,7 @@ use Rattle.stream_pop.specs.Pops.{pop_seen, Pops}
 use Rattle.stream_step.specs.declared.Step.{Step}
 use Rattle.stream_step.specs.Stepped.{Stepped}
 use Rattle.stream_step.specs.Steps.{placed_at, ended_at}
-use Rattle.stream_next.specs.declared.Gone.{Gone}
-use Rattle.stream_next.specs.declared.Gone.TheVariants as G
+use Rattle.stream_descend.specs.declared.Followed.{Followed}
 use Rattle.stream_next.specs.Going.{GoneBy}
 
 -- ---- the pending empty key
@@ -68,21 +67,21 @@ behind r k t stack = record {
   stack = stack;
 }
 
-module _ {w : R.Step} (r : Reading) (stack : Stack) {buf₀ buf : List ℕ} {g : Result Gone Refusal}
+module _ {w : R.Step} (r : Reading) (stack : Stack) {buf₀ buf : List ℕ} {g : Result Followed Refusal}
     (h : GoneBy w (view_is r) buf₀ buf stack.addrs stack.inps stack.trans stack.outs g) where
-  as_gone : {d : Result Gone Refusal} → g ≡ d → GoneBy w (view_is r) buf₀ buf stack.addrs stack.inps stack.trans stack.outs d
+  as_gone : {d : Result Followed Refusal} → g ≡ d → GoneBy w (view_is r) buf₀ buf stack.addrs stack.inps stack.trans stack.outs d
   as_gone e = subst (GoneBy w (view_is r) buf₀ buf stack.addrs stack.inps stack.trans stack.outs) e h
 
-  pub gone_low : (k v t : ℕ) → g ≡ Ok (G.Key k v t) → k < 256
+  pub gone_low : (k v t : ℕ) → g ≡ Ok (record { found = Some (k, v); total = t }) → k < 256
   gone_low k v t e = (as_gone e).low
 
   pub walk_refused : (n : Refusal) → g ≡ Err n → Stepped w buf₀ buf (record { answer = Err n; reading = r })
   walk_refused n e = let q = as_gone e in record { answer = q.answer; reading = q.reading; buffer = q.buffer }
 
-  pub walk_ended : (t : ℕ) → g ≡ Ok (G.End t) → {b : List ℕ} (x : Step) → Stepped (ended_at (view_is r) t) b b x → Stepped w buf₀ buf x
+  pub walk_ended : (t : ℕ) → g ≡ Ok (record { found = None; total = t }) → {b : List ℕ} (x : Step) → Stepped (ended_at (view_is r) t) b b x → Stepped w buf₀ buf x
   walk_ended t e x o = let q = as_gone e in record { answer = o.answer ∙ q.answer; reading = o.reading ∙ q.reading; buffer = q.buffer }
 
-  pub walk_key : (k v t : ℕ) → g ≡ Ok (G.Key k v t) → Stepped w buf₀ buf (record { answer = Ok (Some (k, v)); reading = behind r k t stack })
+  pub walk_key : (k v t : ℕ) → g ≡ Ok (record { found = Some (k, v); total = t }) → Stepped w buf₀ buf (record { answer = Ok (Some (k, v)); reading = behind r k t stack })
   walk_key k v t e = let q = as_gone e in record { answer = q.answer; reading = q.reading; buffer = q.buffer }
 
 -- ---- what comes before the walk

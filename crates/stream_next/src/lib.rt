@@ -16,7 +16,7 @@ ghost use Rattle.stream_next.specs.Going.{view_with, GoneBy};
 use format::{FstRef, MAX_KEY, Refusal};
 use std::ops::Bound;
 use stream_bounds::{exceeded, state_right};
-use stream_descend::{Down, descend};
+use stream_descend::{Followed, descend};
 use stream_levels::Stack;
 use stream_pop::highest;
 use stream_start::Reading;
@@ -37,14 +37,8 @@ fn pending(reading: Reading, value: u64) -> Step
     }
 }
 
-// What the walk comes to: a key's length and value, or the end, each with the number of transitions followed.
-#[derive(Clone, Copy)]
-enum Gone {
-    Key(usize, u64, u64),
-    End(u64),
-}
-
-// The walk, where no empty key is pending, over the levels of a stack: those after the key where one is found, and else of no meaning.
+// The walk, where no empty key is pending, over the levels of a stack: those after the key where one is found, and else of no meaning. The place of the
+// level where a key ends is the key's length.
 fn walk(
     fst: FstRef<'_>,
     levels: usize,
@@ -52,26 +46,21 @@ fn walk(
     stack: &mut Stack,
     upper: Bound<&[u8]>,
     key: &mut [u8],
-) -> Result<Gone, Refusal>
+) -> Result<Followed, Refusal>
     requires levels_le_max_levels { (levels ≤ max_levels) × (fst.root < 4294967296) × (max_path ≤ length key.old) }
     ensures { (len n : ℕ) (e : Option ℕ) → GoneBy (R.walk (fst_is fst.entry)
         (view_with len (bound_of upper.entry) n e total (stack_of levels stack.old)) none)
         (view_with len (bound_of upper.entry) n e total (stack_of levels stack.old)) key.old key.new
         stack.new.addrs stack.new.inps stack.new.trans stack.new.outs result }
 {
-    let Ok(popped) = highest(fst, stack, levels) else {
-        return Err(Refusal::Node);
+    let Some((top, node)) = highest(fst, stack, levels)? else {
+        return Ok(Followed { found: None, total });
     };
-    let Some((top, node)) = popped else {
-        return Ok(Gone::End(total));
-    };
-    match descend(fst, top, node, total, stack, upper)? {
-        Down::Passed(followed) => Ok(Gone::End(followed)),
-        Down::Found(k, value, followed) => {
-            buffers::copy_front(&stack.inps[1..], k, key);
-            Ok(Gone::Key(k, value, followed))
-        }
+    let followed = descend(fst, top, node, total, stack, upper)?;
+    if let Some((k, _)) = followed.found {
+        buffers::copy_front(&stack.inps[1..], k, key);
     }
+    Ok(followed)
 }
 
 // The next key between the bounds. Opening's refusals, then STATE, then SPACE for a buffer under 255; a pending empty key is handed out, or
@@ -109,25 +98,29 @@ pub fn next(file: &[u8], reading: Reading, key: &mut [u8]) -> Step
     }
     // a copy, so that a refusal gives the reading back as it was
     let mut stack = reading.stack;
-    let gone = walk(
+    let walked = match walk(
         m.over(file),
         reading.levels,
         reading.total,
         &mut stack,
         reading.upper(),
         key,
-    );
-    match gone {
-        Err(why) => Step {
-            answer: Err(why),
-            reading,
-        },
-        Ok(Gone::End(total)) => ended(reading, total),
-        Ok(Gone::Key(k, value, total)) => Step {
+    ) {
+        Ok(walked) => walked,
+        Err(why) => {
+            return Step {
+                answer: Err(why),
+                reading,
+            };
+        }
+    };
+    match walked.found {
+        None => ended(reading, walked.total),
+        Some((k, value)) => Step {
             answer: Ok(Some((k, value))),
             reading: Reading {
                 empty_output: None,
-                total,
+                total: walked.total,
                 levels: k + 1,
                 stack,
                 ..reading

@@ -16,32 +16,33 @@ use Rattle.format.specs.Node.{Node, Judgement, sound, unsound, Search, find_inpu
 use Rattle.format.specs.Paths.{Fst, node_in}
 use Rattle.format.specs.Lookup.{past_sum}
 use Rattle.reading.specs.Reading.{Level, level_with, on_node, on_search, got, halted, last_levels, seek}
-use Rattle.stream_seek.specs.declared.Entered.{Entered}
-use Rattle.stream_seek.specs.declared.Entered.TheVariants.{Hit, Miss, Unsound}
-use Rattle.stream_seek.specs.Seeks.{enter_of}
+use Rattle.std.specs.Prelude.{Ok, Err, Result}
+use Rattle.node.specs.declared.Unsound.{Unsound}
+use Rattle.stream_seek.specs.declared.Hit.{Hit}
+use Rattle.stream_seek.specs.Seeks.{hit_at, enter_of}
 
 -- ---- a byte looked for at a node
 
 module _ (f : Fst) (a b : ℕ) where
-  pub enter_unsound : node_in f a ≡ unsound → enter_of f a b ≡ Unsound
+  pub enter_unsound : node_in f a ≡ unsound → enter_of f a b ≡ Err (record {})
   unfolding enter_of
   enter_unsound e = simp e
 
   module _ (m : Node) (e : node_in f a ≡ sound m) where
-    pub enter_miss : (p : ℕ) → find_input m.transitions b ≡ Search.absent p → enter_of f a b ≡ Miss p
+    pub enter_miss : (p : ℕ) → find_input m.transitions b ≡ Search.absent p → enter_of f a b ≡ Ok (Err p)
     unfolding enter_of
     enter_miss p none = simp (e, none)
 
-    pub enter_hit : (p : ℕ) → find_input m.transitions b ≡ Search.at p → enter_of f a b ≡ Hit p (transition_at m.transitions p).addr (transition_at m.transitions p).out
+    pub enter_hit : (p : ℕ) → find_input m.transitions b ≡ Search.at p → enter_of f a b ≡ Ok (Ok (hit_at m p))
     unfolding enter_of
     enter_hit p found = simp (e, found)
 
 -- ---- the walk, whatever is left of the bound
 
-abbrev on_entered : {A : Type 0} → Entered → (ℕ → ℕ → ℕ → A) → (ℕ → A) → A → A
-on_entered (Hit p a o) hit miss bad = hit p a o
-on_entered (Miss p) hit miss bad = miss p
-on_entered Unsound hit miss bad = bad
+abbrev on_entered : {A : Type 0} → Result (Result Hit ℕ) Unsound → (Hit → A) → (ℕ → A) → A → A
+on_entered (Ok (Ok h)) hit miss bad = hit h
+on_entered (Ok (Err p)) hit miss bad = miss p
+on_entered (Err u) hit miss bad = bad
 
 module _ (f : Fst) (c : Bool) (a i sum : ℕ) (s : List Level) where
   pub seek_unsound : (lo : List ℕ) → node_in f a ≡ unsound → seek f c a i sum s lo ≡ halted NODE
@@ -70,7 +71,7 @@ module _ (f : Fst) (c : Bool) (a i sum : ℕ) (s : List Level) where
     seek_turn : (b : ℕ) (lo : List ℕ)
         → seek f c a i sum s (b ∷ lo)
         ≡ on_entered (enter_of f a b)
-        (λ p t o. seek f c t b (sum + o) (level_with a i (p + 1) sum ∷ s) lo)
+        (λ h. seek f c h.target b (sum + h.output) (level_with a i (h.place + 1) sum ∷ s) lo)
         (λ p. got (level_with a i p sum ∷ s))
         (halted NODE)
     unfolding seek enter_of
@@ -81,8 +82,8 @@ module _ (f : Fst) (c : Bool) (a i sum : ℕ) (s : List Level) where
             (λ p. seek f c (transition_at m.transitions p).addr b (sum + (transition_at m.transitions p).out) (level_with a i (p + 1) sum ∷ s) lo)
             (λ p. got (level_with a i p sum ∷ s))
             ≡ on_entered
-            (on_search q (λ p. Hit p (transition_at m.transitions p).addr (transition_at m.transitions p).out) (λ p. Miss p))
-            (λ p t o. seek f c t b (sum + o) (level_with a i (p + 1) sum ∷ s) lo)
+            (on_search q (λ p. Ok (Ok (hit_at m p))) (λ p. Ok (Err p)))
+            (λ h. seek f c h.target b (sum + h.output) (level_with a i (h.place + 1) sum ∷ s) lo)
             (λ p. got (level_with a i p sum ∷ s))
             (halted NODE)
         placed m (Search.at p) = refl
@@ -97,9 +98,9 @@ module _ (f : Fst) (c : Bool) (a i sum : ℕ) (s : List Level) where
             (halted NODE)
             ≡ on_entered
             (on_node j
-            (λ m. on_search (find_input m.transitions b) (λ p. Hit p (transition_at m.transitions p).addr (transition_at m.transitions p).out) (λ p. Miss p))
-            Unsound)
-            (λ p t o. seek f c t b (sum + o) (level_with a i (p + 1) sum ∷ s) lo)
+            (λ m. on_search (find_input m.transitions b) (λ p. Ok (Ok (hit_at m p))) (λ p. Ok (Err p)))
+            (Err (record {})))
+            (λ h. seek f c h.target b (sum + h.output) (level_with a i (h.place + 1) sum ∷ s) lo)
             (λ p. got (level_with a i p sum ∷ s))
             (halted NODE)
         judged (sound m) = placed m (find_input m.transitions b)
@@ -115,12 +116,12 @@ module _ (f : Fst) (c : Bool) (a i sum : ℕ) (s : List Level) where
         cut : drop k lo ≡ get_or lo k 0 ∷ drop (k + 1) lo
         cut = drop-cons lo k 0 h ∙ sym (rw (add-one k))
 
-        pub bound_bad : enter_of f a (get_or lo k 0) ≡ Unsound → seek f c a i sum s (drop k lo) ≡ halted NODE
+        pub bound_bad : {u : Unsound} → enter_of f a (get_or lo k 0) ≡ Err u → seek f c a i sum s (drop k lo) ≡ halted NODE
         bound_bad e = rw cut (seek_turn (get_or lo k 0) (drop (k + 1) lo) ∙ rw e)
 
-        pub bound_miss : (p : ℕ) → enter_of f a (get_or lo k 0) ≡ Miss p → seek f c a i sum s (drop k lo) ≡ got (level_with a i p sum ∷ s)
+        pub bound_miss : (p : ℕ) → enter_of f a (get_or lo k 0) ≡ Ok (Err p) → seek f c a i sum s (drop k lo) ≡ got (level_with a i p sum ∷ s)
         bound_miss p e = rw cut (seek_turn (get_or lo k 0) (drop (k + 1) lo) ∙ rw e)
 
-        pub bound_on : (p t o : ℕ) → enter_of f a (get_or lo k 0) ≡ Hit p t o
-            → seek f c a i sum s (drop k lo) ≡ seek f c t (get_or lo k 0) (sum + o) (level_with a i (p + 1) sum ∷ s) (drop (k + 1) lo)
-        bound_on p t o e = rw cut (seek_turn (get_or lo k 0) (drop (k + 1) lo) ∙ rw e)
+        pub bound_on : (hit : Hit) → enter_of f a (get_or lo k 0) ≡ Ok (Ok hit)
+            → seek f c a i sum s (drop k lo) ≡ seek f c hit.target (get_or lo k 0) (sum + hit.output) (level_with a i (hit.place + 1) sum ∷ s) (drop (k + 1) lo)
+        bound_on hit e = rw cut (seek_turn (get_or lo k 0) (drop (k + 1) lo) ∙ rw e)

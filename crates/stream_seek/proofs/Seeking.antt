@@ -19,7 +19,9 @@ use Rattle.format.specs.Laws.TransitionLaws.{at_member, find_input_le}
 use Rattle.format.specs.Lookup.{past_sum}
 use Rattle.reading.specs.Reading.{level_with, got, halted, last_levels, seek}
 use Rattle.stream_levels.specs.Stacks.{Arrays, stack_is, LevelPut, LevelsEnd}
-use Rattle.stream_seek.specs.declared.Entered.TheVariants.{Hit, Miss, Unsound}
+use Rattle.std.specs.Prelude.{Ok, Err}
+use Rattle.node.specs.declared.Unsound.{Unsound}
+use Rattle.stream_seek.specs.declared.Hit.{Hit}
 use Rattle.stream_seek.specs.Seeks.{enter_of}
 use Rattle.stream_seek.proofs.SeekCases.{seek_unsound, seek_past, bound_done, bound_bad, bound_miss, bound_on}
 
@@ -64,34 +66,35 @@ module _ {f : Fst} {c : Bool} {lo xs is ps os : List ℕ} {k a i sum : ℕ} (h :
       ∙ sym (h.same ∙ bound_done f c a i sum (stack_is k xs is ps os) h.fits lo k l m e)
 
   module _ (more : k < length lo) where
-    pub seeking_bad : enter_of f a (get_or lo k 0) ≡ Unsound → halted NODE ≡ seek f c f.root 0 0 [] lo
+    pub seeking_bad : {u : Unsound} → enter_of f a (get_or lo k 0) ≡ Err u → halted NODE ≡ seek f c f.root 0 0 [] lo
     seeking_bad e = sym (h.same ∙ bound_bad f c a i sum (stack_is k xs is ps os) h.fits lo k more e)
 
-    pub seeking_miss : (p : ℕ) → enter_of f a (get_or lo k 0) ≡ Miss p → {xs' is' ps' os' : List ℕ}
+    pub seeking_miss : (p : ℕ) → enter_of f a (get_or lo k 0) ≡ Ok (Err p) → {xs' is' ps' os' : List ℕ}
         → LevelPut k (level_with a i p sum) (stack_is k xs is ps os) xs' is' ps' os' → got (stack_is (k + 1) xs' is' ps' os') ≡ seek f c f.root 0 0 [] lo
     seeking_miss p e put = ap got put.levels ∙ sym (h.same ∙ bound_miss f c a i sum (stack_is k xs is ps os) h.fits lo k more p e)
 
-    pub seeking_on : (p t o : ℕ) → enter_of f a (get_or lo k 0) ≡ Hit p t o
-        → seek f c f.root 0 0 [] lo ≡ seek f c t (get_or lo k 0) (sum + o) (level_with a i (p + 1) sum ∷ stack_is k xs is ps os) (drop (k + 1) lo)
-    seeking_on p t o e = h.same ∙ bound_on f c a i sum (stack_is k xs is ps os) h.fits lo k more p t o e
+    pub seeking_on : (hit : Hit) → enter_of f a (get_or lo k 0) ≡ Ok (Ok hit)
+        → seek f c f.root 0 0 [] lo
+        ≡ seek f c hit.target (get_or lo k 0) (sum + hit.output) (level_with a i (hit.place + 1) sum ∷ stack_is k xs is ps os) (drop (k + 1) lo)
+    seeking_on hit e = h.same ∙ bound_on f c a i sum (stack_is k xs is ps os) h.fits lo k more hit e
 
     -- the sum up to the target does not fit
-    pub seeking_past : (p t o : ℕ) → enter_of f a (get_or lo k 0) ≡ Hit p t o → max_sum < sum + o → (n : Refusal) → n ≡ past_sum (node_in f t)
+    pub seeking_past : (hit : Hit) → enter_of f a (get_or lo k 0) ≡ Ok (Ok hit) → max_sum < sum + hit.output → (n : Refusal) → n ≡ past_sum (node_in f hit.target)
         → halted n ≡ seek f c f.root 0 0 [] lo
-    seeking_past p t o e past n is_lem =
+    seeking_past hit e past n is_lem =
         ap halted is_lem
-        ∙ sym (seek_past f c t (get_or lo k 0) (sum + o) (level_with a i (p + 1) sum ∷ stack_is k xs is ps os) (drop (k + 1) lo) past)
-        ∙ sym (seeking_on p t o e)
+        ∙ sym (seek_past f c hit.target (get_or lo k 0) (sum + hit.output) (level_with a i (hit.place + 1) sum ∷ stack_is k xs is ps os) (drop (k + 1) lo) past)
+        ∙ sym (seeking_on hit e)
 
-    pub seeking_step : (p t o : ℕ) → enter_of f a (get_or lo k 0) ≡ Hit p t o → sum + o ≤ max_sum → {xs' is' ps' os' : List ℕ}
-        → LevelPut k (level_with a i (p + 1) sum) (stack_is k xs is ps os) xs' is' ps' os'
-        → Seeking f c lo xs' is' ps' os' (k + 1) t (get_or lo k 0) (sum + o)
-    seeking_step p t o e l {xs'} {is'} {ps'} {os'} put =
+    pub seeking_step : (hit : Hit) → enter_of f a (get_or lo k 0) ≡ Ok (Ok hit) → sum + hit.output ≤ max_sum → {xs' is' ps' os' : List ℕ}
+        → LevelPut k (level_with a i (hit.place + 1) sum) (stack_is k xs is ps os) xs' is' ps' os'
+        → Seeking f c lo xs' is' ps' os' (k + 1) hit.target (get_or lo k 0) (sum + hit.output)
+    seeking_step hit e l {xs'} {is'} {ps'} {os'} put =
         let last : k + 1 - 1 ≡ k = omega arith in
         record {
           within = omega arith;
           fits = l;
           arrays = put.arrays;
           followed = λ q. rw (last, put.place) (omega arith);
-          same = seeking_on p t o e ∙ sym (rw put.levels);
+          same = seeking_on hit e ∙ sym (rw put.levels);
         }

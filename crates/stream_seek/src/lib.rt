@@ -10,36 +10,33 @@ ghost use Rattle.reading.specs.Reading as R;
 ghost use Rattle.stream_seek.specs.Seeks.{enter_of, place_in, SoughtAs};
 
 use format::{FstRef, Refusal, are_bytes};
+use node::Unsound;
 use stream_levels::Stack;
 
-// A byte looked for at a node: its place, with the target and the output; the place of the first greater input; or the node is not sound.
+// Where a byte was found at a node: the place of its transition, with the target and the output.
 #[derive(Clone, Copy)]
-enum Entered {
-    Hit(u16, u32, u64),
-    Miss(u16),
-    Unsound,
+struct Hit {
+    place: u16,
+    target: u32,
+    output: u64,
 }
 
-// The byte b looked for at the node at addr, which is judged first.
-fn enter(fst: FstRef<'_>, addr: usize, b: u8) -> Entered
+// The byte b looked for at the node at addr, which is judged first; `Ok(Err(place))`: the byte is absent, and place is that of the first greater input.
+fn enter(fst: FstRef<'_>, addr: usize, b: u8) -> Result<Result<Hit, u16>, Unsound>
     requires { fst.root < 4294967296 }
     ensures { (result ≡ enter_of (fst_is fst.entry) addr b)
         × (place_in result ≤ max_levels) }
 {
     are_bytes(fst.bytes);
-    let Ok(m) = node::node_at(fst, addr) else {
-        return Entered::Unsound;
-    };
+    let m = node::node_at(fst, addr)?;
     let found = node::find_input(fst.bytes, m, b);
     match found {
-        Err(p) => Entered::Miss(p as u16),
-        Ok(p) => {
-            let target = node::transition_addr(fst.bytes, m, p);
-            let out = node::output(fst.bytes, m, p);
-            let place = p as u16;
-            let to = target as u32;
-            Entered::Hit(place, to, out)
-        }
+        Err(p) => Ok(Err(p as u16)),
+        Ok(p) => Ok(Ok(Hit {
+            place: p as u16,
+            target: node::transition_addr(fst.bytes, m, p) as u32,
+            output: node::output(fst.bytes, m, p),
+        })),
     }
 }
 
@@ -61,29 +58,23 @@ pub fn seek(
     let mut inp: u8 = 0;
     let mut sum: u64 = 0;
     for (k, b) in lower.iter().enumerate() {
-        let entered = enter(fst, addr as usize, *b);
-        match entered {
-            Entered::Unsound => {
-                return Err(Refusal::Node);
-            }
-            Entered::Miss(p) => {
-                stack.put(k, addr, inp, p, sum);
+        match enter(fst, addr as usize, *b)? {
+            Err(place) => {
+                stack.put(k, addr, inp, place, sum);
                 return Ok(k + 1);
             }
-            Entered::Hit(p, target, out) => {
-                let Some(more) = sum.checked_add(out) else {
-                    return Err(fst::past_sum(fst, target as usize));
+            Ok(hit) => {
+                let Some(more) = sum.checked_add(hit.output) else {
+                    return Err(fst::past_sum(fst, hit.target as usize));
                 };
-                stack.put(k, addr, inp, p + 1, sum);
-                addr = target;
+                stack.put(k, addr, inp, hit.place + 1, sum);
+                addr = hit.target;
                 inp = *b;
                 sum = more;
             }
         }
     }
     let k = lower.len();
-    let Ok(_) = node::node_at(fst, addr as usize) else {
-        return Err(Refusal::Node);
-    };
+    node::node_at(fst, addr as usize)?;
     Ok(stack.last_levels(k, inclusive, addr, inp, sum))
 }

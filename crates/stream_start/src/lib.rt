@@ -1,10 +1,11 @@
 // The start of a reading (src/raw/mod.rs: `StreamBuilder`, `seek_min`), on any file, admitted or not; and the reading itself, which next takes
 // and gives back (crate stream_next).
 // The two bounds are two values and no pair: each is taken by itself.
-// That the root is below 2^32 is asked where levels are made: opening says it, and a view that is made by hand need not have it.
+// An FstRef may have any version and root, since node_at answers for each. What needs those of a file that opens asks for them: BlankTold of the version,
+// and that the root is below 2^32 where levels are made.
 #![tactic(auto)]
 
-ghost use Rattle.std.specs.Prelude.{◌≡◌, ℕ, ◌≤◌, ◌<◌, length, take, []};
+ghost use Rattle.std.specs.Prelude.{◌≡◌, ◌≤◌, ◌<◌, length, take, []};
 ghost use Rattle.format.specs.Limits.{max_path};
 ghost use Rattle.format.specs.Paths.{node_in};
 ghost use Rattle.format.specs.View.{fst_is};
@@ -43,11 +44,7 @@ impl Reading {
         ensures { bound_of result ≡ bound_is self.now.kind (take self.now.bound_len self.now.bound) }
     {
         let bytes = &self.bound[..self.bound_len];
-        match self.kind {
-            Bound::Included(()) => Bound::Included(bytes),
-            Bound::Excluded(()) => Bound::Excluded(bytes),
-            Bound::Unbounded => Bound::Unbounded,
-        }
+        self.kind.map(|()| bytes)
     }
 }
 
@@ -68,6 +65,13 @@ pub fn len_of(bound: Bound<&[u8]>) -> usize
     ensures { result ≡ length (R.bound_bytes (bound_of bound.entry)) }
 {
     bytes_of(bound).len()
+}
+
+// Whether both bounds have at most 255 bytes.
+pub fn bounds_right(lower: Bound<&[u8]>, upper: Bound<&[u8]>) -> bool
+    ensures { result ≡ R.bounds_test (bound_of lower.entry) (bound_of upper.entry) }
+{
+    len_of(lower) <= MAX_KEY && len_of(upper) <= MAX_KEY
 }
 
 // The kind of a bound, without its bytes.
@@ -101,15 +105,11 @@ fn meets_empty(bound: Bound<&[u8]>) -> bool
 fn empty_output(fst: FstRef<'_>, meets: bool) -> Option<u64>
     ensures { empty_is result ≡ pending_if meets (node_in (fst_is fst.entry) fst.entry.root) }
 {
-    if meets {
-        let Ok(m) = node::node_at(fst, fst.root) else {
-            return None;
-        };
-        if m.is_final {
-            return Some(m.final_output);
-        }
+    if !meets {
+        return None;
     }
-    None
+    let m = node::node_at(fst, fst.root).ok()?;
+    m.is_final.then_some(m.final_output)
 }
 
 // A reading without levels, of no file.
@@ -194,7 +194,7 @@ fn start_from(fst: FstRef<'_>, lower: Bound<&[u8]>, upper: Bound<&[u8]>) -> Resu
     requires { (fst.root < 4294967296) × BlankTold fst.bytes.now fst.version }
     ensures { started_is result ≡ start_from (fst_is fst.entry) (bound_of lower.entry) (bound_of upper.entry) }
 {
-    if MAX_KEY < len_of(lower) || MAX_KEY < len_of(upper) {
+    if !bounds_right(lower, upper) {
         return Err(Refusal::Bound);
     }
     reading_from(fst, lower, upper, pending_at(fst, lower))

@@ -10,6 +10,7 @@ use format::Refusal;
 use stream_start::Reading;
 
 // What a call of next gives back: a key's length and value, none where no key is left, or why it refuses; and the reading after it.
+// The answer stands beside the reading, and the two are no Result: a caller may go on with the reading that is given back, after a refusal too.
 #[derive(Clone, Copy)]
 pub struct Step {
     pub answer: Result<Option<(usize, u64)>, Refusal>,

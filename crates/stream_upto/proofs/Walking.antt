@@ -3,7 +3,7 @@
 --     turned-..                    the same read back
 --     Walking f c own x k a t      k bytes of x have led to the node at a, with the total t so far
 -- Assumes nothing.
-use Rattle.std.specs.Prelude.{Option, Ok, Err, Result, ℕ}
+use Rattle.std.specs.Prelude.{Option, Some, None, Ok, Err, Result, ℕ}
 use Rattle.format.specs.declared.Refusal.{Refusal}
 use mathlib.Core.Path.{◌≡◌, refl, sym, ap, ◌∙◌}
 use mathlib.Core.Bool.{Bool, ◌&&◌}
@@ -19,7 +19,7 @@ use Rattle.format.specs.Paths.{Fst, node_in}
 use Rattle.format.specs.Tables.{one}
 use Rattle.plain.specs.Numbers.{Tally, comes_to, refused, plus, keys_below, up_to}
 use Rattle.plain.proofs.UpToLaws.{up_to_unsound, up_to_end, up_to_absent, up_to_at}
-use Rattle.stream_upto.specs.declared.Turned.TheVariants.{On, Gone, Unsound}
+use Rattle.node.specs.declared.Unsound.{Unsound}
 use Rattle.stream_upto.specs.Counts.{total_as, added_to, turn_of, walked_as}
 use Rattle.stream_upto.proofs.TotalLaws.{added_total}
 use Rattle.stream_upto.proofs.Summing.{first_keys, below_at, below_absent}
@@ -36,8 +36,17 @@ plus_more m n (refused k) = refl
 
 -- ---- a turn
 
+same_pair : {x y : Option ℕ × Option ℕ} → ◌≡◌ {A = Result (Option ℕ × Option ℕ) Unsound} (Ok x) (Ok y) → x ≡ y
+same_pair e = cc
+
+same_target : {x y : Option ℕ × Option ℕ} → ◌≡◌ {A = Result (Option ℕ × Option ℕ) Unsound} (Ok x) (Ok y) → x.0 ≡ y.0
+same_target e = ap (λ (p : Option ℕ × Option ℕ). p.0) (same_pair e)
+
+same_total : {x y : Option ℕ × Option ℕ} → ◌≡◌ {A = Result (Option ℕ × Option ℕ) Unsound} (Ok x) (Ok y) → x.1 ≡ y.1
+same_total e = ap (λ (p : Option ℕ × Option ℕ). p.1) (same_pair e)
+
 module _ (f : Fst) (c : List ℕ) (a b n : ℕ) where
-  pub turn_unsound : node_in f a ≡ unsound → Unsound ≡ turn_of f c a b n
+  pub turn_unsound : node_in f a ≡ unsound → Err (record {}) ≡ turn_of f c a b n
   unfolding turn_of
   turn_unsound e = rw e
 
@@ -47,13 +56,13 @@ module _ (f : Fst) (c : List ℕ) (a b n : ℕ) where
         let z : n + one m.final + first_keys c p m.transitions ≡ n + (one m.final + keys_below c b m.transitions) = omega arith in
         s_is ∙ ap total_as z
 
-    pub turn_gone : find_input m.transitions b ≡ Search.absent p → Gone s ≡ turn_of f c a b n
+    pub turn_gone : find_input m.transitions b ≡ Search.absent p → Ok (None, s) ≡ turn_of f c a b n
     unfolding turn_of
-    turn_gone none = rw (e, none) (ap Gone (same (below_absent f a m e c b p none)))
+    turn_gone none = rw (e, none) (ap (λ (o : Option ℕ). Ok (None, o)) (same (below_absent f a m e c b p none)))
 
-    pub turn_on : (t : ℕ) → t ≡ (transition_at m.transitions p).addr → find_input m.transitions b ≡ Search.at p → On t s ≡ turn_of f c a b n
+    pub turn_on : (t : ℕ) → t ≡ (transition_at m.transitions p).addr → find_input m.transitions b ≡ Search.at p → Ok (Some t, s) ≡ turn_of f c a b n
     unfolding turn_of
-    turn_on t t_is found = rw (e, found, t_is) (ap (On (transition_at m.transitions p).addr) (same (below_at f a m e c b p found)))
+    turn_on t t_is found = rw (e, found, t_is) (ap (λ (o : Option ℕ). Ok (Some (transition_at m.transitions p).addr, o)) (same (below_at f a m e c b p found)))
 
   -- ---- read back
 
@@ -68,7 +77,7 @@ module _ (f : Fst) (c : List ℕ) (a b n : ℕ) where
     pub rest : up_to f c own a (b ∷ x) ≡ plus more (up_to f c own t x)
 
   module _ (own : Bool) (x : List ℕ) where
-    pub turned_unsound : turn_of f c a b n ≡ Unsound → up_to f c own a (b ∷ x) ≡ refused NODE
+    pub turned_unsound : {u : Unsound} → turn_of f c a b n ≡ Err u → up_to f c own a (b ∷ x) ≡ refused NODE
     unfolding turn_of
     turned_unsound is = go (node_in f a) refl
       where
@@ -80,14 +89,14 @@ module _ (f : Fst) (c : List ℕ) (a b n : ℕ) where
         go (sound m) e = on m e (find_input m.transitions b) refl
         go unsound e = up_to_unsound f c own a (b ∷ x) e
 
-    pub turned_gone : (s : Option ℕ) → turn_of f c a b n ≡ Gone s → TurnedGone own x s
+    pub turned_gone : (s : Option ℕ) → turn_of f c a b n ≡ Ok (None, s) → TurnedGone own x s
     unfolding turn_of
     turned_gone s is = go (node_in f a) refl
       where
         on : (m : Node) → node_in f a ≡ sound m → (q : Search) → find_input m.transitions b ≡ q → TurnedGone own x s
-        on m e (Search.at p) found = absurd (let w = rw (e, found) at is in let z : ◌≡◌ {A = ℕ} 0 1 = cc in omega arith)
+        on m e (Search.at p) found = absurd (let w = same_target (rw (e, found) at is) in let z : ◌≡◌ {A = ℕ} 0 1 = cc in omega arith)
         on m e (Search.absent p) none =
-            let w = rw (e, none) at is in
+            let w = same_total (rw (e, none) at is) in
             let z : one m.final + keys_below c b m.transitions + 0 ≡ one m.final + keys_below c b m.transitions = omega arith in
             record {
               more = one m.final + keys_below c b m.transitions;
@@ -99,20 +108,21 @@ module _ (f : Fst) (c : List ℕ) (a b n : ℕ) where
         go (sound m) e = on m e (find_input m.transitions b) refl
         go unsound e = absurd (let w = rw e at is in let z : ◌≡◌ {A = ℕ} 0 1 = cc in omega arith)
 
-    pub turned_on : (t : ℕ) (s : Option ℕ) → turn_of f c a b n ≡ On t s → TurnedOn own x t s
+    pub turned_on : (t : ℕ) (s : Option ℕ) → turn_of f c a b n ≡ Ok (Some t, s) → TurnedOn own x t s
     unfolding turn_of
     turned_on t s is = go (node_in f a) refl
       where
         on : (m : Node) → node_in f a ≡ sound m → (q : Search) → find_input m.transitions b ≡ q → TurnedOn own x t s
         on m e (Search.at p) found =
-            let w = rw (e, found) at is in
+            let w = same_total (rw (e, found) at is) in
+            let led = same_target (rw (e, found) at is) in
             let to : (transition_at m.transitions p).addr ≡ t = cc in
             record {
               more = one m.final + keys_below c b m.transitions;
               s_is = cc;
               rest = up_to_at f c own a m e b x p found ∙ ap (λ u. plus (one m.final + keys_below c b m.transitions) (up_to f c own u x)) to;
             }
-        on m e (Search.absent p) none = absurd (let w = rw (e, none) at is in let z : ◌≡◌ {A = ℕ} 0 1 = cc in omega arith)
+        on m e (Search.absent p) none = absurd (let w = same_target (rw (e, none) at is) in let z : ◌≡◌ {A = ℕ} 0 1 = cc in omega arith)
 
         go : (j : Judgement) → node_in f a ≡ j → TurnedOn own x t s
         go (sound m) e = on m e (find_input m.transitions b) refl
@@ -150,15 +160,15 @@ module _ {f : Fst} {c : List ℕ} {own : Bool} {x : List ℕ} {k a : ℕ} {t : O
     here : up_to f c own f.root x ≡ plus h.so_far (up_to f c own a (get_or x k 0 ∷ drop (k + 1) x))
     here = h.same ∙ ap (λ u. plus h.so_far (up_to f c own a u)) cut
 
-    pub walking_bad : turn_of f c a (get_or x k 0) h.so_far ≡ Unsound → Err NODE ≡ walked_as (up_to f c own f.root x)
+    pub walking_bad : {u : Unsound} → turn_of f c a (get_or x k 0) h.so_far ≡ Err u → Err NODE ≡ walked_as (up_to f c own f.root x)
     walking_bad e = sym (ap walked_as (here ∙ ap (plus h.so_far) (turned_unsound f c a (get_or x k 0) h.so_far own (drop (k + 1) x) e)))
 
-    pub walking_gone : (s : Option ℕ) → turn_of f c a (get_or x k 0) h.so_far ≡ Gone s → Ok s ≡ walked_as (up_to f c own f.root x)
+    pub walking_gone : (s : Option ℕ) → turn_of f c a (get_or x k 0) h.so_far ≡ Ok (None, s) → Ok s ≡ walked_as (up_to f c own f.root x)
     walking_gone s e =
         let w = turned_gone f c a (get_or x k 0) h.so_far own (drop (k + 1) x) s e in
         ap Ok w.s_is ∙ sym (ap walked_as (here ∙ ap (plus h.so_far) w.comes))
 
-    pub walking_step : (to : ℕ) (s : Option ℕ) → turn_of f c a (get_or x k 0) h.so_far ≡ On to s → Walking f c own x (k + 1) to s
+    pub walking_step : (to : ℕ) (s : Option ℕ) → turn_of f c a (get_or x k 0) h.so_far ≡ Ok (Some to, s) → Walking f c own x (k + 1) to s
     walking_step to s e =
         let w = turned_on f c a (get_or x k 0) h.so_far own (drop (k + 1) x) to s e in
         record {

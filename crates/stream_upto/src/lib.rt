@@ -13,17 +13,9 @@ ghost use Rattle.plain.specs.Numbers.{up_to};
 ghost use Rattle.stream_upto.specs.Counts.{HasEntry, HasEntries, total_as, added_to, turn_of, walked_as};
 
 use format::{FstRef, Refusal};
-use node::Node;
+use node::{Node, Unsound};
 
 // A total is a number of keys, or None where it passes 2^64 - 1. None is kept and not answered: a node further on is refused before it.
-
-// One byte of a string looked for at a node, with the total so far: where it leads; that it leads nowhere; or the node is not sound.
-#[derive(Clone, Copy)]
-enum Turned {
-    On(usize, Option<u64>),
-    Gone(Option<u64>),
-    Unsound,
-}
 
 // A total and n more, or None where that passes the limit.
 fn added(t: Option<u64>, n: u64) -> Option<u64>
@@ -64,24 +56,29 @@ fn below(file: &[u8], node: Node, p: usize, counts: &[u64], total: Option<u64>) 
     sum
 }
 
-// The byte b looked for at the node at addr, which is judged first. The place of b, found or not, is the number of smaller inputs.
-fn turn(fst: FstRef<'_>, addr: usize, b: u8, counts: &[u64], total: Option<u64>) -> Turned
+// The byte b looked for at the node at addr, which is judged first: where it leads, if it does, and the total. The place of b, found or not, is the number
+// of smaller inputs.
+fn turn(
+    fst: FstRef<'_>,
+    addr: usize,
+    b: u8,
+    counts: &[u64],
+    total: Option<u64>,
+) -> Result<(Option<usize>, Option<u64>), Unsound>
     requires { length fst.bytes.now ≤ length counts.now }
     ensures { (n : ℕ) → total ≡ total_as n
         → result ≡ turn_of (fst_is fst.entry) counts.now addr b n }
 {
-    let Ok(m) = node::node_at(fst, addr) else {
-        return Turned::Unsound;
-    };
+    let m = node::node_at(fst, addr)?;
     // a key that begins the string and ends here comes before it
     let kept = added(total, own_key(true, m.is_final));
     let found = node::find_input(fst.bytes, m, b);
     match found {
-        Err(p) => Turned::Gone(below(fst.bytes, m, p, counts, kept)),
+        Err(p) => Ok((None, below(fst.bytes, m, p, counts, kept))),
         Ok(p) => {
             let target = node::transition_addr(fst.bytes, m, p);
             let sum = below(fst.bytes, m, p, counts, kept);
-            Turned::On(target, sum)
+            Ok((Some(target), sum))
         }
     }
 }
@@ -97,10 +94,8 @@ fn at_end(
         → result ≡ walked_as (N.plus n
         (up_to (fst_is fst.entry) c own addr [])) }
 {
-    let Ok(m) = node::node_at(fst, addr) else {
-        return Err(Refusal::Node);
-    };
-    let k = own_key(own, m.is_final);
+    let last = node::node_at(fst, addr)?;
+    let k = own_key(own, last.is_final);
     Ok(added(total, k))
 }
 
@@ -113,15 +108,12 @@ pub fn up_to(fst: FstRef<'_>, own: bool, x: &[u8], counts: &[u64]) -> Result<Opt
     let mut addr = fst.root;
     let mut total = Some(0);
     for b in x {
-        let turned = turn(fst, addr, *b, counts, total);
-        match turned {
-            Turned::Unsound => return Err(Refusal::Node),
-            Turned::Gone(sum) => return Ok(sum),
-            Turned::On(target, sum) => {
-                addr = target;
-                total = sum;
-            }
-        }
+        let (target, sum) = turn(fst, addr, *b, counts, total)?;
+        let Some(next) = target else {
+            return Ok(sum);
+        };
+        addr = next;
+        total = sum;
     }
     at_end(fst, addr, own, total)
 }

@@ -31,4 +31,4 @@ loop-a-preserved c =
 
 -- every address is passed, and the flags tell
 pub returns : goal.returns
-returns c = filling_told c.loop-a.invariant c.loop-a-test.false c.verdict_of.result c.verdict_of.ensures
+returns c = filling_told c.loop-a.invariant c.loop-a-test.false c.told_by.result c.told_by.ensures

@@ -1,5 +1,5 @@
 -- `admission_node::mark_targets` meets its contract. Assumes nothing.
-use Rattle.std.proofs.Common.{◌<◌, length, arith}
+use Rattle.std.proofs.Common.{refl, ◌<◌, length, arith}
 use Rattle.node.specs.Read.{transitions_in}
 use Rattle.node.specs.ReadLaws.{length_node_transitions}
 use Rattle.admission_node.proofs.Marking.{mark_room, marked_step, marked_all}
@@ -34,4 +34,4 @@ loop-i-preserved c =
 
 -- all transitions are passed
 pub returns : goal.returns
-returns c = marked_all c.loop-i.invariant (omega (arith, length_node_transitions _ _ c.requires.0))
+returns c = (marked_all c.loop-i.invariant (omega (arith, length_node_transitions _ _ c.requires.0)), refl)

@@ -1,5 +1,7 @@
 -- `admission_walk::walk` meets its contract. Assumes nothing.
-use Rattle.std.proofs.Common.{◌≡◌, ◌-◌, ◌<◌, ◌∙◌, ap, sym, length, arith}
+use Rattle.std.proofs.Common.{◌≡◌, ◌+◌, ◌-◌, ◌<◌, ◌∙◌, ap, sym, length, arith}
+use Rattle.std.specs.Prelude.{get_or}
+use Rattle.std.proofs.Math.Decide.{ℕ_discrete}
 use Rattle.format.specs.Node.{Node, sound}
 use Rattle.format.specs.Paths.{node_in}
 use Rattle.format.specs.View.{fst_is}
@@ -8,7 +10,7 @@ use Rattle.admission_node.specs.KeptLaws.{kept_none, kept_set, kept_then, kept_l
 use Rattle.admission_walk.specs.SoundNodeLaws.{sound_node, unsound_node}
 use Rattle.admission_walk.proofs.Walking.{walking_none, walking_broken, walked_inside, walked_below, walked_first_low, walking_last, walking_next}
 use Rattle.admission_walk.proofs.walk.Goals as goal
-use Rattle.admission_walk.proofs.walk.Goals.{After-mark_at-first}
+use Rattle.admission_walk.proofs.walk.Goals.{After-mark_at-first, Joined-mark-eq-HIT, then-mark-eq-HIT, else-mark-eq-HIT}
 
 -- ---- a sound node whose targets are marked
 
@@ -31,6 +33,18 @@ kept c = kept_then c.loop-a.invariant.0 (marks c).kept
 room : (c : After-mark_at-first) → c.loop-a.a < length c.mark_at-first.new.depths
 room c = kept_lt (kept c) c.requires.room (inside c)
 
+-- the mark of a node that is passed is 2 more than the one it gives
+passed : (c : Joined-mark-eq-HIT) → c.if-mark-eq-HIT.depths ≡ c.mark_of-mark.result + 2
+passed c =
+    elim c.if-mark-eq-HIT.branch [
+      | then-mark-eq-HIT w ↦ omega (arith, w.depths-is, w.if-mark-eq-HIT.true)
+      | else-mark-eq-HIT w ↦
+          elim (ℕ_discrete (get_or c.loop-a.depths c.loop-a.a 0) 2) [
+            | yes e ↦ absurd (w.if-mark-eq-HIT.false (c.mark_of-mark.ensures.0 e))
+            | no e ↦ omega (arith, w.depths-is, c.mark_of-mark.ensures.1 e)
+          ]
+    ]
+
 -- no address is passed yet, and the root has its mark
 pub loop-a-init : goal.loop-a-init
 loop-a-init c = (kept_set _ _ c.requires.inside (kept_none _ _), (_, walking_none c.requires))
@@ -46,6 +60,7 @@ pub returns-then-ends : goal.returns-then-ends
 returns-then-ends c =
     let at = (goal.at.returns-then-ends c).After-mark_at-first in
     let mark = c.mark_of-mark.ensures in
+    rw (passed (goal.at.returns-then-ends c).Joined-mark-eq-HIT)
     record {
       kept = kept_set _ _ (inside at) (kept at);
       walked =
@@ -68,7 +83,8 @@ loop-a-smaller c =
 pub loop-a-preserved : goal.loop-a-preserved
 loop-a-preserved c =
     let at = (goal.at.loop-a-preserved c).After-mark_at-first in
-    let mark = c.mark_of-mark.ensures in (
+    let mark = c.mark_of-mark.ensures in
+    rw (passed (goal.at.loop-a-preserved c).Joined-mark-eq-HIT) (
       kept_set _ _ (inside at) (kept at),
       (
         _,

@@ -17,4 +17,4 @@ pub returns-in-Ok : goal.returns-in-Ok
 returns-in-Ok c =
     let x = c.args in
     let h = held x.head.now x.bound.now x.addrs.now x.inps.now x.trans.now x.outs.now in
-    carry_carried x.old.now x.new.now h x.keys c.reading_of-reading.ensures c.carry-carried.ensures c.in-Ok.is _ c.put.ensures
+    carry_carried x.old.now x.new.now h x.keys c.reading_of-reading.ensures c.carry-carried.ensures c.in-Ok.after c.in-Ok.is _ c.put.ensures

@@ -7,6 +7,6 @@ use Rattle.carry_levels.proofs.first_level.Goals as goal
 pub returns : goal.returns
 returns c =
     let a = c.args in
-    let m = c.in-Ok.m in
-    first_settles a.old.bytes.now a.old.version a.old.root a.new.bytes.now a.new.version a.new.root a.addr a.out m (answer_sound c.node_at.ensures m c.in-Ok.is)
-    (c.node_at.ensures.readable m c.in-Ok.is) c.settle.ensures
+    let m = c.in_ok-m.m in
+    first_settles a.old.bytes.now a.old.version a.old.root a.new.bytes.now a.new.version a.new.root a.addr a.out m (answer_sound c.node_at.ensures m c.in_ok-m.was)
+    (c.node_at.ensures.readable m c.in_ok-m.was) c.settle.ensures

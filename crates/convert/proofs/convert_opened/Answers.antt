@@ -6,7 +6,7 @@ pub returns-then-other_version : goal.returns-then-other_version
 returns-then-other_version c = edition_again c.requires.0 c.requires.1 _ _ _ c.if-other_version.true
 
 pub convert_old-done-requires : goal.convert_old-done-requires
-convert_old-done-requires c = (old_of c.requires.0 c.requires.1 c.if-other_version.false, c.requires.2)
+convert_old-done-requires c = old_of c.requires.0 c.requires.1 c.if-other_version.false
 
 -- the second admission restores the tables
 pub returns : goal.returns

@@ -21,7 +21,6 @@ pub pack_at-next-requires : goal.pack_at-next-requires
 pack_at-next-requires c = (
   writes_sound c.loop-a.invariant c.requires c.loop-a-test.true c.if-hop-eq0.false,
   writes_packable c.loop-a.invariant c.requires c.loop-a-test.true c.if-hop-eq0.false c.are_bytes.ensures (simp (length-take, length-drop) (omega arith)),
-  record { in_inputs = omega arith; in_outputs = omega arith; in_targets = omega arith },
 )
 
 pub overflow_add-next : goal.overflow_add-next

@@ -1,8 +1,8 @@
 -- The form that the node packs to decides.
-use Rattle.std.proofs.Common.{sym, ap, ◌∙◌, List, ℕ, length, refl, arith}
+use Rattle.std.proofs.Common.{sym, ap, subst, ◌∙◌, List, ℕ, length, arith}
 use Rattle.std.proofs.lemmas.List.{length-map}
 use Rattle.format.specs.declared.Transition.{Transition}
-use Rattle.format.specs.CommonInputs.{common_idx}
+use Rattle.node_compile.specs.Parts.{Code}
 use Rattle.format.specs.Laws.PackedLaws.{packed_nothing, output_size_le}
 use Rattle.node.specs.Read.{meaning}
 use Rattle.node.specs.ReadLaws.{length_node_transitions}
@@ -28,7 +28,7 @@ len_single-requires c =
       record {
         final = is.final;
         one = is.one;
-        code = record { is = c.common_idx-idx.ensures.is ∙ ap common_idx c.input.ensures; lt = c.common_idx-idx.ensures.lt; rare_is = λ _. refl };
+        code = subst (λ (i : ℕ). Code i c.of-kept.result.idx c.of-kept.result.input) c.input.ensures c.of-kept.ensures.0;
       },
       c.requires.1,
     )

@@ -7,19 +7,19 @@ use Rattle.counting_node.proofs.count_at.Goals as goal
 -- the targets lie within the table
 pub count_any-requires : goal.count_any-requires
 count_any-requires c =
-    let judged = c.any_node-m.ensures.0 in
+    let judged = c.any_node.ensures.0 in
     (judged.readable _ refl, targets_inside judged c.requires.0.inside c.requires.1)
 
 -- there is one transition, and its target lies within the table
 pub count_one-requires : goal.count_one-requires
 count_one-requires c =
-    let judged = c.one_node-m.ensures.0 in
+    let judged = c.one_node.ensures.0 in
     let readable = judged.readable _ refl in
-    (readable, readable.single (ap is_any c.one_node-m.ensures.1), targets_inside judged c.requires.0.inside c.requires.1)
+    (readable, readable.single (ap is_any c.one_node.ensures.1), targets_inside judged c.requires.0.inside c.requires.1)
 
 -- the same of one that leads to the node just below it
-pub count_one-requires-2 : goal.count_one-requires-2
-count_one-requires-2 c =
-    let judged = c.next_node-m.ensures.0 in
+pub count_one-requires-in_default : goal.count_one-requires-in_default
+count_one-requires-in_default c =
+    let judged = c.next_node.ensures.0 in
     let readable = judged.readable _ refl in
-    (readable, readable.single (ap is_any c.next_node-m.ensures.1), targets_inside judged c.requires.0.inside c.requires.1)
+    (readable, readable.single (ap is_any c.next_node.ensures.1), targets_inside judged c.requires.0.inside c.requires.1)

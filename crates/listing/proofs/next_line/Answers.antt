@@ -1,39 +1,23 @@
--- `listing::next_line` meets its contract: each way out is a law of LinedLaws.
+-- `listing::next_line` meets its contract: a short buffer stays, and the line in the first bytes of another is a line in the whole of it.
 -- Assumes nothing.
-use Rattle.std.proofs.Common.{◌≡◌, Ok, Some, None, refl, sym, length, length-take-le, rules, arith}
-use Rattle.listing.proofs.LinedLaws.{lined_short, lined_key, lined_end, lined_refused}
-use Rattle.stream.specs.PlainsLaws.{plain_told}
-use Rattle.stream_step.specs.SteppedLaws.{step_fits}
+use Rattle.std.proofs.Common.{◌≡◌, ◌<◌, ◌≤◌, refl, length, take}
+use Rattle.listing.specs.Lined.{Wrote}
+use Rattle.listing.specs.Listing.{line_of, state}
+use Rattle.stream.specs.Plains.{plain_is}
+use Rattle.listing.proofs.LinedLaws.{lined_short, lined_wrote}
 use Rattle.listing.proofs.next_line.Goals as goal
 
+-- the line in the buffer's first bytes
+pub returns-in-Some : goal.returns-in-Some
+returns-in-Some c =
+    let w = line_of c.args.file.now (state (plain_is c.args.plain) c.args.keys) in
+    let q : Wrote w c.in-Some.line.now c.write_line.new.line c.write_line.result = c.write_line.ensures in
+    let front : c.in-Some.line.now ≡ take 532 c.args.line.now = c.in-Some.ensures.cases.same in
+    let room : 532 ≤ length c.args.line.now = c.in-Some.ensures.cases.enough in
+    lined_wrote w _ c.args.line.now c.write_line.new.line _ _ room (rw front at q) refl
+
 -- the buffer is too short for the longest line
-pub returns-then-line-lt-LINE : goal.returns-then-line-lt-LINE
-returns-then-line-lt-LINE c = lined_short _ _ c.args.line.now _ c.if-line-lt-LINE.true refl refl
-
--- the key lies in its buffer of 255 bytes
-pub slice_bounds-key_line-end : goal.slice_bounds-key_line-end
-slice_bounds-key_line-end c =
-    let e : c.next-step.result.answer ≡ Ok (Some (c.in-Ok-Some.n, c.in-Ok-Some.value)) = grind arith in
-    let fits = step_fits (plain_told c.next-step.ensures) _ _ e (search rules) in
-    let len : length c.next-step.new.key ≡ 255 = search rules in
-    sym (length-take-le c.in-Ok-Some.n c.next-step.new.key (omega (arith, fits, len)))
-
--- a key is left: its line
-pub returns-in-Ok-Some : goal.returns-in-Ok-Some
-returns-in-Ok-Some c =
-    let a = c.args in
-    let e : c.next-step.result.answer ≡ Ok (Some (c.in-Ok-Some.n, c.in-Ok-Some.value)) = grind arith in
-    lined_key a.file.now _ a.keys _ refl c.next-step.ensures a.line.now _ _ _ refl c.if-line-lt-LINE.false _ _ e c.key_line-len.ensures refl c.counted.ensures
-
--- no key is left: the last line
-pub returns-in-Ok-None : goal.returns-in-Ok-None
-returns-in-Ok-None c =
-    let a = c.args in
-    let e : c.next-step.result.answer ≡ Ok None = grind arith in
-    lined_end a.file.now _ a.keys _ refl c.next-step.ensures a.line.now _ _ _ refl c.if-line-lt-LINE.false e c.end_line-len.ensures refl refl
-
--- the reading is refused: its line
-pub returns-in-Err : goal.returns-in-Err
-returns-in-Err c =
-    let a = c.args in
-    lined_refused a.file.now _ a.keys _ refl c.next-step.ensures a.line.now _ _ _ refl c.if-line-lt-LINE.false _ c.in-Err.is c.refused_line-len.ensures refl refl
+pub returns-in-None : goal.returns-in-None
+returns-in-None c =
+    let short : length c.args.line.now < 532 = c.in-None.ensures.cases in
+    lined_short _ _ c.args.line.now _ short refl refl

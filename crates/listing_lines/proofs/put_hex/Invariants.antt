@@ -1,8 +1,8 @@
--- `listing_lines::put_hex`: the first bytes are written, up to place p.
+-- `listing_lines::put_hex`: the first bytes are written.
 -- Assumes nothing.
 use Rattle.std.proofs.Common.{length}
 use Rattle.listing_lines.proofs.Hexes.{HexTo}
 use Rattle.listing_lines.proofs.put_hex.Given as goal
 
-abbrev pub invariant-loop-x : goal.invariant-loop-x
-invariant-loop-x l = HexTo l.initial.line l.at l.key (length l.key) l.line l.p l.x-index
+abbrev pub invariant-loop-i : goal.invariant-loop-i
+invariant-loop-i l = HexTo l.initial.line l.at l.key (length l.key) l.line l.i

@@ -1,5 +1,6 @@
 -- The choice is that of a sound node: the key ends there, or goes on along the transition that fits.
 use Rattle.std.proofs.Common.{◌∙◌, sym, arith}
+use Rattle.std.proofs.lemmas.Result.{err_from_is_err_and}
 use Rattle.format.specs.View.{fst_is}
 use Rattle.format.specs.Paths.{node_in}
 use Rattle.format.specs.Laws.LookupLaws.{at_fitting}
@@ -13,15 +14,22 @@ pub loop-choice-init : goal.loop-choice-init
 loop-choice-init c = search_none (fst_is c.args.fst) c.args.value c.args.path.now c.requires
 
 -- the node is not sound
-pub returns-in_default-clause-path_after : goal.returns-in_default-clause-path_after
-returns-in_default-clause-path_after c =
-    sym (searching_unsound c.loop-choice.invariant.rest (fit_stuck (node_in (fst_is c.args.fst) c.loop-choice.addr) c.loop-choice.left (sym c.in_default.is ∙ c.fit_at.ensures)))
+pub returns-in_err-choice-clause-path_after : goal.returns-in_err-choice-clause-path_after
+returns-in_err-choice-clause-path_after c =
+    let p = err_from_is_err_and c.from_residual.result c.from_residual.ensures.1 in
+    rw (p.1, p.2)
+    (sym (searching_unsound c.loop-choice.invariant.rest (fit_stuck (node_in (fst_is c.args.fst) c.loop-choice.addr) c.loop-choice.left (sym c.in_err-choice.was ∙ c.fit_at.ensures))))
+
+pub returns-in_err-choice-clause-key_fits : goal.returns-in_err-choice-clause-key_fits
+returns-in_err-choice-clause-key_fits c =
+    let p = err_from_is_err_and c.from_residual.result c.from_residual.ensures.1 in
+    rw p.1 (record { len = c.loop-choice.invariant.len; fits = omega arith })
 
 -- nothing is left, and the node is final
 pub returns-in-Ends-clause-path_after : goal.returns-in-Ends-clause-path_after
 returns-in-Ends-clause-path_after c =
     let left = c.loop-choice.left in
-    let n = fit_sound (node_in (fst_is c.args.fst) c.loop-choice.addr) left c.in-Ok.choice c.in-Ok.ensures in
+    let n = fit_sound (node_in (fst_is c.args.fst) c.loop-choice.addr) left c.in_ok-choice.choice c.in_ok-choice.ensures in
     let e = ends_both left n.0.final (choice_ended n.0 left (sym c.in-Ends.is ∙ n.1.1)) in
     sym (searching_found c.loop-choice.invariant.rest n.0 n.1.0 e.0 e.1)
 
@@ -29,7 +37,7 @@ returns-in-Ends-clause-path_after c =
 pub returns-in-Absent-clause-path_after : goal.returns-in-Absent-clause-path_after
 returns-in-Absent-clause-path_after c =
     let left = c.loop-choice.left in
-    let n = fit_sound (node_in (fst_is c.args.fst) c.loop-choice.addr) left c.in-Ok.choice c.in-Ok.ensures in
+    let n = fit_sound (node_in (fst_is c.args.fst) c.loop-choice.addr) left c.in_ok-choice.choice c.in_ok-choice.ensures in
     let e = choice_stuck n.0 left (sym c.in-Absent.is ∙ n.1.1) in
     sym (searching_stuck c.loop-choice.invariant.rest n.0 n.1.0 e.0 e.1)
 
@@ -37,7 +45,7 @@ returns-in-Absent-clause-path_after c =
 pub returns-then-too_deep-clause-path_after : goal.returns-then-too_deep-clause-path_after
 returns-then-too_deep-clause-path_after c =
     let left = c.loop-choice.left in
-    let n = fit_sound (node_in (fst_is c.args.fst) c.loop-choice.addr) left c.in-Ok.choice c.in-Ok.ensures in
+    let n = fit_sound (node_in (fst_is c.args.fst) c.loop-choice.addr) left c.in_ok-choice.choice c.in_ok-choice.ensures in
     let t = choice_followed n.0 left c.in-To.inp c.in-To.out c.in-To.target (sym c.in-To.is ∙ n.1.1) in
     sym (searching_deep c.loop-choice.invariant.rest n.0 n.1.0 t.on (omega (arith, c.if-too_deep.true)) t.place t.fits)
 
@@ -45,7 +53,7 @@ returns-then-too_deep-clause-path_after c =
 pub overflow_sub-left : goal.overflow_sub-left
 overflow_sub-left c =
     let left = c.loop-choice.left in
-    let n = fit_sound (node_in (fst_is c.args.fst) c.loop-choice.addr) left c.in-Ok.choice c.in-Ok.ensures in
+    let n = fit_sound (node_in (fst_is c.args.fst) c.loop-choice.addr) left c.in_ok-choice.choice c.in_ok-choice.ensures in
     let t = choice_followed n.0 left c.in-To.inp c.in-To.out c.in-To.target (sym c.in-To.is ∙ n.1.1) in
     omega (arith, t.is_out, (at_fitting n.0.transitions left t.place t.fits).fit t.place (omega arith))
 
@@ -53,6 +61,6 @@ overflow_sub-left c =
 pub loop-choice-preserved : goal.loop-choice-preserved
 loop-choice-preserved c =
     let left = c.loop-choice.left in
-    let n = fit_sound (node_in (fst_is c.args.fst) c.loop-choice.addr) left c.in-Ok.choice c.in-Ok.ensures in
+    let n = fit_sound (node_in (fst_is c.args.fst) c.loop-choice.addr) left c.in_ok-choice.choice c.in_ok-choice.ensures in
     let t = choice_followed n.0 left c.in-To.inp c.in-To.out c.in-To.target (sym c.in-To.is ∙ n.1.1) in
     search_step n.0 n.1.0 t.on c.if-too_deep.false t.place t.fits c.in-To.inp c.in-To.out c.in-To.target t.is_inp t.is_out t.is_target c.loop-choice.invariant

@@ -1,15 +1,16 @@
 -- `marks_carry::carry_marked` meets its contract: what was judged refuses, or the reading is carried. Assumes nothing.
-use mathlib.Core.Path.{sym, ◌∙◌}
+use Rattle.std.proofs.Common.{◌≡◌, Err, arith, sym, ◌∙◌}
 use Rattle.marks_held.specs.MarkViews.{marks_is}
 use Rattle.marks_carry.proofs.MarkCarryCases.{plain_refused, plain_right}
 use Rattle.marks_carry.proofs.carry_marked.Goals as goal
 
-pub returns-in-Err : goal.returns-in-Err
-returns-in-Err c =
+pub returns-in_err-judge : goal.returns-in_err-judge
+returns-in_err-judge c =
     let a = c.args in
-    plain_refused a.old.now a.new.now (marks_is a.marks) a.reading _ (sym c.in-Err.is ∙ c.judge.ensures)
+    let told : c.from_residual.result ≡ Err c.in_err-judge.field-0.0 = grind arith in
+    rw told (plain_refused a.old.now a.new.now (marks_is a.marks) a.reading _ (sym c.in_err-judge.was ∙ c.judge.ensures))
 
-pub returns-in-Ok : goal.returns-in-Ok
-returns-in-Ok c =
+pub returns : goal.returns
+returns c =
     let a = c.args in
-    plain_right a.old.now a.new.now (marks_is a.marks) a.reading (sym c.in-Ok.is ∙ c.judge.ensures) _ c.carry.ensures
+    plain_right a.old.now a.new.now (marks_is a.marks) a.reading (sym c.in_ok-judge.was ∙ c.judge.ensures) _ c.carry.ensures

@@ -1,6 +1,7 @@
--- Of the first j bytes `over` are above b, and they stand first.
+-- Of the first bytes `over` are above b, and they stand first.
+use Rattle.std.proofs.Common.{length}
 use Rattle.node.proofs.InputSearch.{Over}
 use Rattle.node.proofs.seek.Given as goal
 
-abbrev pub invariant-loop-j : goal.invariant-loop-j
-invariant-loop-j l = Over l.file l.at l.n l.b l.over l.j
+abbrev pub invariant-loop-input : goal.invariant-loop-input
+invariant-loop-input l = Over l.inputs 0 (length l.inputs) l.b l.over l.input-index

@@ -9,12 +9,13 @@ returns-then-count-eq0 c = choice_none c.args.file.now _ c.requires c.args.left 
 
 pub target_of-requires : goal.target_of-requires
 target_of-requires c =
-    delta_le c.args.file.now _ c.requires (c.fitting-count.result - 1) (omega arith) c.number_of-delta.result c.number_of-delta.ensures
+    delta_le c.args.file.now _ c.requires (c.fitting-count.result - 1) (omega arith) c.number_of-delta.result (rw c.deltas.ensures at c.number_of-delta.ensures)
 
 pub returns : goal.returns
 returns c =
     let a = c.args in
     let s = a.file.now in
     let k = c.fitting-count.result in
-    choice_to s _ c.requires a.left k _ c.number_of-out.result c.target_of.result c.if-count-eq0.false c.fitting-count.ensures.leading (input_any s _ c.requires (k - 1) (omega arith) refl) c.number_of-out.ensures
-    (rw (← c.number_of-delta.ensures) c.target_of.ensures)
+    let is_delta = rw c.deltas.ensures at c.number_of-delta.ensures in
+    choice_to s _ c.requires a.left k _ c.number_of-out.result c.target_of.result c.if-count-eq0.false c.fitting-count.ensures.leading
+    (rw c.inputs.ensures (input_any s _ c.requires (k - 1) (omega arith) refl)) c.number_of-out.ensures (rw (← is_delta) c.target_of.ensures)

@@ -1,17 +1,24 @@
 -- The output and the delta lie within the node; the one output is above what is left, or fits.
-use Rattle.std.proofs.Common.{refl, arith, ◌≡◌, ◌*◌, ◌%◌}
+use Rattle.std.proofs.Common.{refl, arith, ◌≡◌, ◌*◌}
 use Rattle.format.specs.Laws.StoredLaws.{length_numbers_down}
 use Rattle.node.specs.AccessorLaws.{delta_le, input_one}
+use Rattle.node_sound.specs.JudgingLaws.{sound_form}
 use Rattle.node_way.specs.FormLaws.{one_judged, one_above}
 use Rattle.node_choice.specs.FitOfLaws.{single_over, single_fits, choice_none, choice_to, fit_on}
 use Rattle.node_choice.proofs.one_choice.Goals as goal
 
+pub one_shape-one-requires : goal.one_shape-one-requires
+one_shape-one-requires c =
+    let a = c.args in
+    let form = sound_form a.fst.bytes.now a.fst.version a.fst.root a.addr c.requires.0 in
+    (omega (arith, form.low), form.inside, c.requires.1, c.requires.2)
+
 pub overflow_sub-first : goal.overflow_sub-first
-overflow_sub-first c = one_above _ c.args.fst.version _ _ _ c.requires.0 c.head_len-len.ensures.is c.from-sizes.result c.requires.1 c.requires.2 c.from-sizes.ensures
+overflow_sub-first c = one_above _ c.args.fst.version _ _ c.requires.0 _ _ _ c.one_shape-one.ensures.0
 
 pub number_of-out-requires : goal.number_of-out-requires
 number_of-out-requires c =
-    let j = one_judged _ c.args.fst.version _ _ _ c.requires.0 c.head_len-len.ensures.is _ c.requires.1 c.requires.2 c.from-sizes.ensures _ c.input_of-inp.ensures in
+    let j = one_judged _ c.args.fst.version _ _ c.requires.0 _ _ _ c.one_shape-one.ensures.0 _ c.input_of-inp.ensures in
     let r = j.readable _ refl in
     (omega (arith, r.room), r.osize_le, omega arith)
 
@@ -19,29 +26,29 @@ pub returns-then-left-out : goal.returns-then-left-out
 returns-then-left-out c =
     let a = c.args in
     let s = a.fst.bytes.now in
-    let j = one_judged _ a.fst.version _ _ _ c.requires.0 c.head_len-len.ensures.is _ c.requires.1 c.requires.2 c.from-sizes.ensures _ c.input_of-inp.ensures in
+    let j = one_judged _ a.fst.version _ _ c.requires.0 _ _ _ c.one_shape-one.ensures.0 _ c.input_of-inp.ensures in
     fit_on s a.fst.version a.fst.root a.addr a.left _ _ j refl (choice_none s _ (j.readable _ refl) a.left 0 refl (single_over c.number_of-out.result c.number_of-out.ensures c.if-left-out.true))
 
 pub number_of-delta-requires : goal.number_of-delta-requires
 number_of-delta-requires c =
-    let j = one_judged _ c.args.fst.version _ _ _ c.requires.0 c.head_len-len.ensures.is _ c.requires.1 c.requires.2 c.from-sizes.ensures _ c.input_of-inp.ensures in
+    let j = one_judged _ c.args.fst.version _ _ c.requires.0 _ _ _ c.one_shape-one.ensures.0 _ c.input_of-inp.ensures in
     let r = j.readable _ refl in
     (omega (arith, r.room), r.tsize_le, omega arith)
 
 pub target_of-requires : goal.target_of-requires
 target_of-requires c =
-    let j = one_judged _ c.args.fst.version _ _ _ c.requires.0 c.head_len-len.ensures.is _ c.requires.1 c.requires.2 c.from-sizes.ensures _ c.input_of-inp.ensures in
-    let one : 1 * (c.from-sizes.result % 16) ≡ c.from-sizes.result % 16 = omega arith in
+    let j = one_judged _ c.args.fst.version _ _ c.requires.0 _ _ _ c.one_shape-one.ensures.0 _ c.input_of-inp.ensures in
+    let one : 1 * c.one_shape-one.result.osize ≡ c.one_shape-one.result.osize = omega arith in
     delta_le c.args.fst.bytes.now _ (j.readable _ refl) 0 (omega arith) c.number_of-delta.result (rw one c.number_of-delta.ensures)
 
 pub returns : goal.returns
 returns c =
     let a = c.args in
     let s = a.fst.bytes.now in
-    let j = one_judged _ a.fst.version _ _ _ c.requires.0 c.head_len-len.ensures.is _ c.requires.1 c.requires.2 c.from-sizes.ensures _ c.input_of-inp.ensures in
+    let j = one_judged _ a.fst.version _ _ c.requires.0 _ _ _ c.one_shape-one.ensures.0 _ c.input_of-inp.ensures in
     let r = j.readable _ refl in
-    let one : 1 * (c.from-sizes.result % 16) ≡ c.from-sizes.result % 16 = omega arith in
-    let fits = single_fits c.number_of-out.result (length_numbers_down s _ (c.from-sizes.result % 16) 1) c.number_of-out.ensures c.if-left-out.false in
+    let one : 1 * c.one_shape-one.result.osize ≡ c.one_shape-one.result.osize = omega arith in
+    let fits = single_fits c.number_of-out.result (length_numbers_down s _ c.one_shape-one.result.osize 1) c.number_of-out.ensures c.if-left-out.false in
     fit_on s a.fst.version a.fst.root a.addr a.left _ _ j refl
     (choice_to s _ r a.left 1 c.input_of-inp.result c.number_of-out.result c.target_of.result (λ z. omega arith) fits (input_one s _ r 0 (omega arith) refl) c.number_of-out.ensures
     (rw (one, ← c.number_of-delta.ensures) c.target_of.ensures))

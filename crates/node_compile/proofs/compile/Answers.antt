@@ -1,7 +1,7 @@
 -- RECORD is judged first, and then the record's bytes decide.
 use Rattle.std.proofs.Common.{refl}
 use Rattle.format.specs.Packed.{packed}
-use Rattle.node_compile.specs.Compile.{builder_with}
+use Rattle.node_compile.specs.Compile.{builder_is}
 use Rattle.node_compile.specs.Parts.{fits_of}
 use Rattle.node_compile.specs.CompileLaws.{compiles_record, compiles_fitted}
 use Rattle.node_compile.proofs.compile.Goals as goal
@@ -10,7 +10,7 @@ use Rattle.node_compile.proofs.compile.Goals as goal
 pub returns-then-not-record_ok : goal.returns-then-not-record_ok
 returns-then-not-record_ok c =
     let a = c.args in
-    compiles_record a.first (builder_with a.is_final a.final_output a.inputs.now a.outputs.now a.targets.now) a.out.now
+    compiles_record a.first (builder_is a.node) a.out.now
     (c.record_ok.ensures.no c.if-not-record_ok.true)
 
 -- RECORD has nothing to refuse
@@ -20,7 +20,7 @@ compile_record-requires c = fits_of (c.record_ok.ensures.yes c.if-not-record_ok.
 pub returns : goal.returns
 returns c =
     let a = c.args in
-    let node = builder_with a.is_final a.final_output a.inputs.now a.outputs.now a.targets.now in
+    let node = builder_is a.node in
     compiles_fitted a.first node a.out.now (packed a.first node) c.compile_record.new.out c.compile_record.result
-    (record { input_lt = λ i l. (c.type_inv.inputs i).fits; output_lt = λ i l. (c.type_inv.outputs i).fits; final_lt = c.ranges.final_output.fits })
+    (record { input_lt = λ i l. c.are_numbers.ensures.1 i; output_lt = λ i l. c.are_numbers.ensures.2 i; final_lt = c.are_numbers.ensures.0 })
     (c.record_ok.ensures.yes c.if-not-record_ok.false) refl c.compile_record.ensures

@@ -1,47 +1,33 @@
--- Output and delta take at most 8 bytes each, the input at most 1.
-use Rattle.std.proofs.Common.{ap, arith}
-use Rattle.format.specs.Packed.{packed_one}
-use Rattle.format.specs.Laws.PackedLaws.{output_size_le, length_packed_one}
+-- The bytes by what the state byte keeps of the input, where they have room.
+use Rattle.std.proofs.Common.{◌≡◌, ap₂, ℕ, arith}
+use Rattle.format.specs.CommonInputs.{common_idx}
+use Rattle.node_compile.specs.One.{one_bytes}
 use Rattle.node_compile.specs.CompileLaws.{fitted_space, fitted_written, fitted_same}
-use Rattle.node_compile.proofs.Sizes.{input_bytes_le}
 use Rattle.node_compile.proofs.compile_one.Goals as goal
+use Rattle.node_compile.proofs.compile_one.Goals.{After-of-kept}
 
-pub overflow_add-len : goal.overflow_add-len
-overflow_add-len c = omega (arith, c.output_size-osize.ensures, output_size_le c.args.output, c.pack_size-tsize.ensures.high)
-
-pub overflow_add-len-2 : goal.overflow_add-len-2
-overflow_add-len-2 c = omega (arith, c.output_size-osize.ensures, output_size_le c.args.output, c.pack_size-tsize.ensures.high)
-
-pub overflow_add-len-3 : goal.overflow_add-len-3
-overflow_add-len-3 c =
-    omega (arith, c.output_size-osize.ensures, output_size_le c.args.output, c.pack_size-tsize.ensures.high, c.input_len.ensures, input_bytes_le c.args.input)
-
-pub overflow_add-len-4 : goal.overflow_add-len-4
-overflow_add-len-4 c =
-    omega (arith, c.output_size-osize.ensures, output_size_le c.args.output, c.pack_size-tsize.ensures.high, c.input_len.ensures, input_bytes_le c.args.input)
+-- what is kept is the input's
+kept : (c : After-of-kept) → one_bytes c.args.first c.of-kept.result.idx c.of-kept.result.input c.args.output c.args.target
+    ≡ one_bytes c.args.first (common_idx c.args.input) c.args.input c.args.output c.args.target
+kept c = ap₂ (λ (i x : ℕ). one_bytes c.args.first i x c.args.output c.args.target) c.of-kept.ensures.0.is c.of-kept.ensures.1
 
 -- no room
 pub returns-then-out-len : goal.returns-then-out-len
 returns-then-out-len c =
-    let all = length_packed_one c.args.input c.args.output c.delta_of-delta.result in
-    fitted_same (ap (packed_one c.args.input c.args.output) c.delta_of-delta.ensures)
-    (fitted_space (packed_one c.args.input c.args.output c.delta_of-delta.result) c.args.out.now
-    (omega (arith, all, c.input_len.ensures, c.pack_size-tsize.ensures.is, c.output_size-osize.ensures)))
+    let a = c.args in
+    let k = c.of-kept.result in
+    fitted_same (kept (goal.at.returns-then-out-len c).After-of-kept)
+    (fitted_space (one_bytes a.first k.idx k.input a.output a.target) a.out.now (omega (arith, c.one_len-len.ensures)))
 
--- the buffer has room, and the sizes are those of the output and the delta
-pub put_one-requires : goal.put_one-requires
-put_one-requires c =
-    let all = length_packed_one c.args.input c.args.output c.delta_of-delta.result in (
-      omega (arith, all, c.input_len.ensures, c.pack_size-tsize.ensures.is, c.output_size-osize.ensures),
-      c.output_size-osize.ensures,
-      c.pack_size-tsize.ensures.is,
-    )
+-- the state byte keeps six bits, and the buffer has room
+pub pack_one-requires : goal.pack_one-requires
+pack_one-requires c = (c.requires.0, c.requires.1, c.of-kept.ensures.0.lt, omega (arith, c.one_len-len.ensures))
 
 -- the node is written
 pub returns : goal.returns
 returns c =
-    let all = length_packed_one c.args.input c.args.output c.delta_of-delta.result in
-    fitted_same (ap (packed_one c.args.input c.args.output) c.delta_of-delta.ensures)
-    (fitted_written (packed_one c.args.input c.args.output c.delta_of-delta.result) c.args.out.now c.put_one.new.out _
-    (omega (arith, all, c.input_len.ensures, c.pack_size-tsize.ensures.is, c.output_size-osize.ensures))
-    (omega (arith, all, c.input_len.ensures, c.pack_size-tsize.ensures.is, c.output_size-osize.ensures)) c.put_one.ensures.is)
+    let a = c.args in
+    let k = c.of-kept.result in
+    fitted_same (kept (goal.at.returns c).After-of-kept)
+    (fitted_written (one_bytes a.first k.idx k.input a.output a.target) a.out.now c.pack_one.new.out _ c.one_len-len.ensures
+    (omega (arith, c.one_len-len.ensures)) c.pack_one.ensures.is)

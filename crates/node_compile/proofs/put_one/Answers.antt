@@ -1,44 +1,52 @@
--- Output, delta, sizes byte and state are written one after the other; w0 to w3 say what is still to be written before each.
-use Rattle.std.proofs.Common.{◌+◌, refl, arith}
+use Rattle.std.proofs.Common.{arith}
 use Rattle.format.specs.Laws.BytesLaws.{pack_size_high}
 use Rattle.format.specs.Laws.PackedLaws.{output_size_le}
-use Rattle.buffers.specs.WritingLaws.{writing_room, part_written, last_written}
-use Rattle.node_compile.proofs.Whole.{number_written, number_room, byte_written, one_start}
+use Rattle.buffers.specs.WritingLaws.{writing_room, last_written}
+use Rattle.node_compile.proofs.Whole.{number_room}
+use Rattle.node_compile.proofs.Ones.{at_output, at_delta, sizes_room, at_state}
 use Rattle.node_compile.proofs.put_one.Goals as goal
 
+-- the buffer has room for the output
 pub pack_uint_in-requires : goal.pack_uint_in-requires
 pack_uint_in-requires c =
-    let w0 = one_start c.args.out.now c.args.input c.args.output c.args.delta c.requires.0 in
-    number_room c.args.output _ c.args.osize _ c.requires.1 w0
+    let a = c.args in
+    number_room a.output _ a.osize _ c.requires.1 (at_output a.kept.idx a.kept.input a.output a.delta a.out.now c.requires.0 a.osize c.requires.1)
 
+-- and for the delta
 pub pack_uint_in-requires-2 : goal.pack_uint_in-requires-2
 pack_uint_in-requires-2 c =
-    let w0 = one_start c.args.out.now c.args.input c.args.output c.args.delta c.requires.0 in
-    let w1 = part_written _ _ _ _ w0 (number_written c.args.out.now 0 c.args.output _ c.args.osize c.pack_uint_in.new.out c.args.osize c.requires.1 (omega arith) c.pack_uint_in.ensures) in
-    number_room c.args.delta _ c.args.tsize _ c.requires.2 w1
+    let a = c.args in
+    number_room a.delta _ a.tsize _ c.requires.2
+    (at_delta a.kept.idx a.kept.input a.output a.delta a.out.now c.requires.0 a.osize c.requires.1 _ c.pack_uint_in.ensures)
 
 pub sizes_byte-requires : goal.sizes_byte-requires
-sizes_byte-requires c = (omega (arith, c.requires, pack_size_high c.args.delta), omega (arith, c.requires, output_size_le c.args.output))
+sizes_byte-requires c = (omega (arith, pack_size_high c.args.delta), omega (arith, output_size_le c.args.output))
 
+-- and for the sizes byte
 pub bounds-out-osize : goal.bounds-out-osize
 bounds-out-osize c =
-    let w0 = one_start c.args.out.now c.args.input c.args.output c.args.delta c.requires.0 in
-    let w1 = part_written _ _ _ _ w0 (number_written c.args.out.now 0 c.args.output _ c.args.osize c.pack_uint_in.new.out c.args.osize c.requires.1 (omega arith) c.pack_uint_in.ensures) in
-    let w2 = part_written _ _ _ _ w1 (number_written c.pack_uint_in.new.out c.args.osize c.args.delta _ c.args.tsize c.pack_uint_in-2.new.out (c.args.osize + c.args.tsize) c.requires.2 refl c.pack_uint_in-2.ensures) in
-    omega (arith, writing_room w2)
+    let a = c.args in
+    omega (
+      arith,
+      sizes_room a.kept.idx a.kept.input a.output a.delta a.out.now c.requires.0 a.osize c.requires.1 _ c.pack_uint_in.ensures a.tsize c.requires.2 _
+          c.pack_uint_in-2.ensures,
+    )
 
+-- and for the state
 pub put_state-requires : goal.put_state-requires
 put_state-requires c =
-    let w0 = one_start c.args.out.now c.args.input c.args.output c.args.delta c.requires.0 in
-    let w1 = part_written _ _ _ _ w0 (number_written c.args.out.now 0 c.args.output _ c.args.osize c.pack_uint_in.new.out c.args.osize c.requires.1 (omega arith) c.pack_uint_in.ensures) in
-    let w2 = part_written _ _ _ _ w1 (number_written c.pack_uint_in.new.out c.args.osize c.args.delta _ c.args.tsize c.pack_uint_in-2.new.out (c.args.osize + c.args.tsize) c.requires.2 refl c.pack_uint_in-2.ensures) in
-    let w3 = byte_written c.sizes_byte.result (omega (arith, c.sizes_byte.ensures, c.requires)) w2 in
-    (writing_room w3, omega arith)
+    let a = c.args in (
+      writing_room
+          (at_state a.kept.idx a.kept.input a.output a.delta a.out.now c.requires.0 a.osize c.requires.1 _ c.pack_uint_in.ensures a.tsize c.requires.2 _
+          c.pack_uint_in-2.ensures _ c.sizes_byte.ensures),
+      omega arith,
+      c.requires.3,
+    )
 
+-- the state is written last
 pub returns : goal.returns
 returns c =
-    let w0 = one_start c.args.out.now c.args.input c.args.output c.args.delta c.requires.0 in
-    let w1 = part_written _ _ _ _ w0 (number_written c.args.out.now 0 c.args.output _ c.args.osize c.pack_uint_in.new.out c.args.osize c.requires.1 (omega arith) c.pack_uint_in.ensures) in
-    let w2 = part_written _ _ _ _ w1 (number_written c.pack_uint_in.new.out c.args.osize c.args.delta _ c.args.tsize c.pack_uint_in-2.new.out (c.args.osize + c.args.tsize) c.requires.2 refl c.pack_uint_in-2.ensures) in
-    let w3 = byte_written c.sizes_byte.result (omega (arith, c.sizes_byte.ensures, c.requires)) w2 in
-    last_written c.put_state.new.out c.put_state.result w3 c.put_state.ensures
+    let a = c.args in
+    last_written c.put_state.new.out c.put_state.result
+    (at_state a.kept.idx a.kept.input a.output a.delta a.out.now c.requires.0 a.osize c.requires.1 _ c.pack_uint_in.ensures a.tsize c.requires.2 _
+    c.pack_uint_in-2.ensures _ c.sizes_byte.ensures) c.put_state.ensures

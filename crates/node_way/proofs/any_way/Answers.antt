@@ -11,13 +11,13 @@ pub way_at-requires : goal.way_at-requires
 way_at-requires c =
     let a = c.args in
     let s = a.file.now in
-    let m = any_node a.first a.outputs a.n a.tsize a.osize a.index_len in
-    let inside = place_lt s m c.requires a.b c.find_in-found.result c.find_in-found.ensures in
-    (omega (arith, c.requires.room), omega (arith, c.requires.room), c.requires.osize_le, c.requires.tsize_le, record { inside = inside; reach = λ i e. delta_le s m c.requires i (inside i e) _ refl })
+    let m = any_node a.parts in
+    let inside = place_lt s m c.requires a.b c.find_in-found.result (rw c.inputs.ensures at c.find_in-found.ensures) in
+    (omega (arith, c.requires.room), c.requires.osize_le, c.requires.tsize_le, record { inside = inside; reach = λ i e. delta_le s m c.requires i (inside i e) _ refl })
 
 -- it leads where the input does
 pub returns : goal.returns
 returns c =
     let a = c.args in
-    let m = any_node a.first a.outputs a.n a.tsize a.osize a.index_len in
-    c.way_at.ensures ∙ way_at_is a.file.now m c.requires a.b c.find_in-found.result c.find_in-found.ensures
+    let m = any_node a.parts in
+    c.way_at.ensures ∙ way_at_is a.file.now m c.requires a.b c.find_in-found.result (rw c.inputs.ensures at c.find_in-found.ensures)

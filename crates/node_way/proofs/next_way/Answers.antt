@@ -10,7 +10,7 @@ pub returns-then-input-b : goal.returns-then-input-b
 returns-then-input-b c =
     let a = c.args in
     let s = a.fst.bytes.now in
-    let j = next_judged _ a.fst.version _ _ _ c.requires.0 c.head_len-len.ensures.is _ c.input_of-input.ensures c.requires.1 in
+    let j = next_judged _ a.fst.version _ _ c.requires.0 _ c.head_len-len.ensures.is _ c.input_of-input.ensures c.requires.1 in
     let p = c.place_beside.result in
     step_yes s a.fst.version a.fst.root a.addr a.b _ (Err p) j (way_absent s _ (j.readable _ refl) a.b (Err p) c.place_beside.ensures p refl)
 
@@ -19,6 +19,6 @@ returns c =
     let a = c.args in
     let s = a.fst.bytes.now in
     let len = c.head_len-len.result in
-    let j = next_judged _ a.fst.version _ _ _ c.requires.0 c.head_len-len.ensures.is _ c.input_of-input.ensures c.requires.1 in
+    let j = next_judged _ a.fst.version _ _ c.requires.0 _ c.head_len-len.ensures.is _ c.input_of-input.ensures c.requires.1 in
     step_yes s a.fst.version a.fst.root a.addr a.b _ (Ok (0, a.addr - len)) j
     (way_to s _ (j.readable _ refl) a.b (Ok 0) (single_here c.if-input-b.false) 0 0 (a.addr - len) refl (no_number s (a.addr + 1 - len)) (omega arith))

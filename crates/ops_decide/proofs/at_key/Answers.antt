@@ -6,11 +6,9 @@ use Rattle.ops_decide.proofs.at_key.Goals as goal
 pub returns-then-takes : goal.returns-then-takes
 returns-then-takes c = λ X S.
     let a = c.args in
-    key_this a.keys.now a.op a.count a.cards a.key c.collect-pairs.result c.use_up-after.result c.takes.result c.collect-pairs.ensures c.use_up-after.ensures c.takes.ensures X S
-    c.if-takes.true c.requires.2
+    key_this a.keys.now a.op a.cards.now a.key c.collect-pairs.result _ c.takes.result c.collect-pairs.ensures c.use_up.ensures c.takes.ensures X S c.if-takes.true c.requires.2
 
 pub returns-else-takes : goal.returns-else-takes
 returns-else-takes c = λ X S.
     let a = c.args in
-    key_another a.keys.now a.op a.count a.cards a.key c.collect-pairs.result c.use_up-after.result c.takes.result c.collect-pairs.ensures c.use_up-after.ensures c.takes.ensures X S
-    c.if-takes.false
+    key_another a.keys.now a.op a.cards.now a.key c.collect-pairs.result _ c.takes.result c.collect-pairs.ensures c.use_up.ensures c.takes.ensures X S c.if-takes.false

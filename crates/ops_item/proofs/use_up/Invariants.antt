@@ -3,4 +3,4 @@ use Rattle.ops_item.proofs.CardLoops.{Using}
 use Rattle.ops_item.proofs.use_up.Given as goal
 
 abbrev pub invariant-loop-i : goal.invariant-loop-i
-invariant-loop-i l = Using l.keys l.count l.initial.all l.key l.less l.all l.i
+invariant-loop-i l = Using l.keys l.initial.cards l.key l.less l.cards l.i

@@ -8,9 +8,9 @@ use Rattle.ops_keys.proofs.put_bytes.Goals as goal
 pub returns : goal.returns
 returns c =
     let a = c.args in
-    let pre = c.requires in
     let inps = a.plain.reading.stack.inps in
     let long : length inps ≡ 256 = search rules in
-    putting_all a.plain a.i a.keys.now _ pre.1 long pre.0
-    (putting_mid inps (a.i * 256) a.keys.now _ long pre.0 (omega (arith, pre.1))
+    let eight : length a.keys.now ≡ 2048 = search rules in
+    putting_all a.plain a.i a.keys.now _ c.requires long eight
+    (putting_mid inps (a.i * 256) a.keys.now _ long eight (omega (arith, c.requires))
     (put_mid-paste (a.i * 256) (a.i * 256 + 256 - a.i * 256) a.keys.now c.copy_from_slice.new.self inps 256 c.copy_from_slice.ensures.after (omega arith) (sym long)))

@@ -5,14 +5,14 @@ use Rattle.ops_seen.proofs.SeeLoops.{seeing_on, seeing_all}
 use Rattle.ops_seen.proofs.see.Goals as goal
 
 pub show-requires : goal.show-requires
-show-requires c = (c.loop-i.invariant.long, omega (arith, c.requires.1))
+show-requires c = omega (arith, c.requires)
 
 pub loop-i-preserved : goal.loop-i-preserved
 loop-i-preserved c =
     let l = c.loop-i in
     let a = c.args in
     let given : length a.cards ≡ 8 = search rules in
-    seeing_on a.count a.cards l.keys _ l.seen l.i _ c.show.result c.requires.1 given l.invariant (omega arith) c.show.ensures
+    seeing_on a.count a.cards l.keys _ l.seen l.i _ c.show.result c.requires given l.invariant (omega arith) c.show.ensures
 
 pub returns : goal.returns
 returns c =

@@ -1,37 +1,35 @@
 -- A turn opens a key more; no key is left at the end, or a node is to be finished.
 -- Assumes nothing.
-use Rattle.std.proofs.Common.{◌≡◌, ◌≤◌, ◌<◌, inl, inr, subst, ℕ, arith}
+use Rattle.std.proofs.Common.{◌≡◌, ◌<◌, inl, inr, refl, arith}
 use Rattle.packing.specs.Lists.{count_in}
-use Rattle.pack_ahead.specs.Ahead.{way_with, GoneTo}
-use Rattle.pack_ahead.specs.AheadLaws.{gone_none, gone_from, key_goes, gone_open}
+use Rattle.std.specs.Prelude.{[]}
+use Rattle.pack_ahead.specs.AheadLaws.{gone_none, key_goes, gone_on}
 use Rattle.pack_ahead.proofs.ahead.Goals as goal
 
 pub loop-i-init : goal.loop-i-init
-loop-i-init c = gone_none _ _ _
+loop-i-init c = (gone_none _ _ _, refl)
 
 pub returns-then-finishes : goal.returns-then-finishes
-returns-then-finishes c = record { gone = gone_from c.requires.0 c.loop-i.invariant; stops = inl c.if-finishes.true }
+returns-then-finishes c = record { gone = c.loop-i.invariant.0; stops = inl c.if-finishes.true }
 
-pub open_one-more-requires : goal.open_one-more-requires
-open_one-more-requires c =
-    let l : c.loop-i.i < count_in c.args.list.now = omega (arith, c.requires.1) in
-    let k = key_goes (gone_from {w = c.args.way} c.requires.0 c.loop-i.invariant) c.requires.0 l c.if-finishes.false c.requires.2 in
-    (c.requires.0, c.requires.1, omega arith, k.0)
+pub open_one-way-requires : goal.open_one-way-requires
+open_one-way-requires c =
+    let e : c.loop-i.way.keys ≡ c.loop-i.i = c.loop-i.invariant.1 in
+    let l : c.loop-i.i < count_in c.args.list.now = omega (arith, c.key_count-n.ensures.0) in
+    let l' : c.loop-i.way.keys < count_in c.args.list.now = omega (arith, l, e) in
+    let k = key_goes c.loop-i.invariant.0 c.requires.0 l' c.if-finishes.false c.requires.1 in
+    (c.requires.0, l, rw e at k.0)
 
 pub loop-i-preserved : goal.loop-i-preserved
 loop-i-preserved c =
-    let l : c.loop-i.i < count_in c.args.list.now = omega (arith, c.requires.1) in
-    gone_open c.loop-i.invariant c.requires.0 l c.if-finishes.false c.open_one-more.ensures
+    let e : c.loop-i.way.keys ≡ c.loop-i.i = c.loop-i.invariant.1 in
+    let l : c.loop-i.i < count_in c.args.list.now = omega (arith, c.key_count-n.ensures.0) in
+    let l' : c.loop-i.way.keys < count_in c.args.list.now = omega (arith, l, e) in
+    (gone_on c.loop-i.invariant.0 c.requires.0 l' c.if-finishes.false e c.open_one-way.ensures, (c.open_one-way.ensures [] [] []).more)
 
 pub returns : goal.returns
 returns c =
-    let within : c.args.way.keys ≤ count_in c.args.list.now = c.requires.2.underway.building.within in
-    let e : c.loop-i.i ≡ c.args.n = omega (arith, c.requires.1, c.loop-i.auto.i-end) in
-    let a = c.args in
-    let l = c.loop-i in
     record {
-      gone = gone_from c.requires.0
-          (subst
-          (λ (k : ℕ). GoneTo a.list.now a.nodes.now (way_with a.way.depth a.way.to a.way.keys) l.nodes (way_with l.depth l.to k)) e l.invariant);
-      stops = inr (omega (arith, c.requires.1));
+      gone = c.loop-i.invariant.0;
+      stops = inr (omega (arith, c.loop-i.invariant.1, c.key_count-n.ensures.0, c.loop-i.auto.i-end));
     }

@@ -1,42 +1,45 @@
 -- A turn takes the two cells of a row, a step is made, and two cells are put back.
 -- Assumes nothing.
-use Rattle.std.proofs.Common.{rules, ◌≡◌, refl, ap, ◌∙◌, ◌+◌, ◌<◌, arith, length}
-use Rattle.std.specs.Prelude.{Ok, Err, Result}
+use Rattle.std.proofs.Common.{rules, refl, sym, ap, ◌∙◌, ◌+◌, ◌<◌, arith, length}
+use Rattle.std.specs.Prelude.{Ok, Err}
 use Rattle.std.proofs.lemmas.List.{get_or_default}
 use Rattle.std.proofs.lemmas.Result.{err_from_is_err_and}
 use Rattle.pack_cells.specs.Pairs.{pairs_is}
 use Rattle.pack_cells.specs.PairsLaws.{pairs_empty}
-use Rattle.pack_step.specs.declared.Turn.{Turn}
-use Rattle.pack_cells.proofs.Turns.{State, standing_as, within, asked, after, between}
+use Rattle.pack_close.specs.OpenNodes.{tables_in}
+use Rattle.pack_cells.proofs.Turns.{State, stands_fit, stands_judged, ended_judged, standing_as, within, asked, after}
 use Rattle.pack_cells.proofs.run.Goals as goal
 
 -- the list or the tables are refused before the first turn
 pub returns-in_err-turn : goal.returns-in_err-turn
 returns-in_err-turn c =
     let p = err_from_is_err_and c.from_residual.result c.from_residual.ensures.1 in
-    let st = c.begin.ensures c.args.output.now (pairs_is c.args.cells.now) c.requires.0 (ap pairs_is c.requires.1 ∙ pairs_empty (length c.args.cells.now)) in
+    let st = c.begin.ensures.0 c.args.output.now (pairs_is c.args.cells.now) c.requires.0 (ap pairs_is c.requires.1 ∙ pairs_empty (length c.args.cells.now)) in
     rw (p.1, p.2) (st.ended (Err _) c.in_err-turn.was)
 
 pub loop-turn-init : goal.loop-turn-init
-loop-turn-init c = record {
-  standing = standing_as c.in_ok-turn.was (c.begin.ensures c.args.output.now (pairs_is c.args.cells.now) c.requires.0 (ap pairs_is c.requires.1 ∙ pairs_empty (length c.args.cells.now)));
-  inputs_same = refl;
-  leasts_same = refl;
-  targets_same = refl;
-}
+loop-turn-init c =
+    let st = standing_as c.in_ok-turn.was (c.begin.ensures.0 c.args.output.now (pairs_is c.args.cells.now) c.requires.0 (ap pairs_is c.requires.1 ∙ pairs_empty (length c.args.cells.now))) in
+    stands_judged (stands_fit c.in_ok-turn.turn st) st
+
+-- every node is placed
+pub returns-in-Done : goal.returns-in-Done
+returns-in-Done c =
+    let fit = stands_fit c.in_ok-turn.turn (standing_as c.in_ok-turn.was (c.begin.ensures.0 c.args.output.now (pairs_is c.args.cells.now) c.requires.0 (ap pairs_is c.requires.1 ∙ pairs_empty (length c.args.cells.now)))) in
+    ended_judged (sym fit) (c.loop-turn.invariant.ended (Ok c.in-Done.root) (ap Ok c.in-Done.is))
 
 pub offset_bounds-cells-i : goal.offset_bounds-cells-i
 offset_bounds-cells-i c =
     let w : c.in-Next.due.row + 1 < length c.loop-turn.cells = within _ c.loop-turn.invariant c.in-Next.due (ap Ok c.in-Next.is) in
     search rules
 
-pub slice_copy_out-step : goal.slice_copy_out-step
-slice_copy_out-step c =
+pub slice_copy_out-row : goal.slice_copy_out-row
+slice_copy_out-row c =
     let w : c.in-Next.due.row + 1 < length c.loop-turn.cells = within _ c.loop-turn.invariant c.in-Next.due (ap Ok c.in-Next.is) in
     omega arith
 
-pub overflow_add-i : goal.overflow_add-i
-overflow_add-i c =
+pub overflow_add-row : goal.overflow_add-row
+overflow_add-row c =
     let w : c.in-Next.due.row + 1 < length c.loop-turn.cells = within _ c.loop-turn.invariant c.in-Next.due (ap Ok c.in-Next.is) in
     search rules
 
@@ -45,11 +48,11 @@ offset_bounds-cells-i-in-loop-turn c =
     let w : c.in-Next.due.row + 1 < length c.loop-turn.cells = within _ c.loop-turn.invariant c.in-Next.due (ap Ok c.in-Next.is) in
     search rules
 
-pub slice_copy_out-step-in-loop-turn : goal.slice_copy_out-step-in-loop-turn
-slice_copy_out-step-in-loop-turn c = within _ c.loop-turn.invariant c.in-Next.due (ap Ok c.in-Next.is)
+pub slice_copy_out-row-in-loop-turn : goal.slice_copy_out-row-in-loop-turn
+slice_copy_out-row-in-loop-turn c = within _ c.loop-turn.invariant c.in-Next.due (ap Ok c.in-Next.is)
 
-pub step-done-requires : goal.step-done-requires
-step-done-requires c =
+pub step-next-requires : goal.step-next-requires
+step-next-requires c =
     let d = c.in-Next.due in
     let w = within _ c.loop-turn.invariant d (ap Ok c.in-Next.is) in
     asked _ c.loop-turn.invariant d (ap Ok c.in-Next.is) (get_or_default c.loop-turn.cells d.row _ _ (omega (arith, w))) (get_or_default c.loop-turn.cells (d.row + 1) _ _ w)
@@ -63,22 +66,26 @@ returns-in_err-turn-2 c =
     let p = err_from_is_err_and c.from_residual-in_err-turn-2.result c.from_residual-in_err-turn-2.ensures.1 in
     let d = c.in-Next.due in
     let w = within _ c.loop-turn.invariant d (ap Ok c.in-Next.is) in
+    let fit = stands_fit c.in_ok-turn.turn (standing_as c.in_ok-turn.was (c.begin.ensures.0 c.args.output.now (pairs_is c.args.cells.now) c.requires.0 (ap pairs_is c.requires.1 ∙ pairs_empty (length c.args.cells.now)))) in
     let left : State = record {
-      out = c.step-done.new.output;
+      out = c.step-next.new.output;
       cells = c.put_row.new.cells;
-      inputs = c.step-done.new.inputs;
-      leasts = c.step-done.new.leasts;
-      targets = c.step-done.new.targets;
-      nodes = c.step-done.new.nodes;
-      turn = c.step-done.result.turn;
+      tables = tables_in c.step-next.new.tables;
+      turn = c.step-next.result;
     } in
     let st = after _ c.loop-turn.invariant d (ap Ok c.in-Next.is) (get_or_default c.loop-turn.cells d.row _ _ (omega (arith, w))) (get_or_default c.loop-turn.cells (d.row + 1) _ _ w)
-    left c.step-done.ensures refl c.put_row.ensures in
-    rw (p.1, p.2) (st.ended (Err _) c.in_err-turn-2.was)
+    left c.step-next.ensures refl c.put_row.ensures in
+    rw (p.1, p.2) (ended_judged (sym fit) (st.ended (Err _) c.in_err-turn-2.was))
 
 pub loop-turn-preserved : goal.loop-turn-preserved
 loop-turn-preserved c =
     let d = c.in-Next.due in
     let w = within _ c.loop-turn.invariant d (ap Ok c.in-Next.is) in
-    between _ c.loop-turn.invariant d (ap Ok c.in-Next.is) (get_or_default c.loop-turn.cells d.row _ _ (omega (arith, w))) (get_or_default c.loop-turn.cells (d.row + 1) _ _ w)
-    _ c.step-done.ensures c.in_ok-turn-2.was c.put_row.ensures c.step-done.auto.inputs c.step-done.auto.leasts c.step-done.auto.targets
+    let left : State = record {
+      out = c.step-next.new.output;
+      cells = c.put_row.new.cells;
+      tables = tables_in c.step-next.new.tables;
+      turn = Ok c.in_ok-turn-2.turn;
+    } in
+    after _ c.loop-turn.invariant d (ap Ok c.in-Next.is) (get_or_default c.loop-turn.cells d.row _ _ (omega (arith, w))) (get_or_default c.loop-turn.cells (d.row + 1) _ _ w)
+    left c.step-next.ensures c.in_ok-turn-2.was c.put_row.ensures

@@ -1,20 +1,18 @@
--- Between two turns packing stands over the cells as pairs, and every slice is as long as when it was lent.
+-- Between two turns packing stands over the cells as pairs.
 -- Assumes nothing.
 use Rattle.std.specs.Prelude.{Ok, length}
+use Rattle.pack_close.specs.OpenNodes.{tables_in}
 use Rattle.pack_step.specs.Standing.{turn_left}
 use Rattle.pack_cells.proofs.Turns.{Between}
 use Rattle.pack_cells.proofs.run.Given as goal
 
 abbrev pub invariant-loop-turn : goal.invariant-loop-turn
 invariant-loop-turn l =
-    Between l.list (length l.initial.inputs) (length l.initial.leasts) (length l.initial.targets) (length l.initial.cells) (length l.initial.output)
+    Between l.list (length l.initial.cells) (length l.initial.output)
     (record {
       out = l.output;
       cells = l.cells;
-      inputs = l.inputs;
-      leasts = l.leasts;
-      targets = l.targets;
-      nodes = l.nodes;
+      tables = tables_in l.tables;
       turn = Ok l.turn;
     })
 

@@ -1,9 +1,10 @@
 -- What is judged before the run, in its order.
 -- Assumes nothing.
-use Rattle.std.proofs.Common.{◌≡◌, true, sym, ◌∙◌, arith}
+use Rattle.std.proofs.Common.{sym, ◌∙◌, arith}
 use Rattle.pack_blank.specs.PackBlank.{tables_test}
 use Rattle.pack_step.specs.StandingLaws.{judged_list, judged_tables, judged_cells, judged_room}
 use Rattle.pack_step.proofs.judged.Goals as goal
+use Rattle.pack_step.proofs.judged.Goals.{then-not-tables_fit-via-then-not-tables_fit, then-not-tables_fit-via-else-not-tables_fit+then-cells-lt2, then-not-tables_fit-via-else-not-tables_fit+else-cells-lt2+then-room-lt32}
 
 pub returns-then-not-judge_list : goal.returns-then-not-judge_list
 returns-then-not-judge_list c =
@@ -13,16 +14,12 @@ returns-then-not-judge_list c =
 pub returns-then-not-tables_fit : goal.returns-then-not-tables_fit
 returns-then-not-tables_fit c =
     let a = c.args in
-    judged_tables a.list.now (tables_test a.inputs a.leasts a.targets) a.cells a.room (c.judge_list.ensures.yes c.if-not-judge_list.false) (sym c.tables_fit.ensures ∙ c.if-not-tables_fit.true)
-
-pub returns-then-cells-lt2 : goal.returns-then-cells-lt2
-returns-then-cells-lt2 c =
-    let a = c.args in
-    judged_cells a.list.now (tables_test a.inputs a.leasts a.targets) a.cells a.room (c.judge_list.ensures.yes c.if-not-judge_list.false) (sym c.tables_fit.ensures ∙ c.if-not-tables_fit.false)
-    c.if-cells-lt2.true
-
-pub returns-then-room-lt32 : goal.returns-then-room-lt32
-returns-then-room-lt32 c =
-    let a = c.args in
-    judged_room a.list.now (tables_test a.inputs a.leasts a.targets) a.cells a.room (c.judge_list.ensures.yes c.if-not-judge_list.false) (sym c.tables_fit.ensures ∙ c.if-not-tables_fit.false)
-    (omega (arith, c.if-cells-lt2.false)) c.if-room-lt32.true
+    let ok = c.judge_list.ensures.yes c.if-not-judge_list.false in
+    let T = tables_test a.inputs a.leasts a.targets in
+    elim c.then-not-tables_fit.branch [
+      | then-not-tables_fit-via-then-not-tables_fit w ↦ judged_tables a.list.now T a.cells a.room ok (sym c.tables_fit.ensures ∙ w.if-not-tables_fit.true)
+      | then-not-tables_fit-via-else-not-tables_fit+then-cells-lt2 w ↦
+          judged_cells a.list.now T a.cells a.room ok (sym c.tables_fit.ensures ∙ w.if-not-tables_fit.false) w.if-cells-lt2.true
+      | then-not-tables_fit-via-else-not-tables_fit+else-cells-lt2+then-room-lt32 w ↦
+          judged_room a.list.now T a.cells a.room ok (sym c.tables_fit.ensures ∙ w.if-not-tables_fit.false) (omega (arith, w.if-cells-lt2.false)) w.if-room-lt32.true
+    ]

@@ -1,6 +1,7 @@
 -- `patterned_walk::walk_by` meets its contract: each way out of a turn, and the levels that a descent leaves.
 -- Assumes nothing.
 use Rattle.std.proofs.Common.{◌≡◌, refl, Ok, Err, Some, None, ap, ◌∙◌, arith}
+use Rattle.std.proofs.lemmas.Result.{err_from_is_err_and}
 use Rattle.patterned_fit.specs.Positions.{held_is}
 use Rattle.patterned_fit.specs.PositionLaws.{positions_length}
 use Rattle.stream_start.specs.Views.{bound_of}
@@ -16,12 +17,14 @@ loop-n-init c =
     c.fit_of-fit.result c.requires.levels_le_max_levels.0 c.are_arrays.ensures c.fit_of-fit.ensures
 
 -- no level can go on
-pub returns-in_default-popped : goal.returns-in_default-popped
-returns-in_default-popped c = let e : c.pop_by.result ≡ Ok None = grind arith in walking_empty c.loop-n.invariant (positions_length c.args.pattern.now.len c.args.pattern.now.positions) refl c.pop_by.ensures e
+pub returns-in_default : goal.returns-in_default
+returns-in_default c = let e : c.pop_by.result ≡ Ok None = grind arith in walking_empty c.loop-n.invariant (positions_length c.args.pattern.now.len c.args.pattern.now.positions) refl c.pop_by.ensures e
 
 -- the node of a level is not sound
-pub returns-in_default : goal.returns-in_default
-returns-in_default c = walking_bad c.loop-n.invariant (positions_length c.args.pattern.now.len c.args.pattern.now.positions) refl c.pop_by.ensures c.in_default.field-0 c.in_default.is
+pub returns-in_err-top : goal.returns-in_err-top
+returns-in_err-top c =
+    let p = err_from_is_err_and c.from_residual.result c.from_residual.ensures.1 in
+    rw (p.1, p.2) (walking_bad c.loop-n.invariant (positions_length c.args.pattern.now.len c.args.pattern.now.positions) refl c.pop_by.ensures _ c.in_err-top.was)
 
 -- the level found is one of 256, and its node is judged
 pub descend_by-requires-clause-top_lt_max_levels : goal.descend_by-requires-clause-top_lt_max_levels
@@ -39,7 +42,7 @@ descend_by-requires-clause-inps_value c =
 pub returns-in_err-k : goal.returns-in_err-k
 returns-in_err-k c =
     let e : c.pop_by.result ≡ Ok (Some (c.in-Some.top, c.in-Some.m)) = grind arith in
-    let told : c.from_residual.result ≡ Err c.in_err-k.field-0.0 = grind arith in
+    let told : c.from_residual-in_err-k.result ≡ Err c.in_err-k.field-0.0 = grind arith in
     rw told (walking_halted c.loop-n.invariant (positions_length c.args.pattern.now.len c.args.pattern.now.positions) refl c.pop_by.ensures c.in-Some.top c.in-Some.m e c.descend_by.ensures _ c.in_err-k.was)
 
 -- a key is found

@@ -1,6 +1,7 @@
 -- `range_down::descend` meets its contract: nothing is followed yet; each way out of a turn; a level more.
 -- Assumes nothing.
 use Rattle.std.proofs.Common.{rules, Err, ◌≡◌, refl, sym, ◌∙◌, arith, ◌+◌, ◌<◌, ◌≤◌, get_or}
+use Rattle.std.proofs.lemmas.Result.{err_from_is_err_and}
 use Rattle.format.specs.Limits.{max_sum}
 use Rattle.format.specs.declared.Refusal.TheVariants.{Sum}
 use Rattle.range_node.specs.EntriesLaws.{met_sound, met_unsound, ending_final, ending_inner}
@@ -16,29 +17,32 @@ loop-k-init c =
     (record { addrs_len = omega arith; inps_len = omega arith; trans_len = omega arith; outs_len = omega arith }) r.2 r.3 r.4
 
 -- the sum up to the target does not fit
+pub returns-in_err-sum : goal.returns-in_err-sum
+returns-in_err-sum c =
+    let g = c.loop-k.invariant in
+    let past : max_sum < get_or c.loop-k.stack.outs c.loop-k.k 0 + c.take-edge.result.out = grind arith in
+    let told : c.from_residual.result ≡ Err Sum = grind arith in
+    rw told (going_sum g refl (c.take-edge.ensures g.leads.node g.leads.is) c.loop-k-test.true past)
+
+-- the target is not sound
+pub returns-in_err-ending : goal.returns-in_err-ending
+returns-in_err-ending c =
+    let g = c.loop-k.invariant in
+    let fits : get_or c.loop-k.stack.outs c.loop-k.k 0 + c.take-edge.result.out ≤ max_sum = grind arith in
+    let p = err_from_is_err_and c.from_residual-in_err-ending.result c.from_residual-in_err-ending.ensures.1 in
+    rw (p.1, p.2)
+    (going_bad g refl (c.take-edge.ensures g.leads.node g.leads.is) c.loop-k-test.true fits (met_unsound _ (sym c.in_err-ending.was ∙ c.meet.ensures)))
+
+-- the key of the new level passes the upper bound
 pub returns-in_default : goal.returns-in_default
 returns-in_default c =
     let g = c.loop-k.invariant in
-    let past : max_sum < get_or c.loop-k.stack.outs c.loop-k.k 0 + c.take-edge.result.out = omega (arith, c.in_default.ensures) in
-    going_sum g refl (c.take-edge.ensures g.leads.node g.leads.is) c.loop-k-test.true past
-
--- the target is not sound
-pub returns-in_default-meet : goal.returns-in_default-meet
-returns-in_default-meet c =
-    let g = c.loop-k.invariant in
-    let fits : get_or c.loop-k.stack.outs c.loop-k.k 0 + c.take-edge.result.out ≤ max_sum = omega (arith, c.in-Some.ensures) in
-    going_bad g refl (c.take-edge.ensures g.leads.node g.leads.is) c.loop-k-test.true fits (met_unsound _ c.in_default-meet.ensures)
-
--- the key of the new level passes the upper bound
-pub returns-in_default-follow : goal.returns-in_default-follow
-returns-in_default-follow c =
-    let g = c.loop-k.invariant in
     let e = c.take-edge.ensures g.leads.node g.leads.is in
-    let fits : get_or c.loop-k.stack.outs c.loop-k.k 0 + c.take-edge.result.out ≤ max_sum = omega (arith, c.in-Some.ensures) in
-    let is : c.in-Some.sum ≡ get_or c.loop-k.stack.outs c.loop-k.k 0 + c.take-edge.result.out = omega (arith, c.in-Some.ensures) in
-    let met = met_sound _ c.in-Ok.ending c.in-Ok.ensures in
+    let fits : get_or c.loop-k.stack.outs c.loop-k.k 0 + c.take-edge.result.out ≤ max_sum = grind arith in
+    let is : c.in_ok-sum.sum ≡ get_or c.loop-k.stack.outs c.loop-k.k 0 + c.take-edge.result.out = grind arith in
+    let met = met_sound _ c.in_ok-ending.ending (sym c.in_ok-ending.was ∙ c.meet.ensures) in
     going_passed g refl e c.loop-k-test.true fits met.node met.is is
-    ((further g refl e c.loop-k-test.true fits met.node met.is is c.follow.ensures).past c.in_default-follow.is)
+    ((further g refl e c.loop-k-test.true fits met.node met.is is c.follow.ensures).past c.in_default.is)
 
 pub overflow_cast-stack : goal.overflow_cast-stack
 overflow_cast-stack c = search (rules, place_fits c.loop-k.invariant refl (λ i. c.are_bytes.ensures i))
@@ -53,28 +57,28 @@ pub returns-in-Some-ending : goal.returns-in-Some-ending
 returns-in-Some-ending c =
     let g = c.loop-k.invariant in
     let e = c.take-edge.ensures g.leads.node g.leads.is in
-    let fits : get_or c.loop-k.stack.outs c.loop-k.k 0 + c.take-edge.result.out ≤ max_sum = omega (arith, c.in-Some.ensures) in
-    let is : c.in-Some.sum ≡ get_or c.loop-k.stack.outs c.loop-k.k 0 + c.take-edge.result.out = omega (arith, c.in-Some.ensures) in
-    let met = met_sound _ c.in-Ok.ending c.in-Ok.ensures in
+    let fits : get_or c.loop-k.stack.outs c.loop-k.k 0 + c.take-edge.result.out ≤ max_sum = grind arith in
+    let is : c.in_ok-sum.sum ≡ get_or c.loop-k.stack.outs c.loop-k.k 0 + c.take-edge.result.out = grind arith in
+    let met = met_sound _ c.in_ok-ending.ending (sym c.in_ok-ending.was ∙ c.meet.ensures) in
     let within =
-    (further g refl e c.loop-k-test.true fits met.node met.is is c.follow.ensures).within c.in-Some-follow.same c.in-Some-follow.is in
+    (further g refl e c.loop-k-test.true fits met.node met.is is c.follow.ensures).within c.in-Some.same c.in-Some.is in
     going_final g refl e c.loop-k-test.true fits met.node met.is is within c.in-Some-ending.end
     (ending_final met.node c.in-Some-ending.end (sym c.in-Some-ending.is ∙ met.ending)) _
-    (let room : c.in-Some.sum + c.in-Some-ending.end ≤ max_sum = grind arith in let told : c.in_ok-value.value ≡ c.in-Some.sum + c.in-Some-ending.end = grind arith in
+    (let room : c.in_ok-sum.sum + c.in-Some-ending.end ≤ max_sum = grind arith in let told : c.in_ok-value.value ≡ c.in_ok-sum.sum + c.in-Some-ending.end = grind arith in
     found_fits _ _ _ _ _ room told)
 
 pub returns-in_err-value : goal.returns-in_err-value
 returns-in_err-value c =
     let g = c.loop-k.invariant in
     let e = c.take-edge.ensures g.leads.node g.leads.is in
-    let fits : get_or c.loop-k.stack.outs c.loop-k.k 0 + c.take-edge.result.out ≤ max_sum = omega (arith, c.in-Some.ensures) in
-    let is : c.in-Some.sum ≡ get_or c.loop-k.stack.outs c.loop-k.k 0 + c.take-edge.result.out = omega (arith, c.in-Some.ensures) in
-    let met = met_sound _ c.in-Ok.ending c.in-Ok.ensures in
+    let fits : get_or c.loop-k.stack.outs c.loop-k.k 0 + c.take-edge.result.out ≤ max_sum = grind arith in
+    let is : c.in_ok-sum.sum ≡ get_or c.loop-k.stack.outs c.loop-k.k 0 + c.take-edge.result.out = grind arith in
+    let met = met_sound _ c.in_ok-ending.ending (sym c.in_ok-ending.was ∙ c.meet.ensures) in
     let within =
-    (further g refl e c.loop-k-test.true fits met.node met.is is c.follow.ensures).within c.in-Some-follow.same c.in-Some-follow.is in
+    (further g refl e c.loop-k-test.true fits met.node met.is is c.follow.ensures).within c.in-Some.same c.in-Some.is in
     going_final g refl e c.loop-k-test.true fits met.node met.is is within c.in-Some-ending.end
     (ending_final met.node c.in-Some-ending.end (sym c.in-Some-ending.is ∙ met.ending)) _
-    (let past : max_sum < c.in-Some.sum + c.in-Some-ending.end = grind arith in let told : c.from_residual.result ≡ Err Sum = grind arith in
+    (let past : max_sum < c.in_ok-sum.sum + c.in-Some-ending.end = grind arith in let told : c.from_residual-in_err-value.result ≡ Err Sum = grind arith in
     told ∙ found_past _ _ _ _ past)
 
 -- one transition more is followed, and its target is judged
@@ -82,11 +86,11 @@ pub loop-k-preserved : goal.loop-k-preserved
 loop-k-preserved c =
     let g = c.loop-k.invariant in
     let e = c.take-edge.ensures g.leads.node g.leads.is in
-    let fits : get_or c.loop-k.stack.outs c.loop-k.k 0 + c.take-edge.result.out ≤ max_sum = omega (arith, c.in-Some.ensures) in
-    let is : c.in-Some.sum ≡ get_or c.loop-k.stack.outs c.loop-k.k 0 + c.take-edge.result.out = omega (arith, c.in-Some.ensures) in
-    let met = met_sound _ c.in-Ok.ending c.in-Ok.ensures in
+    let fits : get_or c.loop-k.stack.outs c.loop-k.k 0 + c.take-edge.result.out ≤ max_sum = grind arith in
+    let is : c.in_ok-sum.sum ≡ get_or c.loop-k.stack.outs c.loop-k.k 0 + c.take-edge.result.out = grind arith in
+    let met = met_sound _ c.in_ok-ending.ending (sym c.in_ok-ending.was ∙ c.meet.ensures) in
     let within =
-    (further g refl e c.loop-k-test.true fits met.node met.is is c.follow.ensures).within c.in-Some-follow.same c.in-Some-follow.is in
+    (further g refl e c.loop-k-test.true fits met.node met.is is c.follow.ensures).within c.in-Some.same c.in-Some.is in
     going_on g refl e c.loop-k-test.true fits met.node met.is is within (ending_inner met.node (sym c.in_default-ending.is ∙ met.ending))
 
 -- no room for another level: DEEP

@@ -5,7 +5,7 @@ use Rattle.format.specs.Laws.OpeningLaws.{root_fits}
 use Rattle.reading.specs.Reading.{bound_bytes}
 use Rattle.stream_start.specs.Views.{bound_of}
 use Rattle.range_bound.specs.Besides.{Beside}
-use Rattle.range_fill.proofs.FillCases.{going_none, going_key, going_end, going_refused, going_more, key_low, inputs_hold, row_within}
+use Rattle.range_fill.proofs.FillCases.{going_none, going_key, going_end, going_refused, going_more, key_low, key_len, row_within}
 use Rattle.range_fill.proofs.fill.Goals as goal
 
 pub loop-count-init : goal.loop-count-init
@@ -39,6 +39,23 @@ returns-in-Err c =
     going_refused h.opens h.short r.0 r.1 c.loop-count.invariant c.loop-count-test.true (c.step_on.ensures (length c.args.fst.bytes.now) (length (bound_bytes (bound_of c.args.upper)))) _
     c.in-Err.is 0
 
+-- the key's inputs stand among the 256
+pub overflow_add-next : goal.overflow_add-next
+overflow_add-next c =
+    let h = c.requires.ready in
+    let r = c.requires.most_in_bounds in
+    let t = c.step_on.ensures (length c.args.fst.bytes.now) (length (bound_bytes (bound_of c.args.upper))) in
+    let low = key_low h.opens h.short r.0 r.1 c.loop-count.invariant c.loop-count-test.true t _ (rw c.in-Ok-Some.field-0-is at c.in-Ok-Some.is) in
+    search rules
+
+pub slice_bounds-put_row-end : goal.slice_bounds-put_row-end
+slice_bounds-put_row-end c =
+    let h = c.requires.ready in
+    let r = c.requires.most_in_bounds in
+    let t = c.step_on.ensures (length c.args.fst.bytes.now) (length (bound_bytes (bound_of c.args.upper))) in
+    let low = key_low h.opens h.short r.0 r.1 c.loop-count.invariant c.loop-count-test.true t _ (rw c.in-Ok-Some.field-0-is at c.in-Ok-Some.is) in
+    search rules
+
 -- the inputs hold the key, and its row lies within the rows
 pub put_row-requires : goal.put_row-requires
 put_row-requires c =
@@ -48,9 +65,8 @@ put_row-requires c =
     let g = c.loop-count.invariant in
     let left = c.loop-count-test.true in
     let e = rw c.in-Ok-Some.field-0-is at c.in-Ok-Some.is in (
-      inputs_hold h.opens h.short r.0 r.1 g left t _ _ _ e,
-      omega (arith, key_low h.opens h.short r.0 r.1 g left t _ _ _ e),
-      row_within h.opens h.short r.0 r.1 g left t _ _ _ e,
+      omega (arith, key_len h.opens h.short r.0 r.1 g left t _ e, key_low h.opens h.short r.0 r.1 g left t _ e),
+      row_within h.opens h.short r.0 r.1 g left t _ e,
     )
 
 pub overflow_add-height : goal.overflow_add-height
@@ -58,7 +74,7 @@ overflow_add-height c =
     let h = c.requires.ready in
     let r = c.requires.most_in_bounds in
     let t = c.step_on.ensures (length c.args.fst.bytes.now) (length (bound_bytes (bound_of c.args.upper))) in
-    search (rules, key_low h.opens h.short r.0 r.1 c.loop-count.invariant c.loop-count-test.true t _ _ _ (rw c.in-Ok-Some.field-0-is at c.in-Ok-Some.is))
+    search (rules, key_low h.opens h.short r.0 r.1 c.loop-count.invariant c.loop-count-test.true t _ (rw c.in-Ok-Some.field-0-is at c.in-Ok-Some.is))
 
 -- a key more
 pub loop-count-preserved : goal.loop-count-preserved
@@ -66,7 +82,7 @@ loop-count-preserved c =
     let h = c.requires.ready in
     let r = c.requires.most_in_bounds in
     let t = c.step_on.ensures (length c.args.fst.bytes.now) (length (bound_bytes (bound_of c.args.upper))) in
-    going_key h.opens h.short r.0 r.1 c.loop-count.invariant c.loop-count-test.true t _ _ _ (rw c.in-Ok-Some.field-0-is at c.in-Ok-Some.is) c.put_row.ensures
+    going_key h.opens h.short r.0 r.1 c.loop-count.invariant c.loop-count-test.true t _ (rw c.in-Ok-Some.field-0-is at c.in-Ok-Some.is) c.put_row.ensures
 
 -- as many as asked for
 pub returns : goal.returns

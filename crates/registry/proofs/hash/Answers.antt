@@ -16,12 +16,12 @@ pub loop-i-init : goal.loop-i-init
 unfolding hash_of hash_node
 loop-i-init c = record {
   within = omega arith;
-  rest = rw (c.fnv_step-h.ensures, c.fnv_step-seed.ensures, c.from.ensures ∙ word c.args.is_final);
+  rest = rw (c.fnv_step-h.ensures, c.fnv_step-seed.ensures, c.from.ensures ∙ word c.args.node.is_final);
 }
 
 pub loop-i-preserved : goal.loop-i-preserved
 loop-i-preserved c =
-    hashed_step c.hash_transition-h.result c.requires.0 c.requires.1 (omega arith) c.hash_transition-h.ensures c.loop-i.invariant
+    hashed_step c.hash_transition-h.result c.requires.outputs_len c.requires.targets_len (omega arith) c.hash_transition-h.ensures c.loop-i.invariant
 
 pub returns : goal.returns
 returns c = hashed_all (omega arith) c.loop-i.invariant

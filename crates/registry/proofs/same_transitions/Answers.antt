@@ -9,18 +9,18 @@ use Rattle.node.specs.ReadLaws.{length_node_transitions}
 use Rattle.registry.proofs.NodeComparing.{lengths_differ, compared_none, compared_step, compared_differ, compared_all}
 use Rattle.registry.proofs.same_transitions.Goals as goal
 
-pub returns-then-inputs-node : goal.returns-then-inputs-node
-returns-then-inputs-node c =
+pub returns-then-node-stored : goal.returns-then-node-stored
+returns-then-node-stored c =
     let a = c.args in
-    sym (lengths_differ (transitions_in a.file.now a.node) (transitions_of a.inputs.now a.outputs.now a.targets.now)
-    (λ e. c.if-inputs-node.true (sym (length_transitions_of a.inputs.now a.outputs.now a.targets.now c.requires.1 c.requires.2) ∙ sym e
-    ∙ length_node_transitions a.file.now a.node c.requires.0)))
+    sym (lengths_differ (transitions_in a.file.now a.stored) (transitions_of a.node.inputs.now a.node.outputs.now a.node.targets.now)
+    (λ e. c.if-node-stored.true (sym (length_transitions_of a.node.inputs.now a.node.outputs.now a.node.targets.now c.requires.1.outputs_len c.requires.1.targets_len) ∙ sym e
+    ∙ length_node_transitions a.file.now a.stored c.requires.0)))
 
 pub loop-i-init : goal.loop-i-init
 loop-i-init c =
     let a = c.args in
-    let same : length a.inputs.now ≡ length (transitions_in a.file.now a.node) = c.if-inputs-node.false ∙ sym (length_node_transitions a.file.now a.node c.requires.0) in
-    compared_none _ a.inputs.now a.outputs.now a.targets.now c.requires.1 c.requires.2 same
+    let same : length a.node.inputs.now ≡ length (transitions_in a.file.now a.stored) = c.if-node-stored.false ∙ sym (length_node_transitions a.file.now a.stored c.requires.0) in
+    compared_none _ a.node.inputs.now a.node.outputs.now a.node.targets.now c.requires.1.outputs_len c.requires.1.targets_len same
 
 -- the three parts of a tuple are compared from the left
 grouped : (a b d : Bool) → ((a && b) && d) ≡ (a && (b && d))
@@ -40,21 +40,21 @@ returns-then-ne c =
     let a = c.args in
     let t = c.transition-t.result in
     let i = c.loop-i.i in
-    let same : length a.inputs.now ≡ length (transitions_in a.file.now a.node) = c.if-inputs-node.false ∙ sym (length_node_transitions a.file.now a.node c.requires.0) in
-    compared_differ _ a.inputs.now a.outputs.now a.targets.now c.requires.1 c.requires.2 same
-    i (omega arith) _ c.transition-t.ensures _ (grouped (eqb t.inp (get_or a.inputs.now i 0)) (eqb t.out (get_or a.outputs.now i 0)) (eqb t.addr (get_or a.targets.now i 0))) c.loop-i.invariant (not_true _ (sym c.ne.ensures ∙ c.if-ne.true))
+    let same : length a.node.inputs.now ≡ length (transitions_in a.file.now a.stored) = c.if-node-stored.false ∙ sym (length_node_transitions a.file.now a.stored c.requires.0) in
+    compared_differ _ a.node.inputs.now a.node.outputs.now a.node.targets.now c.requires.1.outputs_len c.requires.1.targets_len same
+    i (omega arith) _ c.transition-t.ensures _ (grouped (eqb t.inp (get_or a.node.inputs.now i 0)) (eqb t.out (get_or a.node.outputs.now i 0)) (eqb t.addr (get_or a.node.targets.now i 0))) c.loop-i.invariant (not_true _ (sym c.ne.ensures ∙ c.if-ne.true))
 
 pub loop-i-preserved : goal.loop-i-preserved
 loop-i-preserved c =
     let a = c.args in
     let t = c.transition-t.result in
     let i = c.loop-i.i in
-    let same : length a.inputs.now ≡ length (transitions_in a.file.now a.node) = c.if-inputs-node.false ∙ sym (length_node_transitions a.file.now a.node c.requires.0) in
-    compared_step _ a.inputs.now a.outputs.now a.targets.now c.requires.1 c.requires.2 same
-    i (omega arith) _ c.transition-t.ensures _ (grouped (eqb t.inp (get_or a.inputs.now i 0)) (eqb t.out (get_or a.outputs.now i 0)) (eqb t.addr (get_or a.targets.now i 0))) c.loop-i.invariant (not_false _ (sym c.ne.ensures ∙ c.if-ne.false))
+    let same : length a.node.inputs.now ≡ length (transitions_in a.file.now a.stored) = c.if-node-stored.false ∙ sym (length_node_transitions a.file.now a.stored c.requires.0) in
+    compared_step _ a.node.inputs.now a.node.outputs.now a.node.targets.now c.requires.1.outputs_len c.requires.1.targets_len same
+    i (omega arith) _ c.transition-t.ensures _ (grouped (eqb t.inp (get_or a.node.inputs.now i 0)) (eqb t.out (get_or a.node.outputs.now i 0)) (eqb t.addr (get_or a.node.targets.now i 0))) c.loop-i.invariant (not_false _ (sym c.ne.ensures ∙ c.if-ne.false))
 
 pub returns : goal.returns
 returns c =
     let a = c.args in
-    let same : length a.inputs.now ≡ length (transitions_in a.file.now a.node) = c.if-inputs-node.false ∙ sym (length_node_transitions a.file.now a.node c.requires.0) in
-    compared_all _ a.inputs.now a.outputs.now a.targets.now c.requires.1 c.requires.2 same c.loop-i.i (omega arith) c.loop-i.invariant
+    let same : length a.node.inputs.now ≡ length (transitions_in a.file.now a.stored) = c.if-node-stored.false ∙ sym (length_node_transitions a.file.now a.stored c.requires.0) in
+    compared_all _ a.node.inputs.now a.node.outputs.now a.node.targets.now c.requires.1.outputs_len c.requires.1.targets_len same c.loop-i.i (omega arith) c.loop-i.invariant

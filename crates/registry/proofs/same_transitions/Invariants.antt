@@ -6,4 +6,4 @@ use Rattle.registry.proofs.NodeComparing.{Compared}
 use Rattle.registry.proofs.same_transitions.Given as goal
 
 abbrev pub invariant-loop-i : goal.invariant-loop-i
-invariant-loop-i l = Compared (transitions_in l.file l.node) (transitions_of l.inputs l.outputs l.targets) l.i
+invariant-loop-i l = Compared (transitions_in l.file l.stored) (transitions_of l.node.inputs.now l.node.outputs.now l.node.targets.now) l.i

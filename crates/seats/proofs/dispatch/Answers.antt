@@ -7,15 +7,15 @@ use Rattle.seats.proofs.dispatch.Goals as goal
 
 pub returns-then-not-seats_right : goal.returns-then-not-seats_right
 returns-then-not-seats_right c =
-    told_wrong c.args.file.now (seats_is c.args.seats) c.args.key.now _ refl (sym c.seats_right.ensures ∙ c.if-not-seats_right.true) refl
+    told_wrong c.args.file.now (seats_is c.args.seats) c.args.key.now (sym c.seats_right.ensures ∙ c.if-not-seats_right.true)
 
-pub turn_of-turn-requires : goal.turn_of-turn-requires
-turn_of-turn-requires c = right_last (seats_is c.args.seats) (sym c.seats_right.ensures ∙ c.if-not-seats_right.false)
+pub turn_of-requires : goal.turn_of-requires
+turn_of-requires c = right_last (seats_is c.args.seats) (sym c.seats_right.ensures ∙ c.if-not-seats_right.false)
 
 pub serve-requires : goal.serve-requires
 serve-requires c =
-    (sym c.seats_right.ensures ∙ c.if-not-seats_right.false, sym c.turn_of-turn.ensures ∙ ap turn_is c.in-Some.is)
+    (sym c.seats_right.ensures ∙ c.if-not-seats_right.false, sym c.turn_of.ensures ∙ ap turn_is c.in-Some.is)
 
 pub returns-in-None : goal.returns-in-None
 returns-in-None c =
-    told_nobody c.args.file.now (seats_is c.args.seats) c.args.key.now _ refl (sym c.seats_right.ensures ∙ c.if-not-seats_right.false) (sym c.turn_of-turn.ensures ∙ ap turn_is c.in-None.is) refl
+    told_nobody c.args.file.now c.args.seats c.args.key.now (sym c.seats_right.ensures ∙ c.if-not-seats_right.false) (sym c.turn_of.ensures ∙ ap turn_is c.in-None.is)

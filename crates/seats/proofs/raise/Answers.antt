@@ -2,27 +2,28 @@
 use mathlib.Core.Path.{refl, sym, ap, ◌∙◌}
 use mathlib.Core.Bool.{not}
 use Rattle.seats_turn.specs.SeatViews.{seats_is}
-use Rattle.seats.proofs.SeatCases.{changed_as, raise_number, raise_wrong, raise_empty, raise_told}
+use Rattle.seats.proofs.SeatCases.{raise_number, raise_wrong, raise_empty, raise_told}
 use borrow.Author.Rules.{rules}
 use native.Mathlib.Omega.{arith}
+use Rattle.seats.proofs.raise.Goals.{then-number-gt-LAST_SEAT-via-then-number-gt-LAST_SEAT, then-number-gt-LAST_SEAT-via-else-number-gt-LAST_SEAT+then-not-seats_right}
 use Rattle.seats.proofs.raise.Goals as goal
 
+-- no seat has the number, or the seats are not right
 pub returns-then-number-gt-LAST_SEAT : goal.returns-then-number-gt-LAST_SEAT
 returns-then-number-gt-LAST_SEAT c =
     let a = c.args in
-    changed_as (raise_number (seats_is a.seats) a.number c.if-number-gt-LAST_SEAT.true) c.refused.ensures
-
-pub returns-then-not-seats_right : goal.returns-then-not-seats_right
-returns-then-not-seats_right c =
-    let a = c.args in
-    changed_as (raise_wrong (seats_is a.seats) a.number (omega arith) (sym c.seats_right.ensures ∙ c.if-not-seats_right.true)) c.refused-then-not-seats_right.ensures
+    elim c.then-number-gt-LAST_SEAT.branch [
+      | then-number-gt-LAST_SEAT-via-then-number-gt-LAST_SEAT w ↦ sym (raise_number (seats_is a.seats) a.number w.if-number-gt-LAST_SEAT.true)
+      | then-number-gt-LAST_SEAT-via-else-number-gt-LAST_SEAT+then-not-seats_right w ↦
+          sym (raise_wrong (seats_is a.seats) a.number (omega (arith, w.if-number-gt-LAST_SEAT.false)) (sym w.seats_right.ensures ∙ w.if-not-seats_right.true))
+    ]
 
 pub returns-then-is_none : goal.returns-then-is_none
 returns-then-is_none c =
     let a = c.args in
-    changed_as (raise_empty a.seats (search rules) a.number _ (omega arith) (sym c.seats_right.ensures ∙ c.if-not-seats_right.false) (c.is_none.ensures ∙ ap not c.if-is_none.true)) c.refused-then-is_none.ensures
+    sym (raise_empty a.seats (search rules) a.number _ (omega arith) (sym c.seats_right.ensures ∙ c.if-not-seats_right.false) (c.is_none.ensures ∙ ap not c.if-is_none.true))
 
 pub returns : goal.returns
 returns c =
     let a = c.args in
-    raise_told a.seats (search rules) a.number _ (omega arith) _ (sym c.seats_right.ensures ∙ c.if-not-seats_right.false) (c.is_none.ensures ∙ ap not c.if-is_none.false) refl c.put_seat.ensures
+    raise_told a.seats (search rules) a.number _ (omega arith) _ (sym c.seats_right.ensures ∙ c.if-not-seats_right.false) (c.is_none.ensures ∙ ap not c.if-is_none.false) c.put_seat.ensures

@@ -3,8 +3,7 @@ use Rattle.std.proofs.Common.{◌≡◌, Err, sym, ap, ◌∙◌, arith}
 use Rattle.format.specs.Laws.OpeningLaws.{root_inside}
 use Rattle.fst.specs.Open.{meta_is, opening_is}
 use Rattle.stream_start.specs.Views.{bound_of}
-use Rattle.stream.proofs.StartCases.{plain_refused, plain_lower, plain_upper, plain_table, plain_then}
-use Rattle.stream.proofs.start.Goals.{then-len_of-gt-MAX_KEY-via-then-len_of-gt-MAX_KEY, then-len_of-gt-MAX_KEY-via-else-len_of-gt-MAX_KEY+then-len_of-gt-MAX_KEY-2}
+use Rattle.stream.proofs.StartCases.{plain_refused, plain_bound, plain_table, plain_then}
 use Rattle.stream.proofs.start.Goals as goal
 
 -- the file does not open
@@ -15,17 +14,11 @@ returns-in_err-m c =
     rw told (sym (plain_refused a.file.now (bound_of a.lower) (bound_of a.upper) a.counts.now _ (sym c.open.ensures ∙ ap opening_is c.in_err-m.was)))
 
 -- a long bound
-pub returns-then-len_of-gt-MAX_KEY : goal.returns-then-len_of-gt-MAX_KEY
-returns-then-len_of-gt-MAX_KEY c =
+pub returns-then-not-bounds_right : goal.returns-then-not-bounds_right
+returns-then-not-bounds_right c =
     let a = c.args in
-    let opens = sym c.open.ensures ∙ ap opening_is c.in_ok-m.was in
-    elim c.then-len_of-gt-MAX_KEY.branch [
-      | then-len_of-gt-MAX_KEY-via-then-len_of-gt-MAX_KEY w ↦
-          sym (plain_lower a.file.now (bound_of a.lower) (bound_of a.upper) a.counts.now (meta_is c.in_ok-m.m) opens (omega (arith, w.if-len_of-gt-MAX_KEY.true, c.len_of.ensures)))
-      | then-len_of-gt-MAX_KEY-via-else-len_of-gt-MAX_KEY+then-len_of-gt-MAX_KEY-2 w ↦
-          sym (plain_upper a.file.now (bound_of a.lower) (bound_of a.upper) a.counts.now (meta_is c.in_ok-m.m) opens
-          (omega (arith, w.if-len_of-gt-MAX_KEY-2.true, w.len_of-else-len_of-gt-MAX_KEY.ensures)))
-    ]
+    sym (plain_bound a.file.now (bound_of a.lower) (bound_of a.upper) a.counts.now (meta_is c.in_ok-m.m) (sym c.open.ensures ∙ ap opening_is c.in_ok-m.was)
+    (sym c.bounds_right.ensures ∙ c.if-not-bounds_right.true))
 
 -- a short table
 pub returns-then-short : goal.returns-then-short
@@ -33,7 +26,7 @@ returns-then-short c =
     let a = c.args in
     let opens = sym c.open.ensures ∙ ap opening_is c.in_ok-m.was in
     sym (plain_table a.file.now (bound_of a.lower) (bound_of a.upper) a.counts.now (meta_is c.in_ok-m.m) opens
-    (omega (arith, c.if-len_of-gt-MAX_KEY.false, c.len_of.ensures)) (omega (arith, c.if-len_of-gt-MAX_KEY-2.false, c.len_of-else-len_of-gt-MAX_KEY.ensures)) c.if-short.true)
+    (sym c.bounds_right.ensures ∙ c.if-not-bounds_right.false) c.if-short.true)
 
 pub numbered-requires : goal.numbered-requires
 numbered-requires c =
@@ -47,4 +40,4 @@ returns c =
     let opens = sym c.open.ensures ∙ ap opening_is c.in_ok-m.was in
     (rw c.over.ensures at c.numbered.ensures)
     ∙ sym (plain_then a.file.now (bound_of a.lower) (bound_of a.upper) a.counts.now (meta_is c.in_ok-m.m) opens
-    (omega (arith, c.if-len_of-gt-MAX_KEY.false, c.len_of.ensures)) (omega (arith, c.if-len_of-gt-MAX_KEY-2.false, c.len_of-else-len_of-gt-MAX_KEY.ensures)) c.if-short.false)
+    (sym c.bounds_right.ensures ∙ c.if-not-bounds_right.false) c.if-short.false)

@@ -1,12 +1,12 @@
 -- `stream_next::next` meets its contract: one law for each refusal before the walk, and one for the walk.
 -- Assumes nothing.
-use Rattle.std.proofs.Common.{◌≡◌, Ok, length, sym, ap, ◌∙◌, arith}
+use Rattle.std.proofs.Common.{length, sym, ap, ◌∙◌, arith}
 use Rattle.format.specs.Laws.OpeningLaws.{root_fits}
 use Rattle.format.specs.Paths.{fst_of}
 use Rattle.fst.specs.Open.{meta_is, opening_is}
 use Rattle.stream_start.specs.Views.{empty_is}
-use Rattle.stream_next.specs.declared.Gone.TheVariants.{Key, End}
 use Rattle.stream_next.proofs.NextCases.{state_facts, next_refused, next_state, next_space, next_walk, gone_low, walk_refused, walk_ended, walk_key}
+use Rattle.stream_next.proofs.WalkCases.{ended_is, found_is}
 use Rattle.stream_next.proofs.next.Goals as goal
 
 -- the reading cannot go on with this file: STATE
@@ -29,8 +29,8 @@ pub upper-requires : goal.upper-requires
 upper-requires c = (state_facts c.args.reading (length c.args.file.now) (sym c.state_right.ensures ∙ c.if-not-state_right.false)).1
 
 -- the levels are 256 at most, the root fits, and the buffer has room for a key
-pub walk-gone-requires : goal.walk-gone-requires
-walk-gone-requires c =
+pub walk-requires : goal.walk-requires
+walk-requires c =
     let s = c.args.file.now in
     let e = state_facts c.args.reading (length s) (sym c.state_right.ensures ∙ c.if-not-state_right.false) in
     record { levels_le_max_levels = (e.0, rw c.over.ensures (root_fits s (meta_is c.in-Ok.m) (sym c.open.ensures ∙ ap opening_is c.in-Ok.is)), c.if-short.false) }
@@ -38,18 +38,18 @@ walk-gone-requires c =
 -- level k is one of 256
 pub overflow_add-result : goal.overflow_add-result
 overflow_add-result c =
-    let same : c.walk-gone.result ≡ Ok (Key c.in-Ok-Key.k c.in-Ok-Key.value c.in-Ok-Key.total) = grind arith in
+    let same = c.in-Ok-walk.is ∙ found_is c.in-Ok-walk.walked _ c.in-Some-found.is in
     let r = c.args.reading in
-    omega (arith, gone_low r c.walk-gone.new.stack (rw (c.over.ensures, c.upper.ensures) at (c.walk-gone.ensures r.len r.bound_len (empty_is r.empty_output))) c.in-Ok-Key.k c.in-Ok-Key.value c.in-Ok-Key.total same)
+    omega (arith, gone_low r c.walk.new.stack (rw (c.over.ensures, c.upper.ensures) at (c.walk.ensures r.len r.bound_len (empty_is r.empty_output))) c.in-Some-found.k c.in-Some-found.value c.in-Ok-walk.walked.total same)
 
 -- a key is found
-pub returns-in-Ok-Key : goal.returns-in-Ok-Key
-returns-in-Ok-Key c =
-    let same : c.walk-gone.result ≡ Ok (Key c.in-Ok-Key.k c.in-Ok-Key.value c.in-Ok-Key.total) = grind arith in
+pub returns-in-Some-found : goal.returns-in-Some-found
+returns-in-Some-found c =
+    let same = c.in-Ok-walk.is ∙ found_is c.in-Ok-walk.walked _ c.in-Some-found.is in
     let a = c.args in
     let r = a.reading in
     next_walk a.file.now a.reading a.key.now (meta_is c.in-Ok.m) (sym c.open.ensures ∙ ap opening_is c.in-Ok.is) (sym c.state_right.ensures ∙ c.if-not-state_right.false) c.if-short.false
-    (ap empty_is c.in_default.is) _ _ (walk_key r c.walk-gone.new.stack (rw (c.over.ensures, c.upper.ensures) at (c.walk-gone.ensures r.len r.bound_len (empty_is r.empty_output))) c.in-Ok-Key.k c.in-Ok-Key.value c.in-Ok-Key.total same)
+    (ap empty_is c.in_default.is) _ _ (walk_key r c.walk.new.stack (rw (c.over.ensures, c.upper.ensures) at (c.walk.ensures r.len r.bound_len (empty_is r.empty_output))) c.in-Some-found.k c.in-Some-found.value c.in-Ok-walk.walked.total same)
 
 -- the file does not open
 pub returns-in-Err : goal.returns-in-Err
@@ -65,19 +65,19 @@ returns-in-Some c =
     (ap empty_is c.in-Some.is) a.key.now c.pending.result (c.pending.ensures (fst_of a.file.now (meta_is c.in-Ok.m)) a.key.now)
 
 -- the walk is refused
-pub returns-in-Err-gone : goal.returns-in-Err-gone
-returns-in-Err-gone c =
+pub returns-in-Err-walk : goal.returns-in-Err-walk
+returns-in-Err-walk c =
     let a = c.args in
     let r = a.reading in
     next_walk a.file.now a.reading a.key.now (meta_is c.in-Ok.m) (sym c.open.ensures ∙ ap opening_is c.in-Ok.is) (sym c.state_right.ensures ∙ c.if-not-state_right.false) c.if-short.false
-    (ap empty_is c.in_default.is) _ _ (walk_refused r c.walk-gone.new.stack (rw (c.over.ensures, c.upper.ensures) at (c.walk-gone.ensures r.len r.bound_len (empty_is r.empty_output))) c.in-Err-gone.why c.in-Err-gone.is)
+    (ap empty_is c.in_default.is) _ _ (walk_refused r c.walk.new.stack (rw (c.over.ensures, c.upper.ensures) at (c.walk.ensures r.len r.bound_len (empty_is r.empty_output))) c.in-Err-walk.why c.in-Err-walk.is)
 
 -- no key is left
-pub returns-in-Ok-End : goal.returns-in-Ok-End
-returns-in-Ok-End c =
-    let same : c.walk-gone.result ≡ Ok (End c.in-Ok-End.total) = grind arith in
+pub returns-in-None : goal.returns-in-None
+returns-in-None c =
+    let same = c.in-Ok-walk.is ∙ ended_is c.in-Ok-walk.walked c.in-None.is in
     let a = c.args in
     let r = a.reading in
     next_walk a.file.now a.reading a.key.now (meta_is c.in-Ok.m) (sym c.open.ensures ∙ ap opening_is c.in-Ok.is) (sym c.state_right.ensures ∙ c.if-not-state_right.false) c.if-short.false
     (ap empty_is c.in_default.is) _ c.ended.result
-    (walk_ended r c.walk-gone.new.stack (rw (c.over.ensures, c.upper.ensures) at (c.walk-gone.ensures r.len r.bound_len (empty_is r.empty_output))) c.in-Ok-End.total same c.ended.result (c.ended.ensures a.key.now))
+    (walk_ended r c.walk.new.stack (rw (c.over.ensures, c.upper.ensures) at (c.walk.ensures r.len r.bound_len (empty_is r.empty_output))) c.in-Ok-walk.walked.total same c.ended.result (c.ended.ensures a.key.now))

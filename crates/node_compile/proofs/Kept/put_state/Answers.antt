@@ -1,0 +1,10 @@
+use Rattle.node_compile.proofs.States.{rare_put, common_put}
+use Rattle.node_compile.proofs.Kept.put_state.Goals as goal
+
+-- the input has a byte of its own
+pub returns-then-self-eq0 : goal.returns-then-self-eq0
+returns-then-self-eq0 c = let a = c.args in rare_put a.form a.self.idx a.self.input a.out.now a.at c.requires.0 c.if-self-eq0.true
+
+-- the state byte keeps the input
+pub returns : goal.returns
+returns c = let a = c.args in common_put a.form a.self.idx a.self.input a.out.now a.at c.requires.0 c.if-self-eq0.false
