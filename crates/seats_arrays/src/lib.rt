@@ -102,12 +102,19 @@ pub fn put_rows(
         (rows heads.new bounds.new addrs.new inps.new
         trans.new outs.new keys.new) }
 {
-    heads[number] = *head;
-    bounds[number] = *bound;
-    addrs[number] = *addr;
-    inps[number] = *inp;
-    trans[number] = *tran;
-    outs[number] = *out;
+    // each by a variable: stored straight it is compiled to a call of `memmove`, and the library for C may call `memcpy` and `memset` alone
+    let h = *head;
+    let b = *bound;
+    let a = *addr;
+    let i = *inp;
+    let t = *tran;
+    let o = *out;
+    heads[number] = h;
+    bounds[number] = b;
+    addrs[number] = a;
+    inps[number] = i;
+    trans[number] = t;
+    outs[number] = o;
     keys[number] = to_come;
 }
 
