@@ -128,10 +128,10 @@ static inline const char *fst_result_name(int result)
 #define FST_STACK_START    12288
 #define FST_STACK_NEXT     49152
 #define FST_STACK_RANGE    6144
-#define FST_STACK_FIND     45056
+#define FST_STACK_FIND     40960
 #define FST_STACK_CONVERT  8192
 #define FST_STACK_PACK     8192
-#define FST_STACK_CARRY    12288
+#define FST_STACK_CARRY    16384
 #define FST_STACK_SEAT     4608 /* fst_clear_seats and fst_raise take less */
 #define FST_STACK_DISPATCH 49152
 #define FST_STACK_ITEMS    114688
