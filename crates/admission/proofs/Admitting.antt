@@ -1,9 +1,11 @@
 -- From what judging all nodes ensures to what admission answers.
 --     AllJudged s ..      a file that opens, tables with room, cleared, and the nodes judged with the verdict v
---     Wipes s .. r n      the answer r is the refusal n, and both tables are wiped
+--     judged_admits, judged_refused     the two ways out: as judged, and with both tables wiped
 -- Assumes nothing.
 use mathlib.Core.Path.{◌≡◌, refl, sym, ap, ◌∙◌, subst}
 use Rattle.std.specs.Prelude.{Ok, Err, Result, ⊤}
+use Rattle.std.specs.Result.{is_err}
+use Rattle.std.proofs.Common.{true, false, true≢false}
 use Rattle.format.specs.declared.Refusal.{Refusal}
 use mathlib.Core.Logic.{◌⊎◌}
 use mathlib.Core.List.{List}
@@ -66,9 +68,6 @@ opens_fst o = rw (o.version, o.root_is)
 holds_after : {g : ℕ → ℕ} {P : ℕ → Type 0} {n : ℕ} {d₀ d₁ d : List ℕ} → Kept n d₀ d₁ → Holds g P n d₁ d → Holds g P n d₀ d
 holds_after k h = record { on = h.on; off = h.off; kept = kept_then k h.kept }
 
-abbrev Wipes : List ℕ → List ℕ → List ℕ → List ℕ → List ℕ → Result ⊤ Refusal → Refusal → Type 0
-Wipes s d d' t t' r n = (r ≡ Err n) × Wiped (length s) d d' × Wiped (length s) t t'
-
 module _ {s : List ℕ} {version root : ℕ} {d₀ s₀ d₁ s₁ d t : List ℕ} {v : Result ⊤ Refusal} (j : AllJudged s version root d₀ s₀ d₁ s₁ d t v) where
   depths_cleared : Kept (length s) d₀ d₁
   depths_cleared = wiped_kept (length s) d₀ d₁ j.room_depths j.depths_wiped
@@ -88,7 +87,7 @@ module _ {s : List ℕ} {version root : ℕ} {d₀ s₀ d₁ s₁ d t : List ℕ
       subst (λ x. JudgeCase (fst_of s j.open_file.meta) d₁ s₁ d t x) e
       (subst (λ (f : Fst). JudgeCase f d₁ s₁ d t v) (opens_fst j.open_file) j.judged.found)
 
-  pub good_admits : v ≡ Ok tt → Admits s d₀ s₀ d t
+  good_admits : v ≡ Ok tt → Admits s d₀ s₀ d t
   good_admits e =
       let g = case (Ok tt) e in
       record {
@@ -108,17 +107,31 @@ module _ {s : List ℕ} {version root : ℕ} {d₀ s₀ d₁ s₁ d t : List ℕ
       }
 
   -- a file with a wrong node, and both tables wiped
-  pub wrong_refused : {d' t' : List ℕ} {r : Result ⊤ Refusal} (n : Refusal) → Wipes s d d' t t' r n → v ≡ Err n → Outcome s d₀ s₀ d' t' r
-  wrong_refused {d'} {t'} n w e = subst (λ x. Outcome s d₀ s₀ d' t' x) (sym w.0) (by (case (Err n) e))
+  wrong_refused : {d' t' : List ℕ} (n : Refusal) → Wiped (length s) d d' → Wiped (length s) t t' → v ≡ Err n → RefusedFor s d₀ s₀ d' t' n
+  wrong_refused {d'} {t'} n wiped_d wiped_t e = by (case (Err n) e)
     where
       wd : Wiped (length s) d₀ d'
-      wd = wiped_after depths_kept w.1
+      wd = wiped_after depths_kept wiped_d
 
       ws : Wiped (length s) s₀ t'
-      ws = wiped_after sums_kept w.2
+      ws = wiped_after sums_kept wiped_t
 
       by : JudgeRefused (fst_of s j.open_file.meta) n → RefusedFor s d₀ s₀ d' t' n
       by (JudgeRefused.lost is none) = no_nodes j.open_file.meta j.open_file.opens j.room_depths j.room_sums is none wd ws
       by (JudgeRefused.deep is l nodes long) = too_deep j.open_file.meta l j.open_file.opens j.room_depths j.room_sums is nodes long wd ws
       by (JudgeRefused.heavy is l nodes shallow large) =
           too_heavy j.open_file.meta l j.open_file.opens j.room_depths j.room_sums is nodes shallow large wd ws
+
+  pub judged_admits : is_err v ≡ false → Outcome s d₀ s₀ d t v
+  judged_admits sound = go v refl sound
+    where
+      go : (w : Result ⊤ Refusal) → v ≡ w → is_err w ≡ false → Outcome s d₀ s₀ d t v
+      go (Ok tt) is e = subst (λ x. Outcome s d₀ s₀ d t x) (sym is) (good_admits is)
+      go (Err n) is e = absurd (true≢false e)
+
+  pub judged_refused : {d' t' : List ℕ} → Wiped (length s) d d' → Wiped (length s) t t' → is_err v ≡ true → Outcome s d₀ s₀ d' t' v
+  judged_refused {d'} {t'} wiped_d wiped_t wrong = go v refl wrong
+    where
+      go : (w : Result ⊤ Refusal) → v ≡ w → is_err w ≡ true → Outcome s d₀ s₀ d' t' v
+      go (Ok tt) is e = absurd (true≢false (sym e))
+      go (Err n) is e = subst (λ x. Outcome s d₀ s₀ d' t' x) (sym is) (wrong_refused n wiped_d wiped_t is)

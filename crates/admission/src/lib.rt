@@ -22,25 +22,21 @@ fn judge(fst: FstRef<'_>, depths: &mut [u16], sums: &mut [u64]) -> Result<(), Re
     if fst.root == 0 {
         return Ok(());
     }
-    if !walk(fst, depths) {
-        return Err(Refusal::Node);
-    }
+    walk(fst, depths)?;
     // address 0 may have a mark, and is no node of the chain
     depths[0] = 0;
     fill(fst, depths, sums)
 }
 
-// A refusal of a file that opens: zeros over the file's length in both tables.
+// Zeros over a file's length in both tables, before its nodes are judged and after a refusal.
 // n is the file's length, and either table may be longer: what lies past it stays.
-fn refused(depths: &mut [u16], sums: &mut [u64], n: usize, why: Refusal) -> Result<(), Refusal>
+fn wipe(depths: &mut [u16], sums: &mut [u64], n: usize)
     requires { (n ≤ length depths.old) × (n ≤ length sums.old) }
-    ensures { (result ≡ Err why)
-        × (depths.new ≡ replicate n 0 ++ drop n depths.old)
+    ensures { (depths.new ≡ replicate n 0 ++ drop n depths.old)
         × (sums.new ≡ replicate n 0 ++ drop n sums.old) }
 {
     depths[..n].fill(0);
     sums[..n].fill(0);
-    Err(why)
 }
 
 // Admits a file that opens, with this version and root.
@@ -53,12 +49,12 @@ fn admit_opened(fst: FstRef<'_>, depths: &mut [u16], sums: &mut [u64]) -> Result
     if depths.len() < n || sums.len() < n {
         return Err(Refusal::Space);
     }
-    depths[..n].fill(0);
-    sums[..n].fill(0);
-    match judge(fst, depths, sums) {
-        Ok(()) => Ok(()),
-        Err(found) => refused(depths, sums, n, found),
+    wipe(depths, sums, n);
+    let judged = judge(fst, depths, sums);
+    if judged.is_err() {
+        wipe(depths, sums, n);
     }
+    judged
 }
 
 // Admits a file and fills the two tables, or refuses it: opening's refusals, then SPACE, then NODE, decided over the whole file, then

@@ -34,6 +34,7 @@ pub fn fill(fst: FstRef<'_>, depths: &mut [u16], sums: &mut [u64]) -> Result<(),
     are_bytes(fst.bytes);
     let mut deep = false;
     let mut heavy = false;
+    // by the address: both tables are read below it, at the targets of the node there, before they are written at it
     for a in 0..fst.bytes.len() {
         let mark = depths[a];
         if mark != 0 {

@@ -2,3 +2,4 @@
 mod Surveying
 mod Marking
 mod JudgedNodes
+mod Marks

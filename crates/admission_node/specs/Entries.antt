@@ -6,6 +6,8 @@
 --     4    a node of the chain, passed, that is reached
 --     Kept n d₀ d             the table d is as long as d₀, and the same from n on
 --     MarksTargets, MarksAt   the marks that one node gives to its targets
+--     FirstEntry d r          how many entries stand before the first that is not 0
+--     FirstMarked             the first address from a place on that has an entry
 --     child_depth, child_sum    what the tables say of a target
 --     deepest, heaviest       the largest of these over a node's transitions
 --     total_as, raised_by, entry_is, or_over     sums that may pass the limit
@@ -47,6 +49,19 @@ pub record MarksTargets (n mark : ℕ) (ts : List Transition) (d₀ d : List ℕ
 pub record MarksAt (f : Fst) (a mark : ℕ) (d₀ d : List ℕ) (first : ℕ) : Type 0 where
   pub marks : (m : Node) → node_in f a ≡ sound m → MarksTargets (length f.bytes) mark m.transitions d₀ d
   pub first_is : (m : Node) → node_in f a ≡ sound m → first ≡ m.first
+
+-- r entries from the first on are 0, and the next one, where there is one, is not
+pub record FirstEntry (d : List ℕ) (r : ℕ) : Type 0 where
+  pub within : r ≤ length d
+  pub none : (j : ℕ) → j < r → get_or d j 0 ≡ 0
+  pub next : r < length d → ¬ (get_or d r 0 ≡ 0)
+
+-- r is the first marked address from `from` on, or n where there is none below
+pub record FirstMarked (d : List ℕ) (from n r : ℕ) : Type 0 where
+  pub low : from ≤ r
+  pub high : r ≤ n
+  pub none : (j : ℕ) → from ≤ j → j < r → get_or d j 0 ≡ 0
+  pub marked : r < n → ¬ (get_or d r 0 ≡ 0)
 
 -- ---- one node, by the entries of its targets
 

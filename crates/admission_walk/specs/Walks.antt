@@ -4,12 +4,13 @@
 --     Entered f d l           the marks once the nodes of l are passed
 --     Walked                  the pass's answer
 -- Assumes nothing.
-use Rattle.std.specs.Prelude.{◌≡◌, Bool, true, false, ◌⊎◌, ℕ, ◌≤◌, ◌<◌, length, get_or}
+use Rattle.std.specs.Prelude.{Ok, Err, Result, ⊤, ◌≡◌, ◌⊎◌, ℕ, ◌≤◌, ◌<◌, length, get_or}
 use mathlib.Core.List.{List, Memᴰ}
 use Rattle.format.specs.declared.Transition.{Transition}
 use Rattle.format.specs.Node.{Node, sound}
 use Rattle.format.specs.Paths.{Fst, node_in, Reached}
 use Rattle.format.specs.Admitted.{Chain}
+use Rattle.node.specs.declared.Unsound.{Unsound}
 use Rattle.admission_node.specs.Entries.{TargetIn}
 
 -- ---- the marks
@@ -53,6 +54,6 @@ pub record ChainMarked (f : Fst) (d l : List ℕ) : Type 0 where
   pub chain : Chain f f.root l
   pub marks : Entered f d l
 
-abbrev pub Walked : Fst → List ℕ → Bool → Type 0
-Walked f d true = (l : List ℕ) × ChainMarked f d l
-Walked f d false = (l : List ℕ) → ¬ Chain f f.root l
+abbrev pub Walked : Fst → List ℕ → Result ⊤ Unsound → Type 0
+Walked f d (Ok tt) = (l : List ℕ) × ChainMarked f d l
+Walked f d (Err _) = (l : List ℕ) → ¬ Chain f f.root l

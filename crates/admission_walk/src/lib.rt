@@ -10,9 +10,10 @@ ghost use Rattle.admission_walk.specs.Walks.{Walkable, Walked};
 
 use admission_node::{HIT, UNUSED, USED, mark_at, mark_of};
 use format::{FIRST_NODE, FstRef};
+use node::Unsound;
 
-// Judges the chain from the root down, and marks it and what it leads to; false where it breaks.
-pub fn walk(fst: FstRef<'_>, depths: &mut [u16]) -> bool
+// Judges the chain from the root down, and marks it and what it leads to, or says that it breaks at a node that is not sound.
+pub fn walk(fst: FstRef<'_>, depths: &mut [u16]) -> Result<(), Unsound>
     requires { Walkable (fst_is fst) depths.old }
     ensures kept { Kept (length fst.entry.bytes.now) depths.old
         depths.new }
@@ -24,14 +25,14 @@ pub fn walk(fst: FstRef<'_>, depths: &mut [u16]) -> bool
     // not by `for`: it follows the chain from node to node, and counts nothing
     loop {
         if !node_sound::is_sound(fst, a) {
-            return false;
+            return Err(Unsound);
         }
         let mark = mark_of(depths[a]);
         let first = mark_at(fst, a, mark, depths);
         depths[a] = if mark == HIT { USED } else { UNUSED };
         let ends = first == FIRST_NODE;
         if ends {
-            return true;
+            return Ok(());
         }
         a = first - 1;
     }

@@ -1,12 +1,13 @@
 -- What the functions for C answer, and what they leave in each buffer and number, in every case (include/baxhiso.h).
 --     OK, NONE, code n        the results: an answer, none, the refusal n
 --     result_of, len_of       the result of an answer that is a written file's length; the length afterwards
+--     done_of                 the result of an answer that says no more than that it was done
 --     OpenLeaves w ..         opening that answers w: the result and the five numbers
 --     GetLeaves w ..          a lookup by key that answers w: the result and the value
 --     KeyLeaves w ..          a search by value that answers w: the result, the key buffer and the key's length
 --     AdmitLeaves s ..        admission of the bytes s: the result and the two tables
 -- A name with ₀ is what the caller handed in. Assumes nothing.
-use Rattle.std.specs.Prelude.{◌≡◌, List, [], ◌∷◌, ℕ, zero, suc, ℤ, pos, negsuc, length, Ok, Err, Result}
+use Rattle.std.specs.Prelude.{◌≡◌, List, [], ◌∷◌, ℕ, zero, suc, ℤ, pos, negsuc, length, Ok, Err, Result, ⊤}
 use Rattle.std.proofs.Math.Option.{Option, none, some}
 use Rattle.format.specs.Limits.{number}
 use Rattle.format.specs.declared.Refusal.{Refusal}
@@ -36,6 +37,10 @@ result_of (Err k) = code k
 abbrev pub len_of : Result ℕ Refusal → ℕ → ℕ
 len_of (Ok n) n₀ = n
 len_of (Err k) n₀ = n₀
+
+abbrev pub done_of : Result ⊤ Refusal → ℤ
+done_of (Ok tt) = OK
+done_of (Err k) = code k
 
 -- ---- opening
 

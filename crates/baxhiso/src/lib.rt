@@ -7,12 +7,16 @@
 ghost use Rattle.std.specs.Prelude.{◌≡◌, pos};
 ghost use Rattle.format.specs.Limits.{number};
 ghost use Rattle.format.specs.Opening.{opening};
-ghost use Rattle.baxhiso.specs.Exports.{checksum_number, OpenLeaves, AdmitLeaves};
+ghost use Rattle.baxhiso.specs.Exports.{checksum_number, result_of, len_of, done_of, OpenLeaves, AdmitLeaves};
 ghost use Rattle.fst.specs.Open.{checksum_is};
 
 use format::Refusal;
 
-const OK: i32 = 0;
+// The result for an answer, in each crate for C.
+pub const OK: i32 = 0;
+
+// The result for none, in each crate for C.
+pub const NONE: i32 = -1;
 
 // What stands for the checksum where the version has none: no stored checksum is as large.
 const NO_CHECKSUM: u64 = 4_294_967_296;
@@ -22,6 +26,29 @@ pub fn code(why: Refusal) -> i32
     ensures { result ≡ pos (number why) }
 {
     i32::from(u8::from(why))
+}
+
+// The result of an answer that says no more than that it was done.
+pub fn done(answer: Result<(), Refusal>) -> i32
+    ensures { result ≡ done_of answer }
+{
+    match answer {
+        Ok(()) => OK,
+        Err(why) => code(why),
+    }
+}
+
+// The result of an answer that is the length of a written file. The length is written on 0 only.
+pub fn length_told(answer: Result<usize, Refusal>, len: &mut usize) -> i32
+    ensures { (result ≡ result_of answer) × (len.new ≡ len_of answer len.old) }
+{
+    match answer {
+        Ok(size) => {
+            *len = size;
+            OK
+        }
+        Err(why) => code(why),
+    }
 }
 
 // The checksum as one number.
@@ -54,8 +81,5 @@ pub fn fst_admit(file: &[u8], depths: &mut [u16], sums: &mut [u64]) -> i32
         depths.new sums.new result }
 {
     let answer = admission::admit(file, depths, sums);
-    match answer {
-        Ok(()) => OK,
-        Err(why) => code(why),
-    }
+    done(answer)
 }

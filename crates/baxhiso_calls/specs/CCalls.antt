@@ -71,7 +71,7 @@ code_of h n c =
       file = c.file;
       before = c.before;
       after = c.after;
-      step = record { answer = answer_as (next_plain c.file (held_plain h n) (length c.before)).answer; plain = plain_of c.arrays c.keys };
+      step = record { answer = answer_as (next_plain c.file (held_plain h n) (length c.before)).answer; reading = plain_of c.arrays c.keys };
     }
 
 abbrev pub codes_of : Held → List ℕ → List CCall → List CodeCall

@@ -8,11 +8,9 @@ ghost use Rattle.carrying.specs.Carry.{carry_plain};
 ghost use Rattle.stream_arrays.specs.Arrays.{held, held_plain};
 ghost use Rattle.baxhiso_carry.specs.CarryArrays.{CarryLeaves};
 
-use baxhiso::code;
+use baxhiso::{OK, code};
 use stream::Plain;
 use stream_arrays::{put, reading_of};
-
-const OK: i32 = 0;
 
 // Carries the reading that the arrays hold from the old file to the new one, at the same place. On 0 the arrays hold the reading of the new file; on a
 // refusal they stay as given. The number of keys to come stays what it is.

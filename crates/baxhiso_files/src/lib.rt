@@ -5,9 +5,7 @@
 
 ghost use Rattle.baxhiso_files.specs.Files.{ConvertLeaves};
 
-use baxhiso::code;
-
-const OK: i32 = 0;
+use baxhiso::length_told;
 
 // Converts a version 1 file to version 2. On 0 the new file stands from the output's first byte on, and its length is written; on a
 // refusal output, table and length stay as given.
@@ -24,11 +22,5 @@ pub fn fst_convert(
         out.new table.new len.old len.new result }
 {
     let answer = convert::convert(file, depths, sums, out, table);
-    match answer {
-        Ok(n) => {
-            *len = n;
-            OK
-        }
-        Err(why) => code(why),
-    }
+    length_told(answer, len)
 }

@@ -7,11 +7,7 @@ ghost use Rattle.std.specs.Prelude.{length};
 ghost use Rattle.format.specs.Lookup as L;
 ghost use Rattle.baxhiso.specs.Exports.{GetLeaves, KeyLeaves};
 
-use baxhiso::code;
-
-const OK: i32 = 0;
-
-const NONE: i32 = -1;
+use baxhiso::{NONE, OK, code};
 
 // The value of a key. The value is written on 0 only.
 pub fn fst_get(file: &[u8], key: &[u8], value: &mut u64) -> i32

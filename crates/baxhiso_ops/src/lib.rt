@@ -3,7 +3,7 @@
 // Each function takes what the C caller lends, one by one: the C interface.
 #![tactic(auto)]
 
-ghost use Rattle.std.specs.Prelude.{◌≡◌, [], ◌∷◌, length};
+ghost use Rattle.std.specs.Prelude.{[], ◌∷◌, length};
 ghost use Rattle.ops_paging.specs.ItemPaging as P;
 ghost use Rattle.ops_decide.specs.Verdicts.{op_is};
 ghost use Rattle.stream_start.specs.Views.{bound_is};

@@ -4,6 +4,7 @@
 -- A name with ₀ is what the caller handed in. Assumes nothing.
 use Rattle.std.specs.Prelude.{◌≡◌, List, ℕ, ℤ, length, replicate}
 use Rattle.packing.specs.Packing.{Answer, written, refused, output_after, cells_after}
+use Rattle.pack_cell.specs.declared.Cell.{Cell}
 use Rattle.pack_intern.specs.Interning.{cells_is}
 use Rattle.baxhiso.specs.Exports.{OK, code}
 
@@ -15,7 +16,7 @@ abbrev pub pack_len : Answer → ℕ → ℕ
 pack_len (written file cells) n₀ = length file
 pack_len (refused k) n₀ = n₀
 
-pub record PackLeaves (A : Answer) (out : List ℕ) (cells : List (List ℕ)) (inputs leasts targets : List ℕ) (n₀ n : ℕ) (r : ℤ) : Type 0 where
+pub record PackLeaves (A : Answer) (out : List ℕ) (cells : List Cell) (inputs leasts targets : List ℕ) (n₀ n : ℕ) (r : ℤ) : Type 0 where
   pub result : r ≡ pack_result A
   pub len_is : n ≡ pack_len A n₀
   pub output : out ≡ output_after A (length out)

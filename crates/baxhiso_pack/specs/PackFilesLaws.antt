@@ -9,6 +9,7 @@ use Rattle.format.specs.Laws.RefusalLaws.{number_from}
 use Rattle.packing.specs.Lists.{list_test, pairs_of}
 use Rattle.packing.specs.Registry.{Cell}
 use Rattle.packing.specs.Packing.{pack_file, pack_cells, Answer, written, refused, pack_answer}
+use Rattle.pack_cell.specs.declared.Cell as code
 use Rattle.pack.specs.PackList.{PacksBy}
 use Rattle.pack_right.specs.PackRightLaws.{PackedList, pack_promise}
 use Rattle.baxhiso.specs.Exports.{OK}
@@ -33,7 +34,7 @@ answer_nonzero limit s tables n room =
     (turns_list SPACE (number_from SPACE)))
     (turns_list LIST (number_from LIST))
 
-module _ (out : List ℕ) (cells : List (List ℕ)) (inputs leasts targets : List ℕ) (n₀ n : ℕ) (r : ℤ) (ok : r ≡ OK) where
+module _ (out : List ℕ) (cells : List code.Cell) (inputs leasts targets : List ℕ) (n₀ n : ℕ) (r : ℤ) (ok : r ≡ OK) where
   packed_by : (A : Answer) → AnswerNonzero A → PackLeaves A out cells inputs leasts targets n₀ n r → PacksBy A out cells inputs leasts targets (Ok n)
   packed_by A (writes_list file left) h = record {
     answer = ap Ok h.len_is;

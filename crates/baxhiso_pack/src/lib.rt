@@ -3,32 +3,14 @@
 // Each function takes what the C caller lends, one by one: the C interface.
 #![tactic(auto)]
 
-ghost use Rattle.std.specs.Prelude.{◌≡◌, length};
+ghost use Rattle.std.specs.Prelude.{length};
 ghost use Rattle.format.specs.Limits.{max_len};
 ghost use Rattle.packing.specs.Packing.{pack_answer};
 ghost use Rattle.pack_blank.specs.PackBlank.{tables_test};
-ghost use Rattle.pack_cells.specs.Pairs.{pairs_is};
-ghost use Rattle.baxhiso.specs.Exports.{result_of, len_of};
 ghost use Rattle.baxhiso_pack.specs.PackFiles.{PackLeaves};
 
-use baxhiso::code;
-use format::Refusal;
+use baxhiso::length_told;
 use pack_cell::Cell;
-
-const OK: i32 = 0;
-
-// The result of packing; the length is written where a file was.
-fn pack_told(answer: Result<usize, Refusal>, len: &mut usize) -> i32
-    ensures { (result ≡ result_of answer) × (len.new ≡ len_of answer len.old) }
-{
-    match answer {
-        Ok(size) => {
-            *len = size;
-            OK
-        }
-        Err(why) => code(why),
-    }
-}
 
 // Packs a list of keys and values into a file. On 0 the file stands from the output's first byte on, zeros behind it, and its length is written; on a
 // refusal output and working tables are zeros, every cell is empty, and the length stays as given.
@@ -44,9 +26,9 @@ pub fn fst_pack(
     ensures { PackLeaves
         (pack_answer max_len list.now (tables_test (length inputs.old) (length leasts.old) (length targets.old))
         (length cells.old) (length out.old)) out.new
-        (pairs_is cells.new) inputs.new leasts.new targets.new
+        cells.new inputs.new leasts.new targets.new
         len.old len.new result }
 {
     let answer = pack::pack(list, out, cells, inputs, leasts, targets);
-    pack_told(answer, len)
+    length_told(answer, len)
 }

@@ -7,7 +7,6 @@ ghost use Rattle.std.specs.Prelude.{length};
 ghost use Rattle.format.specs.Limits.{max_len};
 ghost use Rattle.packing.specs.Packing.{pack_answer};
 ghost use Rattle.pack_blank.specs.PackBlank.{tables_test};
-ghost use Rattle.pack_cells.specs.Pairs.{pairs_is};
 ghost use Rattle.baxhiso_pack.specs.PackFiles.{PackLeaves};
 
 use pack_cell::Cell;
@@ -27,7 +26,7 @@ pub extern "C" fn fst_pack(
     ensures { PackLeaves
         (pack_answer max_len list.now (tables_test (length inputs.old) (length leasts.old) (length targets.old))
         (length cells.old) (length out.old)) out.new
-        (pairs_is cells.new) inputs.new leasts.new targets.new
+        cells.new inputs.new leasts.new targets.new
         len.old len.new result }
 {
     baxhiso_pack::fst_pack(list, out, cells, inputs, leasts, targets, len)

@@ -12,18 +12,18 @@ use Rattle.reading.specs.Reading as R
 use Rattle.reading.specs.Reading.{key, end}
 use Rattle.plain.specs.Plain as P
 use Rattle.paging.specs.Paging as G
-use Rattle.counting.specs.CountOutcomes.{CountRefusedFor, Counts, CountOutcome}
+use Rattle.counting.specs.CountOutcomes.{CountRefusedFor, CountOutcome}
 use Rattle.range_fill.specs.declared.Ranged.{Ranged}
 use Rattle.range_fill.specs.RangedRows.{RangedBy}
 use Rattle.format.specs.Strings as F
 use Rattle.stream_start.specs.Views.{bound_is}
 use Rattle.stream_step.specs.Stepped.{answer_as}
 use Rattle.stream.specs.declared.Plain.{Plain}
-use Rattle.stream.specs.declared.Step.{Step}
+use Rattle.stream_step.specs.declared.Step.{Step}
 use Rattle.stream.specs.Plains.{plain_is, begun_is, PlainStepped}
 use Rattle.stream_arrays.specs.Arrays.{kind_is, Held, PlainPut}
 use Rattle.stream_arrays.specs.ArraysLaws.{plain_back}
-use Rattle.baxhiso.specs.Exports.{OK, code}
+use Rattle.baxhiso.specs.Exports.{OK, code, done_of}
 use Rattle.baxhiso_readings.specs.Readings.{CountLeaves, StartLeaves, next_result, next_len, next_value, result_of, len_of, value_of, AnswerLeaves, NextLeaves}
 use Rattle.baxhiso_readings.specs.ReadingsLaws.{counted_not_0}
 
@@ -36,13 +36,9 @@ refused_leaves {s} {d₀} {s₀} {c₀} {d} {t} {c} why h = go (number why) refl
     go zero e = absurd (counted_not_0 h e)
     go (suc n) e = (why, e, h)
 
-module _ (s d₀ s₀ c₀ d t c : List ℕ) {r : Result ⊤ Refusal} (h : CountOutcome s d₀ s₀ c₀ d t c r) where
-  pub count_counted : r ≡ Ok tt → Counts s d₀ s₀ c₀ d t c
-  count_counted is = subst (λ x. CountOutcome s d₀ s₀ c₀ d t c x) is h
-
-  pub count_refused : (n : Refusal) (z : ℤ) → r ≡ Err n → z ≡ code n → CountLeaves s d₀ s₀ c₀ d t c z
-  count_refused n z is is_z =
-      subst (λ x. CountLeaves s d₀ s₀ c₀ d t c x) (sym is_z) (refused_leaves n (subst (λ x. CountOutcome s d₀ s₀ c₀ d t c x) is h))
+pub count_leaves : (s d₀ s₀ c₀ d t c : List ℕ) (r : Result ⊤ Refusal) → CountOutcome s d₀ s₀ c₀ d t c r → CountLeaves s d₀ s₀ c₀ d t c (done_of r)
+count_leaves s d₀ s₀ c₀ d t c (Ok u) h = h
+count_leaves s d₀ s₀ c₀ d t c (Err why) h = refused_leaves why h
 
 -- ---- start
 
@@ -80,8 +76,8 @@ value_is (key k v) x = refl
 value_is end x = refl
 value_is (R.Answer.refused n) x = refl
 
-pub next_leaves : {w : P.PlainStep} {k₀ k : List ℕ} {len₀ len v₀ v : ℕ} {s : Step} → PlainStepped w k₀ k s → (h : Held) (n : List ℕ)
-    → PlainPut s.plain h n → (r z : ℤ) → r ≡ z → AnswerLeaves s.answer len₀ len v₀ v z → NextLeaves w h n k₀ k len₀ len v₀ v r
+pub next_leaves : {w : P.PlainStep} {k₀ k : List ℕ} {len₀ len v₀ v : ℕ} {s : Step Plain} → PlainStepped w k₀ k s → (h : Held) (n : List ℕ)
+    → PlainPut s.reading h n → (r z : ℤ) → r ≡ z → AnswerLeaves s.answer len₀ len v₀ v z → NextLeaves w h n k₀ k len₀ len v₀ v r
 next_leaves {w} {k₀} {k} {len₀} {len} {v₀} {v} {s} st h n put r z same left =
     let is = st.gave.answer in
     record {

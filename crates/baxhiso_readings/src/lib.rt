@@ -13,12 +13,10 @@ ghost use Rattle.baxhiso_readings.specs.Readings.{CountLeaves, StartLeaves, Next
 ghost use Rattle.stream_start.specs.Views.{bound_is};
 ghost use Rattle.stream_arrays.specs.Arrays.{kind_is, held, held_plain};
 
-use baxhiso::code;
+use baxhiso::{OK, code, done};
 use baxhiso_results::{answered, stopped};
 use stream::Plain;
 use stream_arrays::{bound_with, put_plain, reading_of};
-
-const OK: i32 = 0;
 
 // Admits a file, and fills the two tables and the table of keys, or refuses it.
 pub fn fst_count(file: &[u8], depths: &mut [u16], sums: &mut [u64], counts: &mut [u64]) -> i32
@@ -26,10 +24,7 @@ pub fn fst_count(file: &[u8], depths: &mut [u16], sums: &mut [u64], counts: &mut
         counts.old depths.new sums.new counts.new result }
 {
     let answer = counting::count_keys(file, depths, sums, counts);
-    match answer {
-        Ok(()) => OK,
-        Err(why) => code(why),
-    }
+    done(answer)
 }
 
 // Starts a reading of the keys between two bounds. On 0 the arrays hold it; on a refusal they stay as given.
@@ -103,7 +98,7 @@ pub fn fst_next_arrays(
         keys: n[0],
     };
     let step = stream::next(file, plain, key);
-    let after = step.plain;
+    let after = step.reading;
     put_plain(after, head, bound, addrs, inps, trans, outs, keys);
     let answer = step.answer;
     answered(answer, len, value)

@@ -5,11 +5,9 @@
 ghost use Rattle.std.specs.Prelude.{◌≡◌};
 ghost use Rattle.baxhiso_results.specs.Results.{AnswerLeaves, stop_of};
 
-use baxhiso::code;
+use baxhiso::{OK, code};
 use format::Refusal;
 use range_fill::Stop;
-
-const OK: i32 = 0;
 
 const END: i32 = -2;
 

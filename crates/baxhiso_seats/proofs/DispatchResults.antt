@@ -19,7 +19,7 @@ use Rattle.turns.specs.Turns as T
 use Rattle.turns.specs.Turns.{seat_at, right_test, turn, by_answer}
 use Rattle.turns.proofs.TurnsLaws.{turn_some, turn_le, turn_held, dispatch_wrong, dispatch_turn}
 use Rattle.stream.specs.declared.Plain.{Plain}
-use Rattle.stream.specs.declared.Step.{Step}
+use Rattle.stream_step.specs.declared.Step.{Step}
 use Rattle.stream.specs.Plains.{plain_is, PlainStepped}
 use Rattle.stream_arrays.specs.Arrays.{held_as}
 use Rattle.seats_arrays.specs.SeatArrays.{flag, held_if, seat_of, Rows, rows_set, plain_of, plain_at, Flat, flat, flat_is}
@@ -31,7 +31,7 @@ use Rattle.baxhiso_seats.specs.Seats.{Kept, ServeLeaves, DispatchLeaves}
 
 -- ---- one call of a seat's reading
 
-module _ (i last₀ : ℕ) (w₀ : List ℕ) (r₀ : Rows) (k₀ k : List ℕ) (seat₀ len₀ len v₀ v : ℕ) (z : ℤ) (o : Step) (l : AnswerLeaves o.answer len₀ len v₀ v z) where
+module _ (i last₀ : ℕ) (w₀ : List ℕ) (r₀ : Rows) (k₀ k : List ℕ) (seat₀ len₀ len v₀ v : ℕ) (z : ℤ) (o : Step Plain) (l : AnswerLeaves o.answer len₀ len v₀ v z) where
   refused_by : (a : R.Answer) (q : P.Plain) → PlainStepped (record { answer = a; reading = q }) k₀ k o → is_err o.answer ≡ true
       → ServeLeaves (record { answer = a; reading = q }) i last₀ w₀ r₀ last₀ w₀ r₀ k₀ k seat₀ seat₀ len₀ len v₀ v z
   refused_by (key x y) q h e = absurd (let a = sym (ap is_err h.gave.answer) ∙ e in let z : ◌≡◌ {A = ℕ} 0 1 = cc in omega arith)
@@ -46,14 +46,14 @@ module _ (i last₀ : ℕ) (w₀ : List ℕ) (r₀ : Rows) (k₀ k : List ℕ) (
         value_is = l.value_is ∙ ap (λ (b : Result (Option (ℕ × ℕ)) Refusal). value_of b v₀) a;
       }
 
-  module _ (last : ℕ) (w : List ℕ) (r : Rows) (seat : ℕ) (kept : KeptIn o.plain i w₀ r₀ last w r seat) where
+  module _ (last : ℕ) (w : List ℕ) (r : Rows) (seat : ℕ) (kept : KeptIn o.reading i w₀ r₀ last w r seat) where
     kept_by : (a : R.Answer) (q : P.Plain) → PlainStepped (record { answer = a; reading = q }) k₀ k o → is_err o.answer ≡ false
         → ServeLeaves (record { answer = a; reading = q }) i last₀ w₀ r₀ last w r k₀ k seat₀ seat len₀ len v₀ v z
     kept_by (key x y) q h e =
         let a = h.gave.answer in
         record {
           result = l.result ∙ ap result_of a;
-          kept = record { plain = o.plain; is = h.gave.plain; kept = kept };
+          kept = record { plain = o.reading; is = h.gave.plain; kept = kept };
           buffer = h.buffer;
           len_is = l.len_is ∙ ap (λ (b : Result (Option (ℕ × ℕ)) Refusal). len_of b len₀) a;
           value_is = l.value_is ∙ ap (λ (b : Result (Option (ℕ × ℕ)) Refusal). value_of b v₀) a;
@@ -62,7 +62,7 @@ module _ (i last₀ : ℕ) (w₀ : List ℕ) (r₀ : Rows) (k₀ k : List ℕ) (
         let a = h.gave.answer in
         record {
           result = l.result ∙ ap result_of a;
-          kept = record { plain = o.plain; is = h.gave.plain; kept = kept };
+          kept = record { plain = o.reading; is = h.gave.plain; kept = kept };
           buffer = h.buffer;
           len_is = l.len_is ∙ ap (λ (b : Result (Option (ℕ × ℕ)) Refusal). len_of b len₀) a;
           value_is = l.value_is ∙ ap (λ (b : Result (Option (ℕ × ℕ)) Refusal). value_of b v₀) a;
@@ -70,7 +70,7 @@ module _ (i last₀ : ℕ) (w₀ : List ℕ) (r₀ : Rows) (k₀ k : List ℕ) (
     kept_by (R.Answer.refused n) q h e = absurd (let a = sym (ap is_err h.gave.answer) ∙ e in let z : ◌≡◌ {A = ℕ} 0 1 = cc in omega arith)
 
 -- the reading that is handed on is the one in the rows
-module _ (file : List ℕ) (i : ℕ) (r₀ : Rows) (k₀ k : List ℕ) (p : Plain) (given : p ≡ plain_of r₀ i) (o : Step)
+module _ (file : List ℕ) (i : ℕ) (r₀ : Rows) (k₀ k : List ℕ) (p : Plain) (given : p ≡ plain_of r₀ i) (o : Step Plain)
     (h : PlainStepped (next_plain file (plain_is p) (length k₀)) k₀ k o) where
   abbrev called : P.PlainStep
   called = next_plain file (plain_at r₀ i) (length k₀)
@@ -84,7 +84,7 @@ module _ (file : List ℕ) (i : ℕ) (r₀ : Rows) (k₀ k : List ℕ) (p : Plai
       rw same (refused_by i last₀ w₀ r₀ k₀ k seat₀ len₀ len v₀ v z o l called.answer called.reading stepped (sym is ∙ e))
 
   pub serve_kept : (last₀ : ℕ) (w₀ : List ℕ) (seat₀ len₀ len v₀ v : ℕ) (y z : ℤ) → y ≡ z → AnswerLeaves o.answer len₀ len v₀ v z → (b : Bool) → b ≡ is_err o.answer
-      → b ≡ false → (last : ℕ) (w : List ℕ) (r : Rows) (seat : ℕ) → KeptIn o.plain i w₀ r₀ last w r seat
+      → b ≡ false → (last : ℕ) (w : List ℕ) (r : Rows) (seat : ℕ) → KeptIn o.reading i w₀ r₀ last w r seat
       → ServeLeaves called i last₀ w₀ r₀ last w r k₀ k seat₀ seat len₀ len v₀ v y
   serve_kept last₀ w₀ seat₀ len₀ len v₀ v y z same l b is e last w r seat kept =
       rw same (kept_by i last₀ w₀ r₀ k₀ k seat₀ len₀ len v₀ v z o l last w r seat kept called.answer called.reading stepped (sym is ∙ e))

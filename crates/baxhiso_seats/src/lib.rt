@@ -11,17 +11,13 @@ ghost use Rattle.stream_arrays.specs.Arrays.{held, held_plain};
 ghost use Rattle.seats_arrays.specs.SeatArrays.{rows, plain_at, flat, flat_is};
 ghost use Rattle.baxhiso_seats.specs.Seats.{EmptyLeaves, RaiseTold, SeatLeaves, ServeLeaves, DispatchLeaves};
 
-use baxhiso::code;
+use baxhiso::{NONE, OK, code};
 use baxhiso_results::answered;
 use format::Refusal;
 use seats_arrays::{plain_at, put_flag, put_rows};
 use seats_flags::{seats_right, turn_of};
 use seats_keep::keep;
 use seats_turn::LAST_SEAT;
-
-const OK: i32 = 0;
-
-const NONE: i32 = -1;
 
 // No seat has a reading, nobody waits, and the first turn is seat 0's.
 pub fn fst_empty_seats(last: &mut usize, taken: &mut [u8; 8], waiting: &mut [u8; 8])
@@ -144,7 +140,18 @@ fn serve(
         return answered(answer, len, value);
     }
     keep(
-        step.plain, number, last, waiting, heads, bounds, addrs, inps, trans, outs, keys, seat,
+        step.reading,
+        number,
+        last,
+        waiting,
+        heads,
+        bounds,
+        addrs,
+        inps,
+        trans,
+        outs,
+        keys,
+        seat,
     );
     answered(answer, len, value)
 }

@@ -1,7 +1,8 @@
 -- The cases of carrying a reading: each refusal, the reading at its new addresses, and the plain reading and the pattern around it.
 -- Assumes nothing.
-use mathlib.Core.Path.{◌≡◌, refl, sym, ap, ◌∙◌}
+use mathlib.Core.Path.{◌≡◌, sym, ap, ◌∙◌}
 use Rattle.std.specs.Prelude.{Ok, Err, Result, ⊤}
+use Rattle.std.proofs.lemmas.Bool.{and_parts}
 use Rattle.format.specs.declared.Refusal.{Refusal}
 use mathlib.Core.Bool.{Bool, true, false, ◌&&◌}
 use mathlib.Core.List.{List}
@@ -43,12 +44,8 @@ module _ (r : Reading) {f g : Fst} {ys : List ℕ} {d : Result ⊤ Refusal} (w :
 
 -- ---- what is judged before the levels
 
-and_left : (a b : Bool) → (a && b) ≡ true → a ≡ true
-and_left true b e = refl
-and_left false b e = e
-
 pub levels_right : (r : Reading) (len : ℕ) → state_right r.levels r.bound_len r.len len ≡ true → r.levels ≤ max_levels
-levels_right r len e = leb-true r.levels max_levels (and_left (leb r.levels max_levels) (leb r.bound_len max_path && eqb r.len len) e)
+levels_right r len e = leb-true r.levels max_levels (and_parts (leb r.levels max_levels) (leb r.bound_len max_path && eqb r.len len) e).0
 
 state_is_lem : (r : Reading) (len : ℕ) → state_right r.levels r.bound_len r.len len ≡ state_test (view_is r) len
 state_is_lem r len = rw (stack_length r.levels r.stack.addrs r.stack.inps r.stack.trans r.stack.outs)

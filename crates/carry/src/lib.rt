@@ -26,7 +26,7 @@ fn carry_opened(old: FstRef<'_>, new: FstRef<'_>, reading: Reading) -> Result<Re
         (C.carry_levels (fst_is old.entry) (fst_is new.entry) (stack_of reading.levels reading.stack)) }
 {
     let mut addrs = [0u32; LEVELS];
-    carry_levels(old, new, reading.levels, &reading.stack, &mut addrs)?;
+    carry_levels(old, new, &reading, &mut addrs)?;
     Ok(Reading {
         len: new.bytes.len(),
         stack: Stack {
@@ -43,7 +43,7 @@ fn carry_reading(old: &[u8], new: &[u8], reading: Reading, fits: bool) -> Result
 {
     let m = fst::open(old)?;
     let q = fst::open(new)?;
-    if !state_right(reading.levels, reading.bound_len, reading.len, old.len()) {
+    if !state_right(&reading, old.len()) {
         return Err(Refusal::State);
     }
     if !fits {

@@ -1,6 +1,5 @@
 // The levels of a reading in another file (document 02, N8): each level's node is judged in both files and compared, and its new address is found.
 // No bound is walked again: the levels' own bytes say the path.
-// The number of levels stands beside the stack, which does not say how many are in use.
 // That the root is below 2^32 is asked in each contract and is no fact of a type: a type that said it would ask more of who makes an FstRef by hand.
 #![tactic(auto)]
 
@@ -12,7 +11,7 @@ ghost use Rattle.carry_levels.specs.Settling.{Settles, FirstCarried, LevelCarrie
 
 use format::{FstRef, LEVELS, Refusal};
 use node::Node;
-use stream_levels::Stack;
+use stream_start::Reading;
 
 // The level that stands at addr of the new file, where its old node has ntrans transitions: NODE, then CARRY where the node there has another number
 // of them, or where the running value is not the same.
@@ -75,25 +74,26 @@ fn next_level(
     settle(new, to, m.ntrans, comes_to(sum, output, out))
 }
 
-// The levels from the second on, where the first one's new node is first; their new addresses go to moved.
+// The levels of a reading from the second on, where the first one's new node is first; their new addresses go to moved.
 fn other_levels(
     old: FstRef<'_>,
     new: FstRef<'_>,
-    levels: usize,
-    stack: &Stack,
+    reading: &Reading,
     first: Node,
     moved: &mut [u32; LEVELS],
 ) -> Result<(), Refusal>
-    requires root_bound { (new.root < 4294967296) × (0 < levels) × (levels ≤ max_levels)
+    requires root_bound { (new.root < 4294967296) × (0 < reading.now.levels) × (reading.now.levels ≤ max_levels)
         × (length moved.old ≡ max_levels) }
     requires walked_to { WalkedTo (fst_is old) new.bytes.now new.version new.root 1
-        stack.now.addrs stack.now.inps stack.now.outs moved.old first }
+        reading.now.stack.addrs reading.now.stack.inps reading.now.stack.outs moved.old first }
     ensures { LevelsCarried (fst_is old.entry)
-        (fst_is new.entry) levels stack.now.addrs stack.now.inps
-        stack.now.outs moved.new result }
+        (fst_is new.entry) reading.now.levels reading.now.stack.addrs reading.now.stack.inps
+        reading.now.stack.outs moved.new result }
 {
     let mut below = first;
-    for k in 1..levels {
+    let stack = &reading.stack;
+    // by place: three arrays are read at it, one of them at the place below too, and a fourth is written
+    for k in 1..reading.levels {
         let addr = stack.addrs[k] as usize;
         let sum = stack.outs[k - 1];
         let (to, m) = next_level(old, new, addr, stack.inps[k], stack.outs[k], below, sum)?;
@@ -107,20 +107,19 @@ fn other_levels(
 pub fn carry_levels(
     old: FstRef<'_>,
     new: FstRef<'_>,
-    levels: usize,
-    stack: &Stack,
+    reading: &Reading,
     moved: &mut [u32; LEVELS],
 ) -> Result<(), Refusal>
-    requires { (new.root < 4294967296) × (levels ≤ max_levels) × (length moved.old ≡ max_levels) }
+    requires { (new.root < 4294967296) × (reading.now.levels ≤ max_levels) × (length moved.old ≡ max_levels) }
     ensures { LevelsCarried (fst_is old.entry)
-        (fst_is new.entry) levels stack.now.addrs stack.now.inps
-        stack.now.outs moved.new result }
+        (fst_is new.entry) reading.now.levels reading.now.stack.addrs reading.now.stack.inps
+        reading.now.stack.outs moved.new result }
 {
-    if levels == 0 {
+    if reading.levels == 0 {
         return Ok(());
     }
-    let addr = stack.addrs[0] as usize;
-    let (to, first) = first_level(old, new, addr, stack.outs[0])?;
+    let addr = reading.stack.addrs[0] as usize;
+    let (to, first) = first_level(old, new, addr, reading.stack.outs[0])?;
     moved[0] = to;
-    other_levels(old, new, levels, stack, first, moved)
+    other_levels(old, new, reading, first, moved)
 }

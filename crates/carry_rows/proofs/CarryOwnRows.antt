@@ -4,7 +4,7 @@
 -- Assumes nothing.
 use Rattle.std.specs.Prelude.{◌≡◌, refl, Bool, true, ◌&&◌, false, List, [], ◌∷◌, ℕ, zero, suc, ◌<◌, ltb, length, get_or}
 use Rattle.std.proofs.Common.{ap, arith, ltb-true}
-use Rattle.std.proofs.lemmas.Bool.{false≢true}
+use Rattle.std.proofs.lemmas.Bool.{and_parts}
 use Rattle.format.specs.Bytes.{bytes_of}
 use Rattle.format.specs.Opening.{Meta}
 use Rattle.format.specs.Strings.{unbounded}
@@ -18,19 +18,11 @@ bytes_test : List ℕ → Bool
 bytes_test [] = true
 bytes_test (b ∷ bs) = ltb b 256 && bytes_test bs
 
-and_left : (a b : Bool) → (a && b) ≡ true → a ≡ true
-and_left true b h = refl
-and_left false b h = h
-
-and_right : (a b : Bool) → (a && b) ≡ true → b ≡ true
-and_right true b h = h
-and_right false b h = absurd (false≢true h)
-
 all_bytes : (bs : List ℕ) → bytes_test bs ≡ true → (i : ℕ) → get_or bs i 0 < 256
 unfolding bytes_test
 all_bytes [] h i = omega arith
-all_bytes (b ∷ bs) h zero = ltb-true b 256 (and_left (ltb b 256) (bytes_test bs) h)
-all_bytes (b ∷ bs) h (suc i) = all_bytes bs (and_right (ltb b 256) (bytes_test bs) h) i
+all_bytes (b ∷ bs) h zero = ltb-true b 256 (and_parts (ltb b 256) (bytes_test bs) h).0
+all_bytes (b ∷ bs) h (suc i) = all_bytes bs (and_parts (ltb b 256) (bytes_test bs) h).1 i
 
 bytes_W : bytes_test W1 ≡ true
 unfolding bytes_test bytes_of

@@ -14,6 +14,7 @@ use mathlib.Core.List.{List, [], ◌∷◌, map}
 use borrow.Author.Tests.{ltb-true, le-leb, lt-leb}
 use Rattle.std.proofs.Math.ListN.{length}
 use Rattle.std.proofs.lemmas.List.{length-map}
+use Rattle.std.proofs.lemmas.Bool.{and_parts}
 use Rattle.format.specs.declared.Refusal.{Refusal}
 use Rattle.format.specs.Limits.{max_path, max_levels, max_sum, SPACE, STATE}
 use Rattle.format.specs.Node.{Node, sound}
@@ -32,7 +33,7 @@ use Rattle.pattern.specs.PatternDemand.{call_by, reading_after_by}
 use Rattle.pattern.proofs.WalkLaws.{walk_by_lem}
 use Rattle.converting.specs.Mirror.{renamed, Mirror}
 use Rattle.carrying_own.specs.LevelsPath.{LevelsPath, Own}
-use Rattle.carrying_own.specs.LevelsPathLaws.{on_node_lem, on_cond, both_left, step_path, file_same, allowed_or, state_own, state_other, moved_own}
+use Rattle.carrying_own.specs.LevelsPathLaws.{on_node_lem, on_cond, step_path, file_same, allowed_or, state_own, state_other, moved_own}
 use Rattle.carrying_own.specs.Alike.{level_there, levels_there, view_there}
 use Rattle.carrying_own.specs.AlikeLaws.{at_there, key_there, on_there, step_there}
 
@@ -53,7 +54,7 @@ module _ (f : Fst) (p : Pattern) (hi : Bound) where
       (λ m e.
       on_cond WentByPath (ltb l.trans (length m.transitions) && start_test p.positions p.rest (key_of (l ∷ s))) _ _
       (λ live.
-      let lt = ltb-true l.trans (length m.transitions) (both_left (ltb l.trans (length m.transitions)) (start_test p.positions p.rest (key_of (l ∷ s))) live) in
+      let lt = ltb-true l.trans (length m.transitions) (and_parts (ltb l.trans (length m.transitions)) (start_test p.positions p.rest (key_of (l ∷ s))) live).0 in
       on_cond WentByPath (ltb (length s) max_path) _ _
       (λ low.
       let room = ltb-true (length s) max_path low in
@@ -165,7 +166,7 @@ module _ {f g : Fst} {ren : ℕ → ℕ} {On : ℕ → Type 0} (mirror : Mirror 
       rw (im.judged, im.stands, length-map im.node.transitions (renamed ren), key_there ren (l ∷ s), length-map s (level_there ren))
       (by_cond (ltb l.trans (length m.transitions) && start_test p.positions p.rest (key_of (l ∷ s))) _ _ _ _
       (λ live.
-      let lt = ltb-true l.trans (length m.transitions) (both_left (ltb l.trans (length m.transitions)) (start_test p.positions p.rest (key_of (l ∷ s))) live) in
+      let lt = ltb-true l.trans (length m.transitions) (and_parts (ltb l.trans (length m.transitions)) (start_test p.positions p.rest (key_of (l ∷ s))) live).0 in
       let on' = mirror.closed l.addr m (next_trans l m) on im.judged (at_member m.transitions l.trans lt) in
       let to = mirror.image (next_trans l m).addr on' in
       by_cond (ltb (length s) max_path) _ _ _ _

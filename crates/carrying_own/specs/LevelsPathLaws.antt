@@ -8,7 +8,7 @@ use Rattle.std.specs.Prelude.{◌≡◌, Bool, true, cond, ◌&&◌, ◌⊎◌, 
 use Rattle.std.proofs.Math.Path.{refl, ap, subst}
 use Rattle.std.proofs.Common.{sym, ◌∙◌, inl, inr}
 use Rattle.std.proofs.Math.Bool.{false}
-use Rattle.std.proofs.lemmas.Bool.{false≢true}
+use Rattle.std.proofs.lemmas.Bool.{and_parts}
 use Rattle.std.proofs.Math.Option.{Option, none, some}
 use Rattle.std.proofs.Math.Logic.{⊎_elim}
 use mathlib.Core.List.{List, [], ◌∷◌}
@@ -159,14 +159,6 @@ allowed_or {s} c =
 pub file_same : {s : List ℕ} (c : Call s) → Allowed c → c.file ≡ s
 file_same {s} c h = ⊎_elim (λ (e : c.file ≡ s). e) (λ ne. absurd (ne h.same)) c.which
 
-pub both_left : (a b : Bool) → (a && b) ≡ true → a ≡ true
-both_left true b h = refl
-both_left false b h = h
-
-both_right : (a b : Bool) → (a && b) ≡ true → b ≡ true
-both_right true b h = h
-both_right false b h = absurd (false≢true h)
-
 both_false : (a b : Bool) → (a && (b && false)) ≡ false
 both_false true true = refl
 both_false true false = refl
@@ -211,8 +203,8 @@ module _ (s : List ℕ) (m : Meta) (opens : opening s ≡ opened m) where
       (cond (eqb (length s) 0) (started_at s hi none (got [])) (started_at s hi (pending_at lo (node_in (fst_of s m) m.root)) (seek_of lo)))
       (Started.refused BOUND)
       (λ ok.
-      let lo_le = leb-true (length (bound_bytes lo)) max_path (both_left (leb (length (bound_bytes lo)) max_path) (leb (length (bound_bytes hi)) max_path) ok) in
-      let hi_le = leb-true (length (bound_bytes hi)) max_path (both_right (leb (length (bound_bytes lo)) max_path) (leb (length (bound_bytes hi)) max_path) ok) in
+      let lo_le = leb-true (length (bound_bytes lo)) max_path (and_parts (leb (length (bound_bytes lo)) max_path) (leb (length (bound_bytes hi)) max_path) ok).0 in
+      let hi_le = leb-true (length (bound_bytes hi)) max_path (and_parts (leb (length (bound_bytes lo)) max_path) (leb (length (bound_bytes hi)) max_path) ok).1 in
       on_cond OwnStart (eqb (length s) 0) _ _ (λ _. started_own hi none (got []) hi_le (tt, omega arith))
       (λ _. started_own hi (pending_at lo (node_in (fst_of s m) m.root)) (seek_of lo) hi_le (seek_own lo lo_le)))
       (λ _. tt))

@@ -3,6 +3,7 @@
 // and a second admission restores both: admission leaves the same tables every time.
 // depths, sums, out and table are slices and no struct: `mark` takes depths, `lay_out` depths and sums, `write_file` depths, sums and out, and
 // `put_table` sums and table. One value of the four, made of those that the C caller lends, would be taken apart at each of these calls.
+// Beside fst goes its count: a `FstRef` has what nodes are read by, and the count is only written again.
 // The limit has 32 bits, so that no file is let past the largest length; `convert_within` takes a usize, as its callers have it.
 #![tactic(auto)]
 

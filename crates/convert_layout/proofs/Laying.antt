@@ -15,6 +15,7 @@ use native.Mathlib.Omega.{arith}
 use borrow.Author.Tests.{ne_eqb, ltb-true, ltb-false}
 use lib.Dec.{ltb}
 use lib.ListN.{length, get_or, set, take, drop, length-append}
+use Rattle.std.proofs.lemmas.List.{length-take, length-drop, get_or-take, get_or-drop}
 use Rattle.format.specs.Limits.{max_len}
 use Rattle.format.specs.Node.{Node, sound, SoundAt}
 use Rattle.format.specs.Packed.{BuilderNode, TargetOk, RecordOk, packs_to_nothing, packed, node_addr}
@@ -24,7 +25,7 @@ use Rattle.format.specs.Laws.NodeFacts.{node_target_lt}
 use Rattle.format.specs.Laws.NodeLaws.{node_at_cases}
 use Rattle.buffers.specs.Put.{put, PutAt}
 use Rattle.buffers.specs.PutLaws.{put_nil, put_next, length_put}
-use Rattle.admission_node.specs.Entries.{Kept}
+use Rattle.admission_node.specs.Entries.{Kept, FirstMarked}
 use Rattle.admission_node.specs.KeptLaws.{at_set, kept_none, kept_set}
 use Rattle.converting.specs.Converting.{new_addr, record_by, record_of, Laid, lay_out}
 use Rattle.converting.specs.Laws.LayLaws.{lay_out_is, lay_out_grows, lay_out_stays, new_addr_here, packed_pos, packed_le, new_ok, record_ok_of, record_same}
@@ -252,6 +253,21 @@ module _ {f : Fst} {d s₀ s : List ℕ} {next a limit : ℕ} (h : Laying f d s�
           let right = piece_ok h.below h.next_is n.0 n.1 bytes (omega (arith, ok.limit_le)) in
           omega (arith, p.each n.0 n.1, packed_le next (record_by (entry_in s) n.0) right.few right.outputs_len right.targets_len)
 
+module _ {f : Fst} {d s₀ s : List ℕ} {next limit : ℕ} (ok : Layable f d s₀ limit) where
+  laying_gap : (a k : ℕ) → Laying f d s₀ s next a → a + k ≤ length f.bytes → ((j : ℕ) → a ≤ j → j < a + k → get_or d j 0 ≡ 0) → Laying f d s₀ s next (a + k)
+  laying_gap a zero h room none = let e : a + 0 ≡ a = omega arith in rw e h
+  laying_gap a (suc k) h room none =
+      let e : a + suc k ≡ a + k + 1 = omega arith in
+      let rest = laying_gap a k h (omega arith) (λ j p l. none j p (omega arith)) in
+      rw e (laying_skip rest ok (omega arith) (none (a + k) (omega arith) (omega arith)))
+
+  -- up to the next marked address
+  pub laying_to : {a b : ℕ} → Laying f d s₀ s next a → FirstMarked d a (length f.bytes) b → Laying f d s₀ s next b
+  laying_to {a} {b} h to =
+      let e : a + (b - a) ≡ b = omega (arith, to.low) in
+      subst (λ (n : ℕ). Laying f d s₀ s next n) e
+      (laying_gap a (b - a) h (omega (arith, to.high)) (λ j p l. to.none j p (omega arith)))
+
 -- ---- the second pass
 
 pub record Writes (f : Fst) (d out₀ out : List ℕ) (next a : ℕ) : Type 0 where
@@ -339,3 +355,18 @@ module _ {f : Fst} {d s out₀ out : List ℕ} {next a : ℕ} (h : Writes f d ou
           let more = nodes_more writes_below h.is.next n.0 n.1 ne in
           let len = ap (λ (l : List ℕ). length l) more ∙ length-append (laid_to f d a).nodes (packed next (record_by (entry_in s) n.0)) in
           omega (arith, h.is.next, (p.each n.0 n.1).count, len, ok.fits, laid_grows f d (a + 1) (length f.bytes) (omega arith))
+
+module _ {f : Fst} {d s out₀ out : List ℕ} {next : ℕ} (ok : Writable f d s out₀) where
+  writes_gap : (a k : ℕ) → Writes f d out₀ out next a → a + k ≤ length f.bytes → ((j : ℕ) → a ≤ j → j < a + k → get_or d j 0 ≡ 0) → Writes f d out₀ out next (a + k)
+  writes_gap a zero h room none = let e : a + 0 ≡ a = omega arith in rw e h
+  writes_gap a (suc k) h room none =
+      let e : a + suc k ≡ a + k + 1 = omega arith in
+      let rest = writes_gap a k h (omega arith) (λ j p l. none j p (omega arith)) in
+      rw e (writes_skip rest ok (omega arith) (none (a + k) (omega arith) (omega arith)))
+
+  -- up to the next marked address
+  pub writes_to : {a b : ℕ} → Writes f d out₀ out next a → FirstMarked d a (length f.bytes) b → Writes f d out₀ out next b
+  writes_to {a} {b} h to =
+      let e : a + (b - a) ≡ b = omega (arith, to.low) in
+      subst (λ (n : ℕ). Writes f d out₀ out next n) e
+      (writes_gap a (b - a) h (omega (arith, to.high)) (λ j p l. to.none j p (omega arith)))

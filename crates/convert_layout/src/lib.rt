@@ -11,6 +11,7 @@ ghost use Rattle.buffers.specs.Put.{PutAt};
 ghost use Rattle.admission_node.specs.Entries.{Kept};
 ghost use Rattle.convert_layout.specs.Layout.{laid_to, addr_of, Zeros, Layable, Lays, Writable, Narrow};
 
+use admission_node::marked_from;
 use convert_node::{Buffers, pack_at};
 use convert_size::len_at;
 use format::{FIRST_NODE, FstRef, are_bytes};
@@ -36,22 +37,18 @@ fn lay_marked(fst: FstRef<'_>, limit: usize, depths: &[u16], sums: &mut [u64]) -
         sums.new limit result }
 {
     are_bytes(fst.bytes);
+    let n = fst.bytes.len();
     let mut next = FIRST_NODE;
-    let mut a = 0;
-    // not by `for`: a step is one address, or as many as the mark says
-    while a < fst.bytes.len() {
-        let hop = depths[a];
-        if hop == 0 {
-            a += 1;
-            continue;
-        }
+    let mut a = marked_from(depths, 0, n);
+    // not by `for`: a step is as many addresses as the mark says
+    while a < n {
         if limit < next + TRAILER {
             return None;
         }
         let len = len_at(fst, a, next, sums);
         sums[a] = addr_of(next, len);
         next += len;
-        a += hop as usize;
+        a = marked_from(depths, a + usize::from(depths[a]), n);
     }
     if limit < next + TRAILER {
         return None;
@@ -80,17 +77,14 @@ pub fn write_out(fst: FstRef<'_>, depths: &[u16], sums: &[u64], out: &mut [u8]) 
 {
     are_bytes(fst.bytes);
     let mut buffers = Buffers::new();
+    let n = fst.bytes.len();
     let mut next = FIRST_NODE;
-    let mut a = 0;
-    // not by `for`: a step is one address, or as many as the mark says
-    while a < fst.bytes.len() {
-        let hop = depths[a];
-        if hop == 0 {
-            a += 1;
-            continue;
-        }
+    let mut a = marked_from(depths, 0, n);
+    // not by `for`, as in `lay_marked`. No function has both loops: that one also writes the sums that it reads, and ends where the limit is passed. A
+    // closure's contract would have to say, for each of the two, what the passes before a marked node have left in their table.
+    while a < n {
         next += pack_at(fst, a, next, sums, &mut buffers, &mut out[next..]);
-        a += hop as usize;
+        a = marked_from(depths, a + usize::from(depths[a]), n);
     }
     next
 }

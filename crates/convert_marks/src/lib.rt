@@ -1,6 +1,7 @@
 // The marks of a conversion: the nodes that are laid out have an entry other than 0 in the depths' table, so that they can be visited in
 // ascending order. Each says how far above it the next one lies, so that no address between is asked.
-// What is asked of an address or a node stands where it is needed: no type has the file and the table that it speaks of.
+// What is asked of an address or a node stands where it is needed: a type that says it would hold the file and the table, and would be made anew at
+// each node, since the table is written between two.
 #![tactic(auto)]
 
 ghost use Rattle.std.specs.Prelude.{◌≡◌, ◌≤◌};
@@ -36,7 +37,7 @@ fn hop_of(up: usize) -> u16
     requires { 1 ≤ up }
     ensures { (1 ≤ result) × (result ≤ up) }
 {
-    if up < 65536 { up as u16 } else { 1 }
+    u16::try_from(up).unwrap_or(1)
 }
 
 // The mark of a node: how far above it the next one lies, or 1, which is never too far. A node that no path from the root reaches has no entry

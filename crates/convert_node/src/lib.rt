@@ -1,6 +1,7 @@
 // What the second pass of a conversion does at one node of a version 1 file: it is packed as document 01 says, each target replaced by the
 // table's entry. The node is sound, so it is read by its form and not judged.
-// A node and the bytes that it was read in go as two values, and what is asked of a node stands at the call, as convert_size says.
+// A node and the bytes that it was read in go as two values, and what is asked of a node stands at the call, as convert_size says; so do the places of
+// its transitions.
 #![tactic(auto)]
 
 ghost use Rattle.std.specs.Prelude.{◌≡◌, ◌<◌, length};
@@ -14,12 +15,13 @@ ghost use Rattle.convert_node.specs.Packs.{Gatherable, Gathered, Packable, Packe
 
 use convert_one::kept_of;
 use convert_size::{first_moved, new_target};
-use format::FstRef;
+use format::{FstRef, State};
 use node::Node;
 use node_compile::{Kept, pack_one};
 use node_record::BuilderNode;
 
-// Room for the record of any node: the inputs, the outputs and the new targets of its transitions, each at the front of its array.
+// Room for the record of any node: the inputs, the outputs and the new targets of its transitions, each at the front of its array. There is no
+// heap, so each has room for 256; how many there are is the node's count, which `pack` has beside them, and it makes slices of that length.
 #[derive(Drop)]
 pub struct Buffers {
     pub inputs: [u8; 256],
@@ -120,17 +122,10 @@ pub fn pack_at(
         out.old out.new result }
 {
     let file = fst.bytes;
-    match file[a] {
-        0..=127 => {
-            let node = node::any_node(fst, a);
-            pack(file, node, first, moved, buffers, out)
-        }
-        128..=191 => {
-            let node = node::one_node(fst, a);
-            pack_single(file, node, kept_of(file, a), first, moved, out)
-        }
-        192..=255 => {
-            let node = node::next_node(fst, a);
+    let node = node::node_of(fst, a);
+    match node.state {
+        State::AnyTrans => pack(file, node, first, moved, buffers, out),
+        State::OneTrans | State::OneTransNext => {
             pack_single(file, node, kept_of(file, a), first, moved, out)
         }
     }

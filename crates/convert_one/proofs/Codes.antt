@@ -29,6 +29,5 @@ module _ (s : List ℕ) (a : ℕ) where
   code_low ne lt =
       record {
         is = sym (ap common_idx (input_of_common s a ne) ∙ common_idx_input (low_bits s a) (omega (arith, ne)) lt);
-        lt = lt;
         rare_is = λ z. absurd (ne z);
       }

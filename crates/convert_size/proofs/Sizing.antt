@@ -24,6 +24,7 @@ use Rattle.convert_size.specs.declared.Most.{Most}
 use Rattle.convert_size.specs.Sizes.{entry_in, Sizable, Mosts}
 use Rattle.convert_size.specs.SingleLaws.{Single}
 use Rattle.convert_size.proofs.Largest.{LargestFrom, largest_none, largest_step, largest_all, largest_cons}
+use Rattle.std.proofs.lemmas.Bool.{and_parts}
 
 -- ---- the length of a node of the forms 00 and 01
 
@@ -57,10 +58,6 @@ module _ {m : Node} {first : ℕ} {moved : List ℕ} (ok : Sizable m first moved
 not-true : (t : Bool) → not t ≡ true → t ≡ false
 not-true true e = absurd (false≢true e)
 not-true false e = refl
-
-and_parts : (t u : Bool) → (t && u) ≡ true → (t ≡ true) × (u ≡ true)
-and_parts true u e = (refl, e)
-and_parts false u e = absurd (false≢true e)
 
 module _ (m : Node) (moved : List ℕ) (n : ℕ) (is_n : n ≡ length m.transitions) where
   inputs_count : n ≡ length (record_by (entry_in moved) m).inputs

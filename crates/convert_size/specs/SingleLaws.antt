@@ -1,14 +1,15 @@
 -- The sound node at an address whose state byte says that it has one transition.
 --     Single m inp        the node m is not final, and its one transition has the input inp
---     single_node         such a node is one
+--     state_single        its state has one of the two forms; single_node    such a node is one
 --     single_packed       its bytes, with its target by a table; kept_packed    the same of what is kept of its input
 --     target_in, target_le     where a transition leads, and where that went
 --     kept_moves               what `first_moved` asks
 --     judged-..                what the code read by the node's form is the node
 -- Assumes nothing.
 use Rattle.std.specs.Prelude.{Ok}
-use Rattle.std.specs.Prelude.{◌≡◌, refl, Bool, true, false, ℕ, ◌+◌, ◌-◌, ◌/◌, ◌%◌, ◌≤◌, ◌<◌, ltb, length, get_or}
-use Rattle.std.proofs.Common.{sym, ap, ◌∙◌, subst, true≢false, ⊎_elim, arith, ltb-true, ltb-false}
+use Rattle.std.specs.Prelude.{◌≡◌, refl, true, false, ◌⊎◌, ℕ, ◌+◌, ◌-◌, ◌/◌, ◌%◌, ◌≤◌, ◌<◌, length, get_or}
+use Rattle.std.proofs.Common.{sym, ap, ◌∙◌, subst, true≢false, inl, inr, ⊎_elim, arith}
+use Rattle.std.proofs.Math.Decide.{dec_le}
 use mathlib.Core.List.{List, map}
 use Rattle.std.proofs.lemmas.List.{length-map}
 use Rattle.format.specs.declared.Transition.{Transition}
@@ -17,7 +18,7 @@ use Rattle.format.specs.declared.State.TheVariants.{OneTransNext, OneTrans, AnyT
 use Rattle.format.specs.Node.{Node, sound, SoundAt, input_of, node_of, ntrans_in, ntrans_of, sizes_byte, size_of, outputs_at, state_form, is_final, transitions_of, transition_at, numbers_down, down_from, stored_transitions}
 use Rattle.format.specs.Packed.{BuilderNode, TargetOk, TargetsOk, has_one, packed}
 use Rattle.format.specs.Paths.{node_in, fst_with}
-use Rattle.format.specs.Laws.NodeLaws.{node_at_sound, form_next, form_one, not_final}
+use Rattle.format.specs.Laws.NodeLaws.{node_at_sound, form_any, not_final}
 use Rattle.format.specs.Laws.TransitionLaws.{at_member}
 use Rattle.node_sound.specs.JudgingLaws.{sound_low}
 use Rattle.node_sound.specs.Shapes.{is_any}
@@ -53,27 +54,28 @@ stored_single s OneTransNext e first n tsize osize inp outputs is = rw is (refl,
 stored_single s OneTrans e first n tsize osize inp outputs is = rw is (refl, refl)
 stored_single s AnyTrans e first n tsize osize inp outputs is = absurd (true≢false e)
 
--- the form of such a state
-form_single : (state : ℕ) → 128 ≤ state → is_any (state_form state) ≡ false
-form_single state h = go (ltb state 192) refl
-  where
-    go : (t : Bool) → ltb state 192 ≡ t → is_any (state_form state) ≡ false
-    go true e = ap is_any (form_one state h (ltb-true state 192 e))
-    go false e = ap is_any (form_next state (ltb-false state 192 e))
+-- the forms 10 and 11
+pub state_single : {st : State} (byte : ℕ) → st ≡ state_form byte → (st ≡ OneTrans) ⊎ (st ≡ OneTransNext) → is_any (state_form byte) ≡ false
+state_single byte is (inl e) = ap is_any (sym is ∙ e)
+state_single byte is (inr e) = ap is_any (sym is ∙ e)
+
+-- the state byte of such a form
+single_low : (state : ℕ) → is_any (state_form state) ≡ false → 128 ≤ state
+single_low state form =
+    elim (dec_le 128 state) [ yes p ↦ p | no p ↦ absurd (true≢false (sym (ap is_any (form_any state (omega arith))) ∙ form)) ]
 
 count_single : (st : State) → is_any st ≡ false → (s : List ℕ) (a : ℕ) → ntrans_in st s a ≡ 1
 count_single OneTransNext e s a = refl
 count_single OneTrans e s a = refl
 count_single AnyTrans e s a = absurd (true≢false e)
 
-pub single_node : (s : List ℕ) (v a : ℕ) → 128 ≤ get_or s a 0 → Single (node_of s v a) (input_of s a)
+pub single_node : (s : List ℕ) (v a : ℕ) → is_any (state_form (get_or s a 0)) ≡ false → Single (node_of s v a) (input_of s a)
 unfolding node_of ntrans_of
-single_node s v a h =
-    let form = form_single (get_or s a 0) h in
+single_node s v a form =
     let q =
     stored_single s (state_form (get_or s a 0)) form (a + 1 - size_of s v a) (ntrans_of s a) (sizes_byte s a / 16) (sizes_byte s a % 16) (input_of s a)
     (outputs_at (a + 1 - size_of s v a) (is_final (get_or s a 0)) (sizes_byte s a % 16)) (count_single (state_form (get_or s a 0)) form s a) in
-    record { final = not_final (get_or s a 0) h; one = q.0; input = q.1 }
+    record { final = not_final (get_or s a 0) (single_low (get_or s a 0) form); one = q.0; input = q.1 }
 
 -- ---- its bytes
 
@@ -136,7 +138,8 @@ module _ {s : List ℕ} {v root a : ℕ} {r : N.Node} (j : Judges s v root a (Ok
   pub judged_sizable : {first : ℕ} {moved : List ℕ} → SizableAt (fst_with s v root) a first moved → Sizable (meaning s r) first moved
   judged_sizable ok = ok.each (meaning s r) judged_at
 
-  module _ (at : SoundAt s v root a) (form : 128 ≤ get_or s a 0) where
+  -- of the forms 10 and 11
+  module _ (at : SoundAt s v root a) (form : is_any (state_form (get_or s a 0)) ≡ false) where
     pub judged_single : Single (meaning s r) (input_of s a)
     judged_single =
         let low = sound_low s v root a at in
@@ -159,4 +162,4 @@ module _ {s : List ℕ} {v root a : ℕ} {r : N.Node} (j : Judges s v root a (Ok
     pub judged_kept_own : {idx rare : ℕ} → Code (input_of s a) idx rare → OneKept (meaning s r) idx (first_input (meaning s r))
     judged_kept_own code =
         let kept = judged_kept code in
-        record { final = kept.final; one = kept.one; code = record { is = kept.code.is; lt = code.lt; rare_is = λ _. refl } }
+        record { final = kept.final; one = kept.one; code = record { is = kept.code.is; rare_is = λ _. refl } }

@@ -2,6 +2,7 @@
 // its largest new delta, in one pass over its transitions. The node is sound, so it is read by its form and not judged.
 // A node and the bytes that it was read in go as two values: `node`'s readers take them so, and one value of both would be taken apart at each call.
 // What is asked of a node (`Sizable`) speaks of F too, and F is another one at each node, so it is asked at the call and not promised by a type.
+// A node's transitions are gone through by their places, as in admission_node: there is no slice of them.
 #![tactic(auto)]
 
 ghost use Rattle.std.specs.Prelude.{◌≡◌, ◌<◌, length};
@@ -13,7 +14,7 @@ ghost use Rattle.converting.specs.Converting.{record_by};
 ghost use Rattle.convert_size.specs.Sizes.{entry_in, Mosts, Sizable, OneKept, SizableAt, SizedAt};
 
 use convert_one::kept_of;
-use format::FstRef;
+use format::{FstRef, State};
 use le_bytes::pack_size;
 use node::Node;
 use node_compile::{Kept, any_len, delta_of, has_one, one_len, output_size, packs_to_nothing};
@@ -120,15 +121,11 @@ pub fn len_at(fst: FstRef<'_>, a: usize, first: usize, moved: &[u64]) -> usize
     ensures { SizedAt (fst_is fst.entry) a first moved.now result }
 {
     let file = fst.bytes;
-    match file[a] {
-        0..=127 => len_any(file, node::any_node(fst, a), first, moved),
-        128..=191 => len_single(file, node::one_node(fst, a), kept_of(file, a), first, moved),
-        192..=255 => len_single(
-            file,
-            node::next_node(fst, a),
-            kept_of(file, a),
-            first,
-            moved,
-        ),
+    let node = node::node_of(fst, a);
+    match node.state {
+        State::AnyTrans => len_any(file, node, first, moved),
+        State::OneTrans | State::OneTransNext => {
+            len_single(file, node, kept_of(file, a), first, moved)
+        }
     }
 }

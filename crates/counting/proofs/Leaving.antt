@@ -6,7 +6,6 @@ use mathlib.Core.Path.{◌≡◌, refl, sym, ap, ◌∙◌, subst}
 use Rattle.std.specs.Prelude.{Ok, Err, Result, ⊤}
 use Rattle.format.specs.declared.Refusal.{Refusal}
 use Rattle.fst.specs.declared.Meta.{Meta}
-use mathlib.Core.Bool.{true}
 use mathlib.Core.Logic.{inl, inr, ⊎_elim}
 use mathlib.Core.List.{List}
 use Prim.Native.Nat.{ℕ, ◌≤◌, ◌<◌}
@@ -72,7 +71,7 @@ module _ {s d₀ s₀ d t : List ℕ} (A : Admits s d₀ s₀ d t) where
 
   -- ---- what the pass answers
 
-  all_few : {c₀ c : List ℕ} → Passed file d c₀ c true → FewKeys file
+  all_few : {c₀ c : List ℕ} → Passed file d c₀ c (Ok tt) → FewKeys file
   unfolding FewKeys
   all_few all a r =
       elim (ℕ_discrete a 0) [
@@ -82,7 +81,7 @@ module _ {s d₀ s₀ d t : List ℕ} (A : Admits s d₀ s₀ d t) where
             (all.found a (table_inside h)).low (table_entered h)
       ]
 
-  all_counts : {c₀ c : List ℕ} → length s ≤ length c₀ → Passed file d c₀ c true → Counts s d₀ s₀ c₀ d t c
+  all_counts : {c₀ c : List ℕ} → length s ≤ length c₀ → Passed file d c₀ c (Ok tt) → Counts s d₀ s₀ c₀ d t c
   all_counts room all =
       record {
         admits = A;

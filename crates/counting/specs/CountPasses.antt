@@ -1,12 +1,11 @@
 -- What the inner functions ask and promise; what filling the table itself promises is in `CountOutcomes`. Nothing of `CountOutcomes` says how the
 -- reached nodes are found: here it is by the entries of the depths that are not 0.
 --     HasEntry d j            the address j has an entry in the depths d
---     FirstEntry d r          how many entries stand before the first that is not 0
 --     ZerosTo                 zeros up to the next address that has one
 --     Countable, Passed       what the pass asks and answers
 --     Leaves                  the same, with the table wiped where a number does not fit
 -- Assumes nothing.
-use Rattle.std.specs.Prelude.{◌≡◌, Bool, true, false, ℕ, ◌≤◌, ◌<◌, length, get_or, Ok, Err, Result, ⊤}
+use Rattle.std.specs.Prelude.{◌≡◌, ℕ, ◌≤◌, ◌<◌, length, get_or, Ok, Err, Result, ⊤}
 use Rattle.format.specs.declared.Refusal.{Refusal}
 use mathlib.Core.List.{List, Memᴰ}
 use Rattle.format.specs.declared.Transition.{Transition}
@@ -14,7 +13,7 @@ use Rattle.format.specs.Limits.{max_sum, COUNT}
 use Rattle.format.specs.Node.{Node, sound, SoundAt}
 use Rattle.format.specs.Paths.{Fst, node_in}
 use Rattle.format.specs.Tables.{keys_from}
-use Rattle.admission_node.specs.Entries.{Kept}
+use Rattle.admission_node.specs.Entries.{Kept, FirstMarked}
 use Rattle.admission.specs.Outcome.{Wiped}
 
 -- ---- the pass
@@ -22,21 +21,12 @@ use Rattle.admission.specs.Outcome.{Wiped}
 abbrev pub HasEntry : List ℕ → ℕ → Type 0
 HasEntry d j = ¬ (get_or d j 0 ≡ 0)
 
--- r entries from the first on are 0, and the next one, where there is one, is not
-pub record FirstEntry (d : List ℕ) (r : ℕ) : Type 0 where
-  pub within : r ≤ length d
-  pub none : (j : ℕ) → j < r → get_or d j 0 ≡ 0
-  pub next : r < length d → HasEntry d r
-
--- zeros at the addresses from `from` below r, which have no entry in the depths; below n, r is the first that has one
+-- zeros at the addresses from `from` below r, which is the first one that has an entry in the depths, or n
 pub record ZerosTo (d : List ℕ) (n from : ℕ) (c₀ c : List ℕ) (r : ℕ) : Type 0 where
-  pub low : from ≤ r
-  pub high : r ≤ n
+  pub first : FirstMarked d from n r
   pub kept : Kept n c₀ c
-  pub none : (j : ℕ) → from ≤ j → j < r → get_or d j 0 ≡ 0
   pub zeros : (j : ℕ) → from ≤ j → j < r → get_or c j 0 ≡ 0
   pub below : (j : ℕ) → j < from → get_or c j 0 ≡ get_or c₀ j 0
-  pub next : r < n → HasEntry d r
 
 -- a node with an entry is sound, and each of its targets has an entry too, but for address 0
 pub record Countable (f : Fst) (d c : List ℕ) : Type 0 where
@@ -58,11 +48,16 @@ pub record OverOne (f : Fst) (d : List ℕ) : Type 0 where
   pub entered : HasEntry d at
   pub over : max_sum < keys_from f at
 
-abbrev pub PassCase : Fst → List ℕ → List ℕ → Bool → Type 0
-PassCase f d c true = (j : ℕ) → j < length f.bytes → KeysEntry f d j (get_or c j 0)
-PassCase f d c false = OverOne f d
+-- a number that does not fit is refused as COUNT
+pub record Over (f : Fst) (d : List ℕ) (r : Refusal) : Type 0 where
+  pub is : r ≡ COUNT
+  pub one : OverOne f d
 
-pub record Passed (f : Fst) (d c₀ c : List ℕ) (r : Bool) : Type 0 where
+abbrev pub PassCase : Fst → List ℕ → List ℕ → Result ⊤ Refusal → Type 0
+PassCase f d c (Ok tt) = (j : ℕ) → j < length f.bytes → KeysEntry f d j (get_or c j 0)
+PassCase f d c (Err r) = Over f d r
+
+pub record Passed (f : Fst) (d c₀ c : List ℕ) (r : Result ⊤ Refusal) : Type 0 where
   pub kept : Kept (length f.bytes) c₀ c
   pub found : PassCase f d c r
 
@@ -74,5 +69,5 @@ pub record NotCounted (f : Fst) (d c₀ c : List ℕ) (r : Refusal) : Type 0 whe
   pub wiped : Wiped (length f.bytes) c₀ c
 
 abbrev pub Leaves : Fst → List ℕ → List ℕ → List ℕ → Result ⊤ Refusal → Type 0
-Leaves f d c₀ c (Ok tt) = Passed f d c₀ c true
+Leaves f d c₀ c (Ok tt) = Passed f d c₀ c (Ok tt)
 Leaves f d c₀ c (Err r) = NotCounted f d c₀ c r

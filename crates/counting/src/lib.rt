@@ -8,21 +8,12 @@
 ghost use Rattle.std.specs.Prelude.{◌≤◌, length};
 ghost use Rattle.format.specs.View.{fst_is};
 ghost use Rattle.admission.specs.Outcome.{Opens};
-ghost use Rattle.counting.specs.CountPasses.{FirstEntry, ZerosTo, Countable, Passed, Leaves};
+ghost use Rattle.counting.specs.CountPasses.{ZerosTo, Countable, Passed, Leaves};
 ghost use Rattle.counting.specs.CountOutcomes.{CountOutcome};
 
+use admission_node::marked_from;
 use counting_node::count_at;
 use format::{FstRef, Refusal};
-
-// How many entries stand before the first that is not 0.
-fn gap(depths: &[u16]) -> usize
-    ensures { FirstEntry depths.now result }
-{
-    depths
-        .iter()
-        .position(|entry| *entry != 0)
-        .unwrap_or(depths.len())
-}
 
 // Zeros from an address on, up to the next one that has an entry in the depths; answers that, or n, which is the file's length. Either table
 // may be longer.
@@ -31,13 +22,13 @@ fn zeros_to(depths: &[u16], from: usize, n: usize, counts: &mut [u64]) -> usize
     ensures { ZerosTo depths.now n from counts.old
         counts.new result }
 {
-    let to = from + gap(&depths[from..n]);
+    let to = marked_from(depths, from, n);
     counts[from..to].fill(0);
     to
 }
 
-// Fills the table, in ascending order of addresses; false at the first node with more keys than an entry holds.
-fn fill(fst: FstRef<'_>, depths: &[u16], counts: &mut [u64]) -> bool
+// Fills the table, in ascending order of addresses, or refuses at the first node with more keys than an entry holds.
+fn fill(fst: FstRef<'_>, depths: &[u16], counts: &mut [u64]) -> Result<(), Refusal>
     requires { Countable (fst_is fst) depths.now counts.old }
     ensures { Passed (fst_is fst.entry) depths.now
         counts.old counts.new result }
@@ -46,13 +37,11 @@ fn fill(fst: FstRef<'_>, depths: &[u16], counts: &mut [u64]) -> bool
     let mut a = zeros_to(depths, 0, n, counts);
     // not by `for`: `zeros_to` says where the next node lies
     while a < n {
-        let Some(keys) = count_at(fst, a, counts) else {
-            return false;
-        };
+        let keys = count_at(fst, a, counts).ok_or(Refusal::Count)?;
         counts[a] = keys;
         a = zeros_to(depths, a + 1, n, counts);
     }
-    true
+    Ok(())
 }
 
 // Fills the table of an admitted file; where a number does not fit, zeros over the file's length.
@@ -62,11 +51,11 @@ fn count_nodes(fst: FstRef<'_>, depths: &[u16], counts: &mut [u64]) -> Result<()
         counts.old counts.new result }
 {
     let n = fst.bytes.len();
-    if fill(fst, depths, counts) {
-        return Ok(());
+    let filled = fill(fst, depths, counts);
+    if filled.is_err() {
+        counts[..n].fill(0);
     }
-    counts[..n].fill(0);
-    Err(Refusal::Count)
+    filled
 }
 
 // Admits a file that opens, with this version and root, and fills the table.

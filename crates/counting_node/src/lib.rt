@@ -1,4 +1,5 @@
 // The number of keys from one node, by the entries of its targets in the table of keys (document 02, N11).
+// A node's transitions are gone through by their places, as in admission_node: there is no slice of them.
 #![tactic(auto)]
 
 ghost use Rattle.std.specs.Prelude.{◌≡◌, ◌≤◌, ◌<◌, length};
@@ -9,7 +10,7 @@ ghost use Rattle.node.specs.Read.{transitions_in, Readable};
 ghost use Rattle.admission_node.specs.Entries.{total_as};
 ghost use Rattle.counting_node.specs.CountNodes.{added_to, keys_by, Inside, CountedAt};
 
-use format::FstRef;
+use format::{FstRef, State};
 use node::Node;
 
 // The key that ends at a node.
@@ -52,7 +53,8 @@ fn count_any(file: &[u8], node: Node, counts: &[u64]) -> Option<u64>
 }
 
 // The same of a node with one transition. Tried, unproved: where `count_any` takes these too, a count of the keys of words takes 6.5 percent more
-// instructions, those of its admission included, and 5 percent more time.
+// instructions, those of its admission included, and 5 percent more time; a count is made in an admission's place, and held to docs/PERFORMANCE.md's
+// aim for that, which words miss by more then.
 fn count_one(file: &[u8], node: Node, counts: &[u64]) -> Option<u64>
     requires { Readable file.now node × (node.ntrans ≡ 1)
         × Inside counts.now (transitions_in file.now node) }
@@ -65,16 +67,17 @@ fn count_one(file: &[u8], node: Node, counts: &[u64]) -> Option<u64>
 }
 
 // The same of the sound node at the address a.
-// The node's form is asked here. Tried, unproved: with the node made by `node_of` a count of the keys of words takes 7 percent longer.
+// The node's form is asked here. Tried, unproved: with the node made by `node_of` a count of the keys of words takes 7 percent longer, and misses
+// the same aim by more.
 pub fn count_at(fst: FstRef<'_>, a: usize, counts: &[u64]) -> Option<u64>
     requires { SoundAt fst.bytes.now fst.version fst.root a
         × (length fst.bytes.now ≤ length counts.now) }
     ensures { CountedAt (fst_is fst.entry)
         counts.now a result }
 {
-    match fst.bytes[a] {
-        0..=127 => count_any(fst.bytes, node::any_node(fst, a), counts),
-        128..=191 => count_one(fst.bytes, node::one_node(fst, a), counts),
-        _ => count_one(fst.bytes, node::next_node(fst, a), counts),
+    match State::from(fst.bytes[a]) {
+        State::AnyTrans => count_any(fst.bytes, node::any_node(fst, a), counts),
+        State::OneTrans => count_one(fst.bytes, node::one_node(fst, a), counts),
+        State::OneTransNext => count_one(fst.bytes, node::next_node(fst, a), counts),
     }
 }

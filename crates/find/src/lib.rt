@@ -3,7 +3,7 @@
 // rows and values are two slices and no struct: the C caller lends two, a row is written by a function that takes the rows alone, and the definitions speak of
 // each, so that a struct would only be taken apart again.
 // The pattern is given as the C caller has it, positions and whether any rest may follow.
-// The two bounds are two values and no pair: each is taken by itself.
+// The two bounds are two values and no struct, as `patterned::start` takes them, which makes its walk with the lower and keeps the upper in the reading.
 // How many keys are asked for is a number of its own, and no length of rows or values.
 #![tactic(auto)]
 

@@ -24,9 +24,9 @@ use Rattle.paging.proofs.FoldLaws.{rows_none, rows_snoc, values_none, values_sno
 use Rattle.finding.specs.Finding.{fold_by}
 use Rattle.finding.proofs.FoldByLaws.{FoldedBy, by_none, by_key, by_more, by_end, by_refused}
 use Rattle.stream_start.specs.Views.{view_is}
+use Rattle.stream_step.specs.declared.Step.{Step}
 use Rattle.stream_step.specs.SteppedLaws.{Told, step_end, step_refused, step_text, step_fits}
 use Rattle.patterned.specs.declared.Patterned.{Patterned}
-use Rattle.patterned.specs.declared.PatternedStep.{PatternedStep}
 use Rattle.patterned_held.specs.HeldPatterns.{held_is}
 use Rattle.patterned.specs.Patterns.{SteppedBy}
 use Rattle.range_fill.specs.declared.Stop.TheVariants.{End as Ended, More}
@@ -78,7 +78,7 @@ module _ {s : List ℕ} {p : P.Pattern} {w : Page} {most : ℕ} {rows₀ values�
       subst (λ (j : ℕ). RangedBy w rows₀ rows values₀ values (record { count = j; stop = Ok More })) e (stops more (by_more g.folded (omega arith)))
 
   -- a call of next
-  module _ (left : count < most) {b : List ℕ} (same : length b ≡ max_path) {o : PatternedStep}
+  module _ (left : count < most) {b : List ℕ} (same : length b ≡ max_path) {o : Step Patterned}
       (h : SteppedBy (next_by s (held_is here.pattern) (view_is here.reading) (length b₀)) here.pattern b₀ b o) where
     call_told : Told (next_by s (held_is here.pattern) (view_is here.reading) (length b₀)).answer o.answer b₀ b
     call_told = record { answer = h.answer; buffer = h.buffer }
@@ -103,7 +103,7 @@ module _ {s : List ℕ} {p : P.Pattern} {w : Page} {most : ℕ} {rows₀ values�
     key_len n v e = let short = key_fits n v e in length-take-le n b (omega arith)
 
     pub going_key : row_len * most ≤ length rows₀ → most ≤ length values₀ → (n v : ℕ) → o.answer ≡ Ok (Some (n, v)) → {rows' : List ℕ}
-        → rows' ≡ put rows (count * 256) (length (take n b) ∷ take n b) → Going s p w most rows₀ values₀ rows' (set values count v) b o.patterned (count + 1)
+        → rows' ≡ put rows (count * 256) (length (take n b) ∷ take n b) → Going s p w most rows₀ values₀ rows' (set values count v) b o.reading (count + 1)
     going_key row_room value_room n v e {rows'} put_is =
         let k = take n b in
         let x = entry k v in
@@ -121,7 +121,7 @@ module _ {s : List ℕ} {p : P.Pattern} {w : Page} {most : ℕ} {rows₀ values�
           space = same;
           pattern_is_lem = ap held_is h.pattern ∙ g.pattern_is_lem;
           folded =
-              by_key g.folded k v (view_is o.patterned.reading) (most - (count + 1)) (omega arith) (answer_is_lem (step_text call_told n v e))
+              by_key g.folded k v (view_is o.reading.reading) (most - (count + 1)) (omega arith) (answer_is_lem (step_text call_told n v e))
               (ap (λ (z : R.Step). z.reading) call_is_lem ∙ sym h.reading);
           rows_are =
               row_is

@@ -31,10 +31,11 @@ pub fn fill(
 {
     let mut key = [0u8; MAX_KEY];
     let mut here = first;
+    // by place: where the keys end, it is what is answered
     for count in 0..most {
         let step = next(file, here, &mut key);
         let answer = step.answer;
-        here = step.patterned;
+        here = step.reading;
         match answer {
             Ok(None) => {
                 return Ranged {

@@ -6,52 +6,53 @@
 ghost use Rattle.std.specs.Prelude.{◌≡◌, ◌<◌, ℕ, get_or};
 ghost use Rattle.format.specs.Limits as L;
 ghost use Rattle.format.specs.Limits.{number};
+ghost use Rattle.format.specs.Node.{state_form};
 
 // Why a call refuses, in the order of document 01's table, and from `Pattern` on of document 02's.
 #[derive(Clone, Copy, PartialEq, Eq)]
 pub enum Refusal {
     // a file that has bytes, but fewer than its header and trailer
-    Short,
+    Short = 1,
     // a version that is none of 1 to 3
-    Version,
+    Version = 2,
     // a root that breaks the root rule (Opening)
-    Root,
+    Root = 3,
     // a file, or a new one, over the largest length; to a listing, one over 4,096 bytes
-    Large,
+    Large = 4,
     // a node that is not sound; on admission also a broken chain, or a target that is no node of the chain
-    Node,
+    Node = 5,
     // a path or a key longer than the longest key
-    Deep,
+    Deep = 6,
     // a sum past the largest value
-    Sum,
+    Sum = 7,
     // a buffer or a table too short, or fewer than two cells to pack with
-    Space,
+    Space = 8,
     // a bound longer than the longest key
-    Bound,
+    Bound = 9,
     // a node record that breaks a rule (Packed: `RecordOk`)
-    Record,
+    Record = 10,
     // a reading that cannot be one of the file: over 256 levels, a held bound over 255 bytes, or the length of another file; a key that comes where
     // the reading's number says that none is to come; marks beside it that cannot be right: over 16, one with such a reading, or a name of no bytes,
     // of over 8, or that stands twice; of several files as one, a held key of over 256 levels
-    State,
+    State = 11,
     // over 255 positions of a pattern, given or held
-    Pattern,
+    Pattern = 12,
     // bytes to pack that are no list
-    List,
+    List = 13,
     // no files to read as one, or over eight, given or held
-    Cards,
+    Cards = 14,
     // a file to convert that is not of version 1
-    Edition,
+    Edition = 15,
     // a held level that the new file does not have, or whose node there has another number of transitions or another sum
-    Carry,
+    Carry = 16,
     // a mark's name of no bytes or over 8, or, to go back, of no mark
-    Name,
+    Name = 17,
     // a seventeenth mark
-    Full,
+    Full = 18,
     // over 2^64 - 1 keys, or at a start a table of keys whose numbers do not go together
-    Count,
+    Count = 19,
     // a seat's number over seven, given or held, or a seat without a reading that is raised or waits
-    Seat,
+    Seat = 20,
 }
 
 // The number of a refusal in the papers and in C, which is the one that the definitions give it.
@@ -59,28 +60,7 @@ impl From<Refusal> for u8 {
     ghost from_gives = { λ why n. n ≡ number why };
 
     fn from(why: Refusal) -> u8 {
-        match why {
-            Refusal::Short => 1,
-            Refusal::Version => 2,
-            Refusal::Root => 3,
-            Refusal::Large => 4,
-            Refusal::Node => 5,
-            Refusal::Deep => 6,
-            Refusal::Sum => 7,
-            Refusal::Space => 8,
-            Refusal::Bound => 9,
-            Refusal::Record => 10,
-            Refusal::State => 11,
-            Refusal::Pattern => 12,
-            Refusal::List => 13,
-            Refusal::Cards => 14,
-            Refusal::Edition => 15,
-            Refusal::Carry => 16,
-            Refusal::Name => 17,
-            Refusal::Full => 18,
-            Refusal::Count => 19,
-            Refusal::Seat => 20,
-        }
+        why as u8
     }
 }
 
@@ -132,6 +112,20 @@ pub enum State {
     OneTrans,
     // 00 or 01: any number of transitions; 01 is final
     AnyTrans,
+}
+
+// How the node of this state byte is stored, as `State::new` of node.rs tells it.
+impl From<u8> for State {
+    ghost from_gives = { λ byte state. state ≡ state_form byte };
+
+    #[inline(always)]
+    fn from(byte: u8) -> State {
+        match byte {
+            0..=127 => State::AnyTrans,
+            128..=191 => State::OneTrans,
+            _ => State::OneTransNext,
+        }
+    }
 }
 
 // The limits of this file together.

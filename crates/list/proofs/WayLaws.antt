@@ -7,7 +7,6 @@ use Rattle.format.specs.declared.Refusal.{Refusal}
 use mathlib.Core.List.{List}
 use Prim.Native.Nat.{ℕ, ◌≤◌, ◌<◌}
 use native.Mathlib.Omega.{arith}
-use lib.ListN.{length}
 use Rattle.format.specs.Limits.{max_path}
 use Rattle.format.specs.Opening.{meta_of}
 use Rattle.format.specs.Laws.OpeningLaws.{opened_facts}
@@ -55,11 +54,15 @@ last_short : (x : Line) (buf₀ buf : List ℕ) (r : Listed) (n : ℕ) → Wrote
 last_short (more b st) buf₀ buf r n w e = absurd (key_not_last (sym w.0 ∙ e))
 last_short (last b st) buf₀ buf r n w e = let q = last_same (sym e ∙ w.0) in omega (arith, w.3)
 
-pub key_fits : {x : Line} {st : State} {buf₀ buf : List ℕ} {r : Listed} (n : ℕ) → Lined x st buf₀ buf r → 532 ≤ length buf₀ → r.line ≡ Key n → n ≤ 532
-key_fits {x} {st} {buf₀} {buf} {r} n l room e = key_short x buf₀ buf r n (l.wrote room) e
+-- a line that was answered was written
+pub lined_wrote : (x : Line) (buf₀ buf : List ℕ) (r : Result Listed Refusal) (y : Listed) → Lined x buf₀ buf r → r ≡ Ok y → Wrote x buf₀ buf y
+lined_wrote x buf₀ buf r y l e = (subst (λ z. Lined x buf₀ buf z) e l).0
 
-pub last_fits : {x : Line} {st : State} {buf₀ buf : List ℕ} {r : Listed} (n : ℕ) → Lined x st buf₀ buf r → 532 ≤ length buf₀ → r.line ≡ Last n → n ≤ 532
-last_fits {x} {st} {buf₀} {buf} {r} n l room e = last_short x buf₀ buf r n (l.wrote room) e
+pub key_fits : (x : Line) (buf₀ buf : List ℕ) (r : Result Listed Refusal) (y : Listed) (n : ℕ) → Lined x buf₀ buf r → r ≡ Ok y → y.line ≡ Key n → n ≤ 532
+key_fits x buf₀ buf r y n l is e = key_short x buf₀ buf y n (lined_wrote x buf₀ buf r y l is) e
+
+pub last_fits : (x : Line) (buf₀ buf : List ℕ) (r : Result Listed Refusal) (y : Listed) (n : ℕ) → Lined x buf₀ buf r → r ≡ Ok y → y.line ≡ Last n → n ≤ 532
+last_fits x buf₀ buf r y n l is e = last_short x buf₀ buf y n (lined_wrote x buf₀ buf r y l is) e
 
 -- ---- a key's line
 
@@ -94,9 +97,10 @@ module _ (s : List ℕ) (p : Plain) (keys : ℕ) (buf₀ buf : List ℕ) (r : Li
       let c = plain_key p call.reading call.answer q.0 q.1 q.2 in
       goes A way q.0 q.1 c.0 (ap (λ (x : Plain). x.view) q.3 ∙ c.1)
 
-  pub way_on : Stands s p.view → 532 ≤ length buf₀ → Lined (line_of s (state p keys)) (state p keys) buf₀ buf r → r.line ≡ Key n → After s p.view r
-  way_on st room l e =
-      wrote_goes st.admitted (on_way_next st.admitted unbounded unbounded p.view st.on_way max_path (omega arith)) (l.wrote room) e
+  pub way_on : Stands s p.view → {u : Result Listed Refusal} → Lined (line_of s (state p keys)) buf₀ buf u → u ≡ Ok r → r.line ≡ Key n → After s p.view r
+  way_on st {u} l is e =
+      wrote_goes st.admitted (on_way_next st.admitted unbounded unbounded p.view st.on_way max_path (omega arith))
+      (lined_wrote (line_of s (state p keys)) buf₀ buf u r l is) e
 
 -- ---- the beginning
 

@@ -7,29 +7,23 @@ ghost use Rattle.list.specs.Stands.{Stands};
 
 use format::Refusal;
 use listing::{LINE, Line};
+use listing_start::LARGEST;
 use std::io;
 use std::io::Read;
 use stream::Plain;
 
 // The longest file that is listed, and one byte more by which a longer one is seen.
-const ROOM: u64 = 4_097;
-// One entry for each byte of the longest file that is listed.
-const CELLS: usize = 4_096;
-
-// Writes a line; false where that fails.
-fn put(rt: &impl Print, line: &[u8]) -> bool {
-    rt.write_all(line).is_ok()
-}
+const ROOM: u64 = LARGEST as u64 + 1;
 
 // Writes the one line of a file that is not listed.
-fn refuse(rt: &impl Print, why: Refusal) {
+fn refuse(rt: &impl Print, why: Refusal) -> io::Result<()> {
     let mut line = [0u8; LINE];
     let n = listing_lines::refused_line(why, &mut line);
-    put(rt, &line[..n]);
+    rt.write_all(&line[..n])
 }
 
 // Writes the lines of an admitted file, from its unbounded reading on. Each key that is handed out leaves fewer visits to come.
-fn lines(rt: &impl Print, file: &[u8], first: Plain)
+fn lines(rt: &impl Print, file: &[u8], first: Plain) -> io::Result<()>
     requires { Stands file.now (plain_is first).view }
 {
     let mut line = [0u8; LINE];
@@ -37,29 +31,24 @@ fn lines(rt: &impl Print, file: &[u8], first: Plain)
     let mut keys: u64 = 0;
     // a loop: each line gives the reading that the next one is of
     loop {
-        let listed = listing::next_line(file, plain, keys, &mut line);
+        let Ok(listed) = listing::next_line(file, plain, keys, &mut line) else {
+            // it is not refused: the line has room
+            return Ok(());
+        };
         match listed.line {
-            Line::Key(n) => {
-                if !put(rt, &line[..n]) {
-                    return;
-                }
-            }
-            Line::Last(n) => {
-                put(rt, &line[..n]);
-                return;
-            }
-            Line::Short => return,
+            Line::Key(n) => rt.write_all(&line[..n])?,
+            Line::Last(n) => return rt.write_all(&line[..n]),
         }
         keys = listed.keys;
         plain = listed.plain;
     }
 }
 
-// Lists a file, or says why not.
-fn list(rt: &impl Print, file: &[u8]) {
-    let mut depths = [0u16; CELLS];
-    let mut sums = [0u64; CELLS];
-    let mut counts = [0u64; CELLS];
+// Lists a file, or says why not. The tables have an entry for each byte of the longest file that is listed.
+fn list(rt: &impl Print, file: &[u8]) -> io::Result<()> {
+    let mut depths = [0u16; LARGEST];
+    let mut sums = [0u64; LARGEST];
+    let mut counts = [0u64; LARGEST];
     let begun = listing_start::begin(file, &mut depths, &mut sums, &mut counts);
     match begun {
         Err(why) => refuse(rt, why),
@@ -70,6 +59,7 @@ fn list(rt: &impl Print, file: &[u8]) {
 fn main(rt: HostRuntime) -> io::Result<()> {
     let mut card = Vec::new(rt.alloc());
     rt.stdin().take(ROOM).read_to_end(&mut card)?;
-    list(&rt, &card);
+    // a write that fails ends the listing and no more: who reads it may stop before its end, and the command `list` looks at its own output
+    let _ = list(&rt, &card);
     Ok(())
 }

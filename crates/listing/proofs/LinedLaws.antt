@@ -1,12 +1,12 @@
 -- What a call of next gives a listing: the line of its answer, case by case.
 --     wrote_key, wrote_end, wrote_refused     the three ways out of `write_line`
---     lined_short, lined_wrote                the two of `next_line`
+--     wrote_whole                             a line in the buffer's first bytes is one in the whole of it
 -- Assumes nothing.
-use mathlib.Core.Path.{◌≡◌, refl, sym, ap, ◌∙◌, subst}
+use mathlib.Core.Path.{◌≡◌, sym, ap, ◌∙◌, subst}
 use Rattle.std.specs.Prelude.{Ok, Err, Some, None}
 use Rattle.format.specs.declared.Refusal.{Refusal}
 use mathlib.Core.List.{List}
-use Prim.Native.Nat.{ℕ, ◌≤◌, ◌<◌}
+use Prim.Native.Nat.{ℕ, ◌≤◌}
 use native.Mathlib.Omega.{arith}
 use lib.ListN.{length, take, drop}
 use Rattle.std.proofs.lemmas.List.{drop-append-le, take-append-drop}
@@ -19,17 +19,15 @@ use Rattle.plain.specs.Plain.{Plain, next_plain}
 use Rattle.stream.specs.Plains.{plain_is, PlainStepped}
 use Rattle.stream.specs.PlainsLaws.{plain_told}
 use Rattle.stream_step.specs.SteppedLaws.{step_end, step_refused, step_text}
-use Rattle.stream.specs.declared.Step.{Step}
-use Rattle.listing.specs.declared.Line.TheVariants.{Key as KeyLine, Last, Short}
+use Rattle.stream_step.specs.declared.Step.{Step}
+use Rattle.stream.specs.declared.Plain as S
+use Rattle.listing.specs.declared.Line.TheVariants.{Key as KeyLine, Last}
 use Rattle.listing.specs.declared.Listed.{Listed}
 use Rattle.listing_lines.specs.Lines.{key_line, end_line, refused_line, Written}
-use Rattle.listing.specs.Listing.{State, state, more, last, line_by, line_of}
-use Rattle.listing.specs.Lined.{state_is, Wrote, Lined}
+use Rattle.listing.specs.Listing.{state, more, last, line_by, line_of}
+use Rattle.listing.specs.Lined.{Wrote}
 
--- ---- the ways out of `next_line`
-
-pub lined_short : (w : Rattle.listing.specs.Listing.Line) (st : State) (buf : List ℕ) (r : Listed) → length buf < 532 → r.line ≡ Short → state_is r ≡ st → Lined w st buf buf r
-lined_short w st buf r h e s = record { short = λ _. (e, refl, s); wrote = λ g. absurd (omega arith) }
+-- ---- the line that `next_line` writes
 
 rest_of : (n k : ℕ) (s : List ℕ) → n ≤ k → k ≤ length s → drop n (take k s) ++ drop k s ≡ drop n s
 rest_of n k s low room =
@@ -42,17 +40,14 @@ line_rest b s ws buf room short w is =
     is ∙ ap (λ (x : List ℕ). x ++ drop 532 s) w ∙ append_assoc b (drop (length b) (take 532 s)) (drop 532 s)
     ∙ ap (λ (x : List ℕ). b ++ x) (rest_of (length b) 532 s short room)
 
-wrote_whole : (w : Rattle.listing.specs.Listing.Line) (s ws buf : List ℕ) (r : Listed) → 532 ≤ length s → Wrote w (take 532 s) ws r → buf ≡ ws ++ drop 532 s → Wrote w s buf r
+pub wrote_whole : (w : Rattle.listing.specs.Listing.Line) (s ws buf : List ℕ) (r : Listed) → 532 ≤ length s → Wrote w (take 532 s) ws r → buf ≡ ws ++ drop 532 s → Wrote w s buf r
 wrote_whole (more b st) s ws buf r room q is = (q.0, line_rest b s ws buf room q.3 q.1 is, q.2, q.3)
 wrote_whole (last b st) s ws buf r room q is = (q.0, line_rest b s ws buf room q.3 q.1 is, q.2, q.3)
 
-pub lined_wrote : (w : Rattle.listing.specs.Listing.Line) (st : State) (s ws buf : List ℕ) (r : Listed) → 532 ≤ length s → Wrote w (take 532 s) ws r → buf ≡ ws ++ drop 532 s → Lined w st s buf r
-lined_wrote w st s ws buf r room q is = record { short = λ g. absurd (omega arith); wrote = λ _. wrote_whole w s ws buf r room q is }
-
 -- ---- the ways out of `write_line`
 
-module _ (s : List ℕ) (v : Plain) (keys space : ℕ) (room : space ≡ max_path) {buf₀ buf : List ℕ} {o : Step} (h : PlainStepped (next_plain s v space) buf₀ buf o)
-    (line₀ line : List ℕ) (len : ℕ) (r : Listed) (rest : plain_is r.plain ≡ plain_is o.plain) where
+module _ (s : List ℕ) (v : Plain) (keys space : ℕ) (room : space ≡ max_path) {buf₀ buf : List ℕ} {o : Step S.Plain} (h : PlainStepped (next_plain s v space) buf₀ buf o)
+    (line₀ line : List ℕ) (len : ℕ) (r : Listed) (rest : plain_is r.plain ≡ plain_is o.reading) where
   by_line : (a : R.Answer) → (next_plain s v space).answer ≡ a → line_of s (state v keys) ≡ line_by a (plain_is r.plain) keys
   unfolding line_of
   by_line a e =
@@ -69,12 +64,12 @@ module _ (s : List ℕ) (v : Plain) (keys space : ℕ) (room : space ≡ max_pat
       wrote (more (key_line (take n buf) value) (state (plain_is r.plain) (counted keys))) (by_line (key (take n buf) value) (step_text (plain_told h) n value e))
       (is ∙ ap KeyLine wr.answer, wr.buffer, ap (state (plain_is r.plain)) count, omega (arith, wr.answer, wr.short))
 
-  pub wrote_end : o.answer ≡ Ok None → Written (end_line keys (plain_is o.plain).view.total) line₀ line len → r.line ≡ Last len → r.keys ≡ keys
+  pub wrote_end : o.answer ≡ Ok None → Written (end_line keys (plain_is o.reading).view.total) line₀ line len → r.line ≡ Last len → r.keys ≡ keys
       → Wrote (line_of s (state v keys)) line₀ line r
   wrote_end e wr is count =
-      let t : (plain_is r.plain).view.total ≡ (plain_is o.plain).view.total = ap (λ (x : Plain). x.view.total) rest in
+      let t : (plain_is r.plain).view.total ≡ (plain_is o.reading).view.total = ap (λ (x : Plain). x.view.total) rest in
       let q = by_line end (step_end (plain_told h) e) ∙ ap (λ (n : ℕ). last (end_line keys n) (state (plain_is r.plain) keys)) t in
-      wrote (last (end_line keys (plain_is o.plain).view.total) (state (plain_is r.plain) keys)) q
+      wrote (last (end_line keys (plain_is o.reading).view.total) (state (plain_is r.plain) keys)) q
       (is ∙ ap Last wr.answer, wr.buffer, ap (state (plain_is r.plain)) count, omega (arith, wr.answer, wr.short))
 
   pub wrote_refused : (n : Refusal) → o.answer ≡ Err n → Written (refused_line n) line₀ line len → r.line ≡ Last len → r.keys ≡ keys

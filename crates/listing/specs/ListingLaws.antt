@@ -3,13 +3,12 @@
 --     listed                 the claim over the held keys (`HeldLines`)
 --     lists_same             a listing has one list of lines
 -- Assumes nothing.
-use Rattle.std.specs.Prelude.{◌≡◌, refl, List, [], ◌∷◌, ◌++◌, map, ℕ, zero, suc, ◌+◌, ◌≤◌, length}
+use Rattle.std.specs.Prelude.{◌≡◌, refl, List, [], ◌∷◌, ◌++◌, map, ℕ, suc, ◌+◌, ◌≤◌, length}
 use Rattle.std.proofs.Common.{sym, ◌∙◌, ap, add-zero, arith}
 use Rattle.format.specs.Limits.{max_path}
-use Rattle.format.specs.Paths.{Fst, fst_of, Held}
+use Rattle.format.specs.Paths.{Fst, fst_of}
 use Rattle.format.specs.Admitted.{Admitted}
 use Rattle.format.specs.Strings.{unbounded}
-use Rattle.reading.specs.Reading.{counted}
 use Rattle.reading.proofs.RunLaws.{counted_capped}
 use Rattle.reading.specs.Demand.{Extra, one_more, no_more, Entry, capped}
 use Rattle.reading.specs.WholeRun.{Whole}
@@ -20,7 +19,7 @@ use Rattle.plain.specs.PlainRun.{RunsPlain, run_end, run_key, WholePlain}
 use Rattle.plain.proofs.PlainRunLaws.{whole_plain}
 use Rattle.listing.specs.HeldLines.{line_for, HeldLines}
 use Rattle.listing_lines.specs.Lines.{end_line}
-use Rattle.listing.specs.Listing.{State, state, Line, more, last, line_of, Lists, last_line, line_more}
+use Rattle.listing.specs.Listing.{State, state, more, last, line_of, Lists, last_line, line_more}
 
 -- ---- the lines of a reading from start to end
 

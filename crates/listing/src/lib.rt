@@ -6,16 +6,15 @@ ghost use Rattle.stream.specs.Plains.{plain_is};
 ghost use Rattle.listing.specs.Listing.{state, line_of};
 ghost use Rattle.listing.specs.Lined.{Wrote, Lined};
 
-use format::MAX_KEY;
+use format::{MAX_KEY, Refusal};
 pub use listing_lines::LINE;
 use stream::Plain;
 
-// A line that was written, a key's or the last, by its length; or that the buffer has no room for every line.
+// A line that was written, a key's or the last, by its length.
 #[derive(Clone, Copy)]
 pub enum Line {
     Key(usize),
     Last(usize),
-    Short,
 }
 
 // What the next line gives back: the line, how many keys were listed, up to 2^64 - 1, and the reading after it.
@@ -33,7 +32,7 @@ fn write_line(file: &[u8], plain: Plain, keys: u64, line: &mut [u8; LINE]) -> Li
     let mut key = [0u8; MAX_KEY];
     let step = stream::next(file, plain, &mut key);
     let answer = step.answer;
-    let after = step.plain;
+    let after = step.reading;
     match answer {
         Ok(Some((n, value))) => {
             let len = listing_lines::key_line(&key[..n], value, line);
@@ -64,17 +63,12 @@ fn write_line(file: &[u8], plain: Plain, keys: u64, line: &mut [u8; LINE]) -> Li
 }
 
 // Writes the next line of a listing, after keys lines of keys: a key's, or the last. The line stands from the buffer's first byte on, the rest as
-// given; a buffer under LINE bytes is left as it is, and so is the listing.
-pub fn next_line(file: &[u8], plain: Plain, keys: u64, line: &mut [u8]) -> Listed
-    ensures { Lined (line_of file.now (state (plain_is plain) keys))
-        (state (plain_is plain) keys) line.old line.new result }
+// given; a buffer under LINE bytes, which has no room for every line, is left as it is and refused with SPACE.
+pub fn next_line(file: &[u8], plain: Plain, keys: u64, line: &mut [u8]) -> Result<Listed, Refusal>
+    ensures { Lined (line_of file.now (state (plain_is plain) keys)) line.old line.new result }
 {
     match line.first_chunk_mut::<LINE>() {
-        Some(line) => write_line(file, plain, keys, line),
-        None => Listed {
-            line: Line::Short,
-            keys,
-            plain,
-        },
+        Some(line) => Ok(write_line(file, plain, keys, line)),
+        None => Err(Refusal::Space),
     }
 }

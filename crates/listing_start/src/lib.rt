@@ -1,5 +1,6 @@
 // The beginning of a listing: a file is admitted, its keys are counted and its unbounded reading begun.
-// depths, sums and counts are slices and no struct: the C caller lends them one by one, and the definitions speak of each.
+// depths, sums and counts are slices and no struct: `count_keys` takes the three one by one, and `stream::start` takes counts alone, so that one value
+// of them would be taken apart at both calls.
 #![tactic(auto)]
 
 ghost use Rattle.listing_start.specs.Begun.{Begins};

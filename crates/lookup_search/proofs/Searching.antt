@@ -10,6 +10,7 @@ use borrow.Author.Tests.{eqb-true}
 use lib.Dec.{eqb}
 use lib.ListN.{length, take, set, length-set}
 use lib.Seq.{take-suc-set}
+use Rattle.format.specs.declared.Transition.{Transition}
 use Rattle.format.specs.Limits.{max_path}
 use Rattle.format.specs.Node.{Node, sound, at, transition_at}
 use Rattle.format.specs.Paths.{Fst, node_in}
@@ -25,15 +26,15 @@ pub search_none : (f : Fst) (v : ℕ) (path : List ℕ) → length path ≡ max_
 search_none f v path len = record { within = omega arith; len = len; rest = searching_none f v }
 
 pub search_step : {f : Fst} {v : ℕ} {path : List ℕ} {a left n : ℕ} (m : Node) → node_in f a ≡ sound m → (eqb left 0 && m.final) ≡ false → n < max_path
-    → (i : ℕ) → last_fitting m.transitions left ≡ at i → (b out next : ℕ) → b ≡ (transition_at m.transitions i).inp → out ≡ (transition_at m.transitions i).out
-    → next ≡ (transition_at m.transitions i).addr → SearchTo f v path a left n → SearchTo f v (set path n b) next (left - out) (n + 1)
-search_step {f} {v} {path} {a} {left} {n} m e on room i fits b out next is_b is_out is_next h =
+    → (i : ℕ) → last_fitting m.transitions left ≡ at i → (t : Transition) → t ≡ transition_at m.transitions i
+    → SearchTo f v path a left n → SearchTo f v (set path n t.inp) t.addr (left - t.out) (n + 1)
+search_step {f} {v} {path} {a} {left} {n} m e on room i fits t is_t h =
     let r : max_path - n - 1 ≡ max_path - (n + 1) = omega arith in
-    let k : take (n + 1) (set path n b) ≡ take n path ++ (b ∷ []) = rw add-one (take-suc-set path n b (omega (arith, h.len))) in
+    let k : take (n + 1) (set path n t.inp) ≡ take n path ++ (t.inp ∷ []) = rw add-one (take-suc-set path n t.inp (omega (arith, h.len))) in
     record {
       within = omega arith;
-      len = length-set path n b ∙ h.len;
-      rest = rw (k, ← r, is_b, is_out, is_next) (searching_step h.rest m e on (omega arith) i fits);
+      len = length-set path n t.inp ∙ h.len;
+      rest = rw (k, ← r, is_t) (searching_step h.rest m e on (omega arith) i fits);
     }
 
 -- both halves of the test that ends the search

@@ -31,15 +31,15 @@ pub fn find_key(
         match choice {
             Choice::Ends => return Ok(Some(n)),
             Choice::Absent => return Ok(None),
-            Choice::To(inp, out, target) => {
+            Choice::To(next) => {
                 // a key has at most 255 bytes
                 let too_deep = MAX_KEY <= n;
                 if too_deep {
                     return Err(Refusal::Deep);
                 }
-                path[n] = inp;
-                left -= out;
-                addr = target;
+                path[n] = next.inp;
+                left -= next.out;
+                addr = next.addr;
                 n += 1;
             }
         }

@@ -3,16 +3,16 @@
 -- Assumes nothing.
 use Rattle.std.specs.Prelude.{◌≡◌, Bool, false, cond, ◌&&◌, ℕ, ◌≤◌, leb, length}
 use Rattle.std.proofs.Math.Path.{refl, ap, subst}
-use Rattle.std.proofs.Common.{sym, ◌∙◌, arith}
+use Rattle.std.proofs.Common.{sym, ◌∙◌}
 use Rattle.std.proofs.Math.Bool.{true, not}
-use Rattle.std.proofs.lemmas.Bool.{false≢true}
+use Rattle.std.proofs.lemmas.Bool.{false≢true, and_parts, and_from}
 use Rattle.std.proofs.Math.Option.{some}
 use mathlib.Core.List.Memᴰ
 use mathlib.Core.List.{List, [], ◌∷◌, Memᴰ}
 use borrow.Author.Tests.{leb-true, le-leb}
 use Rattle.reading.specs.Reading.{state_test}
 use Rattle.marking.specs.MarkCalls.{same_name, name_test, marked, is_there, Mark, each_right, marks_test}
-use Rattle.marking.proofs.NamedLaws.{both_left, both_right, both_true, same_not, not_same}
+use Rattle.marking.proofs.NamedLaws.{same_not, not_same}
 use Rattle.marking.specs.MarksRight.{MarkRight, OnceEach, none_twice, new_name, MarksRight}
 
 not-true : (b : Bool) → not b ≡ true → b ≡ false
@@ -42,12 +42,12 @@ module _ (len : ℕ) where
   unfolding each_right
   each_test [] e = (λ m on. absurd (Memᴰ.not-nil on), none_twice)
   each_test (m ∷ ms) e =
-      let name = both_left (name_test m.name) _ e in
-      let more = both_right (name_test m.name) _ e in
-      let state = both_left (state_test m.held.view len) _ more in
-      let last = both_right (state_test m.held.view len) _ more in
-      let once = not-true _ (both_left (not (is_there (marked m.name ms))) _ last) in
-      let rest = each_test ms (both_right (not (is_there (marked m.name ms))) _ last) in
+      let name = (and_parts (name_test m.name) _ e).0 in
+      let more = (and_parts (name_test m.name) _ e).1 in
+      let state = (and_parts (state_test m.held.view len) _ more).0 in
+      let last = (and_parts (state_test m.held.view len) _ more).1 in
+      let once = not-true _ (and_parts (not (is_there (marked m.name ms))) _ last).0 in
+      let rest = each_test ms (and_parts (not (is_there (marked m.name ms))) _ last).1 in
       (first name state rest.0, new_name (absent m.name ms once) rest.1)
     where
       first : name_test m.name ≡ true → state_test m.held.view len ≡ true → ((k : Mark) → Memᴰ k ms → MarkRight len k)
@@ -55,8 +55,8 @@ module _ (len : ℕ) where
       first name state others k (Memᴰ.head is) =
           subst (MarkRight len) (sym is)
           (record {
-            from_one = leb-true 1 (length m.name) (both_left (leb 1 (length m.name)) _ name);
-            to_eight = leb-true (length m.name) 8 (both_right (leb 1 (length m.name)) _ name);
+            from_one = leb-true 1 (length m.name) (and_parts (leb 1 (length m.name)) _ name).0;
+            to_eight = leb-true (length m.name) 8 (and_parts (leb 1 (length m.name)) _ name).1;
             state = state;
           })
       first name state others k (Memᴰ.tail on) = others k on
@@ -67,15 +67,12 @@ module _ (len : ℕ) where
   test_each (m ∷ ms) each (new_name other more) =
       let own = each m (Memᴰ.head refl) in
       let gone : not (is_there (marked m.name ms)) ≡ true = ap not (not_there m.name ms other) in
-      both_true (name_test m.name) _
-      (both_true (leb 1 (length m.name)) _ (le-leb 1 (length m.name) own.from_one) (le-leb (length m.name) 8 own.to_eight))
-      (both_true (state_test m.held.view len) _ own.state
-      (both_true (not (is_there (marked m.name ms))) _ gone (test_each ms (λ k on. each k (Memᴰ.tail on)) more)))
+      and_from (name_test m.name) _ (and_from (leb 1 (length m.name)) _ (le-leb 1 (length m.name) own.from_one) (le-leb (length m.name) 8 own.to_eight)) (and_from (state_test m.held.view len) _ own.state (and_from (not (is_there (marked m.name ms))) _ gone (test_each ms (λ k on. each k (Memᴰ.tail on)) more)))
 
   pub test_right : (ms : List Mark) → marks_test len ms ≡ true → MarksRight len ms
   test_right ms e =
-      let all = each_test ms (both_right (leb (length ms) 16) _ e) in
-      record { few = leb-true (length ms) 16 (both_left (leb (length ms) 16) _ e); each = all.0; once = all.1 }
+      let all = each_test ms (and_parts (leb (length ms) 16) _ e).1 in
+      record { few = leb-true (length ms) 16 (and_parts (leb (length ms) 16) _ e).0; each = all.0; once = all.1 }
 
   pub right_test_lem : {ms : List Mark} → MarksRight len ms → marks_test len ms ≡ true
-  right_test_lem {ms} h = both_true (leb (length ms) 16) _ (le-leb (length ms) 16 h.few) (test_each ms h.each h.once)
+  right_test_lem {ms} h = and_from (leb (length ms) 16) _ (le-leb (length ms) 16 h.few) (test_each ms h.each h.once)

@@ -9,7 +9,7 @@ use Rattle.std.specs.Prelude.{◌≡◌, Bool, ◌&&◌, ◌||◌, not, ℕ, suc
 use Rattle.std.proofs.Math.Path.{refl, ap}
 use Rattle.std.proofs.Common.{sym, ◌∙◌, subst, arith, leb-true, eqb-true, eq-eqb, length-append}
 use Rattle.std.proofs.Math.Bool.{true, false, cond}
-use Rattle.std.proofs.lemmas.Bool.{false≢true}
+use Rattle.std.proofs.lemmas.Bool.{false≢true, and_parts, and_from}
 use Rattle.std.proofs.Math.Option.{Option, none, some}
 use mathlib.Core.List.{List, [], ◌∷◌, ◌++◌, map}
 use Rattle.reading.specs.Reading.{state_test}
@@ -18,23 +18,12 @@ use Rattle.marking.specs.MarkCalls.{same_name, name_test, Named, named, marked, 
 
 -- ---- two tests
 
-pub both_left : (a b : Bool) → (a && b) ≡ true → a ≡ true
-both_left true b e = refl
-both_left false b e = absurd (false≢true e)
-
-pub both_right : (a b : Bool) → (a && b) ≡ true → b ≡ true
-both_right true b e = e
-both_right false b e = absurd (false≢true e)
-
-pub both_true : (a b : Bool) → a ≡ true → b ≡ true → (a && b) ≡ true
-both_true a b p q = rw (p, q)
-
 -- ---- names
 
 pub same_refl : (n : List ℕ) → same_name n n ≡ true
 unfolding same_name
 same_refl [] = refl
-same_refl (x ∷ xs) = both_true (eqb x x) (same_name xs xs) (eq-eqb x x refl) (same_refl xs)
+same_refl (x ∷ xs) = and_from (eqb x x) (same_name xs xs) (eq-eqb x x refl) (same_refl xs)
 
 pub same_is : (a b : List ℕ) → same_name a b ≡ true → a ≡ b
 unfolding same_name
@@ -42,8 +31,8 @@ same_is [] [] e = refl
 same_is [] (y ∷ ys) e = absurd (false≢true e)
 same_is (x ∷ xs) [] e = absurd (false≢true e)
 same_is (x ∷ xs) (y ∷ ys) e =
-    let p : x ≡ y = eqb-true x y (both_left (eqb x y) (same_name xs ys) e) in
-    let q : xs ≡ ys = same_is xs ys (both_right (eqb x y) (same_name xs ys) e) in
+    let p : x ≡ y = eqb-true x y (and_parts (eqb x y) (same_name xs ys) e).0 in
+    let q : xs ≡ ys = same_is xs ys (and_parts (eqb x y) (same_name xs ys) e).1 in
     cc
 
 pub same_not : (a b : List ℕ) → ¬ (a ≡ b) → same_name a b ≡ false
@@ -120,34 +109,32 @@ put_few {A} n a ms few room = by (is_there (marked n ms)) refl room
 module _ (len : ℕ) (n : List ℕ) (r : Plain) (name : name_test n ≡ true) (state : state_test r.view len ≡ true) where
   pub put_right : (ms : List Mark) → each_right len ms ≡ true → each_right len (put n r ms) ≡ true
   unfolding each_right put marked
-  put_right [] h = both_true (name_test n) _ name (both_true (state_test r.view len) _ state refl)
+  put_right [] h = and_from (name_test n) _ name (and_from (state_test r.view len) _ state refl)
   put_right (m ∷ ms) h = by (same_name m.name n) refl (put_right ms rest)
     where
       own : name_test m.name ≡ true
-      own = both_left (name_test m.name) _ h
+      own = (and_parts (name_test m.name) _ h).0
 
       after_name : (state_test m.held.view len && (not (is_there (marked m.name ms)) && each_right len ms)) ≡ true
-      after_name = both_right (name_test m.name) _ h
+      after_name = (and_parts (name_test m.name) _ h).1
 
       after_state : (not (is_there (marked m.name ms)) && each_right len ms) ≡ true
-      after_state = both_right (state_test m.held.view len) _ after_name
+      after_state = (and_parts (state_test m.held.view len) _ after_name).1
 
       once : not (is_there (marked m.name ms)) ≡ true
-      once = both_left (not (is_there (marked m.name ms))) _ after_state
+      once = (and_parts (not (is_there (marked m.name ms))) _ after_state).0
 
       rest : each_right len ms ≡ true
-      rest = both_right (not (is_there (marked m.name ms))) _ after_state
+      rest = (and_parts (not (is_there (marked m.name ms))) _ after_state).1
 
       by : (t : Bool) → same_name m.name n ≡ t → each_right len (put n r ms) ≡ true → each_right len (cond t (named n r ∷ ms) (m ∷ put n r ms)) ≡ true
       by true e more =
           let q : not (is_there (marked n ms)) ≡ true = subst (λ (x : List ℕ). not (is_there (marked x ms)) ≡ true) (same_is m.name n e) once in
-          both_true (name_test n) _ name (both_true (state_test r.view len) _ state (both_true (not (is_there (marked n ms))) _ q rest))
+          and_from (name_test n) _ name (and_from (state_test r.view len) _ state (and_from (not (is_there (marked n ms))) _ q rest))
       by false e more =
           let ne : same_name n m.name ≡ false = same_not n m.name (λ q. not_same m.name n e (sym q)) in
           let q : not (is_there (marked m.name (put n r ms))) ≡ true = ap (λ (o : Option Plain). not (is_there o)) (put_other n m.name r ms ne) ∙ once in
-          both_true (name_test m.name) _ own
-          (both_true (state_test m.held.view len) _ (both_left (state_test m.held.view len) _ after_name)
-          (both_true (not (is_there (marked m.name (put n r ms)))) _ q more))
+          and_from (name_test m.name) _ own (and_from (state_test m.held.view len) _ (and_parts (state_test m.held.view len) _ after_name).0 (and_from (not (is_there (marked m.name (put n r ms)))) _ q more))
 
 -- ---- through a function
 

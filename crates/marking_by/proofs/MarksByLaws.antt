@@ -9,6 +9,7 @@ use Rattle.std.proofs.Math.Path.{refl}
 use Rattle.std.proofs.Common.{sym, ◌∙◌, ap, subst, ⊎_elim, inl, le-leb, eq-eqb, ne_eqb, eqb-true}
 use Rattle.std.proofs.Math.Bool.{true, false, cond}
 use Rattle.std.proofs.Math.Option.{Option, none, some}
+use Rattle.std.proofs.lemmas.Bool.{and_parts, and_from}
 use Rattle.format.specs.declared.Refusal.{Refusal}
 use native.Mathlib.Omega.{arith}
 use Rattle.format.specs.Limits.{max_path, max_levels, STATE, NAME, FULL}
@@ -23,7 +24,7 @@ use Rattle.pattern.specs.PatternDemand.{call_by, reading_after_by, DemandBy}
 use Rattle.pattern.proofs.DemandByLaws.{demand_3_by}
 use Rattle.marking.specs.MarkCalls.{name_test, marked, put, room_for, Mark, each_right, marks_test, Marking, has_marks, Return, at, found}
 use Rattle.marking.specs.MarksDemand.{Given, Did, reads, marks, returns, marks_after, History, history_is, takes, or_else, recorded, recorded_all, history_of, MarkTold, Replaced}
-use Rattle.marking.proofs.NamedLaws.{both_right, both_true, put_this, put_other, put_in_place, put_added, put_few, put_right, same_not, on_some, marked_map, put_map, room_map}
+use Rattle.marking.proofs.NamedLaws.{put_this, put_other, put_in_place, put_added, put_few, put_right, same_not, on_some, marked_map, put_map, room_map}
 use Rattle.marks.specs.MarkAnswers.{set_in, back_in}
 use Rattle.marks_by.specs.MarksBy.{pattern_test, mark_by, back_by, next_marked_by}
 use Rattle.marking_by.specs.MarksByDemand.{NowBy, now_by_is, view_at, stored, stored_now, next_now_by, mark_now_by, back_now_by, one_more_by, now_after_by, now_from_by, as_mark_by, BackToldBy, MarkedRunBy}
@@ -50,8 +51,7 @@ state_other : (r : View) (len other : ℕ) → state_test r len ≡ true → ¬ 
 state_other r len other right ne =
     let same : r.len ≡ len =
     eqb-true r.len len
-    (both_right (leb r.bound_len max_path) (eqb r.len len)
-    (both_right (leb (length r.levels) max_levels) (leb r.bound_len max_path && eqb r.len len) right)) in
+    (and_parts (leb r.bound_len max_path) (eqb r.len len) (and_parts (leb (length r.levels) max_levels) (leb r.bound_len max_path && eqb r.len len) right).1).1 in
     rw (ne_eqb r.len other (λ q. ne (sym q ∙ same))) (both_false (leb (length r.levels) max_levels) (leb r.bound_len max_path))
 
 module _ (q : Pattern) (s : List ℕ) (v : View) (ms : List Mark) where
@@ -159,7 +159,7 @@ module _ {s : List ℕ} (A : Admitted s) (lo hi : Bound) (short_lo : length (bou
     state = subst (λ (v : View). state_test v (length s) ≡ true) (sym k.reading_is) (state_at h.calls)
 
     marks_right : marks_test (length s) w.marks ≡ true
-    marks_right = both_true (leb (length w.marks) 16) (each_right (length s) w.marks) (le-leb (length w.marks) 16 k.few) k.right
+    marks_right = and_from (leb (length w.marks) 16) (each_right (length s) w.marks) (le-leb (length w.marks) 16 k.few) k.right
 
     wrong : (other : List ℕ) → ¬ (length other ≡ length s) → state_test w.reading (length other) ≡ false
     wrong other ne = state_other w.reading (length s) (length other) state ne
@@ -242,7 +242,7 @@ module _ {s : List ℕ} (A : Admitted s) (lo hi : Bound) (short_lo : length (bou
       kept_told : (m : Marking) → MarkTold h g n (stored_now w) m → Noting (takes h g n) m
       kept_told m (MarkTold.taken same name room) =
           let t : takes h g n ≡ true =
-          both_true (eqb (length g.file) (length s)) _ (eq-eqb (length g.file) (length s) same) (both_true (name_test n) (room_for n h.noted) name room) in
+          and_from (eqb (length g.file) (length s)) _ (eq-eqb (length g.file) (length s) same) (and_from (name_test n) (room_for n h.noted) name room) in
           subst (λ (t : Bool). Noting t (has_marks (put n (stored w.reading) w.marks))) (sym t)
           (record {
             reading_is = k.reading_is;
@@ -270,7 +270,7 @@ module _ {s : List ℕ} (A : Admitted s) (lo hi : Bound) (short_lo : length (bou
       asked = eqb (length g.file) (length s) && name_test n
 
       asked_true : length g.file ≡ length s → name_test n ≡ true → asked ≡ true
-      asked_true same name = both_true (eqb (length g.file) (length s)) (name_test n) (eq-eqb (length g.file) (length s) same) name
+      asked_true same name = and_from (eqb (length g.file) (length s)) (name_test n) (eq-eqb (length g.file) (length s) same) name
 
       kept_back : (m : Return) → BackToldBy q r₀ h g n m → Going asked (marked n h.noted) m
       kept_back m (BackToldBy.returned same name cs is) =

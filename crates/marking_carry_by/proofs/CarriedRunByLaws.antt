@@ -3,6 +3,7 @@
 -- Assumes nothing.
 use Rattle.std.specs.Prelude.{◌≡◌, refl, true, List, [], ℕ, ◌≤◌, leb, length}
 use Rattle.std.proofs.Common.{ap, ◌∙◌, subst, le-leb}
+use Rattle.std.proofs.lemmas.Bool.{and_from}
 use Rattle.format.specs.Limits.{max_path}
 use Rattle.format.specs.Admitted.{Admitted}
 use Rattle.format.specs.Strings.{Bound}
@@ -16,7 +17,6 @@ use Rattle.carrying_own.specs.CarryOwn.{SameCalls, Convertible}
 use Rattle.carrying_own.specs.CarryOwnLaws.{new_admitted}
 use Rattle.carrying_own.specs.CarryByLaws.{carry_own_by}
 use Rattle.marking.specs.MarkCalls.{each_right, marks_test}
-use Rattle.marking.proofs.NamedLaws.{both_true}
 use Rattle.marking.specs.MarksDemand.{Did, history_of}
 use Rattle.marking_by.specs.MarksByDemand.{now_from_by}
 use Rattle.marking_by.proofs.MarksByLaws.{demand, r₀, kept, marked_run_by}
@@ -35,7 +35,7 @@ module _ {s : List ℕ} (A : Admitted s) (can : Convertible A) (lo hi : Bound) (
       let is : r ≡ first = started_same (demand A lo hi short_lo short_hi q short []).starts starts in
       let few = le-leb (length (now_from_by q r [] bs).marks) 16 k.few in
       subst (λ (v : View). marks_test (length s) (now_from_by q v [] bs).marks ≡ true) is
-      (both_true (leb (length (now_from_by q r [] bs).marks) 16) (each_right (length s) (now_from_by q r [] bs).marks) few k.right)
+      (and_from (leb (length (now_from_by q r [] bs).marks) 16) (each_right (length s) (now_from_by q r [] bs).marks) few k.right)
 
   pub carried_marked_run_by : (bs : List (Did s)) (cs' : List (Call (converted A))) → SameCalls (history_of [] bs).calls cs' → (ds : List (Did (converted A)))
       → CarriedMarkedRunBy A can q lo hi bs cs' ds

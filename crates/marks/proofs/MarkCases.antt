@@ -1,13 +1,13 @@
 -- The calls by cases, as the code goes through them.
---     state_is_lem, both_is                                whether a reading and its marks are right
+--     state_is_lem                                         whether a reading is right
 --     name_short                                           a name has at most 8 bytes
 --     set_no, set_told, set_full, set_more                 a mark, where they are
 --     back_no, back_told, back_nowhere                     going back, where they are
 --     mark_refused, mark_set, back_refused, back_taken     the calls by what is judged first
---     next_ways, next_refused                              a next by what opening answers and by whether the marks are right
+--     next_refused, next_goes                              a next by what is judged first
 -- Assumes nothing.
-use mathlib.Core.Path.{◌≡◌, refl, sym, ap, ap₂, ◌∙◌, subst}
-use mathlib.Core.Bool.{Bool, true, false, cond, ◌&&◌}
+use mathlib.Core.Path.{◌≡◌, refl, sym, ap, ◌∙◌, subst}
+use mathlib.Core.Bool.{true, false}
 use mathlib.Core.Option.{some, none}
 use mathlib.Core.List.{List, [], ◌∷◌, ◌++◌, map}
 use Prim.Native.Nat.{ℕ, ◌+◌, ◌≤◌, ◌<◌}
@@ -16,40 +16,36 @@ use borrow.Author.Tests.{lt-leb, le-leb, leb-true}
 use lib.Dec.{leb}
 use lib.ListN.{length, get_or, set}
 use Rattle.std.specs.Prelude.{Some, None, Ok, Err, Result, ⊤}
+use Rattle.std.proofs.lemmas.Bool.{and_parts}
 use Rattle.format.specs.declared.Refusal.{Refusal}
-use Rattle.format.specs.Limits.{STATE, NAME, FULL}
-use Rattle.format.specs.Opening as O
-use Rattle.format.specs.Opening.{opening}
-use Rattle.reading.specs.Reading.{on_opened, state_test}
+use Rattle.format.specs.Limits.{NAME, FULL}
+use Rattle.reading.specs.Reading.{state_test}
 use Rattle.plain.specs.Plain as P
 use Rattle.plain.specs.Plain.{next_plain}
 use Rattle.marking.specs.MarkCalls as M
 use Rattle.marking.specs.MarkCalls.{named, name_test, is_there, marked, marks_test, refuse_with}
-use Rattle.marking.proofs.NamedLaws.{put_added, both_right}
+use Rattle.marking.proofs.NamedLaws.{put_added}
 use Rattle.stream_start.specs.declared.Reading.{Reading}
 use Rattle.stream_start.specs.Views.{view_is}
 use Rattle.stream_start.specs.StackLaws.{stack_length}
 use Rattle.stream_bounds.specs.State.{state_right}
 use Rattle.stream.specs.declared.Plain.{Plain}
-use Rattle.stream.specs.declared.Step.{Step}
+use Rattle.stream_step.specs.declared.Step.{Step}
 use Rattle.stream.specs.Plains.{plain_is, PlainStepped}
 use Rattle.marks_held.specs.declared.Mark.{Mark}
 use Rattle.marks_held.specs.declared.Marks.{Marks}
 use Rattle.marks_held.specs.MarkViews.{stated, no_mark, mark_is, marks_is, SeekTold, put_at}
 use Rattle.marks_held.specs.MarkViewsLaws.{stated_length, stated_set, stated_more, mark_at_lem, marked_place, put_place, place_lt, marked_nowhere}
-use Rattle.marks.specs.MarkAnswers.{both_test, judging, on_judged_mark, on_judged_back, set_in, back_in, marking_is, return_is}
-use Rattle.marks.specs.MarkAnswersLaws.{judged_mark, judged_back}
+use Rattle.marks.specs.MarkAnswers.{judging, judging_marks, on_judged_marks, on_judged_mark, on_judged_back, set_in, back_in, marking_is, return_is}
+use Rattle.marks.specs.MarkAnswersLaws.{judged_marks, judged_mark, judged_back}
 
--- ---- whether they are right
+-- ---- whether a reading is right
 
 pub state_is_lem : (r : Reading) (len : ℕ) → state_test (view_is r) len ≡ state_right r.levels r.bound_len r.len len
 state_is_lem r len = rw (stack_length r.levels r.stack.addrs r.stack.inps r.stack.trans r.stack.outs)
 
-pub both_is : (p : P.Plain) (ms : List M.Mark) (len : ℕ) (b : Bool) → state_test p.view len ≡ b → both_test p ms len ≡ (b && marks_test len ms)
-both_is p ms len b e = ap (λ (c : Bool). c && marks_test len ms) e
-
 pub name_short : (n : List ℕ) → name_test n ≡ true → length n ≤ 8
-name_short n e = leb-true (length n) 8 (both_right (leb 1 (length n)) (leb (length n) 8) e)
+name_short n e = leb-true (length n) 8 (and_parts (leb 1 (length n)) (leb (length n) 8) e).1
 
 -- a place that was found is one of the 16
 pub place_small : (m : Marks) → m.count ≤ 16 → (n : List ℕ) (i : ℕ) → SeekTold n (marks_is m) 0 (Some i) → i < 16
@@ -147,15 +143,21 @@ module _ (s : List ℕ) (p : P.Plain) (ms : List M.Mark) (n : List ℕ) where
   pub back_taken : Ok tt ≡ judging s p ms → back_in ms n ≡ M.back s p ms n
   back_taken e = ap (λ (j : Result ⊤ Refusal). on_judged_back j (back_in ms n)) e ∙ back_is_judged
 
-module _ (s : List ℕ) (p : P.Plain) (ms : List M.Mark) (o : O.Opening) (opens : opening s ≡ o) (b : Bool) (right : marks_test (length s) ms ≡ b) where
-  pub next_ways : (space : ℕ) {buf₀ buf : List ℕ} {r : Step}
-      → PlainStepped (on_opened o (λ m. cond b (next_plain s p space) (refuse_with p STATE)) (λ c. refuse_with p c)) buf₀ buf r
-      → PlainStepped (M.next_marked s p ms space) buf₀ buf r
+module _ (s : List ℕ) (p : Plain) (ms : List M.Mark) (space : ℕ) where
+  next_is_judged : on_judged_marks (judging_marks s ms) (next_plain s (plain_is p) space) (λ n. refuse_with (plain_is p) n) ≡ M.next_marked s (plain_is p) ms space
   unfolding M.next_marked
-  next_ways space {buf₀} {buf} {r} h =
-      subst (λ (w : P.PlainStep). PlainStepped w buf₀ buf r)
-      (sym (ap₂ (λ (o : O.Opening) (b : Bool). on_opened o (λ m. cond b (next_plain s p space) (refuse_with p STATE)) (λ c. refuse_with p c)) opens right)) h
+  next_is_judged = judged_marks s ms (next_plain s (plain_is p) space) (λ n. refuse_with (plain_is p) n)
 
--- a refused call of next
-pub next_refused : (p : Plain) (n : Refusal) (buf : List ℕ) → PlainStepped (refuse_with (plain_is p) n) buf buf (record { answer = Err n; plain = p })
-next_refused p n buf = record { gave = record { answer = refl; plain = refl }; buffer = refl }
+  next_as : (j : Result ⊤ Refusal) → j ≡ judging_marks s ms → {buf₀ buf : List ℕ} {x : Step Plain}
+      → PlainStepped (on_judged_marks j (next_plain s (plain_is p) space) (λ n. refuse_with (plain_is p) n)) buf₀ buf x → PlainStepped (M.next_marked s (plain_is p) ms space) buf₀ buf x
+  next_as j e {buf₀} {buf} {x} h =
+      subst (λ (w : P.PlainStep). PlainStepped w buf₀ buf x)
+      (ap (λ (k : Result ⊤ Refusal). on_judged_marks k (next_plain s (plain_is p) space) (λ n. refuse_with (plain_is p) n)) e ∙ next_is_judged) h
+
+  pub next_refused : (n : Refusal) → Err n ≡ judging_marks s ms → (buf : List ℕ) (x : Step Plain) → (x.answer ≡ Err n) × (x.reading ≡ p)
+      → PlainStepped (M.next_marked s (plain_is p) ms space) buf buf x
+  next_refused n e buf x h = next_as (Err n) e (record { gave = record { answer = h.0; plain = ap plain_is h.1 }; buffer = refl })
+
+  pub next_goes : Ok tt ≡ judging_marks s ms → {buf₀ buf : List ℕ} {x : Step Plain} → PlainStepped (next_plain s (plain_is p) space) buf₀ buf x
+      → PlainStepped (M.next_marked s (plain_is p) ms space) buf₀ buf x
+  next_goes e h = next_as (Ok tt) e h

@@ -1,6 +1,7 @@
 -- What the calls of this crate tell, against `MarkCalls` (crate marking), and the parts of those.
 --     both_test             STATE's condition, on the reading and on its marks
 --     judging               opening's refusals and STATE, as the code judges them first; on_judged_mark, on_judged_back, what comes after that
+--     judging_marks         the same of the marks alone, before a next; on_judged_marks, what comes after that
 --     set_in, back_in        marking and going back, where that holds
 --     marking_is r, return_is r       what a mark and going back answered
 -- Assumes nothing.
@@ -38,6 +39,14 @@ return_is (Err n) = M.Return.refused n
 
 unfoldable pub judging : List ℕ → Plain → List M.Mark → Result ⊤ Refusal
 judging s p ms = on_opened (opening s) (λ m. cond (both_test p ms (length s)) (Ok tt) (Err STATE)) (λ n. Err n)
+
+-- before a next without marks, which judges the reading
+unfoldable pub judging_marks : List ℕ → List M.Mark → Result ⊤ Refusal
+judging_marks s ms = on_opened (opening s) (λ m. cond (marks_test (length s) ms) (Ok tt) (Err STATE)) (λ n. Err n)
+
+abbrev pub on_judged_marks : {A : Type 0} → Result ⊤ Refusal → A → (Refusal → A) → A
+on_judged_marks (Ok tt) go stop = go
+on_judged_marks (Err n) go stop = stop n
 
 abbrev pub on_judged_mark : Result ⊤ Refusal → M.Marking → M.Marking
 on_judged_mark (Ok tt) w = w

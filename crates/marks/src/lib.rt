@@ -7,11 +7,12 @@ ghost use Rattle.std.specs.Prelude.{◌≡◌, [], ◌≤◌, length};
 ghost use Rattle.marking.specs.MarkCalls as M;
 ghost use Rattle.stream.specs.Plains.{plain_is, PlainStepped};
 ghost use Rattle.marks_held.specs.MarkViews.{marks_is};
-ghost use Rattle.marks.specs.MarkAnswers.{both_test, judging, set_in, back_in, marking_is, return_is};
+ghost use Rattle.marks.specs.MarkAnswers.{judging, judging_marks, set_in, back_in, marking_is, return_is};
 
 use format::Refusal;
 use marks_held::{MARKS, MAX_NAME, Marks};
-use stream::{Plain, Step};
+use stream::Plain;
+use stream_step::Step;
 
 // No marks.
 pub fn none() -> Marks
@@ -22,21 +23,23 @@ pub fn none() -> Marks
 
 // ---- what is judged
 
-// Whether a reading and its marks can go on with a file of this length.
-pub fn state_right(reading: Plain, marks: Marks, len: usize) -> bool
-    ensures { result ≡ both_test (plain_is reading) (marks_is marks) len }
+// What each call judges first: opening's refusals, then STATE for the marks. A next judges the reading after it, in the call without marks.
+pub fn judge_marks(file: &[u8], marks: Marks) -> Result<(), Refusal>
+    ensures { result ≡ judging_marks file.now (marks_is marks) }
 {
-    let held = reading.reading;
-    stream_bounds::state_right(held.levels, held.bound_len, held.len, len)
-        && marks_held::marks_right(marks, len)
+    fst::open(file)?;
+    if marks_held::marks_right(marks, file.len()) {
+        return Ok(());
+    }
+    Err(Refusal::State)
 }
 
 // What is judged before a mark is set or looked for: opening's refusals, then STATE for the reading or the marks.
 pub fn judge(file: &[u8], reading: Plain, marks: Marks) -> Result<(), Refusal>
     ensures { result ≡ judging file.now (plain_is reading) (marks_is marks) }
 {
-    fst::open(file)?;
-    if state_right(reading, marks, file.len()) {
+    judge_marks(file, marks)?;
+    if stream_bounds::state_right(&reading.reading, file.len()) {
         return Ok(());
     }
     Err(Refusal::State)
@@ -112,21 +115,12 @@ pub fn go_back(file: &[u8], reading: Plain, marks: Marks, name: &[u8]) -> Result
 // ---- next
 
 // The next key, with the marks judged too: opening's refusals, STATE for the reading or the marks, then as stream::next. No next changes a mark.
-pub fn next_marked(file: &[u8], reading: Plain, marks: Marks, key: &mut [u8]) -> Step
+pub fn next_marked(file: &[u8], reading: Plain, marks: Marks, key: &mut [u8]) -> Step<Plain>
     ensures { PlainStepped (M.next_marked file.now (plain_is reading)
         (marks_is marks) (length key.old)) key.old key.new result }
 {
-    if let Err(why) = fst::open(file) {
-        return Step {
-            answer: Err(why),
-            plain: reading,
-        };
+    match judge_marks(file, marks) {
+        Ok(()) => stream::next(file, reading, key),
+        Err(why) => Step::refused(reading, why),
     }
-    if !marks_held::marks_right(marks, file.len()) {
-        return Step {
-            answer: Err(Refusal::State),
-            plain: reading,
-        };
-    }
-    stream::next(file, reading, key)
 }

@@ -2,7 +2,7 @@
 --     pattern_right, pattern_wrong       the held positions
 --     judged_by, passed_by               what is judged before a mark is set or looked for
 --     mark_by_refused, mark_by_set, back_by_refused, back_by_taken, returned     the calls by what is judged first
---     next_by_ways, next_by_refused      a next by what opening answers and by whether the marks are right
+--     next_by_refused, next_by_goes      a next by what is judged first
 -- Assumes nothing.
 use mathlib.Core.Path.{◌≡◌, refl, sym, ap, ap₂, ◌∙◌, subst}
 use Rattle.std.specs.Prelude.{Ok, Err, Result, ⊤}
@@ -12,27 +12,23 @@ use mathlib.Core.List.{List}
 use Prim.Native.Nat.{ℕ, ◌≤◌, ◌<◌}
 use native.Mathlib.Omega.{arith}
 use borrow.Author.Tests.{lt-leb, le-leb}
-use lib.ListN.{length}
-use Rattle.format.specs.Limits.{max_path, STATE, PATTERN}
-use Rattle.format.specs.Opening as O
-use Rattle.format.specs.Opening.{opening}
+use Rattle.format.specs.Limits.{max_path, PATTERN}
 use Rattle.reading.specs.Reading as R
-use Rattle.reading.specs.Reading.{View, on_opened, refuse}
+use Rattle.reading.specs.Reading.{View, refuse}
 use Rattle.plain.specs.Plain.{plain_with}
 use Rattle.pattern.specs.Pattern as Q
 use Rattle.pattern.specs.Pattern.{next_by}
 use Rattle.marking.specs.MarkCalls as M
-use Rattle.marking.specs.MarkCalls.{marks_test}
 use Rattle.stream_start.specs.Views.{view_is}
 use Rattle.stream.specs.declared.Plain.{Plain}
 use Rattle.patterned_fit.specs.PositionLaws.{positions_length}
 use Rattle.patterned_fit.specs.declared.Pattern.{Pattern}
 use Rattle.patterned.specs.declared.Patterned.{Patterned}
-use Rattle.patterned.specs.declared.PatternedStep.{PatternedStep}
+use Rattle.stream_step.specs.declared.Step.{Step}
 use Rattle.patterned_held.specs.HeldPatterns.{held_is}
 use Rattle.patterned.specs.Patterns.{SteppedBy}
-use Rattle.marks.specs.MarkAnswers.{judging, on_judged_mark, on_judged_back, set_in, back_in, marking_is, return_is}
-use Rattle.marks.specs.MarkAnswersLaws.{judged_mark, judged_back}
+use Rattle.marks.specs.MarkAnswers.{judging, judging_marks, on_judged_marks, on_judged_mark, on_judged_back, set_in, back_in, marking_is, return_is}
+use Rattle.marks.specs.MarkAnswersLaws.{judged_marks, judged_mark, judged_back}
 use Rattle.marks_by.specs.MarksBy.{pattern_test, on_pattern, judging_by, mark_by, back_by, next_marked_by, view_back, ReturnByTold}
 
 pub pattern_right : (q : Pattern) → q.len ≤ max_path → pattern_test (held_is q) ≡ true
@@ -103,14 +99,27 @@ module _ {w : M.Return} (given : Patterned) where
 
 -- ---- next
 
-module _ (s : List ℕ) (q : Q.Pattern) (ms : List M.Mark) (o : O.Opening) (opens : opening s ≡ o) where
-  pub next_by_ways : (v : View) (space : ℕ) (b : Bool) → marks_test (length s) ms ≡ b → {held : Pattern} {buf₀ buf : List ℕ} {r : PatternedStep}
-      → SteppedBy (on_opened o (λ m. cond b (next_by s q v space) (refuse v STATE)) (λ k. refuse v k)) held buf₀ buf r
-      → SteppedBy (next_marked_by s q v ms space) held buf₀ buf r
-  unfolding next_marked_by
-  next_by_ways v space b right {held} {buf₀} {buf} {r} h =
-      subst (λ (w : R.Step). SteppedBy w held buf₀ buf r)
-      (sym (ap₂ (λ (o : O.Opening) (b : Bool). on_opened o (λ m. cond b (next_by s q v space) (refuse v STATE)) (λ k. refuse v k)) opens right)) h
+module _ (s : List ℕ) (r : Patterned) (ms : List M.Mark) (space : ℕ) where
+  abbrev going : R.Step
+  going = next_by s (held_is r.pattern) (view_is r.reading) space
 
-pub next_by_refused : (r : Patterned) (n : Refusal) (buf : List ℕ) → SteppedBy (refuse (view_is r.reading) n) r.pattern buf buf (record { answer = Err n; patterned = r })
-next_by_refused r n buf = record { answer = refl; reading = refl; pattern = refl; buffer = refl }
+  next_is_judged : on_judged_marks (judging_marks s ms) going (λ n. refuse (view_is r.reading) n) ≡ next_marked_by s (held_is r.pattern) (view_is r.reading) ms space
+  unfolding next_marked_by
+  next_is_judged = judged_marks s ms going (λ n. refuse (view_is r.reading) n)
+
+  next_as : (j : Result ⊤ Refusal) → j ≡ judging_marks s ms → {buf₀ buf : List ℕ} {x : Step Patterned}
+      → SteppedBy (on_judged_marks j going (λ n. refuse (view_is r.reading) n)) r.pattern buf₀ buf x
+      → SteppedBy (next_marked_by s (held_is r.pattern) (view_is r.reading) ms space) r.pattern buf₀ buf x
+  next_as j e {buf₀} {buf} {x} h =
+      subst (λ (w : R.Step). SteppedBy w r.pattern buf₀ buf x)
+      (ap (λ (k : Result ⊤ Refusal). on_judged_marks k going (λ n. refuse (view_is r.reading) n)) e ∙ next_is_judged) h
+
+  pub next_by_refused : (n : Refusal) → Err n ≡ judging_marks s ms → (buf : List ℕ) (x : Step Patterned) → (x.answer ≡ Err n) × (x.reading ≡ r)
+      → SteppedBy (next_marked_by s (held_is r.pattern) (view_is r.reading) ms space) r.pattern buf buf x
+  next_by_refused n e buf x h =
+      next_as (Err n) e
+      (record { answer = h.0; reading = ap (λ (y : Patterned). view_is y.reading) h.1; pattern = ap (λ (y : Patterned). y.pattern) h.1; buffer = refl })
+
+  pub next_by_goes : Ok tt ≡ judging_marks s ms → {buf₀ buf : List ℕ} {x : Step Patterned} → SteppedBy going r.pattern buf₀ buf x
+      → SteppedBy (next_marked_by s (held_is r.pattern) (view_is r.reading) ms space) r.pattern buf₀ buf x
+  next_by_goes e h = next_as (Ok tt) e h

@@ -15,8 +15,9 @@ ghost use Rattle.marks_by.specs.MarksBy.{judging_by, mark_by, back_by, next_mark
 
 use format::{MAX_KEY, Refusal};
 use marks_held::Marks;
-use patterned::{Patterned, PatternedStep};
+use patterned::Patterned;
 use stream::Plain;
+use stream_step::Step;
 
 // The reading inside.
 fn inside(patterned: Patterned) -> Plain
@@ -79,22 +80,13 @@ pub fn next_marked_by(
     patterned: Patterned,
     marks: Marks,
     key: &mut [u8],
-) -> PatternedStep
+) -> Step<Patterned>
     ensures { SteppedBy (next_marked_by file.now (held_is patterned.pattern)
         (view_is patterned.reading) (marks_is marks) (length key.old))
         patterned.pattern key.old key.new result }
 {
-    if let Err(why) = fst::open(file) {
-        return PatternedStep {
-            answer: Err(why),
-            patterned,
-        };
+    match marks::judge_marks(file, marks) {
+        Ok(()) => patterned::next(file, patterned, key),
+        Err(why) => Step::refused(patterned, why),
     }
-    if !marks_held::marks_right(marks, file.len()) {
-        return PatternedStep {
-            answer: Err(Refusal::State),
-            patterned,
-        };
-    }
-    patterned::next(file, patterned, key)
 }

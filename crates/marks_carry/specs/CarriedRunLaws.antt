@@ -6,6 +6,7 @@
 -- Assumes nothing.
 use Rattle.std.specs.Prelude.{◌≡◌, refl, true, List, [], ◌∷◌, ◌++◌, map, ℕ, ◌≤◌, leb, length}
 use Rattle.std.proofs.Common.{sym, ap, ◌∙◌, subst, append-nil, append_assoc, le-leb}
+use Rattle.std.proofs.lemmas.Bool.{and_from}
 use Rattle.format.specs.Limits.{max_path}
 use Rattle.format.specs.Paths.{Fst, fst_of, Held}
 use Rattle.format.specs.Admitted.{Admitted}
@@ -21,7 +22,6 @@ use Rattle.carrying_own.specs.CarryOwn.{SameCalls, Convertible}
 use Rattle.carrying_own.specs.CarryOwnLaws.{new_admitted, same_contents, held_old}
 use Rattle.carrying_own.specs.CarryPlainLaws.{carry_own_plain}
 use Rattle.marking.specs.MarkCalls.{Named, Mark, each_right, marks_test}
-use Rattle.marking.proofs.NamedLaws.{both_true}
 use Rattle.marking.specs.MarksDemand.{Did, reads, now_from, history_is, recorded_all, history_of}
 use Rattle.marking.proofs.MarksLaws.{r₀, kept, marked_run}
 use Rattle.marks_carry.specs.MarksCarry.{carry_marked}
@@ -52,7 +52,7 @@ module _ {s : List ℕ} (A : Admitted s) (can : Convertible A) (lo hi : Bound) (
       let is : r ≡ first = cc in
       let few = le-leb (length (now_from r [] bs).marks) 16 k.few in
       subst (λ (p : Plain). marks_test (length s) (now_from p [] bs).marks ≡ true) is
-      (both_true (leb (length (now_from r [] bs).marks) 16) (each_right (length s) (now_from r [] bs).marks) few k.right)
+      (and_from (leb (length (now_from r [] bs).marks) 16) (each_right (length s) (now_from r [] bs).marks) few k.right)
 
   pub carried_marked_run : (bs : List (Did s)) (cs' : List (Call (converted A))) → SameCalls (history_of [] bs).calls cs' → (ds : List (Did (converted A)))
       → CarriedMarkedRun A can lo hi counts counts' bs cs' ds

@@ -8,9 +8,8 @@
 use Rattle.std.specs.Prelude.{◌≡◌, Bool, true, false, ◌&&◌, not, List, [], ◌∷◌, map, ℕ, zero, suc, ◌+◌, ◌≤◌, ◌<◌, length, get_or, set, drop, replicate, Option, Some, None}
 use Rattle.marking.specs.MarkCalls as M
 use Rattle.marking.specs.MarkCalls.{named, same_name, name_test, marked, is_there}
-use Rattle.stream_start.specs.Views.{no_reading}
 use Rattle.stream.specs.declared.Plain.{Plain}
-use Rattle.stream.specs.Plains.{plain_is}
+use Rattle.stream.specs.Plains.{plain_is, no_plain}
 use Rattle.marks_held.specs.declared.Mark.{Mark}
 use Rattle.marks_held.specs.declared.Marks.{Marks}
 
@@ -18,9 +17,6 @@ unfoldable pub stated : {A : Type 0} → ℕ → A → List A → List A
 stated zero d xs = []
 stated (suc n) d [] = d ∷ stated n d []
 stated (suc n) d (x ∷ xs) = x ∷ stated n d xs
-
-abbrev pub no_plain : Plain
-no_plain = record { reading = no_reading; keys = 0 }
 
 abbrev pub no_mark : M.Mark
 no_mark = named [] (plain_is no_plain)

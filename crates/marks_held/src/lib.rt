@@ -14,7 +14,8 @@ pub const MARKS: usize = 16;
 // The longest name.
 pub const MAX_NAME: usize = 8;
 
-// A mark: its name, of which bytes past the length carry no meaning, and a whole reading.
+// A mark: its name, of which bytes past the length carry no meaning, and a whole reading. There is no heap, so that there is room for the longest name; a
+// caller's mark may state a greater length.
 #[derive(Clone, Copy)]
 pub struct Mark {
     pub name_len: usize,
@@ -54,10 +55,7 @@ pub fn no_marks() -> Marks
     let empty = Mark {
         name_len: 0,
         name: [0; MAX_NAME],
-        reading: Plain {
-            reading: stream_start::no_reading(),
-            keys: 0,
-        },
+        reading: stream::no_plain(),
     };
     Marks {
         count: 0,
@@ -80,6 +78,7 @@ pub fn name_from(marks: &Marks, from: usize, name: &[u8]) -> Option<usize>
     requires { (marks.now.count ≤ 16) × (length name.now ≤ 8) × (from ≤ marks.now.count) }
     ensures { SeekTold name.now (marks_is marks.now) from result }
 {
+    // by index: the place that is answered counts from the first mark, and std's `position` over the marks from `from` on would count from there
     for i in from..marks.count {
         if marks.marks[i].is_named(name) {
             return Some(i);
@@ -109,9 +108,10 @@ pub fn marks_right(marks: Marks, len: usize) -> bool
     if MARKS < marks.count {
         return false;
     }
+    // by index: whether a name is right is asked of the marks after place i too
     for i in 0..marks.count {
         let reading = &marks.marks[i].reading.reading;
-        if !stream_bounds::state_right(reading.levels, reading.bound_len, reading.len, len) {
+        if !stream_bounds::state_right(reading, len) {
             return false;
         }
         if !name_right(&marks, i) {

@@ -1,6 +1,7 @@
 -- What the answers of this crate stand for, and what its functions ask and promise; the format itself is in `format`.
 --     transitions_in s m       the transitions of the judged node m, out of the file s
 --     judged_is s r            what an answer says: the node's meaning, or that it is not sound
+--     node_parts m            where the parts of the judged node m stand
 --     Readable s m            what reading the judged node m leans on
 --     Judges s v root a r     the answer r is `node_at`, and a node that it hands out can be read
 --     search_is r              what an answer says of the place of an input
@@ -12,6 +13,7 @@ use Rattle.format.specs.declared.Transition.{Transition}
 use Rattle.format.specs.Node as F
 use Rattle.format.specs.Node.{inputs_len, inputs_in, deltas_in, inputs_at, deltas_at, stored_transitions, Absent, Indexed, TargetsRight, Judgement, sound, unsound, node_at, Search, Gap}
 use Rattle.node_sound.specs.Shapes.{is_any}
+use Rattle.node_sound.specs.declared.Parts.{Parts}
 use Rattle.node.specs.declared.Node.{Node}
 use Rattle.node.specs.declared.Unsound.{Unsound}
 
@@ -37,6 +39,18 @@ search_is (Ok i) = Search.at i
 search_is (Err p) = Search.absent p
 
 -- ---- what reading a judged node leans on
+
+-- where its parts stand
+abbrev pub node_parts : Node → Parts
+node_parts m = record {
+  is_final = m.is_final;
+  first = m.first;
+  outputs = m.outputs;
+  ntrans = m.ntrans;
+  tsize = m.tsize;
+  osize = m.osize;
+  index_len = m.index_len;
+}
 
 abbrev pub node_inputs : List ℕ → Node → List ℕ
 node_inputs s m = inputs_in m.state s (inputs_at m.outputs m.ntrans m.osize m.tsize) m.ntrans m.input

@@ -1,24 +1,26 @@
 // A node, judged and read (src/raw/node.rs: `Node::new`, `transition`, `find_input`).
 // `node_at` judges the node at an address in one pass and answers its numbers, or `Unsound`. The other functions read
 // a node that it answered, out of the same file. Nothing outside the lent file is read, whatever the numbers are.
-// A node's numbers do not hold its file's bytes: a caller has the bytes, most as `fst`, and goes on to other nodes of them, and a node that held the bytes too
-// would need, in each contract, that they are that file's. What reads a node is lent the bytes and asks that it was judged in them (`Readable`). node_view's
-// view of a node has the file and the node's address, and no numbers.
+// A node's numbers do not hold its file's bytes: a caller has these already, in most places in a `FstRef`, and goes on to other nodes in them, and a node that
+// held the bytes too would need, in each contract, that they are that file's. What reads a node is lent the bytes and asks that it was judged in them
+// (`Readable`). node_view's view of a node has the file and the node's address, and no numbers.
 // That the node is sound is asked in four contracts, and that a place is below the node's count in five: a type that says it would hold the file or the node,
 // and each contract would need that it is the one that is lent.
 #![tactic(auto)]
 
 ghost use Rattle.std.specs.Prelude.{Ok, Err, ◌≡◌, ◌+◌, ◌≤◌, ◌<◌, length, get_or, [], ◌∷◌};
-ghost use Rattle.format.specs.Node.{bytes_down, Ascending, SoundAt, inputs_at, deltas_at, target_of, transition_at, find_input};
-ghost use Rattle.node.specs.Read.{Searchable, empty_node, Judges, transitions_in, node_inputs, node_deltas, Readable, Finds, search_is};
+ghost use Rattle.format.specs.Node.{state_form, bytes_down, Ascending, SoundAt, target_of, transition_at, find_input};
+ghost use Rattle.node.specs.Read.{Searchable, node_parts, empty_node, Judges, transitions_in, node_inputs, node_deltas, Readable, Finds, search_is};
 ghost use Rattle.format.specs.declared.State.TheVariants.{OneTransNext, OneTrans, AnyTrans};
 ghost use Rattle.format.specs.declared.Refusal.TheVariants as R;
 
 use format::{FstRef, Refusal, State, Transition};
 use le_bytes::{number_of, unpack_uint};
-use node_sound::{head_len, input_of, is_sound, one_shape, shape_of};
+use node_sound::{Parts, head_len, input_of, is_sound, one_shape, shape_of};
 
 // The numbers of a sound node, for the functions below.
+// It has the fields of `Parts` and no `Parts`: what the crates above read of a node would be no plainer as `m.parts.ntrans`. `parts` makes one where a place is
+// worked out.
 #[derive(Clone, Copy)]
 pub struct Node {
     // how it is stored
@@ -36,27 +38,28 @@ pub struct Node {
     pub index_len: usize,
     // what a key that ends here adds to its value
     pub final_output: u64,
-    // the input of a node with one transition, where `state` is not `AnyTrans`
+    // the input of a node with one transition, and 0 where `state` is `AnyTrans`. It is no part of a `State`, which the state byte alone tells, and no
+    // `Option`, which would say again what `state` says: `Readable` would need that the two agree. To be read when it is asked, it would need the address
     pub input: u8,
     // where the outputs start; deltas, inputs and index follow them
     pub outputs: usize,
 }
 
 impl Node {
-    // Where the deltas start. Here and below the place must fit a usize, which it does in a file.
-    fn deltas(self) -> usize
-        requires { deltas_at self.outputs self.ntrans self.osize < 18446744073709551616 }
-        ensures { result ≡ deltas_at self.outputs self.ntrans self.osize }
+    // Where its parts stand, which answers where its deltas start, and its inputs where it has any number of transitions.
+    #[inline(always)]
+    fn parts(self) -> Parts
+        ensures { result ≡ node_parts self }
     {
-        self.outputs + self.ntrans * self.osize
-    }
-
-    // Where the inputs start, where the node has any number of transitions.
-    fn inputs(self) -> usize
-        requires { inputs_at self.outputs self.ntrans self.osize self.tsize < 18446744073709551616 }
-        ensures { result ≡ inputs_at self.outputs self.ntrans self.osize self.tsize }
-    {
-        self.deltas() + self.ntrans * self.tsize
+        Parts {
+            is_final: self.is_final,
+            first: self.first,
+            outputs: self.outputs,
+            ntrans: self.ntrans,
+            tsize: self.tsize,
+            osize: self.osize,
+            index_len: self.index_len,
+        }
     }
 }
 
@@ -76,7 +79,7 @@ impl From<Unsound> for Refusal {
 
 // A node with any number of transitions.
 pub fn any_node(fst: FstRef<'_>, addr: usize) -> Node
-    requires { SoundAt fst.bytes.now fst.version fst.root addr × (get_or fst.bytes.now addr 0 < 128) }
+    requires { SoundAt fst.bytes.now fst.version fst.root addr × (state_form (get_or fst.bytes.now addr 0) ≡ AnyTrans) }
     ensures { Judges fst.entry.bytes.now fst.entry.version fst.entry.root addr (Ok result)
         × (result.state ≡ AnyTrans) }
 {
@@ -99,13 +102,12 @@ pub fn any_node(fst: FstRef<'_>, addr: usize) -> Node
 
 // A node with one transition.
 pub fn one_node(fst: FstRef<'_>, addr: usize) -> Node
-    requires { SoundAt fst.bytes.now fst.version fst.root addr × (128 ≤ get_or fst.bytes.now addr 0)
-        × (get_or fst.bytes.now addr 0 < 192) }
+    requires { SoundAt fst.bytes.now fst.version fst.root addr × (state_form (get_or fst.bytes.now addr 0) ≡ OneTrans) }
     ensures { Judges fst.entry.bytes.now fst.entry.version fst.entry.root addr (Ok result)
         × (result.state ≡ OneTrans) }
 {
     let one = one_shape(fst, addr);
-    let first = addr + 1 - one.size;
+    let first = one.first(addr);
     let input = input_of(fst.bytes, addr);
     Node {
         state: State::OneTrans,
@@ -123,7 +125,7 @@ pub fn one_node(fst: FstRef<'_>, addr: usize) -> Node
 
 // A node with one transition to the node just below it.
 pub fn next_node(fst: FstRef<'_>, addr: usize) -> Node
-    requires { SoundAt fst.bytes.now fst.version fst.root addr × (192 ≤ get_or fst.bytes.now addr 0) }
+    requires { SoundAt fst.bytes.now fst.version fst.root addr × (state_form (get_or fst.bytes.now addr 0) ≡ OneTransNext) }
     ensures { Judges fst.entry.bytes.now fst.entry.version fst.entry.root addr (Ok result)
         × (result.state ≡ OneTransNext) }
 {
@@ -146,12 +148,13 @@ pub fn next_node(fst: FstRef<'_>, addr: usize) -> Node
 // The numbers of the sound node at addr, for those who judged it by `is_sound`, which answers a bool and no numbers.
 pub fn node_of(fst: FstRef<'_>, addr: usize) -> Node
     requires { SoundAt fst.bytes.now fst.version fst.root addr }
-    ensures { Judges fst.entry.bytes.now fst.entry.version fst.entry.root addr (Ok result) }
+    ensures { Judges fst.entry.bytes.now fst.entry.version fst.entry.root addr (Ok result)
+        × (result.state ≡ state_form (get_or fst.entry.bytes.now addr 0)) }
 {
-    match fst.bytes[addr] {
-        0..=127 => any_node(fst, addr),
-        128..=191 => one_node(fst, addr),
-        _ => next_node(fst, addr),
+    match State::from(fst.bytes[addr]) {
+        State::AnyTrans => any_node(fst, addr),
+        State::OneTrans => one_node(fst, addr),
+        State::OneTransNext => next_node(fst, addr),
     }
 }
 
@@ -200,7 +203,7 @@ pub fn input(file: &[u8], node: Node, i: usize) -> u8
 {
     let n = node.ntrans;
     match node.state {
-        State::AnyTrans => file[node.inputs() + (n - 1 - i)],
+        State::AnyTrans => file[node.parts().inputs() + (n - 1 - i)],
         State::OneTrans | State::OneTransNext => node.input,
     }
 }
@@ -221,7 +224,7 @@ fn delta(file: &[u8], node: Node, i: usize) -> u64
     match node.state {
         State::AnyTrans | State::OneTrans => number_of(
             file,
-            node.deltas(),
+            node.parts().deltas(),
             node.tsize,
             node.ntrans,
             i,
@@ -305,7 +308,7 @@ fn find_any(file: &[u8], node: Node, b: u8) -> Result<usize, usize>
     requires { Readable file.now node × (node.state ≡ AnyTrans) }
     ensures { Finds (node_inputs file.now node) b result }
 {
-    find_in(file, node.inputs(), node.ntrans, node.index_len, b)
+    find_in(file, node.parts().inputs(), node.ntrans, node.index_len, b)
 }
 
 // The place of the first input above b where there is one, and it is another.

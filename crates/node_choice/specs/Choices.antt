@@ -14,7 +14,7 @@ use Rattle.node_choice.specs.declared.Choice.TheVariants.{Ends, To as Along, Abs
 
 -- the transition at this place
 abbrev pub choice_as : List Transition → Place → Choice
-choice_as ts (at i) = Along (F.transition_at ts i).inp (F.transition_at ts i).out (F.transition_at ts i).addr
+choice_as ts (at i) = Along (F.transition_at ts i)
 choice_as ts absent = Missing
 
 abbrev pub fitting_in : List Transition → ℕ → Choice

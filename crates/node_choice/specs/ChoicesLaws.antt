@@ -2,6 +2,7 @@
 -- Assumes nothing.
 use Rattle.std.specs.Prelude.{Ok, Err, ◌≡◌, refl, Bool, true, false, cond, ◌&&◌, ℕ, eqb}
 use Rattle.std.proofs.Common.{arith}
+use Rattle.format.specs.declared.Transition.{Transition}
 use Rattle.format.specs.Node as F
 use Rattle.format.specs.Node.{transition_at, Place, at, absent, Judgement, sound, unsound}
 use Rattle.format.specs.Lookup.{last_fitting}
@@ -36,19 +37,17 @@ module _ (m : F.Node) (v : ℕ) where
       go false is_t absent is_p e = (is_t, is_p)
 
   -- the transition that fits
-  pub record Followed (inp out target : ℕ) : Type 0 where
+  pub record Followed (t : Transition) : Type 0 where
     pub on : (eqb v 0 && m.final) ≡ false
     pub place : ℕ
     pub fits : last_fitting m.transitions v ≡ at place
-    pub is_inp : inp ≡ (transition_at m.transitions place).inp
-    pub is_out : out ≡ (transition_at m.transitions place).out
-    pub is_target : target ≡ (transition_at m.transitions place).addr
+    pub is_it : t ≡ transition_at m.transitions place
 
-  pub choice_followed : (inp out target : ℕ) → Along inp out target ≡ choice_in m v → Followed inp out target
-  choice_followed inp out target e = go (eqb v 0 && m.final) refl (last_fitting m.transitions v) refl e
+  pub choice_followed : (t : Transition) → Along t ≡ choice_in m v → Followed t
+  choice_followed t e = go (eqb v 0 && m.final) refl (last_fitting m.transitions v) refl e
     where
-      go : (t : Bool) → (eqb v 0 && m.final) ≡ t → (p : Place) → last_fitting m.transitions v ≡ p
-          → Along inp out target ≡ cond t Ends (choice_as m.transitions p) → Followed inp out target
-      go true is_t p is_p e = absurd (let z : ◌≡◌ {A = ℕ} 0 1 = cc in omega arith)
-      go false is_t (at i) is_p e = record { on = is_t; place = i; fits = is_p; is_inp = cc; is_out = cc; is_target = cc }
-      go false is_t absent is_p e = absurd (let z : ◌≡◌ {A = ℕ} 0 1 = cc in omega arith)
+      go : (ends : Bool) → (eqb v 0 && m.final) ≡ ends → (p : Place) → last_fitting m.transitions v ≡ p
+          → Along t ≡ cond ends Ends (choice_as m.transitions p) → Followed t
+      go true on p is_p e = absurd (let z : ◌≡◌ {A = ℕ} 0 1 = cc in omega arith)
+      go false on (at i) is_p e = record { on = on; place = i; fits = is_p; is_it = cc }
+      go false on absent is_p e = absurd (let z : ◌≡◌ {A = ℕ} 0 1 = cc in omega arith)

@@ -17,7 +17,7 @@ use Rattle.node_choice.specs.declared.Choice.{Choice}
 use Rattle.node_choice.specs.declared.Choice.TheVariants.{Ends, To as Along, Absent as Missing}
 use Rattle.node_choice.specs.Choices.{Leading, fitting_in, choice_in, fit_of}
 
--- ---- the loop: the first i numbers are not above v
+-- ---- the first i numbers are not above v
 
 pub record Passed (os : List ℕ) (v i : ℕ) : Type 0 where
   pub within : i ≤ length os
@@ -81,7 +81,7 @@ module _ (s : List ℕ) (m : Node) (r : Readable s m) (v : ℕ) where
 
   -- the last that fits
   pub choice_to : (k inp out target : ℕ) → ¬ (k ≡ 0) → Leading outs v k → inp ≡ (transition_at ts (k - 1)).inp → out ≡ get_or outs (k - 1) 0
-      → target ≡ target_of m.first (get_or (node_deltas s m) (k - 1) 0) → Along inp out target ≡ fitting_in ts v
+      → target ≡ target_of m.first (get_or (node_deltas s m) (k - 1) 0) → Along (record { inp = inp; out = out; addr = target }) ≡ fitting_in ts v
   choice_to k inp out target ne h is_inp is_out is_target =
       let l = count_lt k ne h in
       let at_out : out ≡ (transition_at ts (k - 1)).out = is_out ∙ output_is s m r (k - 1) l in

@@ -1,17 +1,19 @@
 // Which transition of a sound node fits a value that is left: the part of a step of a lookup by value that comes after the judging.
 // The numbers of a node with any number of transitions are one value, `Parts`. Those of a node with one transition are read where they are used.
-// The steps for a node with one transition take the file and the node's address.
+// fst and addr are no struct, as node_view's `Node` is one: a search keeps its one file and goes from address to address, so it would make such a struct for
+// each node that it enters, and each function would take it apart again.
 #![tactic(auto)]
 
 ghost use Rattle.std.specs.Prelude.{Ok, ◌≡◌, ◌&&◌, ◌+◌, ◌*◌, ◌≤◌, ◌<◌, eqb, length, get_or};
-ghost use Rattle.format.specs.Node.{numbers_down, SoundAt};
+ghost use Rattle.format.specs.Node.{state_form, numbers_down, SoundAt};
+ghost use Rattle.format.specs.declared.State.TheVariants.{OneTransNext, OneTrans};
 ghost use Rattle.format.specs.View.{fst_is};
 ghost use Rattle.format.specs.Paths.{node_in};
 ghost use Rattle.node.specs.Read.{transitions_in, Readable};
 ghost use Rattle.node_way.specs.Ways.{any_node};
 ghost use Rattle.node_choice.specs.Choices.{Leading, fitting_in, fit_of};
 
-use format::FstRef;
+use format::{FstRef, Transition};
 use le_bytes::number_of;
 use node::{Unsound, target_of};
 use node_sound::{Parts, head_len, input_of, one_shape};
@@ -21,8 +23,8 @@ use node_sound::{Parts, head_len, input_of, one_shape};
 pub enum Choice {
     // nothing is left, and the node is final
     Ends,
-    // input, output and target of the last of the leading transitions whose output is not above what is left
-    To(u8, u64, usize),
+    // the last of the leading transitions whose output is not above what is left
+    To(Transition),
     // no transition fits
     Absent,
 }
@@ -38,12 +40,9 @@ fn fitting(file: &[u8], at: usize, size: usize, n: usize, left: u64) -> usize
     ensures leading { Leading (numbers_down file.now at size n) left result }
     ensures within { result ≤ n }
 {
-    for i in 0..n {
-        if left < number_of(file, at, size, n, i) {
-            return i;
-        }
-    }
-    n
+    (0..n)
+        .find(|i| left < number_of(file, at, size, n, *i))
+        .unwrap_or(n)
 }
 
 // The transition that fits what is left, of a node with these parts.
@@ -60,7 +59,8 @@ pub fn any_choice(file: &[u8], parts: Parts, left: u64) -> Choice
     let inp = file[parts.inputs() + (n - 1 - last)];
     let out = number_of(file, parts.outputs, parts.osize, n, last);
     let delta = number_of(file, parts.deltas(), parts.tsize, n, last);
-    Choice::To(inp, out, target_of(parts.first, delta))
+    let addr = target_of(parts.first, delta);
+    Choice::To(Transition { inp, out, addr })
 }
 
 // Whether the search ends at a node: nothing is left, and it is final.
@@ -72,27 +72,31 @@ pub fn ends(left: u64, is_final: bool) -> bool
 
 // The one transition of a sound node, where its output is not above what is left.
 pub fn one_choice(fst: FstRef<'_>, addr: usize, left: u64) -> Choice
-    requires { SoundAt fst.bytes.now fst.version fst.root addr × (128 ≤ get_or fst.bytes.now addr 0)
-        × (get_or fst.bytes.now addr 0 < 192) }
+    requires { SoundAt fst.bytes.now fst.version fst.root addr × (state_form (get_or fst.bytes.now addr 0) ≡ OneTrans) }
     ensures { Ok result ≡ fit_of (node_in (fst_is fst.entry) addr) left }
 {
     let one = one_shape(fst, addr);
-    let first = addr + 1 - one.size;
+    let first = one.first(addr);
     let inp = input_of(fst.bytes, addr);
-    let out = number_of(fst.bytes, first, one.osize, 1, 0);
+    let out = one.output(fst.bytes, first);
     if left < out {
         return Choice::Absent;
     }
-    let delta = number_of(fst.bytes, first + one.osize, one.tsize, 1, 0);
-    Choice::To(inp, out, target_of(first, delta))
+    let delta = one.delta(fst.bytes, first);
+    let addr = target_of(first, delta);
+    Choice::To(Transition { inp, out, addr })
 }
 
 // The one transition of a sound node to the node just below it: its output is 0, so it always fits.
 pub fn next_choice(fst: FstRef<'_>, addr: usize, left: u64) -> Choice
-    requires { SoundAt fst.bytes.now fst.version fst.root addr × (192 ≤ get_or fst.bytes.now addr 0) }
+    requires { SoundAt fst.bytes.now fst.version fst.root addr × (state_form (get_or fst.bytes.now addr 0) ≡ OneTransNext) }
     ensures { Ok result ≡ fit_of (node_in (fst_is fst.entry) addr) left }
 {
     let len = head_len(fst.bytes, addr);
     let inp = input_of(fst.bytes, addr);
-    Choice::To(inp, 0, addr - len)
+    Choice::To(Transition {
+        inp,
+        out: 0,
+        addr: addr - len,
+    })
 }

@@ -7,7 +7,6 @@ use Rattle.std.specs.Prelude.{◌≡◌, refl, Bool, true, false, cond, ◌&&◌
 use Rattle.std.proofs.Common.{sym, ap, ◌∙◌}
 use Rattle.format.specs.Bytes.{pack_size}
 use Rattle.format.specs.CommonInputs.{common_idx}
-use Rattle.format.specs.Laws.CommonInputsLaws.{common_idx_lt}
 use Rattle.format.specs.Packed.{BuilderNode, delta_of, output_size, last_addr, has_one, leads_next, packed}
 use Rattle.format.specs.Laws.PackedLaws.{packed_next_is, packed_one_is}
 use Rattle.node_compile.specs.Parts.{Code, state_for, one_for}
@@ -31,7 +30,7 @@ length_bytes first idx rare rare' out target = go (eqb target (last_addr first) 
 
 -- the input itself stands beside what is kept of it
 pub code_of : (input : ℕ) → Code input (common_idx input) input
-code_of input = record { is = refl; lt = common_idx_lt input; rare_is = λ _. refl }
+code_of input = record { is = refl; rare_is = λ _. refl }
 
 -- of a record with one transition, which is not final
 pub bytes_packed : (first : ℕ) (b : BuilderNode) (idx rare out target : ℕ) → has_one b ≡ true → Code (get_or b.inputs 0 0) idx rare → out ≡ get_or b.outputs 0 0

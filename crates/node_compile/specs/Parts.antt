@@ -1,6 +1,7 @@
 -- What the functions under `compile` answer and write: the bytes of a form, and the part of a buffer.
 --     state_bytes form inp              the end of a node with one transition, whose top two bits are given as form: 128, or 192
 --     Code inp idx rare                 the state byte keeps idx of the input inp, and where that is 0, the input is rare
+--     form_bits st                      the top two bits of the state byte of a node in the form st that is not final
 --     state_for form idx rare           the same end by what the state byte keeps
 --     one_for idx rare out delta        the bytes of the form 10, by the same
 --     any_in F b osize tsize            the bytes of b in the forms 00 and 01, with outputs of osize bytes and deltas of tsize bytes
@@ -12,6 +13,8 @@
 -- Assumes nothing.
 use Rattle.std.specs.Prelude.{◌≡◌, Bool, cond, List, [], ◌∷◌, ◌++◌, map, ℕ, ◌+◌, ◌*◌, ◌≤◌, ◌<◌, eqb, leb, length, Result}
 use Rattle.format.specs.declared.Refusal.{Refusal}
+use Rattle.format.specs.declared.State.{State}
+use Rattle.format.specs.declared.State.TheVariants.{OneTransNext, OneTrans, AnyTrans}
 use Rattle.format.specs.Limits.{first_node, max_trans, SPACE}
 use Rattle.format.specs.Bytes.{bytes_of, pack_size, largest}
 use Rattle.format.specs.CommonInputs.{common_idx}
@@ -27,8 +30,12 @@ state_bytes form inp = input_bytes inp ++ ((form + common_idx inp) ∷ [])
 
 pub record Code (inp idx rare : ℕ) : Type 0 where
   pub is : idx ≡ common_idx inp
-  pub lt : idx < 64
   pub rare_is : idx ≡ 0 → rare ≡ inp
+
+abbrev pub form_bits : State → ℕ
+form_bits OneTransNext = 192
+form_bits OneTrans = 128
+form_bits AnyTrans = 0
 
 abbrev pub state_for : ℕ → ℕ → ℕ → List ℕ
 state_for form idx rare = cond (eqb idx 0) (rare ∷ (form ∷ [])) ((form + idx) ∷ [])

@@ -13,11 +13,11 @@ ghost use Rattle.format.specs.Packed.{output_size, delta_size, sizes_of, packed,
 ghost use Rattle.format.specs.CommonInputs.{common_idx};
 ghost use Rattle.node_compile.specs.Compile.{builder_is, Compiles};
 ghost use Rattle.node_compile.specs.One.{one_bytes};
-ghost use Rattle.node_compile.specs.Parts.{Code, state_for, one_for, any_in, any_bytes, RecordFits, AnyFits, any_len, Fitted};
+ghost use Rattle.node_compile.specs.Parts.{Code, form_bits, state_for, one_for, any_in, any_bytes, RecordFits, AnyFits, any_len, Fitted};
 ghost use Rattle.buffers.specs.Put.{PutAt};
 
 use common_inputs::common_idx;
-use format::{FIRST_NODE, MAX_LEN, MAX_TRANS, Refusal, TRANS_INDEX_THRESHOLD};
+use format::{FIRST_NODE, MAX_LEN, MAX_TRANS, Refusal, State, TRANS_INDEX_THRESHOLD};
 use le_bytes::{pack_size, pack_uint_in};
 use node_parts::{put_bytes, put_head, put_index};
 use node_record::{BuilderNode, inputs_ascend, targets_ok};
@@ -72,7 +72,8 @@ pub fn delta_of(first: usize, target: usize) -> u64
 
 // The largest of the targets' deltas, 0 for none. It differs from `largest_of` by `delta_of` alone, as `put_deltas` does from `put_numbers`: one
 // function of both would take a function of a target, and its contract would have to say what that one asks and answers.
-// What is asked of the targets, here and below, is asked with F, which no type has beside them.
+// What is asked of the targets, here and below, is asked with F, which no type has beside them. That F is from 16 on is asked where a function needs
+// it: F is a place in the new file, which a caller goes on from by a node's length, and a type for it would be made anew at each node.
 fn largest_delta(first: usize, targets: &[usize]) -> u64
     requires { TargetsOk first targets.now }
     ensures { result ≡ largest (map (delta_of first) targets.now) }
@@ -131,8 +132,8 @@ fn put_numbers(out: &mut [u8], at: usize, numbers: &[u64], size: usize) -> usize
     p
 }
 
-// Writes the delta of each target in size bytes, last first, from place at on; returns the place past
-// them.
+// Writes the delta of each target in size bytes, last first, from place at on; returns the place past them. By places, as `put_numbers` and node_parts's
+// `put_bytes`, which says why.
 fn put_deltas(out: &mut [u8], at: usize, targets: &[usize], first: usize, size: usize) -> usize
     requires { (at + length (stored_numbers size (map (delta_of first) targets.now)) ≤ length
         out.old)
@@ -151,12 +152,24 @@ fn put_deltas(out: &mut [u8], at: usize, targets: &[usize], first: usize, size: 
 
 // ---- the end of a node with one transition
 
+// The top two bits of the state byte of a node in this form that is not final.
+fn form_bits(state: State) -> u8
+    ensures { (result ≡ form_bits state) × (result ≤ 192) }
+{
+    match state {
+        State::OneTransNext => 192,
+        State::OneTrans => 128,
+        State::AnyTrans => 0,
+    }
+}
+
 // What the state byte keeps of the input: idx, its place among the frequent inputs from 1 on, or 0 where the input has a byte of its own
 // before it.
 #[derive(Clone, Copy)]
 pub struct Kept {
     pub idx: u8,
     pub input: u8,
+    pub ghost six_bits: { idx < 64 },
 }
 
 impl Kept {
@@ -171,18 +184,18 @@ impl Kept {
     }
 
     // The bytes of the state, and of the input where it has its own.
-    pub fn state_len(self) -> usize
+    fn state_len(self) -> usize
         ensures { (result ≡ length (state_for 0 self.idx 0)) × (result ≤ 2) }
     {
         if self.idx == 0 { 2 } else { 1 }
     }
 
-    // Writes the state byte, and the input before it where it has its own; returns the place past them. The top two bits are given as
-    // form: 128, or 192.
-    pub fn put_state(self, out: &mut [u8], at: usize, form: u8) -> usize
-        requires { (at + length (state_for form self.idx self.input) ≤ length out.old) × (form ≤ 192) × (self.idx < 64) }
-        ensures { PutAt out.old at (state_for form self.idx self.input) out.new result }
+    // Writes the state byte of a node in this form, and the input before it where it has its own; returns the place past them.
+    fn put_state(self, out: &mut [u8], at: usize, state: State) -> usize
+        requires { at + length (state_for (form_bits state) self.idx self.input) ≤ length out.old }
+        ensures { PutAt out.old at (state_for (form_bits state) self.idx self.input) out.new result }
     {
+        let form = form_bits(state);
         if self.idx == 0 {
             out[at] = self.input;
             out[at + 1] = form;
@@ -196,25 +209,17 @@ impl Kept {
 // ---- a node with one transition
 
 // Writes a node of the form 10 with an output of osize bytes and a delta of tsize bytes; returns its length.
-pub fn put_one(
-    out: &mut [u8],
-    kept: Kept,
-    output: u64,
-    osize: usize,
-    delta: u64,
-    tsize: usize,
-) -> usize
+fn put_one(out: &mut [u8], kept: Kept, output: u64, osize: usize, delta: u64, tsize: usize) -> usize
     requires { (length (one_for kept.idx kept.input output delta) ≤ length out.old)
         × (osize ≡ output_size output)
-        × (tsize ≡ pack_size delta)
-        × (kept.idx < 64) }
+        × (tsize ≡ pack_size delta) }
     ensures { PutAt out.old 0 (one_for kept.idx kept.input output delta) out.new
         result }
 {
     pack_uint_in(out, 0, output, osize);
     pack_uint_in(out, osize, delta, tsize);
     out[osize + tsize] = sizes_byte(tsize, osize);
-    kept.put_state(out, osize + tsize + 1, 128)
+    kept.put_state(out, osize + tsize + 1, State::OneTrans)
 }
 
 // The bytes of a node with one transition that is not final, by what its state byte keeps of the input.
@@ -234,13 +239,13 @@ pub fn one_len(kept: Kept, output: u64, target: usize, first: usize) -> usize
 
 // Writes such a node, which has room; returns its length.
 pub fn pack_one(kept: Kept, output: u64, target: usize, first: usize, out: &mut [u8]) -> usize
-    requires { (first_node ≤ first) × (target ≤ first) × (kept.idx < 64)
+    requires { (first_node ≤ first) × (target ≤ first)
         × (length (one_bytes first kept.idx kept.input output target) ≤ length out.old) }
     ensures { PutAt out.old 0 (one_bytes first kept.idx kept.input output target)
         out.new result }
 {
     if leads_next(first, target, output) {
-        return kept.put_state(out, 0, 192);
+        return kept.put_state(out, 0, State::OneTransNext);
     }
     let delta = delta_of(first, target);
     let osize = output_size(output);
@@ -271,7 +276,8 @@ fn compile_one(
 
 // ---- a node with any number of transitions
 
-// The bytes of the final output. node_sound has lengths like this and the next two of its own: node_compile does not depend on it, and each is one line.
+// The bytes of the final output. node_sound's `end_len_of` has this body, and its lengths of the index and of the head have others: they go by the
+// version, and by bytes that are not written yet here. A crate below both would hold this one `if`.
 fn end_len(is_final: bool, osize: usize) -> usize
     ensures { result ≡ end_len is_final osize }
 {
@@ -362,7 +368,7 @@ fn last_addr(first: usize) -> usize
 }
 
 // To the node before, with output 0.
-pub fn leads_next(first: usize, target: usize, output: u64) -> bool
+fn leads_next(first: usize, target: usize, output: u64) -> bool
     requires { first_node ≤ first }
     ensures { result ≡ (eqb target (last_addr first) && eqb output 0) }
 {

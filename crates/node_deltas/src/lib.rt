@@ -1,5 +1,7 @@
 // The deltas of a node, judged: whether each leads to a right target, all at once by a bound of them or one after the other (docs/FORMAT.md, "A node").
 // A part of a file is its place, size and count, and no slice: the definitions speak of places in the whole file.
+// That first, F in document 01, is 16 at least is asked in three contracts, for a subtraction in two of the functions: a type that says it would be made by each
+// caller, which has judged the node's place, of the number that it has, and be taken apart again here for each delta.
 #![tactic(auto)]
 
 ghost use Rattle.std.specs.Prelude.{◌≡◌, true, ◌+◌, ◌*◌, ◌≤◌, length, take, drop};
@@ -32,7 +34,8 @@ pub fn targets_right(file: &[u8], at: usize, size: usize, n: usize, first: usize
     near(file, at, size, n, first - FIRST_NODE) || targets_slow(file, at, size, n, first)
 }
 
-// The same, one delta after the other.
+// The same, one delta after the other. Not by `all`: tried over `0..n`, the proof was left at its answer, that what holds of each place of the range holds of
+// each of the numbers.
 fn targets_slow(file: &[u8], at: usize, size: usize, n: usize, first: usize) -> bool
     requires { (at + n * size ≤ length file.now) × (size ≤ 8) × (first_node ≤ first) }
     ensures { Decides result (TargetsRight first (numbers_down file.now at size n)) }
@@ -71,7 +74,7 @@ fn load4(file: &[u8], p: usize) -> u32
 }
 
 // A bound of n numbers of 3 bytes: each is read with the byte before it, which stands for less than
-// one.
+// one. Not by `chunks_exact`: the fourth of four is read to one byte past their twelve.
 fn most3(file: &[u8], at: usize, n: usize) -> usize
     requires { (1 ≤ at) × (at + n * 3 ≤ length file.now) }
     ensures { AtMost file.now at 3 n result }
@@ -85,6 +88,7 @@ fn most3(file: &[u8], at: usize, n: usize) -> usize
         let high = load4(file, p + 6).max(load4(file, p + 9));
         most = most.max(low.max(high));
     }
+    // the fewer than four that are left
     for i in n / 4 * 4..n {
         most = most.max(load4(file, start + i * 3));
     }

@@ -16,7 +16,8 @@ pub fn put_bytes(out: &mut [u8], at: usize, bytes: &[u8]) -> usize
     ensures { PutAt out.old at (stored_bytes bytes.now)
         out.new result }
 {
-    // p is moved by hand, since it goes up where i goes down
+    // by places, of which p goes up where i goes down: tried with `bytes.iter().rev()`, and the proof did not carry over, since the loop has no place
+    // then, of which its invariant speaks, but what is left of a reversed iterator
     let mut p = at;
     // byte by byte: the library's copy would have the C library call memmove, where it cannot see the two apart
     for i in (0..bytes.len()).rev() {

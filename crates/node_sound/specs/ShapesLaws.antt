@@ -8,7 +8,7 @@ use native.Mathlib.Omega.{arith}
 use Rattle.format.specs.declared.State.TheVariants.{OneTransNext, OneTrans, AnyTrans}
 use Rattle.format.specs.Node as F
 use Rattle.format.specs.Node.{state_form, is_final, count_of, head_len, input_of, ntrans_of, sizes_byte, index_len, end_len, size_of, shape_of, numbers_down, Ascending, TargetRight, TargetsRight, Useful, SoundShape}
-use Rattle.format.specs.Laws.NodeLaws.{form_next, form_one, form_any, not_final, final_any}
+use Rattle.format.specs.Laws.NodeLaws.{any_lt, one_from, next_from, not_final, final_any}
 use Rattle.format.specs.Laws.HeadLaws.{ntrans_next, ntrans_one, ntrans_any, sizes_next, sizes_one, sizes_any, index_len_few}
 use Rattle.format.specs.Laws.StoredLaws.{length_numbers_down}
 use Rattle.node_sound.specs.Shapes.{AtForm, one_shape}
@@ -30,13 +30,13 @@ any_shape final n tsize osize il size = record {
   size = size;
 }
 
-pub shape_any : (s : List ℕ) (v a st len n sizes el il : ℕ) → st ≡ get_or s a 0 → st < 128 → len ≡ head_len s a → n ≡ count_of s a → sizes ≡ get_or s (a - len) 0
+pub shape_any : (s : List ℕ) (v a st len n sizes el il : ℕ) → st ≡ get_or s a 0 → state_form st ≡ AnyTrans → len ≡ head_len s a → n ≡ count_of s a → sizes ≡ get_or s (a - len) 0
     → el ≡ end_len (leb 64 st) (sizes % 16) → il ≡ index_len v n
     → any_shape (leb 64 st) n (sizes / 16) (sizes % 16) il (el + n * (sizes % 16) + n * (sizes / 16) + n + il + 1 + len) ≡ shape_of s v a
 unfolding size_of
-shape_any s v a st len n sizes el il is_st lt is_len is_n is_sizes is_el is_il =
-    let form : state_form (get_or s a 0) ≡ AnyTrans = form_any (get_or s a 0) (rw is_st at lt) in
-    let fin : is_final (get_or s a 0) ≡ leb 64 (get_or s a 0) = final_any (get_or s a 0) (rw is_st at lt) in
+shape_any s v a st len n sizes el il is_st is_any is_len is_n is_sizes is_el is_il =
+    let form : state_form (get_or s a 0) ≡ AnyTrans = rw is_st at is_any in
+    let fin : is_final (get_or s a 0) ≡ leb 64 (get_or s a 0) = final_any (get_or s a 0) (any_lt (get_or s a 0) form) in
     let count : ntrans_of s a ≡ count_of s a = ntrans_any s a form in
     let stored : sizes_byte s a ≡ get_or s (a - head_len s a) 0 = sizes_any s a form in
     rw (form, fin, count, stored, is_el, is_il, is_n, is_sizes, is_len, is_st)
@@ -52,12 +52,11 @@ any_size_le {n} {sizes} few byte le_el le_il le_len =
 
 -- ---- one transition
 
-pub shape_one : (s : List ℕ) (v a len sizes : ℕ) → 128 ≤ get_or s a 0 → get_or s a 0 < 192 → len ≡ head_len s a → sizes ≡ get_or s (a - len) 0
+pub shape_one : (s : List ℕ) (v a len sizes : ℕ) → state_form (get_or s a 0) ≡ OneTrans → len ≡ head_len s a → sizes ≡ get_or s (a - len) 0
     → one_shape (sizes / 16) (sizes % 16) (sizes % 16 + sizes / 16 + 1 + len) ≡ shape_of s v a
 unfolding size_of
-shape_one s v a len sizes low high is_len is_sizes =
-    let form : state_form (get_or s a 0) ≡ OneTrans = form_one (get_or s a 0) low high in
-    let fin : is_final (get_or s a 0) ≡ false = not_final (get_or s a 0) low in
+shape_one s v a len sizes form is_len is_sizes =
+    let fin : is_final (get_or s a 0) ≡ false = not_final (get_or s a 0) (one_from (get_or s a 0) form) in
     let count : ntrans_of s a ≡ 1 = ntrans_one s a form in
     let stored : sizes_byte s a ≡ sizes = sizes_one s a form ∙ rw (is_sizes, is_len) in
     let few : index_len v 1 ≡ 0 = index_len_few v 1 (omega arith) in
@@ -102,11 +101,10 @@ next_shape size = record {
   size = size;
 }
 
-pub shape_next : (s : List ℕ) (v a len : ℕ) → 192 ≤ get_or s a 0 → len ≡ head_len s a → next_shape len ≡ shape_of s v a
+pub shape_next : (s : List ℕ) (v a len : ℕ) → state_form (get_or s a 0) ≡ OneTransNext → len ≡ head_len s a → next_shape len ≡ shape_of s v a
 unfolding size_of
-shape_next s v a len low is_len =
-    let form : state_form (get_or s a 0) ≡ OneTransNext = form_next (get_or s a 0) low in
-    let fin : is_final (get_or s a 0) ≡ false = not_final (get_or s a 0) (omega arith) in
+shape_next s v a len form is_len =
+    let fin : is_final (get_or s a 0) ≡ false = not_final (get_or s a 0) (omega (arith, next_from (get_or s a 0) form)) in
     let count : ntrans_of s a ≡ 1 = ntrans_next s a form in
     let stored : sizes_byte s a ≡ 0 = sizes_next s a form in
     let few : index_len v 1 ≡ 0 = index_len_few v 1 (omega arith) in

@@ -3,17 +3,17 @@
 // A part of a file is its place, size and count, and no slice: the definitions speak of places in the whole file.
 // That an address lies in the file is asked in five contracts, and `AtForm` in four. A type that says it would hold the file's bytes beside the address: each
 // caller, which has the file as `fst`, would make one for each node that it enters, and each contract would need that the bytes are those of `fst`.
-// The forms of a node are told by ranges of the state byte, as the contracts and document 01 have them; `State` is what a judged node says of itself.
 #![tactic(auto)]
 
-ghost use Rattle.std.specs.Prelude.{◌≡◌, ◌+◌, ◌*◌, ◌≤◌, ◌<◌, length, get_or};
+ghost use Rattle.std.specs.Prelude.{◌≡◌, ◌+◌, ◌-◌, ◌*◌, ◌≤◌, ◌<◌, length, get_or};
 ghost use Rattle.buffers.specs.Decide.{Decides};
 ghost use Rattle.format.specs.Limits.{first_node, max_trans};
-ghost use Rattle.format.specs.Node.{count_of, input_of, index_len, end_len, Useful, SoundAt, shape_of};
+ghost use Rattle.format.specs.Node.{state_form, numbers_down, count_of, input_of, index_len, end_len, Useful, SoundAt, shape_of};
+ghost use Rattle.format.specs.declared.State.TheVariants.{OneTransNext, OneTrans, AnyTrans};
 ghost use Rattle.node_sound.specs.Shapes.{Head, shape_is, one_shape, AtForm, parts_at, deltas_from, inputs_from, PartsRight, Judged};
 
 use common_inputs::common_input;
-use format::{FIRST_NODE, FstRef, MAX_TRANS, TRANS_INDEX_THRESHOLD};
+use format::{FIRST_NODE, FstRef, MAX_TRANS, State, TRANS_INDEX_THRESHOLD};
 use le_bytes::number_of;
 use node_deltas::{target_right, targets_right};
 use node_inputs::{ascends, entries_right};
@@ -71,6 +71,36 @@ impl Shape {
             osize: self.osize,
             index_len: self.index_len,
         }
+    }
+}
+
+impl One {
+    // The first byte of the node at addr that has this shape, F in document 01: the output starts there, and the delta follows it.
+    // This and the two below stand inline in each caller, as `one_shape` does.
+    #[inline(always)]
+    pub fn first(self, addr: usize) -> usize
+        requires { (0 < self.size) × (self.size ≤ addr) }
+        ensures { result ≡ addr + 1 - self.size }
+    {
+        addr - self.size + 1
+    }
+
+    // The output, where the node starts at first.
+    #[inline(always)]
+    pub fn output(self, file: &[u8], first: usize) -> u64
+        requires { (first + self.osize ≤ length file.now) × (self.osize ≤ 8) }
+        ensures { result ≡ get_or (numbers_down file.now first self.osize 1) 0 0 }
+    {
+        number_of(file, first, self.osize, 1, 0)
+    }
+
+    // The delta, where the node starts at first.
+    #[inline(always)]
+    pub fn delta(self, file: &[u8], first: usize) -> u64
+        requires { (first + self.osize + self.tsize ≤ length file.now) × (self.tsize ≤ 8) }
+        ensures { result ≡ get_or (numbers_down file.now (first + self.osize) self.tsize 1) 0 0 }
+    {
+        number_of(file, first + self.osize, self.tsize, 1, 0)
     }
 }
 
@@ -161,7 +191,7 @@ fn end_len_of(is_final: bool, osize: usize) -> usize
 
 // The shape of a node with any number of transitions.
 pub fn shape_of(file: &[u8], version: u64, addr: usize) -> Shape
-    requires { (2 ≤ addr) × (addr < length file.now) × (get_or file.now addr 0 < 128) }
+    requires { (2 ≤ addr) × (addr < length file.now) × (state_form (get_or file.now addr 0) ≡ AnyTrans) }
     ensures { (shape_is result ≡ shape_of file.now version addr)
         × (result.end_len ≡ end_len result.is_final result.osize) }
 {
@@ -189,8 +219,7 @@ pub fn shape_of(file: &[u8], version: u64, addr: usize) -> Shape
 // The shape of a node with one transition, with its output and its delta.
 #[inline(always)]
 pub fn one_shape(fst: FstRef<'_>, addr: usize) -> One
-    requires { (2 ≤ addr) × (addr < length fst.bytes.now) × (128 ≤ get_or fst.bytes.now addr 0)
-        × (get_or fst.bytes.now addr 0 < 192) }
+    requires { (2 ≤ addr) × (addr < length fst.bytes.now) × (state_form (get_or fst.bytes.now addr 0) ≡ OneTrans) }
     ensures { (one_shape result.tsize result.osize result.size ≡ shape_of fst.entry.bytes.now fst.entry.version addr)
         × (result.osize + result.tsize + 2 ≤ result.size) × (result.size ≤ 33) }
 {
@@ -206,7 +235,7 @@ pub fn one_shape(fst: FstRef<'_>, addr: usize) -> One
 // ---- the conditions of document 01
 
 // Sizes are at most 8, and a delta has at least 1 byte if there is a transition.
-pub fn sizes_right(n: usize, tsize: usize, osize: usize) -> bool
+fn sizes_right(n: usize, tsize: usize, osize: usize) -> bool
     ensures { Decides result ((tsize ≤ 8) × (osize ≤ 8) × (0 < n → 0 < tsize)) }
 {
     tsize <= 8 && osize <= 8 && (n == 0 || 0 < tsize)
@@ -214,7 +243,7 @@ pub fn sizes_right(n: usize, tsize: usize, osize: usize) -> bool
 
 // Whether a node is final, has a transition, or is the root.
 #[tactic(auto, unfolding(format::specs::Node::Useful))]
-pub fn useful(is_final: bool, n: usize, addr: usize, root: usize) -> bool
+fn useful(is_final: bool, n: usize, addr: usize, root: usize) -> bool
     ensures { Decides result (Useful is_final n addr root) }
 {
     is_final || 0 < n || addr == root
@@ -224,7 +253,7 @@ pub fn useful(is_final: bool, n: usize, addr: usize, root: usize) -> bool
 // time of a node with any number of transitions.
 // It stands inline in `any_parts`, since a call would write the parts to memory first.
 #[inline(always)]
-pub fn parts_right(file: &[u8], parts: Parts) -> bool
+fn parts_right(file: &[u8], parts: Parts) -> bool
     requires { (inputs_from parts + parts.ntrans + parts.index_len ≤ length file.now)
         × (parts.tsize ≤ 8) × (first_node ≤ parts.first)
         × (¬ (parts.index_len ≡ 0) → parts.index_len ≡ 256) }
@@ -242,7 +271,7 @@ pub fn parts_right(file: &[u8], parts: Parts) -> bool
 // It stands inline in each caller: called, unproved, it took 8 to 9 percent more instructions in a lookup by key.
 #[inline(always)]
 pub fn any_parts(fst: FstRef<'_>, addr: usize) -> Option<Parts>
-    requires { AtForm fst.bytes.now fst.root addr × (get_or fst.bytes.now addr 0 < 128) }
+    requires { AtForm fst.bytes.now fst.root addr × (state_form (get_or fst.bytes.now addr 0) ≡ AnyTrans) }
     ensures { Judged fst.entry.bytes.now fst.entry.version fst.entry.root addr result }
 {
     let shape = shape_of(fst.bytes, fst.version, addr);
@@ -260,7 +289,7 @@ pub fn any_parts(fst: FstRef<'_>, addr: usize) -> Option<Parts>
 
 // Whether a node with any number of transitions is sound.
 fn any_sound(fst: FstRef<'_>, addr: usize) -> bool
-    requires { AtForm fst.bytes.now fst.root addr × (get_or fst.bytes.now addr 0 < 128) }
+    requires { AtForm fst.bytes.now fst.root addr × (state_form (get_or fst.bytes.now addr 0) ≡ AnyTrans) }
     ensures { Decides result (SoundAt fst.entry.bytes.now fst.entry.version fst.entry.root addr) }
 {
     any_parts(fst, addr).is_some()
@@ -269,8 +298,7 @@ fn any_sound(fst: FstRef<'_>, addr: usize) -> bool
 // Whether a node with one transition, with its output and its delta, is sound (node.rs,
 // `StateOneTrans`).
 pub fn one_sound(fst: FstRef<'_>, addr: usize) -> bool
-    requires { AtForm fst.bytes.now fst.root addr × (128 ≤ get_or fst.bytes.now addr 0)
-        × (get_or fst.bytes.now addr 0 < 192) }
+    requires { AtForm fst.bytes.now fst.root addr × (state_form (get_or fst.bytes.now addr 0) ≡ OneTrans) }
     ensures { Decides result (SoundAt fst.entry.bytes.now fst.entry.version fst.entry.root addr) }
 {
     let one = one_shape(fst, addr);
@@ -278,15 +306,15 @@ pub fn one_sound(fst: FstRef<'_>, addr: usize) -> bool
     if !sizes_right(1, one.tsize, one.osize) || addr - 15 < one.size {
         return false;
     }
-    let first = addr + 1 - one.size;
-    let delta = number_of(fst.bytes, first + one.osize, one.tsize, 1, 0);
+    let first = one.first(addr);
+    let delta = one.delta(fst.bytes, first);
     target_right(first, delta)
 }
 
 // Whether a node with one transition to the node just below it is sound (node.rs,
 // `StateOneTransNext`).
 pub fn next_sound(fst: FstRef<'_>, addr: usize) -> bool
-    requires { AtForm fst.bytes.now fst.root addr × (192 ≤ get_or fst.bytes.now addr 0) }
+    requires { AtForm fst.bytes.now fst.root addr × (state_form (get_or fst.bytes.now addr 0) ≡ OneTransNext) }
     ensures { Decides result (SoundAt fst.entry.bytes.now fst.entry.version fst.entry.root addr) }
 {
     let len = head_len(fst.bytes, addr);
@@ -301,9 +329,9 @@ pub fn is_sound(fst: FstRef<'_>, addr: usize) -> bool
     if !at_form(fst, addr) {
         return false;
     }
-    match fst.bytes[addr] {
-        0..=127 => any_sound(fst, addr),
-        128..=191 => one_sound(fst, addr),
-        _ => next_sound(fst, addr),
+    match State::from(fst.bytes[addr]) {
+        State::AnyTrans => any_sound(fst, addr),
+        State::OneTrans => one_sound(fst, addr),
+        State::OneTransNext => next_sound(fst, addr),
     }
 }

@@ -1,12 +1,12 @@
 -- A sound node that is read without being made: the node that judging it would answer, from the bytes or the shape that are read.
 -- Assumes nothing.
-use Rattle.std.specs.Prelude.{Ok, ◌≡◌, refl, List, ℕ, ◌+◌, ◌-◌, ◌≤◌, ◌<◌, get_or, take, drop}
+use Rattle.std.specs.Prelude.{Ok, ◌≡◌, refl, List, ℕ, ◌+◌, ◌-◌, ◌≤◌, get_or, take, drop}
 use Rattle.std.proofs.Common.{sym, subst, arith, add-zero}
 use Rattle.format.specs.Bytes.{le}
 use Rattle.format.specs.Node as F
 use Rattle.format.specs.Node.{numbers_down, SoundAt, SoundShape, node_at, unsound}
-use Rattle.format.specs.declared.State.TheVariants.{AnyTrans}
-use Rattle.format.specs.Laws.NodeLaws.{node_at_unsound, form_any}
+use Rattle.format.specs.declared.State.TheVariants.{OneTransNext, AnyTrans}
+use Rattle.format.specs.Laws.NodeLaws.{node_at_unsound}
 use Rattle.format.specs.Laws.StoredLaws.{get_d_numbers_down}
 use Rattle.node_sound.specs.Shapes.{AtForm, one_shape, parts_at}
 use Rattle.node_sound.specs.JudgingLaws.{sound_low, sound_form, shape_sound}
@@ -43,12 +43,12 @@ module _ (s : List ℕ) (v root a : ℕ) (is_sound : SoundAt s v root a) where
   nonzero z = omega (arith, low)
 
   -- one transition to the node just below
-  pub next_judged : (len : ℕ) → len ≡ F.head_len s a → (inp : ℕ) → inp ≡ F.input_of s a → 192 ≤ get_or s a 0
+  pub next_judged : (len : ℕ) → len ≡ F.head_len s a → (inp : ℕ) → inp ≡ F.input_of s a → F.state_form (get_or s a 0) ≡ OneTransNext
       → Judges s v root a (Ok (form_node a (next_shape len) inp))
   unfolding le
-  next_judged len is_len inp is_inp high =
+  next_judged len is_len inp is_inp form =
       let h = next_shape len in
-      let is_h = shape_next s v a len high is_len in
+      let is_h = shape_next s v a len form is_len in
       judged_yes s v root a h is_h nonzero 0 inp (a + 1 - len) (shape_sound s v root a h is_h nonzero is_sound) refl (rw is_inp) (sym (add-zero (a + 1 - len)))
 
   -- one transition, wherever it leads
@@ -60,7 +60,7 @@ module _ (s : List ℕ) (v root a : ℕ) (is_sound : SoundAt s v root a) where
     sound = shape_sound s v root a h is_h nonzero is_sound
 
     -- its bytes lie from 16 on
-    pub one_above : size ≤ a + 1
+    pub one_above : size ≤ a
     one_above = omega (arith, sound.above)
 
     pub one_judged : (inp : ℕ) → inp ≡ F.input_of s a → Judges s v root a (Ok (form_node a h inp))
@@ -73,15 +73,12 @@ parts_form : (h : F.Shape) (a fo : ℕ) → h.state ≡ AnyTrans
     → code_node h (a + 1 - h.size) fo 0 (F.outputs_at (a + 1 - h.size) h.final h.osize) ≡ parts_node (parts_at h a) fo
 parts_form h a fo any = rw any refl
 
-module _ (s : List ℕ) (v root a : ℕ) (few : get_or s a 0 < 128) (is_sound : SoundAt s v root a) where
+module _ (s : List ℕ) (v root a : ℕ) (any : F.state_form (get_or s a 0) ≡ AnyTrans) (is_sound : SoundAt s v root a) where
   abbrev shape : F.Shape
   shape = F.shape_of s v a
 
   abbrev final_output : ℕ
   final_output = le (take (F.end_len shape.final shape.osize) (drop (a + 1 - shape.size) s))
-
-  any : shape.state ≡ AnyTrans
-  any = form_any (get_or s a 0) few
 
   pub any_judged : Judges s v root a (Ok (parts_node (parts_at shape a) final_output))
   any_judged =

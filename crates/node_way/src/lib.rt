@@ -1,10 +1,12 @@
 // Where an input leads from a sound node: the part of a step of a lookup by key that comes after the judging.
 // The numbers of a node with any number of transitions are one value, `Parts`. Those of a node with one transition are read where they are used.
-// The steps for a node with one transition take the file and the node's address.
+// fst and addr are no struct, as node_view's `Node` is one: a lookup keeps its one file and goes from address to address, so it would make such a struct for
+// each node that it enters, and each function would take it apart again.
 #![tactic(auto)]
 
 ghost use Rattle.std.specs.Prelude.{Ok, ◌≡◌, ◌≤◌, ◌<◌, length, get_or};
-ghost use Rattle.format.specs.Node.{SoundAt, numbers_down};
+ghost use Rattle.format.specs.Node.{state_form, SoundAt, numbers_down};
+ghost use Rattle.format.specs.declared.State.TheVariants.{OneTransNext, OneTrans};
 ghost use Rattle.format.specs.View.{fst_is};
 ghost use Rattle.format.specs.Paths.{node_in};
 ghost use Rattle.node_sound.specs.Shapes.{deltas_from, inputs_from};
@@ -47,24 +49,23 @@ pub fn any_way(file: &[u8], parts: Parts, b: u8) -> Way
 
 // Where b leads from a sound node with one transition.
 pub fn one_way(fst: FstRef<'_>, addr: usize, b: u8) -> Way
-    requires { SoundAt fst.bytes.now fst.version fst.root addr × (128 ≤ get_or fst.bytes.now addr 0)
-        × (get_or fst.bytes.now addr 0 < 192) }
+    requires { SoundAt fst.bytes.now fst.version fst.root addr × (state_form (get_or fst.bytes.now addr 0) ≡ OneTrans) }
     ensures { Ok result ≡ step_of (node_in (fst_is fst.entry) addr) b }
 {
     let one = one_shape(fst, addr);
-    let first = addr + 1 - one.size;
+    let first = one.first(addr);
     let input = input_of(fst.bytes, addr);
     if input != b {
         return Err(place_beside(input, b));
     }
-    let out = number_of(fst.bytes, first, one.osize, 1, 0);
-    let delta = number_of(fst.bytes, first + one.osize, one.tsize, 1, 0);
+    let out = one.output(fst.bytes, first);
+    let delta = one.delta(fst.bytes, first);
     Ok((out, target_of(first, delta)))
 }
 
 // Where b leads from a sound node with one transition to the node just below it.
 pub fn next_way(fst: FstRef<'_>, addr: usize, b: u8) -> Way
-    requires { SoundAt fst.bytes.now fst.version fst.root addr × (192 ≤ get_or fst.bytes.now addr 0) }
+    requires { SoundAt fst.bytes.now fst.version fst.root addr × (state_form (get_or fst.bytes.now addr 0) ≡ OneTransNext) }
     ensures { Ok result ≡ step_of (node_in (fst_is fst.entry) addr) b }
 {
     let len = head_len(fst.bytes, addr);

@@ -9,7 +9,7 @@ use mathlib.Core.Path.{◌≡◌, refl, sym, ap, ap₂, ◌∙◌, subst}
 use Rattle.std.specs.Prelude.{Ok, Err, Some, None, Result, Option}
 use Rattle.format.specs.declared.Refusal.{Refusal}
 use mathlib.Core.Bool.{Bool, true, false, cond, ◌&&◌}
-use mathlib.Core.Logic.{⊎_elim, ◌⊎◌}
+use mathlib.Core.Logic.{⊎_elim, ◌⊎◌, inl, inr}
 use mathlib.Core.List.{List, [], ◌∷◌, ◌++◌, map}
 use Prim.Native.Nat.{ℕ, ◌-◌, ◌<◌, ◌≤◌}
 use native.Mathlib.Omega.{arith}
@@ -46,11 +46,9 @@ use Rattle.ops.specs.Merges.{count_test, BegunAs, BegunBy, refused_step, held_it
 pub count_some : (n : ℕ) → 0 < n → n ≤ 8 → count_test n ≡ true
 count_some n a b = ap₂ ◌&&◌ (lt-ltb 0 n a) (le-leb n 8 b)
 
-pub count_none : (n : ℕ) → n ≡ 0 → count_test n ≡ false
-count_none n e = ap count_test e
-
-pub count_many : (n : ℕ) → 8 < n → count_test n ≡ false
-count_many n h = ap₂ ◌&&◌ (lt-ltb 0 n (omega arith)) (lt-leb n 8 h)
+pub count_wrong : (n : ℕ) → (n ≡ 0) ⊎ (8 < n) → count_test n ≡ false
+count_wrong n (inl e) = ap count_test e
+count_wrong n (inr h) = ap₂ ◌&&◌ (lt-ltb 0 n (omega arith)) (lt-leb n 8 h)
 
 -- ---- begin
 

@@ -3,13 +3,13 @@
 // The cards in use are the first count of eight, passed whole by value: fixed memory.
 #![tactic(auto)]
 
-ghost use Rattle.std.specs.Prelude.{◌≡◌, map, ◌++◌, ◌-◌, ◌≤◌, ◌<◌, length, take, drop};
+ghost use Rattle.std.specs.Prelude.{◌≡◌, map, ◌++◌, ◌-◌, ◌≤◌, ◌<◌, length, drop};
 ghost use Rattle.format.specs.Limits.{max_levels};
 ghost use Rattle.ops_keys.specs.Heads.{head_key};
 ghost use Rattle.ops.specs.Merges.{BegunBy, refused_step, held_item, MergedBy};
 
 use format::Refusal;
-use ops_decide::Op;
+use ops_decide::{Op, is_count};
 use ops_keys::{Head, key_len};
 use ops_pairs::Pairs;
 use ops_round::{Card, unstepped};
@@ -31,7 +31,8 @@ pub struct Item {
     pub pairs: Pairs,
 }
 
-// What a call gives back: its item, or none at the end, and the cards after it.
+// What a call gives back: its item, or none at the end, and the cards after it. The answer stands beside the cards, and the two are no Result: a caller
+// may go on with the cards that are given back, after a refusal too. No stream_step Step: the answer is an item.
 #[derive(Clone, Copy)]
 pub struct Step {
     pub answer: Result<Option<Item>, Refusal>,
@@ -44,7 +45,7 @@ pub struct Step {
 pub fn begin(op: Op, count: usize, readings: [Plain; 8]) -> Result<Cards, Refusal>
     ensures { BegunBy op count readings result }
 {
-    if !(1..=8).contains(&count) {
+    if !is_count(count) {
         return Err(Refusal::Cards);
     }
     let cards = readings.map(unstepped);
@@ -86,10 +87,7 @@ pub fn next_item(files: [&[u8]; 8], cards: Cards, key: &mut [u8]) -> Step
 {
     let op = cards.op;
     let count = cards.count;
-    if count == 0 {
-        return refused(Refusal::Cards, cards);
-    }
-    if 8 < count {
+    if !is_count(cards.count) {
         return refused(Refusal::Cards, cards);
     }
     let held = cards.cards;

@@ -9,6 +9,7 @@ use mathlib.Core.Bool.{Bool, true, false, cond}
 use mathlib.Core.Option.{Option}
 use Rattle.std.specs.Prelude as L
 use Rattle.std.proofs.Common.{Ordering}
+use Rattle.std.specs.declared.cmp.Ordering.TheVariants.{Less, Equal}
 use Rattle.std.specs.Ordering.{is_lt}
 use mathlib.Core.List.{List, [], ◌∷◌, map}
 use Prim.Native.Nat.{ℕ, ◌+◌, ◌<◌}
@@ -54,7 +55,7 @@ module _ (op : Op) (n : ℕ) (p : Pairs) (ps : List Indexed) (are : PairsAre ps 
 -- ---- at a key
 
 module _ (ks : List ℕ) (op : Op) (cs : List Seen) (k : Place) (p : Pairs) (after : List Seen) (taken : Bool)
-    (collected : CollectedBy ks (length cs) cs k p) (used : AllUsed ks cs k false after) (takes : (ps : List Indexed) → PairsAre ps p → taken ≡ takes_test (op_is op) (length cs) ps)
+    (collected : CollectedBy ks (length cs) cs k p) (used : AllUsed ks cs k Equal after) (takes : (ps : List Indexed) → PairsAre ps p → taken ≡ takes_test (op_is op) (length cs) ps)
     (X : List O.Card) (S : Sees ks (length cs) cs X) where
   key_test_lem : takes_test (op_is op) (length X) (pairs_from 0 (place_key ks k) X) ≡ taken
   key_test_lem =
@@ -79,14 +80,14 @@ module _ (ks : List ℕ) (op : Op) (cs : List Seen) (k : Place) (p : Pairs) (aft
         few = few;
         pairs = collected.is X S;
         sees = used.is X S;
-        kept = used_kept (key_test false (place_key ks k)) X;
+        kept = used_kept (key_test Equal (place_key ks k)) X;
         long = used.long;
         keys = used.keys;
       })
 
   pub key_another : taken ≡ false → DecidedBy ks cs X (at_key (op_is op) (place_key ks k) X) after Another
   key_another e =
-      by_taken Another false e (record { sees = used.is X S; kept = used_kept (key_test false (place_key ks k)) X; long = used.long; keys = used.keys })
+      by_taken Another false e (record { sees = used.is X S; kept = used_kept (key_test Equal (place_key ks k)) X; long = used.long; keys = used.keys })
 
 -- ---- by the least key
 
@@ -105,10 +106,10 @@ module _ (ks : List ℕ) (cs : List Seen) (l : L.Option Place) (least : LeastBy 
           (sym (by.less ∙ e)) h)
 
     pub first_less : (m : Place) → l ≡ L.Some m → (o : Ordering) → Compared (place_key ks m) (place_key ks k) o → (after : List Seen) → is_lt o ≡ true
-        → AllUsed ks cs k true after → DecidedBy ks cs X (at_first (place_key ks k) (least_key X) X) after Another
+        → AllUsed ks cs k Less after → DecidedBy ks cs X (at_first (place_key ks k) (least_key X) X) after Another
     first_less m found o by after e used =
         by_less m found o by after Another true e
-        (record { sees = used.is X S; kept = used_kept (key_test true (place_key ks k)) X; long = used.long; keys = used.keys })
+        (record { sees = used.is X S; kept = used_kept (key_test Less (place_key ks k)) X; long = used.long; keys = used.keys })
 
 -- ---- by the first card
 

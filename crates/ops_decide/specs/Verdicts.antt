@@ -1,10 +1,11 @@
 -- What a round comes to, against `decide` (crate ops_spec).
 --     op_of n                    the operation of a number
 --     op_is o                    the operation
+--     CountTest n b              whether an operation is over n files
 --     DecidedBy ks cs X v r w   w is the verdict v on the cards X, of which the cs are seen, and r is what is seen afterwards: the cards' files, readings
 --                               and keys are kept, and at the end all that is seen
 -- Assumes nothing.
-use Rattle.std.specs.Prelude.{◌≡◌, List, ℕ, cond, eqb, length}
+use Rattle.std.specs.Prelude.{◌≡◌, ◌⊎◌, ◌≤◌, ◌<◌, Bool, true, false, List, ℕ, cond, eqb, length}
 use Rattle.ops_spec.specs.Ops as O
 use Rattle.ops_spec.specs.Ops.{Indexed}
 use Rattle.ops_keys.specs.declared.Place.{Place}
@@ -27,6 +28,10 @@ op_is Union = O.union
 op_is Intersection = O.intersection
 op_is Difference = O.difference
 op_is SymmetricDifference = O.symmetric
+
+pub record CountTest (n : ℕ) (b : Bool) : Type 0 where
+  pub yes : b ≡ true → (0 < n) × (n ≤ 8)
+  pub no : b ≡ false → (n ≡ 0) ⊎ (8 < n)
 
 pub record ThisBy (ks : List ℕ) (cs : List Seen) (X : List O.Card) (k : List ℕ) (ps : List Indexed) (ds : List O.Card) (r : List Seen) (p : Place) (its : Pairs) : Type 0 where
   pub key : place_key ks p ≡ k

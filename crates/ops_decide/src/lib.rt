@@ -1,6 +1,7 @@
 // What a round comes to, once its steps are made (src/raw/ops.rs: `Union`, `Intersection`, `Difference`, `SymmetricDifference`): an item, the end, or
 // another round.
-// The cards are those in use, one to eight. What is asked of keys and cards is of the two together.
+// The cards are those in use, one to eight. What is asked of keys and cards is of the two together, and no type has both: the keys are only read while the
+// cards are written.
 #![tactic(auto)]
 
 ghost use Rattle.std.specs.Prelude.{◌≡◌, List, ◌≤◌, ◌<◌, length};
@@ -9,13 +10,14 @@ ghost use Rattle.ops_spec.specs.Ops.{Indexed};
 ghost use Rattle.ops_keys.specs.Heads.{place_key, Within};
 ghost use Rattle.ops_pairs.specs.Pairs.{PairsAre};
 ghost use Rattle.ops_seen.specs.Sights.{Sees, Ready};
-ghost use Rattle.ops_decide.specs.Verdicts.{op_is, op_of, DecidedBy};
+ghost use Rattle.ops_decide.specs.Verdicts.{op_is, op_of, CountTest, DecidedBy};
 
 use ops_item::{collect, least_key, use_up};
 use ops_keys::{KEYS, Place, compare};
 use ops_pairs::Pairs;
 use ops_round::Slot;
 use ops_seen::Seen;
+use std::cmp::Ordering;
 
 // Which keys an operation hands out.
 #[derive(Clone, Copy, PartialEq, Eq)]
@@ -37,6 +39,13 @@ pub fn op_of(n: u64) -> Op
         2 => Op::Difference,
         _ => Op::SymmetricDifference,
     }
+}
+
+// Whether an operation is over so many files: one to eight.
+pub fn is_count(count: usize) -> bool
+    ensures { CountTest count result }
+{
+    (1..=8).contains(&count)
 }
 
 // What a round comes to: an item, by where its key stands and its values; the end; or another round.
@@ -73,7 +82,7 @@ fn at_key(op: Op, keys: &[u8; KEYS], cards: &mut [Seen], key: Place) -> Verdict
 {
     let count = cards.len();
     let pairs = collect(keys, cards, key);
-    use_up(keys, cards, key, false);
+    use_up(keys, cards, key, Ordering::Equal);
     if takes(op, count, pairs) {
         Verdict::This(key, pairs)
     } else {
@@ -104,7 +113,7 @@ fn at_first(keys: &[u8; KEYS], cards: &mut [Seen], key: Place) -> Verdict
     };
     let order = compare(keys, lesser, key);
     if order.is_lt() {
-        use_up(keys, cards, key, true);
+        use_up(keys, cards, key, Ordering::Less);
         return Verdict::Another;
     }
     at_key(Op::Difference, keys, cards, key)

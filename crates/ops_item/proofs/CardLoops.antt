@@ -3,11 +3,12 @@
 --     leasting-.., using-.., collecting-..    at its start, after a card, and at its end
 -- Assumes nothing.
 use mathlib.Core.Path.{◌≡◌, refl, sym, ap, ◌∙◌, subst}
-use mathlib.Core.Bool.{Bool, cond}
+use mathlib.Core.Bool.{cond}
 use mathlib.Core.Option.{Option}
 use mathlib.Core.Logic.{⊎_elim}
 use Rattle.std.specs.Prelude as S
 use Rattle.std.specs.Prelude.{IfSome}
+use Rattle.std.specs.declared.cmp.Ordering.{Ordering}
 use borrow.Author.Rules.{rules}
 use mathlib.Core.List.{List, [], ◌∷◌}
 use Prim.Native.Nat.{ℕ, zero, suc, ◌+◌, ◌-◌, ◌<◌, ◌≤◌}
@@ -79,16 +80,16 @@ leasting_all ks n cs l i z L = record { is = λ X S. ap (λ (j : ℕ). least_key
 
 -- ---- keys used up
 
-pub record Using (ks : List ℕ) (cs : List Seen) (k : Place) (less : Bool) (all : List Seen) (i : ℕ) : Type 0 where
+pub record Using (ks : List ℕ) (cs : List Seen) (k : Place) (meant : Ordering) (all : List Seen) (i : ℕ) : Type 0 where
   pub within : i ≤ length cs
   pub long : length all ≡ length cs
   pub few : (j : ℕ) (d : Seen) → j < length cs → Few (get_or all j d)
-  pub done : (j : ℕ) (d : Seen) → j < i → (x : O.Card) → Shows ks (get_or cs j d) x → Shows ks (get_or all j d) (used1 (key_test less (place_key ks k)) x)
+  pub done : (j : ℕ) (d : Seen) → j < i → (x : O.Card) → Shows ks (get_or cs j d) x → Shows ks (get_or all j d) (used1 (key_test meant (place_key ks k)) x)
   pub rest : (j : ℕ) (d : Seen) → i ≤ j → get_or all j d ≡ get_or cs j d
   pub keys : (j : ℕ) (d : Seen) → j < length cs → (get_or all j d).key ≡ (get_or cs j d).key
 
-pub using_none : (ks : List ℕ) (cs : List Seen) (k : Place) (less : Bool) → Ready ks (length cs) cs → Using ks cs k less cs 0
-using_none ks cs k less ready =
+pub using_none : (ks : List ℕ) (cs : List Seen) (k : Place) (meant : Ordering) → Ready ks (length cs) cs → Using ks cs k meant cs 0
+using_none ks cs k meant ready =
     record { within = omega arith; long = refl; few = ready.few; done = λ j d h. absurd (omega arith); rest = λ j d h. refl; keys = λ j d h. refl }
 
 -- a place within a list has the same element whatever else is named
@@ -97,8 +98,8 @@ default_any [] i a b h = absurd (omega arith)
 default_any (x ∷ l) zero a b h = refl
 default_any (x ∷ l) (suc i) a b h = default_any l i a b (omega arith)
 
-module _ (ks : List ℕ) (cs : List Seen) (k : Place) (less : Bool) (all : List Seen) (i : ℕ) (U : Using ks cs k less all i) where
-  pub using_on : (d r : Seen) → i < length cs → UsedBy ks (get_or all i d) k less r → Using ks cs k less (set all i r) (i + 1)
+module _ (ks : List ℕ) (cs : List Seen) (k : Place) (meant : Ordering) (all : List Seen) (i : ℕ) (U : Using ks cs k meant all i) where
+  pub using_on : (d r : Seen) → i < length cs → UsedBy ks (get_or all i d) k meant r → Using ks cs k meant (set all i r) (i + 1)
   using_on b r h by =
       let long = U.long in
       record {
@@ -131,30 +132,30 @@ module _ (ks : List ℕ) (cs : List Seen) (k : Place) (less : Bool) (all : List 
           ∙ U.keys i d h
           ∙ ap (λ (m : ℕ). (get_or cs m d).key) (sym z)
 
-      earlier : (j : ℕ) (d : Seen) → j < i → (x : O.Card) → Shows ks (get_or cs j d) x → Shows ks (get_or (set all i r) j d) (used1 (key_test less (place_key ks k)) x)
+      earlier : (j : ℕ) (d : Seen) → j < i → (x : O.Card) → Shows ks (get_or cs j d) x → Shows ks (get_or (set all i r) j d) (used1 (key_test meant (place_key ks k)) x)
       earlier j d z x s =
-          subst (λ (c : Seen). Shows ks c (used1 (key_test less (place_key ks k)) x)) (sym (get_or-set_other all i j r d (λ q. omega arith))) (U.done j d z x s)
+          subst (λ (c : Seen). Shows ks c (used1 (key_test meant (place_key ks k)) x)) (sym (get_or-set_other all i j r d (λ q. omega arith))) (U.done j d z x s)
 
-      here_at : (d : Seen) (x : O.Card) → Shows ks (get_or cs i d) x → Shows ks (get_or (set all i r) i d) (used1 (key_test less (place_key ks k)) x)
+      here_at : (d : Seen) (x : O.Card) → Shows ks (get_or cs i d) x → Shows ks (get_or (set all i r) i d) (used1 (key_test meant (place_key ks k)) x)
       here_at d x s =
           let long = U.long in
-          subst (λ (c : Seen). Shows ks c (used1 (key_test less (place_key ks k)) x)) (sym (get_or-set_same all i r d (omega arith)))
+          subst (λ (c : Seen). Shows ks c (used1 (key_test meant (place_key ks k)) x)) (sym (get_or-set_same all i r d (omega arith)))
           (by.is x (subst (λ (c : Seen). Shows ks c x) (sym (U.rest i d (omega arith)) ∙ default_any all i d b (omega arith)) s))
 
-      here : (j : ℕ) (d : Seen) → j ≡ i → (x : O.Card) → Shows ks (get_or cs j d) x → Shows ks (get_or (set all i r) j d) (used1 (key_test less (place_key ks k)) x)
+      here : (j : ℕ) (d : Seen) → j ≡ i → (x : O.Card) → Shows ks (get_or cs j d) x → Shows ks (get_or (set all i r) j d) (used1 (key_test meant (place_key ks k)) x)
       here j d z =
-          subst (λ (m : ℕ). (x : O.Card) → Shows ks (get_or cs m d) x → Shows ks (get_or (set all i r) m d) (used1 (key_test less (place_key ks k)) x)) (sym z) (here_at d)
+          subst (λ (m : ℕ). (x : O.Card) → Shows ks (get_or cs m d) x → Shows ks (get_or (set all i r) m d) (used1 (key_test meant (place_key ks k)) x)) (sym z) (here_at d)
 
-  pub using_all : length cs ≤ i → AllUsed ks cs k less all
+  pub using_all : length cs ≤ i → AllUsed ks cs k meant all
   using_all h =
       let within = U.within in
       record {
         is = λ X S.
             record {
-              count = used_count (key_test less (place_key ks k)) X ∙ S.count;
+              count = used_count (key_test meant (place_key ks k)) X ∙ S.count;
               at = λ j d e l.
                   let len = S.count in
-                  subst (Shows ks (get_or all j d)) (sym (used_at (key_test less (place_key ks k)) X j e (omega arith)))
+                  subst (Shows ks (get_or all j d)) (sym (used_at (key_test meant (place_key ks k)) X j e (omega arith)))
                   (U.done j d (omega arith) (get_or X j e) (S.at j d e l));
             };
         long = U.long;

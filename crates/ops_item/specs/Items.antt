@@ -1,13 +1,13 @@
 -- What a round looks up in what is seen of the cards, against `least_key`, `use_up` and `pairs_from` (crate ops_spec).
 --     least_is l                        a key, if one was found
---     order_test less o, key_test less k x     whether a key x is meant: less than k, or the same
+--     key_test o k x                    whether the key x stands so to k
 --     LesserBy, LeastBy                the lesser of a key and a card's; the least of all
 --     UsedBy, AllUsed                  a card, and the cards, with those keys used up
 --     GatheredBy, CollectedBy          the values of a key, with one card's; of all
 -- Assumes nothing.
 use Rattle.std.specs.Prelude.{◌≡◌, Bool, cond, List, ℕ, length, Option, None, Some, IfSome}
 use Rattle.std.specs.declared.cmp.Ordering.{Ordering}
-use Rattle.std.specs.Ordering.{is_lt, is_eq}
+use Rattle.std.specs.declared.cmp.Ordering.TheVariants.{Less, Equal, Greater}
 use Rattle.std.proofs.Math.Option as M
 use Rattle.format.specs.Strings.{before_test}
 use Rattle.ops_spec.specs.Ops as O
@@ -36,19 +36,18 @@ pub record LeastBy (ks : List ℕ) (n : ℕ) (cs : List Seen) (r : Option Place)
 
 -- ---- keys used up
 
-abbrev pub order_test : Bool → Ordering → Bool
-order_test less o = cond less (is_lt o) (is_eq o)
+abbrev pub key_test : Ordering → List ℕ → List ℕ → Bool
+key_test Less k x = before_test x k
+key_test Equal k x = same_test x k
+key_test Greater k x = before_test k x
 
-abbrev pub key_test : Bool → List ℕ → List ℕ → Bool
-key_test less k x = cond less (before_test x k) (same_test x k)
-
-pub record UsedBy (ks : List ℕ) (c : Seen) (k : Place) (less : Bool) (r : Seen) : Type 0 where
-  pub is : (x : O.Card) → Shows ks c x → Shows ks r (used1 (key_test less (place_key ks k)) x)
+pub record UsedBy (ks : List ℕ) (c : Seen) (k : Place) (meant : Ordering) (r : Seen) : Type 0 where
+  pub is : (x : O.Card) → Shows ks c x → Shows ks r (used1 (key_test meant (place_key ks k)) x)
   pub few : Few r
   pub key : r.key ≡ c.key
 
-pub record AllUsed (ks : List ℕ) (cs : List Seen) (k : Place) (less : Bool) (r : List Seen) : Type 0 where
-  pub is : (X : List O.Card) → Sees ks (length cs) cs X → Sees ks (length cs) r (use_up (key_test less (place_key ks k)) X)
+pub record AllUsed (ks : List ℕ) (cs : List Seen) (k : Place) (meant : Ordering) (r : List Seen) : Type 0 where
+  pub is : (X : List O.Card) → Sees ks (length cs) cs X → Sees ks (length cs) r (use_up (key_test meant (place_key ks k)) X)
   pub long : length r ≡ length cs
   pub keys : SameKeys (length cs) cs r
 

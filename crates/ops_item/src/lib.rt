@@ -1,12 +1,13 @@
 // What a round looks up in what is seen of the cards: the least key held, the values of a key, and the cards with some keys used up. Each goes over the
 // cards one by one.
-// The cards are those in use, at most eight. What is asked of keys and cards is of the two together.
+// The cards are those in use, at most eight. What is asked of keys and cards is of the two together, and no type has both: the keys are only read while the
+// cards are written.
 #![tactic(auto)]
 
-ghost use Rattle.std.specs.Prelude.{◌≡◌, ◌≤◌, ◌<◌, length, IfSome};
+ghost use Rattle.std.specs.Prelude.{◌≤◌, ◌<◌, length, IfSome};
 ghost use Rattle.ops_keys.specs.Heads.{Within};
 ghost use Rattle.ops_seen.specs.Sights.{Few, Ready};
-ghost use Rattle.ops_item.specs.Items.{order_test, LesserBy, LeastBy, UsedBy, AllUsed, GatheredBy, CollectedBy};
+ghost use Rattle.ops_item.specs.Items.{LesserBy, LeastBy, UsedBy, AllUsed, GatheredBy, CollectedBy};
 
 use ops_keys::{KEYS, Place, compare};
 use ops_pairs::Pairs;
@@ -36,30 +37,23 @@ pub fn least_key(keys: &[u8; KEYS], cards: &[Seen]) -> Option<Place>
     ensures { LeastBy keys.now (length cards.now) cards.now result }
 {
     let mut least = None;
-    // by index: what the loop keeps is said of the cards from place i on
+    // by index: what the loop keeps is said of the cards from place i on, and a loop over iter().rev() has no place
     for i in (0..cards.len()).rev() {
         least = lesser(keys, least, cards[i]);
     }
     least
 }
 
-// Whether a key that stands so to another is meant: one that is less, or else the same.
-fn is_meant(order: Ordering, less: bool) -> bool
-    ensures { result ≡ order_test less order }
-{
-    if less { order.is_lt() } else { order.is_eq() }
-}
-
-// A card that holds a key less than this one, or the same, is used up.
-fn used_up(keys: &[u8; KEYS], card: Seen, key: Place, less: bool) -> Seen
+// A card that holds a key that stands so to this one is used up.
+fn used_up(keys: &[u8; KEYS], card: Seen, key: Place, meant: Ordering) -> Seen
     requires { Within key × Few card }
-    ensures { UsedBy keys.now card key less result }
+    ensures { UsedBy keys.now card key meant result }
 {
     if !matches!(card.slot, Slot::Holds(_)) {
         return card;
     }
     let order = compare(keys, card.key, key);
-    if is_meant(order, less) {
+    if order == meant {
         return Seen {
             slot: Slot::Used,
             ..card
@@ -68,14 +62,13 @@ fn used_up(keys: &[u8; KEYS], card: Seen, key: Place, less: bool) -> Seen
     card
 }
 
-// Uses up the cards that hold a key less than this one, or the same.
-pub fn use_up(keys: &[u8; KEYS], cards: &mut [Seen], key: Place, less: bool)
+// Uses up the cards that hold a key that stands so to this one.
+pub fn use_up(keys: &[u8; KEYS], cards: &mut [Seen], key: Place, meant: Ordering)
     requires { Ready keys.now (length cards.old) cards.old × Within key }
-    ensures { AllUsed keys.now cards.old key less cards.new }
+    ensures { AllUsed keys.now cards.old key meant cards.new }
 {
-    // by index: what the loop keeps is said of the cards before place i and of those from it on
-    for i in 0..cards.len() {
-        cards[i] = used_up(keys, cards[i], key, less);
+    for card in cards.iter_mut() {
+        *card = used_up(keys, *card, key, meant);
     }
 }
 
@@ -88,7 +81,7 @@ fn gather(keys: &[u8; KEYS], pairs: Pairs, card: Seen, key: Place, file: u8) -> 
         return pairs;
     };
     let order = compare(keys, card.key, key);
-    if is_meant(order, false) {
+    if order.is_eq() {
         return ops_pairs::insert(pairs, value, file);
     }
     pairs
@@ -100,7 +93,7 @@ pub fn collect(keys: &[u8; KEYS], cards: &[Seen], key: Place) -> Pairs
     ensures { CollectedBy keys.now (length cards.now) cards.now key result }
 {
     let mut pairs = ops_pairs::none();
-    // by index: a card's place is its file's number
+    // by index: what the loop keeps is said of the cards from place i on, and a loop over iter().enumerate().rev() has no place
     for i in (0..cards.len()).rev() {
         pairs = gather(keys, pairs, cards[i], key, i as u8);
     }

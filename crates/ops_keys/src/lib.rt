@@ -1,7 +1,7 @@
 // The keys of readings, compared byte by byte: what an operation over several files orders its readings by.
 #![tactic(auto)]
 
-ghost use Rattle.std.specs.Prelude.{◌≡◌, ◌-◌, ◌<◌, length};
+ghost use Rattle.std.specs.Prelude.{◌≡◌, ◌-◌, ◌<◌};
 ghost use Rattle.ops_keys.specs.Heads.{head_key, place_key, Within, Compared, BytesPut};
 
 use format::LEVELS;
@@ -11,7 +11,8 @@ use stream::Plain;
 // The bytes of the keys of eight readings.
 pub const KEYS: usize = 2_048;
 
-// What a reading's key lies in, passed by value: the bytes of its levels after the first. Entries past the last level carry no meaning.
+// What a reading's key lies in, passed by value: the bytes of its levels after the first. There is no heap, so that there is room for the most levels;
+// entries past the last level carry no meaning.
 #[derive(Clone, Copy)]
 pub struct Head {
     pub levels: usize,

@@ -11,13 +11,9 @@ use ops::{Cards, Item};
 use ops_decide::op_of;
 use ops_pairs::Pairs;
 use ops_round::{Card, Slot};
+use oracle_numbers::{END, REFUSED};
 use seats_arrays::{plain_at, put_plain};
 use stream::Plain;
-
-// What is answered beside a key's length: the end, and a refusal, whose number is added.
-const END: u64 = 1_000;
-
-const REFUSED: u64 = 2_000;
 
 // By a function, as neither Slot nor From is of this crate. Any number from 2 on stands for a reading that has ended.
 fn slot_of(n: u8, value: u64) -> Slot {
@@ -45,12 +41,14 @@ fn cards_in(
     outs: &[[u64; 256]; 8],
     keys: &[u64; 8],
 ) -> [Card; 8] {
-    let first = plain_at(0, heads, bounds, addrs, inps, trans, outs, keys);
-    let mut all = [card(first, slots[0], values[0]); 8];
-    // by index: plain_at reads row number i of each array
-    for i in 1..8 {
+    let blank = Plain {
+        reading: stream_start::no_reading(),
+        keys: 0,
+    };
+    let mut all = [card(blank, 0, 0); 8];
+    for (i, one) in all.iter_mut().enumerate() {
         let reading = plain_at(i, heads, bounds, addrs, inps, trans, outs, keys);
-        all[i] = card(reading, slots[i], values[i]);
+        *one = card(reading, slots[i], values[i]);
     }
     all
 }
@@ -105,10 +103,9 @@ fn put_cards(
     outs: &mut [[u64; 256]; 8],
     keys: &mut [u64; 8],
 ) {
-    // by index: put_card writes row number i of each array
-    for i in 0..8 {
+    for (i, one) in all.iter().enumerate() {
         put_card(
-            all[i], i, slots, values, heads, bounds, addrs, inps, trans, outs, keys,
+            *one, i, slots, values, heads, bounds, addrs, inps, trans, outs, keys,
         );
     }
 }

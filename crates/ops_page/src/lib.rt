@@ -1,7 +1,9 @@
 // A page of items in one call (src/raw/ops.rs: `OpBuilder`, and the loop over its stream): up to so many items of an operation over one to eight files,
 // the least key first, between two bounds that all files share, on any files, admitted or not. No table of keys is lent.
-// rows, counts, numbers and values are four slices and no struct: each is written by itself, and the definitions speak of each.
-// The two bounds are two values and no pair: each is taken by itself.
+// rows, counts, numbers and values are four slices and no struct: C lends four arrays, each of a length of its own, and an item goes to a place in each. A
+// struct would be made at the border only to be taken apart in ops_put `put_item`.
+// The two bounds are two values and no pair: C lends them one by one, and a start takes them so, since it walks along the lower one and keeps the upper one.
+// What `fill` and `items_from` ask of the count and of these four is what `items` tests before it calls them.
 // The cards in use are the first count of eight, passed whole by value: fixed memory.
 #![tactic(auto)]
 
@@ -13,7 +15,7 @@ ghost use Rattle.ops_decide.specs.Verdicts.{op_is};
 ghost use Rattle.ops_page.specs.PagedItems.{HasRoom, PagedBy};
 
 use format::{MAX_KEY, Refusal};
-use ops_decide::{Op, Verdict, decide};
+use ops_decide::{Op, Verdict, decide, is_count};
 use ops_keys::{KEYS, head_at};
 use ops_put::{has_room, put_item};
 use ops_round::Card;
@@ -127,8 +129,7 @@ pub fn items(
         rows.old rows.new counts.old counts.new
         numbers.old numbers.new values.old values.new result }
 {
-    let too_many = 8 < count;
-    if count == 0 || too_many {
+    if !is_count(count) {
         return refused(Refusal::Cards);
     }
     if !has_room(most, rows.len(), counts.len(), numbers.len(), values.len()) {

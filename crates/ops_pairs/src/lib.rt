@@ -6,8 +6,8 @@ ghost use Rattle.ops_spec.specs.Ops as O;
 ghost use Rattle.ops_spec.specs.Ops.{Indexed, indexed};
 ghost use Rattle.ops_pairs.specs.Pairs.{PairsAre};
 
-// So many values with the numbers of their files, passed by value. The rest is 0. Two arrays and no array of pairs: each is copied whole into its own slice
-// of those that the C caller lends.
+// So many values with the numbers of their files, passed by value. There is no heap, so that there is room for eight, of which the first count are in use;
+// the rest is 0. Two arrays and no array of pairs: each is copied whole into its own slice of those that the C caller lends.
 #[derive(Clone, Copy)]
 pub struct Pairs {
     pub count: usize,
@@ -45,7 +45,8 @@ pub fn insert(pairs: Pairs, value: u64, file: u8) -> Pairs
     let mut v = value;
     let mut f = file;
     let mut found = false;
-    // by index: a place of both arrays moves at once
+    // by index: tried with both `iter_mut` zipped and swaps, and the proof did not carry over, since such a loop has neither place j nor the two arrays;
+    // std's `copy_within` would be a call of `memmove`, which the library for C may not make
     for j in 0..n {
         let other = values[j];
         let beside = files[j];

@@ -1,6 +1,7 @@
 // What a page of items tests before its calls, the room for its items, and how an item is written: its key in a row of 256 bytes, how many files hold it,
 // and eight places for the numbers of these files and eight for its values.
-// rows, counts, numbers and values are four slices and no struct: each is written by itself, and the definitions speak of each.
+// rows, counts, numbers and values are four slices and no struct: C lends four arrays, each of a length of its own, and an item goes to a place in each. A
+// struct would be made at the border only to be taken apart in `put_item`.
 #![tactic(auto)]
 
 ghost use Rattle.std.specs.Prelude.{◌≡◌, ◌≤◌};

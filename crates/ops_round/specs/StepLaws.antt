@@ -18,16 +18,16 @@ use Rattle.ops_spec.specs.OpsAheadLaws.{plain_by_room, plain_few}
 use Rattle.stream_start.specs.StackLaws.{stack_length}
 use Rattle.stream_step.specs.SteppedLaws.{Told, step_key, step_end, step_refused}
 use Rattle.stream.specs.declared.Plain.{Plain}
-use Rattle.stream.specs.declared.Step.{Step}
+use Rattle.stream_step.specs.declared.Step.{Step}
 use Rattle.stream.specs.Plains.{plain_is, CallGave}
 use Rattle.ops_round.specs.declared.Slot.TheVariants.{Holds, Ended}
 use Rattle.ops_round.specs.declared.Card.{Card}
 use Rattle.ops_round.specs.Cards.{slot_is, card_is, FewBy, Still, Moved, Halted, used_card, OneStepped}
 
-pub gave_room : (s : List ℕ) (p : P.Plain) (a b : ℕ) (r : Step) → leb max_path a ≡ leb max_path b → CallGave (next_plain s p a) r → CallGave (next_plain s p b) r
+pub gave_room : (s : List ℕ) (p : P.Plain) (a b : ℕ) (r : Step Plain) → leb max_path a ≡ leb max_path b → CallGave (next_plain s p a) r → CallGave (next_plain s p b) r
 gave_room s p a b r e g = subst (λ w. CallGave w r) (plain_by_room s p a b e) g
 
-told_by_lem : {w : P.PlainStep} {r : Step} → CallGave w r → Told w.answer r.answer [] (R.written w.answer [])
+told_by_lem : {w : P.PlainStep} {r : Step Plain} → CallGave w r → Told w.answer r.answer [] (R.written w.answer [])
 told_by_lem g = record { answer = g.answer; buffer = refl }
 
 levels_number : (p : Plain) → length (plain_is p).view.levels ≡ p.reading.levels
@@ -69,21 +69,21 @@ module _ (f : List ℕ) (space : ℕ) (c : Card) where
 
 -- ---- a reading whose key is used up
 
-module _ (f : List ℕ) (space : ℕ) (p : Plain) (g : Step) (gave : CallGave (next_plain f (plain_is p) space) g) where
+module _ (f : List ℕ) (space : ℕ) (p : Plain) (g : Step Plain) (gave : CallGave (next_plain f (plain_is p) space) g) where
   used_as : (others : O.Stepped) (a : R.Answer) → (next_plain f (plain_is p) space).answer ≡ a
-      → step_one space (card_is f (used_card p)) O.used others ≡ by_answer f (plain_is g.plain) a others
+      → step_one space (card_is f (used_card p)) O.used others ≡ by_answer f (plain_is g.reading) a others
   used_as others a is = ap₂ (λ (q : P.Plain) (x : R.Answer). by_answer f q x others) (sym gave.plain) is
 
   pub card_key_lem : (n v : ℕ) → g.answer ≡ Ok (Some (n, v))
-      → OneStepped f space (used_card p) (record { answer = Moved; card = record { reading = g.plain; slot = Holds v } })
+      → OneStepped f space (used_card p) (record { answer = Moved; card = record { reading = g.reading; slot = Holds v } })
   card_key_lem n v e =
       let q = step_key (told_by_lem gave) n v e in
-      let number = levels_number g.plain in
+      let number = levels_number g.reading in
       let same = ap (λ (x : P.Plain). length x.view.levels) gave.plain in
       let few = plain_few f (plain_is p) space q.0 v q.1 in
       record { steps = λ others. used_as others (R.key q.0 v) q.1; few = omega arith }
 
-  pub card_end : g.answer ≡ Ok None → OneStepped f space (used_card p) (record { answer = Moved; card = record { reading = g.plain; slot = Ended } })
+  pub card_end : g.answer ≡ Ok None → OneStepped f space (used_card p) (record { answer = Moved; card = record { reading = g.reading; slot = Ended } })
   card_end e = record { steps = λ others. used_as others R.end (step_end (told_by_lem gave) e); few = tt }
 
   pub card_refused : (c : Card) (n : Refusal) → g.answer ≡ Err n → OneStepped f space (used_card p) (record { answer = Halted n; card = c })

@@ -8,7 +8,8 @@ ghost use Rattle.stream.specs.Plains.{plain_is, CallGave};
 ghost use Rattle.ops_round.specs.Cards.{used_card};
 
 use format::MAX_KEY;
-use stream::{Plain, Step};
+use stream::Plain;
+use stream_step::Step;
 
 // Whether a card's key is used up, whether it holds the key of its reading's levels, with that key's value, or whether its reading has ended.
 #[derive(Clone, Copy)]
@@ -36,7 +37,7 @@ pub fn unstepped(reading: Plain) -> Card
 }
 
 // One call of next on a reading, for a caller whose buffer has so many bytes. The key is written beside that buffer, which stays as it is.
-pub fn step_used(file: &[u8], reading: Plain, space: usize) -> Step
+pub fn step_used(file: &[u8], reading: Plain, space: usize) -> Step<Plain>
     ensures { CallGave (P.next_plain file.now (plain_is reading) space) result }
 {
     let room = MAX_KEY <= space;

@@ -39,9 +39,8 @@ pub fn see(count: usize, cards: [Card; 8], keys: &mut [u8; KEYS]) -> [Seen; 8]
         slot: Slot::Used,
     };
     let mut seen = [blank; 8];
-    // by index: a card's place is also that of its key
-    for i in 0..count {
-        seen[i] = show(cards[i], i, keys);
+    for (i, card) in cards[..count].iter().enumerate() {
+        seen[i] = show(*card, i, keys);
     }
     seen
 }
@@ -76,9 +75,8 @@ pub fn deal(count: usize, cards: [Card; 8], seen: [Seen; 8]) -> [Card; 8]
     ensures { AllDealt count cards seen result }
 {
     let mut all = cards;
-    // by index: what the loop keeps is said of the cards before place i and of those from it on
-    for i in 0..count {
-        all[i] = dealt(all[i], seen[i]);
+    for (i, sight) in seen[..count].iter().enumerate() {
+        all[i] = dealt(all[i], *sight);
     }
     all
 }

@@ -1,5 +1,5 @@
 // The starts of a page of items: a card for each file, its reading between two bounds that all files share, still to be stepped.
-// The two bounds are two values and no pair: each is taken by itself.
+// The two bounds are two values and no pair: C lends them one by one, and a start takes them so, since it walks along the lower one and keeps the upper one.
 // The cards in use are the first count of eight, passed whole by value: fixed memory.
 #![tactic(auto)]
 
@@ -38,9 +38,8 @@ pub fn starts(
         (take count (map (λ f. f.now) files.entry))) result }
 {
     let mut cards = [wide(stream_start::no_reading()); 8];
-    // by index: a file and its card stand at one place of two arrays
-    for i in 0..count {
-        let started = stream_start::start(files[i], lower, upper);
+    for (i, file) in files[..count].iter().enumerate() {
+        let started = stream_start::start(*file, lower, upper);
         cards[i] = wide(started?);
     }
     Ok(cards)

@@ -7,7 +7,7 @@
 --     dealt_is                              the cards dealt by what is seen afterwards
 --     step_less, again_less                 the measure falls
 -- Assumes nothing.
-use Rattle.std.specs.Prelude.{◌≡◌, refl, Bool, true, false, cond, ◌||◌, ◌⊎◌, List, [], ◌∷◌, map, ℕ, zero, suc, ◌+◌, ◌-◌, ◌*◌, ◌<◌, ◌≤◌, leb, length, take, drop, get_or, set, Ok, Err, Some, None, Result, Option}
+use Rattle.std.specs.Prelude.{◌≡◌, refl, Bool, true, false, cond, ◌||◌, ◌⊎◌, List, [], ◌∷◌, map, ℕ, zero, suc, ◌+◌, ◌-◌, ◌<◌, ◌≤◌, leb, length, take, drop, get_or, set, Ok, Err, Some, None, Result, Option}
 use Rattle.std.proofs.Common.{sym, ap, ◌∙◌, subst, ⊎_elim, inl, inr, arith, length-set, take-append-drop, get_or-take, ext_get_or, get_or-set_same, get_or-set_other}
 use Rattle.std.specs.Borrow.{Bor}
 use Rattle.std.proofs.Math.ListN.{get_or-map}
@@ -20,7 +20,7 @@ use Rattle.ops_spec.specs.Ops as O
 use Rattle.ops_spec.specs.Ops.{step_one, step_all, after_steps, by_verdict, decide}
 use Rattle.ops_spec.specs.OpsFuelLaws.{rounds_by, rounds_by_lem}
 use Rattle.stream.specs.declared.Plain.{Plain}
-use Rattle.stream.specs.declared.Step.{Step}
+use Rattle.stream_step.specs.declared.Step.{Step}
 use Rattle.stream.specs.Plains.{plain_is, CallGave}
 use Rattle.ops_keys.specs.declared.Place.{Place}
 use Rattle.ops_keys.specs.Heads.{KeyAt, BytesPut}
@@ -90,18 +90,18 @@ load_none = refl
 
 -- ---- a reading that is stepped
 
-module _ (f : List ℕ) (space : ℕ) (p : Plain) (g : Step) (gave : CallGave (next_plain f (plain_is p) space) g) where
+module _ (f : List ℕ) (space : ℕ) (p : Plain) (g : Step Plain) (gave : CallGave (next_plain f (plain_is p) space) g) where
   -- by what the call found
-  pub step_goes : (i : ℕ) (ks₀ ks : List ℕ) (key : Place) → BytesPut g.plain i ks₀ ks key → (a : Option (ℕ × ℕ)) → g.answer ≡ Ok a
-      → StepGoes f space p i ks₀ ks (record { card = record { reading = g.plain; slot = slot_after a }; seen = record { key = key; slot = slot_after a } })
+  pub step_goes : (i : ℕ) (ks₀ ks : List ℕ) (key : Place) → BytesPut g.reading i ks₀ ks key → (a : Option (ℕ × ℕ)) → g.answer ≡ Ok a
+      → StepGoes f space p i ks₀ ks (record { card = record { reading = g.reading; slot = slot_after a }; seen = record { key = key; slot = slot_after a } })
   step_goes i ks₀ ks key put (Some (n, v)) e = record { goes = card_key_lem f space p g gave n v e; seen = record { slot = refl; put = put } }
   step_goes i ks₀ ks key put None e = record { goes = card_end f space p g gave e; seen = record { slot = refl; put = put } }
 
   -- by the slot that it got
-  pub step_goes_as : (i : ℕ) (ks₀ ks : List ℕ) (key : Place) → BytesPut g.plain i ks₀ ks key → (a : Option (ℕ × ℕ)) → g.answer ≡ Ok a → (t : Slot) → t ≡ slot_after a
-      → StepGoes f space p i ks₀ ks (record { card = record { reading = g.plain; slot = t }; seen = record { key = key; slot = t } })
+  pub step_goes_as : (i : ℕ) (ks₀ ks : List ℕ) (key : Place) → BytesPut g.reading i ks₀ ks key → (a : Option (ℕ × ℕ)) → g.answer ≡ Ok a → (t : Slot) → t ≡ slot_after a
+      → StepGoes f space p i ks₀ ks (record { card = record { reading = g.reading; slot = t }; seen = record { key = key; slot = t } })
   step_goes_as i ks₀ ks key put a e t is =
-      subst (λ (x : Slot). StepGoes f space p i ks₀ ks (record { card = record { reading = g.plain; slot = x }; seen = record { key = key; slot = x } })) (sym is)
+      subst (λ (x : Slot). StepGoes f space p i ks₀ ks (record { card = record { reading = g.reading; slot = x }; seen = record { key = key; slot = x } })) (sym is)
       (step_goes i ks₀ ks key put a e)
 
   pub step_halts : (ks : List ℕ) (why : Refusal) → g.answer ≡ Err why → StepHalts f space p ks ks why

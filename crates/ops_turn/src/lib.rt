@@ -13,9 +13,9 @@ use stream::Plain;
 
 // A card after its step, with what is seen of it.
 #[derive(Clone, Copy)]
-pub struct SeenStep {
-    pub card: Card,
-    pub seen: Seen,
+struct SeenStep {
+    card: Card,
+    seen: Seen,
 }
 
 // What an answer makes of a card's slot.
@@ -30,7 +30,7 @@ fn slot_after(came: Option<(usize, u64)>) -> Slot
 
 // The step of card number i, whose key is used up, for a caller whose buffer has so many bytes. The bytes of its key are put among the eight; a refusal
 // leaves these as they were.
-pub fn step_seen(
+fn step_seen(
     file: &[u8],
     reading: Plain,
     i: usize,
@@ -42,7 +42,7 @@ pub fn step_seen(
         keys.new result }
 {
     let step = step_used(file, reading, space);
-    let plain = step.plain;
+    let plain = step.reading;
     let came = step.answer?;
     let slot = slot_after(came);
     let key = put_bytes(plain, i, keys);
@@ -70,6 +70,7 @@ pub fn step_cards(
         cards.new keys.new seen.new result }
 {
     let mut moved = false;
+    // by index: i is the number of the key's row too, and three arrays zipped, cut at count and numbered would say the same in more words
     for i in 0..count {
         if is_used(seen[i]) {
             let step = step_seen(files[i], cards[i].reading, i, keys, space)?;

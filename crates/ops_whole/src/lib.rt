@@ -171,9 +171,9 @@ fn readings(
     stated: [u64; 32],
     bounds: &[u8],
 ) -> Result<[Plain; 8], Refusal> {
-    let mut all = [start_at(blob, tables, ends, stated, bounds, 0)?; 8];
-    for i in 1..8 {
-        all[i] = start_at(blob, tables, ends, stated, bounds, i)?;
+    let mut all = [stream::no_plain(); 8];
+    for (i, reading) in all.iter_mut().enumerate() {
+        *reading = start_at(blob, tables, ends, stated, bounds, i)?;
     }
     Ok(all)
 }
@@ -219,6 +219,7 @@ pub fn whole(
         Ok(all) => all,
     };
     let mut files: [&[u8]; 8] = [&[]; 8];
+    // by index: the borrow checker covers no `iter_mut` over an array of lent slices
     for i in 0..8 {
         files[i] = part(blob, begins_at(e, i), e[i] as usize);
     }

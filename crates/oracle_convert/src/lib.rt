@@ -6,6 +6,8 @@
 
 ghost use Rattle.oracle_convert.specs.ConvertTells.{ConvertTold};
 
+use oracle_numbers::number;
+
 // The length of the new file, or 2^32 plus the refusal.
 #[unsafe(no_mangle)]
 pub extern "C" fn oracle_convert(
@@ -20,8 +22,5 @@ pub extern "C" fn oracle_convert(
         sums.old out.old table.old depths.new
         sums.new out.new table.new result }
 {
-    match convert::convert_within(file, limit as usize, depths, sums, out, table) {
-        Ok(n) => n as u64,
-        Err(why) => 4_294_967_296 + u64::from(u8::from(why)),
-    }
+    number(convert::convert_within(file, limit as usize, depths, sums, out, table))
 }

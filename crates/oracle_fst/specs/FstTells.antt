@@ -1,14 +1,12 @@
 -- What the exported functions answer: numbers, and what a lent buffer holds afterwards. The format itself is in `format`.
---     front v out              out with v at its front where it has room for v, else out as it was
 --     checksum_number c         a checksum, 2 ^ 32 for none
 --     OpenTold o out₀ out r    what is told of the opening o of a file
---     done_number a            the number that stands for an answer without a value: 0, or the refusal
 --     AdmitTold s .. r         admission's answer and tables, and the number r that stands for the answer
 --     CountTold s .. r         the same of filling the table of keys
 --     GetTold a out₀ out r     what is told of the answer a to a lookup by key
 --     KeyTold w buf₀ buf r     what is told of the answer w to a search by value
 -- Assumes nothing.
-use Rattle.std.specs.Prelude.{◌≡◌, cond, List, [], ◌∷◌, ◌++◌, ℕ, ◌+◌, leb, length, drop, Ok, Err, Result, ⊤}
+use Rattle.std.specs.Prelude.{◌≡◌, List, [], ◌∷◌, ℕ, ◌+◌, length, Result, ⊤}
 use Rattle.std.proofs.Math.Option.{Option, none, some}
 use Rattle.format.specs.Limits.{number}
 use Rattle.format.specs.declared.Refusal.{Refusal}
@@ -17,9 +15,7 @@ use Rattle.format.specs.Lookup as L
 use Rattle.admission.specs.Outcome.{Outcome}
 use Rattle.counting.specs.CountOutcomes.{CountOutcome}
 use Rattle.lookup_search.specs.KeyAnswers.{key_buffer_after}
-
-unfoldable pub front : List ℕ → List ℕ → List ℕ
-front v out = cond (leb (length v) (length out)) (v ++ drop (length v) out) out
+use Rattle.oracle_numbers.specs.Numbers.{front, done_number}
 
 -- ---- opening: 0 and what the file says, or the refusal
 
@@ -42,11 +38,7 @@ pub record OpenTold (o : Opening) (out₀ out : List ℕ) (r : ℕ) : Type 0 whe
   pub answer : r ≡ open_number o
   pub buffer : out ≡ open_buffer o out₀
 
--- ---- admission and the table of keys: 0, or the refusal, whose number is never 0
-
-abbrev pub done_number : Result ⊤ Refusal → ℕ
-done_number (Ok tt) = 0
-done_number (Err n) = number n
+-- ---- admission and the table of keys: 0, or the refusal
 
 pub record AdmitTold (s d₀ s₀ d t : List ℕ) (r : ℕ) : Type 0 where
   pub answer : Result ⊤ Refusal

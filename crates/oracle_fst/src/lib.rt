@@ -4,25 +4,14 @@
 // Each function takes what the comparison lends, one by one, as the C interface does.
 #![tactic(auto)]
 
-ghost use Rattle.std.specs.Prelude.{◌≡◌, length};
+ghost use Rattle.std.specs.Prelude.{length};
 ghost use Rattle.format.specs.Opening.{opening};
 ghost use Rattle.format.specs.Lookup as L;
-ghost use Rattle.oracle_fst.specs.FstTells.{front, done_number, OpenTold, AdmitTold, CountTold, GetTold, KeyTold};
+ghost use Rattle.oracle_fst.specs.FstTells.{OpenTold, AdmitTold, CountTold, GetTold, KeyTold};
 
-use format::Refusal;
+use oracle_numbers::{NO_CHECKSUM, NOT_HELD, done, key_number, put};
 
 // ---- opening
-
-// Puts the numbers at the front of out where it has room for them. oracle_node has the same: no crate below these two libraries is for the comparison alone.
-#[tactic(auto, unfolding(crate::specs::FstTells::front))]
-fn put(out: &mut [u64], numbers: &[u64])
-    ensures { out.new ≡ front numbers.now out.old }
-{
-    let n = numbers.len();
-    if n <= out.len() {
-        out[..n].copy_from_slice(numbers);
-    }
-}
 
 // 0 for a file that opens, with version, type, count, root and checksum (2^32 for none) at the front of out where it has
 // five places; else the refusal, out as it was.
@@ -34,8 +23,7 @@ pub extern "C" fn oracle_open(file: &[u8], out: &mut [u64]) -> u64
     match fst::open(file) {
         Err(why) => u64::from(u8::from(why)),
         Ok(m) => {
-            // 2^32 where there is none
-            let checksum = m.checksum.map_or(4_294_967_296, u64::from);
+            let checksum = m.checksum.map_or(NO_CHECKSUM, u64::from);
             put(out, &[m.version, m.ty, m.len, m.root as u64, checksum]);
             0
         }
@@ -43,16 +31,6 @@ pub extern "C" fn oracle_open(file: &[u8], out: &mut [u64]) -> u64
 }
 
 // ---- admission
-
-// 0 for what was done, else the refusal.
-fn done(answer: Result<(), Refusal>) -> u64
-    ensures { result ≡ done_number answer }
-{
-    match answer {
-        Ok(()) => 0,
-        Err(why) => u64::from(u8::from(why)),
-    }
-}
 
 // 0 for an admitted file, else the refusal; the two tables are left as admission leaves them.
 #[unsafe(no_mangle)]
@@ -94,7 +72,7 @@ pub extern "C" fn oracle_get(file: &[u8], key: &[u8], out: &mut [u64]) -> u64
             put(out, &[v]);
             0
         }
-        Ok(None) => 100,
+        Ok(None) => NOT_HELD,
         Err(why) => u64::from(u8::from(why)),
     }
 }
@@ -106,9 +84,5 @@ pub extern "C" fn oracle_get_key(file: &[u8], value: u64, key: &mut [u8]) -> u64
     ensures { KeyTold (L.get_key file.now value (length key.old))
         key.old key.new result }
 {
-    match lookup_key::get_key(file, value, key) {
-        Ok(Some(n)) => n as u64,
-        Ok(None) => 1000,
-        Err(why) => 2000 + u64::from(u8::from(why)),
-    }
+    key_number(lookup_key::get_key(file, value, key))
 }

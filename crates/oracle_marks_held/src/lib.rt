@@ -52,10 +52,7 @@ pub fn held_by(patterned: Patterned, marks: Marks) -> Held {
 
 // No reading, no pattern and no marks.
 pub fn nothing() -> Held {
-    let plain = Plain {
-        reading: stream_start::no_reading(),
-        keys: 0,
-    };
+    let plain = stream::no_plain();
     let pattern = Pattern {
         len: 0,
         rest: false,
@@ -69,66 +66,95 @@ pub fn nothing() -> Held {
     }
 }
 
-// ---- made states: the numbers are those of the changes of an operation (crate oracle_marks)
+// ---- made states
 
-// The levels, the bound's length or the file's length of a reading: 4, 5, 6.
-fn changed_plain(plain: Plain, change: u64, value: usize) -> Plain {
+// What a made state has otherwise of a reading: how many levels it has, the length of its bound, or that of its file.
+#[derive(Clone, Copy)]
+pub enum ReadingChange {
+    Levels(usize),
+    BoundLen(usize),
+    FileLen(usize),
+}
+
+// What it has otherwise of a mark: the length of its name, its name, which is that of the mark at a place, or its reading.
+#[derive(Clone, Copy)]
+pub enum MarkChange {
+    NameLen(usize),
+    NameOf(usize),
+    Reading(ReadingChange),
+}
+
+// What it has otherwise of what is held: how many marks there are, the mark at a place, the reading itself, or how many positions its pattern has.
+#[derive(Clone, Copy)]
+pub enum Change {
+    Count(usize),
+    Mark(usize, MarkChange),
+    Reading(ReadingChange),
+    Positions(usize),
+}
+
+// The change of a number, a place and a value, which the comparison gives (crate oracle_marks_run); none for a number that is no change.
+pub fn change_of(number: u64, place: usize, value: usize) -> Option<Change> {
+    match number {
+        1 => Some(Change::Count(value)),
+        2 => Some(Change::Mark(place, MarkChange::NameLen(value))),
+        3 => Some(Change::Mark(place, MarkChange::NameOf(value))),
+        4 => Some(Change::Mark(place, MarkChange::Reading(ReadingChange::Levels(value)))),
+        5 => Some(Change::Mark(place, MarkChange::Reading(ReadingChange::BoundLen(value)))),
+        6 => Some(Change::Mark(place, MarkChange::Reading(ReadingChange::FileLen(value)))),
+        7 => Some(Change::Reading(ReadingChange::Levels(value))),
+        8 => Some(Change::Reading(ReadingChange::BoundLen(value))),
+        9 => Some(Change::Reading(ReadingChange::FileLen(value))),
+        10 => Some(Change::Positions(value)),
+        _ => None,
+    }
+}
+
+fn changed_plain(plain: Plain, change: ReadingChange) -> Plain {
     let mut made = plain;
     match change {
-        4 => made.reading.levels = value,
-        5 => made.reading.bound_len = value,
-        6 => made.reading.len = value,
-        _ => {}
+        ReadingChange::Levels(n) => made.reading.levels = n,
+        ReadingChange::BoundLen(n) => made.reading.bound_len = n,
+        ReadingChange::FileLen(n) => made.reading.len = n,
     }
     made
 }
 
-// The length of a mark's name, the whole name, or the mark's reading: 2 to 6.
-fn changed_mark(mark: Mark, other: Mark, change: u64, value: usize) -> Mark {
-    let mut made = mark;
+// A mark among these, changed. It keeps its name where the place of the other mark is none.
+fn changed_mark(mark: Mark, marks: &[Mark; MARKS], change: MarkChange) -> Mark {
     match change {
-        2 => made.name_len = value,
-        3 => {
-            made.name_len = other.name_len;
-            let name = other.name;
-            made.name = name;
-        }
-        _ => made.reading = changed_plain(mark.reading, change, value),
+        MarkChange::NameLen(name_len) => Mark { name_len, ..mark },
+        MarkChange::NameOf(whose) => match marks.get(whose) {
+            Some(other) => Mark {
+                reading: mark.reading,
+                ..*other
+            },
+            None => mark,
+        },
+        MarkChange::Reading(change) => Mark {
+            reading: changed_plain(mark.reading, change),
+            ..mark
+        },
     }
-    made
 }
 
-// The marks: 1 to 6.
-fn changed_marks(marks: Marks, change: u64, place: usize, value: usize) -> Marks {
-    if change == 1 {
-        return Marks {
-            count: value,
-            ..marks
-        };
-    }
+// The marks with the one at a place changed, or as they are where the place is none.
+fn changed_marks(marks: Marks, place: usize, change: MarkChange) -> Marks {
     if MARKS <= place {
         return marks;
     }
-    let mark = marks.marks[place];
-    let other = if value < MARKS {
-        marks.marks[value]
-    } else {
-        mark
-    };
-    let made = changed_mark(mark, other, change, value);
+    let made = changed_mark(marks.marks[place], &marks.marks, change);
     marks_held::put_mark(marks, marks.count, place, made)
 }
 
 // What is held, changed.
-pub fn changed(held: Held, change: u64, place: usize, value: usize) -> Held {
+pub fn changed(held: Held, change: Change) -> Held {
     let mut made = held;
-    if change == 10 {
-        made.pattern.len = value;
-    }
-    if 6 < change {
-        made.plain = changed_plain(held.plain, change - 3, value);
-    } else {
-        made.marks = changed_marks(held.marks, change, place, value);
+    match change {
+        Change::Count(n) => made.marks.count = n,
+        Change::Mark(place, change) => made.marks = changed_marks(held.marks, place, change),
+        Change::Reading(change) => made.plain = changed_plain(held.plain, change),
+        Change::Positions(n) => made.pattern.len = n,
     }
     made
 }

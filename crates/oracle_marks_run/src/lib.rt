@@ -10,7 +10,7 @@
 //     3  go back, with that name
 // The readings are plain where `by` is 0, else by the pattern of `positions` and `rest`.
 //
-// Where the change is not 0, the operation meets a made state, and afterwards all is as it was before it:
+// Where the change is one of these, the operation meets a made state, and afterwards all is as it was before it:
 //     1  this many marks
 //     2  the mark at the place has a name of this length
 //     3  the mark at the place has the name of the mark at the place that the value says
@@ -25,46 +25,43 @@
 // which the functions that it calls take.
 #![tactic(auto)]
 
-use oracle_marks_calls::{Lent, named, next_of, started};
-use oracle_marks_held::{Held, Ran, changed, nothing, told};
+use oracle_marks_calls::{Lent, Operation, called, no_operation};
+use oracle_marks_held::{Held, Ran, change_of, changed, nothing};
 use stream_arrays::bound_with;
 
 // The bytes of a row, room for the longest key.
 const ROW: usize = 255;
 
-// An operation with the file that it names: next, or one on the bytes of two bounds or of a name.
-fn operation_with(lent: Lent<'_>, op: [u64; 10], held: Held, key: &mut [u8]) -> Ran {
-    if op[0] == 1 {
-        let less = op[2] as usize;
-        if key.len() < less {
-            return told(4000, 0, held);
-        }
-        return next_of(lent, held, &mut key[less..]);
-    }
+// The operation of ten numbers; none where the first is no operation, or the bytes have no such places.
+fn operation_of<'l>(op: [u64; 10], bytes: &'l [u8]) -> Option<Operation<'l>> {
     let from = op[4] as usize;
     let middle = op[5] as usize;
     let to = op[6] as usize;
-    let (Some(low), Some(high)) = (lent.bytes.get(from..middle), lent.bytes.get(middle..to)) else {
-        return told(4000, 0, held);
-    };
-    if op[0] == 0 {
-        return started(lent, bound_with(op[2], low), bound_with(op[3], high), held);
-    }
-    match lent.bytes.get(from..to) {
-        Some(name) => named(lent, op[0], held, name),
-        None => told(4000, 0, held),
+    match op[0] {
+        0 => Some(Operation::Start(
+            bound_with(op[2], bytes.get(from..middle)?),
+            bound_with(op[3], bytes.get(middle..to)?),
+        )),
+        1 => Some(Operation::Next(op[2] as usize)),
+        2 => Some(Operation::Mark(bytes.get(from..to)?)),
+        3 => Some(Operation::Back(bytes.get(from..to)?)),
+        _ => None,
     }
 }
 
-// The same, on a made state where it says so.
-fn operation_of(lent: Lent<'_>, op: [u64; 10], held: Held, key: &mut [u8]) -> Ran {
-    if op[7] == 0 {
-        return operation_with(lent, op, held, key);
+// One operation, with the file that it names, and on a made state where it says so.
+fn ran(lent: Lent<'_>, op: [u64; 10], held: Held, key: &mut [u8]) -> Ran {
+    let Some(operation) = operation_of(op, lent.bytes) else {
+        return no_operation(held);
+    };
+    match change_of(op[7], op[8] as usize, op[9] as usize) {
+        None => called(lent, operation, held, key),
+        Some(change) => {
+            let made = called(lent, operation, changed(held, change), key);
+            let told = made.told;
+            Ran { told, held }
+        }
     }
-    let made = changed(held, op[7], op[8] as usize, op[9] as usize);
-    let ran = operation_with(lent, op, made, key);
-    let answer = ran.told;
-    Ran { told: answer, held }
 }
 
 // Runs the operations one after the other from no reading and no marks, as far as there is room for answers and rows; how many were run.
@@ -100,10 +97,10 @@ pub fn run_operations<'l>(
         let op = operations[i];
         let row = &mut rows[at..at + ROW];
         let lent = if op[1] == 0 { first } else { second };
-        let ran = operation_of(lent, op, held, row);
-        let answer = ran.told;
+        let after = ran(lent, op, held, row);
+        let answer = after.told;
         answers[i] = answer;
-        held = ran.held;
+        held = after.held;
     }
     count as u64
 }

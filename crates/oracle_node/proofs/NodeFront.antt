@@ -5,7 +5,7 @@ use mathlib.Core.List.{List}
 use Prim.Native.Nat.{ℕ, ◌<◌}
 use borrow.Author.Tests.{lt-leb}
 use lib.ListN.{length}
-use Rattle.oracle_node.specs.NodeTells.{front}
+use Rattle.oracle_numbers.specs.Numbers.{front}
 
 -- no room
 pub front_short : (v out : List ℕ) → length out < length v → out ≡ front v out

@@ -1,7 +1,6 @@
 -- What the exported functions answer: numbers, and what a lent buffer holds afterwards. The format itself is in `format`.
 --     unpacked s k             the number of the first k bytes of s; 0 where k is over 8 or over the length of s
 --     flag_as b                 1 for true, 0 for false
---     front v out              out with v at its front where it has room for v, else out as it was
 --     NodeTold j out₀ out r    what is told of the judgement j of a node
 --     TransitionTold j i out₀ out r     what is told of transition i of that node
 --     PackingTold p out₀ out r          what is told of the packing p of a node record
@@ -13,15 +12,13 @@ use Rattle.format.specs.Limits.{number}
 use Rattle.format.specs.Bytes.{le}
 use Rattle.format.specs.Node.{Node, Judgement, sound, unsound, Search, find_input, transition_at}
 use Rattle.format.specs.Packed.{Packing, written, refused}
+use Rattle.oracle_numbers.specs.Numbers.{front}
 
 unfoldable pub unpacked : List ℕ → ℕ → ℕ
 unpacked s k = cond (leb k 8 && leb k (length s)) (le (take k s)) 0
 
 abbrev pub flag_as : Bool → ℕ
 flag_as b = cond b 1 0
-
-unfoldable pub front : List ℕ → List ℕ → List ℕ
-front v out = cond (leb (length v) (length out)) (v ++ drop (length v) out) out
 
 -- any number but 0 is true
 abbrev pub is_set : ℕ → Bool

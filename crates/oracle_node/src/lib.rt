@@ -10,10 +10,18 @@ ghost use Rattle.format.specs.CommonInputs.{common_inputs, common_inputs_inv, co
 ghost use Rattle.format.specs.Node.{node_at};
 ghost use Rattle.format.specs.Packed.{packing};
 ghost use Rattle.node_compile.specs.Compile.{builder_with};
-ghost use Rattle.oracle_node.specs.NodeTells.{unpacked, is_set, PackingTold, front, NodeTold, TransitionTold, found_as};
+ghost use Rattle.oracle_node.specs.NodeTells.{unpacked, is_set, PackingTold, NodeTold, TransitionTold, found_as};
 
 use format::FstRef;
 use node_record::BuilderNode;
+use node_view::{Node, transition_at};
+use oracle_numbers::{number, put};
+
+// What the place of the first greater input is added to, where an input is absent: no place is as large.
+const ABSENT: u64 = 256;
+
+// An unsound node, where another answer is a place or ABSENT and a place.
+const UNSOUND: u64 = 513;
 
 // ---- stored numbers (src/bytes.rs)
 
@@ -92,21 +100,7 @@ pub extern "C" fn oracle_compile(
         outputs,
         targets,
     };
-    match node_compile::compile(node, first, out) {
-        Ok(n) => n as u64,
-        Err(k) => 4_294_967_296 + u64::from(u8::from(k)),
-    }
-}
-
-// Puts the numbers at the front of out where it has room for them. oracle_fst has the same: no crate below these two libraries is for the comparison alone.
-#[tactic(auto, unfolding(crate::specs::NodeTells::front))]
-fn put(out: &mut [u64], numbers: &[u64])
-    ensures { out.new ≡ front numbers.now out.old }
-{
-    let n = numbers.len();
-    if n <= out.len() {
-        out[..n].copy_from_slice(numbers);
-    }
+    number(node_compile::compile(node, first, out))
 }
 
 // 1 for a sound node, with F, final (0 or 1), final output and the number of transitions at the front of out where it
@@ -122,14 +116,12 @@ pub extern "C" fn oracle_node(
     ensures { NodeTold (node_at file.now version root addr) out.old
         out.new result }
 {
-    let Ok(n) = node::node_at(
-        FstRef {
-            bytes: file,
-            version,
-            root,
-        },
-        addr,
-    ) else {
+    let fst = FstRef {
+        bytes: file,
+        version,
+        root,
+    };
+    let Ok(n) = Node::new(fst, addr).judged() else {
         return 0;
     };
     let is_final = u64::from(n.is_final);
@@ -154,23 +146,17 @@ pub extern "C" fn oracle_transition(
     ensures { TransitionTold (node_at file.now version root addr) i
         out.old out.new result }
 {
-    let Ok(n) = node::node_at(
-        FstRef {
-            bytes: file,
-            version,
-            root,
-        },
-        addr,
-    ) else {
+    let fst = FstRef {
+        bytes: file,
+        version,
+        root,
+    };
+    let Some(t) = transition_at(fst, addr, i) else {
         return 0;
     };
-    if n.ntrans <= i {
-        return 0;
-    }
     if out.len() < 3 {
         return 0;
     }
-    let t = node::transition(file, n, i);
     put(out, &[t.inp as u64, t.out, t.addr as u64]);
     1
 }
@@ -187,19 +173,14 @@ pub extern "C" fn oracle_find_input(
 ) -> u64
     ensures { result ≡ found_as (node_at file.now version root addr) b }
 {
-    let Ok(n) = node::node_at(
-        FstRef {
-            bytes: file,
-            version,
-            root,
-        },
-        addr,
-    ) else {
-        return 513;
+    let fst = FstRef {
+        bytes: file,
+        version,
+        root,
     };
-    let found = node::find_input(file, n, b);
-    match found {
-        Ok(i) => i as u64,
-        Err(p) => 256 + (p as u64),
+    match Node::new(fst, addr).find_input(b) {
+        Ok(Ok(i)) => i as u64,
+        Ok(Err(p)) => ABSENT + (p as u64),
+        Err(_) => UNSOUND,
     }
 }

@@ -4,24 +4,13 @@
 // Each function takes what the comparison lends, one by one, as the C interface does.
 #![tactic(auto)]
 
-ghost use Rattle.std.specs.Prelude.{◌≡◌, length};
+ghost use Rattle.std.specs.Prelude.{length};
 ghost use Rattle.packing.specs.Packing.{pack_answer};
 ghost use Rattle.pack_blank.specs.PackBlank.{tables_test};
-ghost use Rattle.pack_cells.specs.Pairs.{pairs_is};
-ghost use Rattle.oracle_pack.specs.PackTells.{number_as, PackTold};
+ghost use Rattle.oracle_pack.specs.PackTells.{PackTold};
 
-use format::Refusal;
+use oracle_numbers::number;
 use pack_cell::Cell;
-
-// The answer as a number. oracle_convert has the same: no crate below these two libraries is for the comparison alone.
-fn number(answer: Result<usize, Refusal>) -> u64
-    ensures { result ≡ number_as answer }
-{
-    match answer {
-        Ok(n) => n as u64,
-        Err(why) => 4_294_967_296 + u64::from(u8::from(why)),
-    }
-}
 
 // The length of the file, or 2^32 plus the refusal.
 #[unsafe(no_mangle)]
@@ -37,7 +26,7 @@ pub extern "C" fn oracle_pack(
     ensures { PackTold
         (pack_answer limit list.now (tables_test (length inputs.old) (length leasts.old) (length targets.old))
         (length cells.old) (length output.old))
-        output.new (pairs_is cells.new) inputs.new leasts.new targets.new result }
+        output.new cells.new inputs.new leasts.new targets.new result }
 {
     number(pack::pack_within(limit as usize, list, output, cells, inputs, leasts, targets))
 }

@@ -16,7 +16,6 @@ use Rattle.pattern.specs.Pattern as P
 use Rattle.pattern.specs.Pattern.{next_by}
 use Rattle.patterned_fit.specs.declared.Pattern.{Pattern}
 use Rattle.patterned.specs.declared.Patterned.{Patterned}
-use Rattle.patterned.specs.declared.PatternedStep.{PatternedStep}
 use Rattle.patterned.specs.Patterns.{begun_is, StartedBy, SteppedBy}
 use Rattle.stream_arrays.specs.Arrays.{Held, held_is, held_as}
 use Rattle.stream_arrays.specs.ArraysLaws.{held_back}
@@ -25,8 +24,8 @@ use Rattle.oracle_stream.specs.StreamTellsLaws.{number_is, value_is}
 use Rattle.oracle_pattern.specs.HeldBy.{StartByTold, NextByTold}
 
 -- a step without the pattern
-abbrev pub step_of : PatternedStep → Step
-step_of r = record { answer = r.answer; reading = r.patterned.reading }
+abbrev pub step_of : Step Patterned → Step Reading
+step_of r = record { answer = r.answer; reading = r.reading.reading }
 
 -- ---- start
 
@@ -49,12 +48,12 @@ module _ {w : R.Started} {p : P.Pattern} {s : Result Patterned Refusal} (e : Sta
 -- ---- next
 
 -- the reading that is handed on is the one that the arrays hold
-pub step_by : (f : List ℕ) (p : P.Pattern) (n : ℕ) (h : Held) {q : Pattern} {k₀ k : List ℕ} {r : Reading} {s : PatternedStep} → r ≡ held_is h
+pub step_by : (f : List ℕ) (p : P.Pattern) (n : ℕ) (h : Held) {q : Pattern} {k₀ k : List ℕ} {r : Reading} {s : Step Patterned} → r ≡ held_is h
     → SteppedBy (next_by f p (view_is r) n) q k₀ k s → Stepped (next_by f p (view_is (held_is h)) n) k₀ k (step_of s)
 step_by f p n h {q} {k₀} {k} {r} {s} e w =
     subst (λ (x : Reading). Stepped (next_by f p (view_is x) n) k₀ k (step_of s)) e (record { answer = w.answer; reading = w.reading; buffer = w.buffer })
 
-pub next_by_told : {w : R.Step} {k₀ k v₀ v : List ℕ} {s : Step} → Stepped w k₀ k s → (h : Held) → h ≡ held_as s.reading
+pub next_by_told : {w : R.Step} {k₀ k v₀ v : List ℕ} {s : Step Reading} → Stepped w k₀ k s → (h : Held) → h ≡ held_as s.reading
     → (r : ℕ) → Told s.answer v₀ v r → NextByTold w h k₀ k v₀ v r
 next_by_told {w} {k₀} {k} {v₀} {v} {s} st h put r told =
     record {

@@ -98,7 +98,7 @@ pub extern "C" fn oracle_next_by(
     };
     let patterned = Patterned { reading, pattern };
     let step = patterned::next(file, patterned, key);
-    let after = step.patterned;
+    let after = step.reading;
     let reading = after.reading;
     put(reading, head, bound, addrs, inps, trans, outs);
     let answer = step.answer;

@@ -11,6 +11,7 @@ ghost use Rattle.stream_arrays.specs.Arrays.{kind_is};
 ghost use Rattle.oracle_range.specs.RangeTold.{stop_told, RangeTold};
 
 use format::Refusal;
+use oracle_numbers::{END, MORE, REFUSED};
 use range_fill::Stop;
 use stream_arrays::bound_with;
 
@@ -19,9 +20,9 @@ fn stop_number(stop: Result<Stop, Refusal>) -> u64
     ensures { result ≡ stop_told stop }
 {
     match stop {
-        Ok(Stop::End) => 1000,
-        Ok(Stop::More) => 1001,
-        Err(why) => 2000 + u64::from(u8::from(why)),
+        Ok(Stop::End) => END,
+        Ok(Stop::More) => MORE,
+        Err(why) => REFUSED + u64::from(u8::from(why)),
     }
 }
 

@@ -18,13 +18,18 @@
 #![tactic(auto)]
 
 use format::Refusal;
+use oracle_numbers::{DONE, END, NO_OPERATION, NOT_STARTED, REFUSED};
 use seats::{Dispatched, Served};
 use seats_turn::{LAST_SEAT, Seat, Seats};
+use std::ops::Bound;
 use stream::Plain;
 use stream_arrays::bound_with;
 
 // The bytes of a row, room for the longest key.
 const ROW: usize = 255;
+
+// A dispatch served nobody, where another answers a key's length.
+const NOBODY: u64 = 1_001;
 
 // A file that the comparison lends, and its table of keys.
 #[derive(Clone, Copy)]
@@ -39,6 +44,21 @@ struct Lent<'l> {
     first: Tabled<'l>,
     second: Tabled<'l>,
     bounds: &'l [u8],
+}
+
+// An event: a start of a seat with two bounds, a raise of a seat, a dispatch with a key buffer that is so much shorter, or a made state, of the seat that
+// is served last or of a seat that is taken or waits.
+#[derive(Clone, Copy)]
+enum Event<'l> {
+    Start(usize, Bound<&'l [u8]>, Bound<&'l [u8]>),
+    Raise(usize),
+    Dispatch(usize),
+    Last(usize),
+    Made {
+        number: usize,
+        taken: bool,
+        waiting: bool,
+    },
 }
 
 // What an event answers but for the total, and the seats after it.
@@ -76,24 +96,21 @@ fn told(code: u64, number: usize, value: u64, seats: Seats) -> Ran {
 // What seating and raising answered, on the seats before.
 fn changed(answer: Result<Seats, Refusal>, number: usize, seats: Seats) -> Ran {
     match answer {
-        Ok(after) => told(1002, number, 0, after),
-        Err(why) => told(2000 + u64::from(u8::from(why)), number, 0, seats),
+        Ok(after) => told(DONE, number, 0, after),
+        Err(why) => told(REFUSED + u64::from(u8::from(why)), number, 0, seats),
     }
 }
 
-// A reading between the event's bounds, seated.
-fn seat_started(lent: Tabled<'_>, bounds: &[u8], event: [u64; 8], seats: Seats) -> Ran {
-    let number = event[1] as usize;
-    let from = event[5] as usize;
-    let middle = event[6] as usize;
-    let to = event[7] as usize;
-    let (Some(low), Some(high)) = (bounds.get(from..middle), bounds.get(middle..to)) else {
-        return told(4000, number, 0, seats);
-    };
-    let lower = bound_with(event[3], low);
-    let upper = bound_with(event[4], high);
+// A reading between these bounds, seated.
+fn seat_started(
+    lent: Tabled<'_>,
+    number: usize,
+    lower: Bound<&[u8]>,
+    upper: Bound<&[u8]>,
+    seats: Seats,
+) -> Ran {
     match stream::start(lent.file, lower, upper, lent.table) {
-        Err(why) => told(3000 + u64::from(u8::from(why)), number, 0, seats),
+        Err(why) => told(NOT_STARTED + u64::from(u8::from(why)), number, 0, seats),
         Ok(plain) => changed(seats::seat(seats, number, plain), number, seats),
     }
 }
@@ -102,9 +119,9 @@ fn seat_started(lent: Tabled<'_>, bounds: &[u8], event: [u64; 8], seats: Seats) 
 fn served(dispatch: Dispatched) -> Ran {
     let after = dispatch.seats;
     match dispatch.served {
-        Served::Key(number, n, value) => told(n as u64, number as usize, value, after),
-        Served::End(number) => told(1000, number as usize, 0, after),
-        Served::Nobody => told(1001, 0, 0, after),
+        Served::Key(number, n, value) => told(n as u64, number, value, after),
+        Served::End(number) => told(END, number, 0, after),
+        Served::Nobody => told(NOBODY, 0, 0, after),
     }
 }
 
@@ -112,62 +129,82 @@ fn served(dispatch: Dispatched) -> Ran {
 fn dispatched(file: &[u8], seats: Seats, key: &mut [u8]) -> Ran {
     match seats::dispatch(file, seats, key) {
         Ok(dispatch) => served(dispatch),
-        Err(why) => told(2000 + u64::from(u8::from(why)), 0, 0, seats),
+        Err(why) => told(REFUSED + u64::from(u8::from(why)), 0, 0, seats),
     }
 }
 
 // A dispatch with a buffer that is so much shorter.
 fn dispatched_in(file: &[u8], less: usize, seats: Seats, key: &mut [u8]) -> Ran {
     if key.len() < less {
-        return told(4000, 0, 0, seats);
+        return told(NO_OPERATION, 0, 0, seats);
     }
     dispatched(file, seats, &mut key[less..])
 }
 
 // A made state of one seat: taken, it has the reading that it had last.
-fn flagged(event: [u64; 8], seats: Seats, readings: &[Plain; 8]) -> Ran {
-    let number = event[1] as usize;
+fn flagged(number: usize, taken: bool, waiting: bool, seats: Seats, readings: &[Plain; 8]) -> Ran {
     if LAST_SEAT < number {
-        return told(4000, number, 0, seats);
+        return told(NO_OPERATION, number, 0, seats);
     }
     let last = readings[number];
     let made = Seat {
-        reading: (event[3] != 0).then_some(last),
-        waiting: event[4] != 0,
+        reading: taken.then_some(last),
+        waiting,
     };
     let after = seats_turn::put_seat(seats, seats.last, number, made);
-    told(1002, number, 0, after)
+    told(DONE, number, 0, after)
+}
+
+// The event of eight numbers; none where the first is no event, or the bytes have no such places.
+fn event_of<'l>(numbers: [u64; 8], bounds: &'l [u8]) -> Option<Event<'l>> {
+    let number = numbers[1] as usize;
+    let from = numbers[5] as usize;
+    let middle = numbers[6] as usize;
+    let to = numbers[7] as usize;
+    match numbers[0] {
+        0 => Some(Event::Start(
+            number,
+            bound_with(numbers[3], bounds.get(from..middle)?),
+            bound_with(numbers[4], bounds.get(middle..to)?),
+        )),
+        1 => Some(Event::Raise(number)),
+        2 => Some(Event::Dispatch(number)),
+        3 => Some(Event::Last(number)),
+        4 => Some(Event::Made {
+            number,
+            taken: numbers[3] != 0,
+            waiting: numbers[4] != 0,
+        }),
+        _ => None,
+    }
 }
 
 // One event, with the file that it names.
-fn event_of(
+fn run_event(
     lent: Lent<'_>,
-    event: [u64; 8],
+    numbers: [u64; 8],
     seats: Seats,
     readings: &[Plain; 8],
     key: &mut [u8],
 ) -> Ran {
-    let number = event[1] as usize;
-    let named = if event[2] == 0 {
+    let Some(event) = event_of(numbers, lent.bounds) else {
+        return told(NO_OPERATION, numbers[1] as usize, 0, seats);
+    };
+    let named = if numbers[2] == 0 {
         lent.first
     } else {
         lent.second
     };
-    match event[0] {
-        0 => seat_started(named, lent.bounds, event, seats),
-        1 => changed(seats::raise(seats, number), number, seats),
-        2 => dispatched_in(named.file, number, seats, key),
-        3 => told(
-            1002,
+    match event {
+        Event::Start(number, lower, upper) => seat_started(named, number, lower, upper, seats),
+        Event::Raise(number) => changed(seats::raise(seats, number), number, seats),
+        Event::Dispatch(less) => dispatched_in(named.file, less, seats, key),
+        Event::Last(last) => told(DONE, last, 0, Seats { last, ..seats }),
+        Event::Made {
             number,
-            0,
-            Seats {
-                last: number,
-                ..seats
-            },
-        ),
-        4 => flagged(event, seats, readings),
-        _ => told(4000, number, 0, seats),
+            taken,
+            waiting,
+        } => flagged(number, taken, waiting, seats, readings),
     }
 }
 
@@ -192,18 +229,15 @@ pub fn run_events(
         bounds,
     };
     let mut seats = seats::new();
-    let mut readings = [Plain {
-        reading: stream_start::no_reading(),
-        keys: 0,
-    }; 8];
+    let mut readings = [stream::no_plain(); 8];
     // by index: the events, the answers and the rows zipped are no chain that the borrow checker covers
     for i in 0..count {
         let at = i * ROW;
         let row = &mut rows[at..at + ROW];
-        let ran = event_of(lent, events[i], seats, &readings, row);
-        seats = ran.seats;
+        let after = run_event(lent, events[i], seats, &readings, row);
+        seats = after.seats;
         keep(&mut readings, seats);
-        let [code, number, value] = ran.told;
+        let [code, number, value] = after.told;
         answers[i] = [code, number, value, total_of(&readings, number as usize)];
     }
     count as u64

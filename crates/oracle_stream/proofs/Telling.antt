@@ -16,7 +16,6 @@ use Rattle.format.specs.Strings as F
 use Rattle.stream_start.specs.declared.Reading.{Reading}
 use Rattle.stream_step.specs.declared.Step.{Step}
 use Rattle.stream.specs.declared.Plain.{Plain}
-use Rattle.stream.specs.declared.Step.{Step as PlainStep}
 use Rattle.stream_start.specs.Views.{bound_is, view_is, started_is}
 use Rattle.stream_step.specs.Stepped.{answer_as, Stepped}
 use Rattle.stream.specs.Plains.{plain_is, begun_is, PlainStepped}
@@ -50,7 +49,7 @@ module _ {w : P.Begun} (s : Result Plain Refusal) (e : begun_is s ≡ w) where
 
 -- ---- next
 
-pub next_told : {w : P.PlainStep} {k₀ k v₀ v : List ℕ} {s : PlainStep} → PlainStepped w k₀ k s → (h : Held) (n : List ℕ) → PlainPut s.plain h n
+pub next_told : {w : P.PlainStep} {k₀ k v₀ v : List ℕ} {s : Step Plain} → PlainStepped w k₀ k s → (h : Held) (n : List ℕ) → PlainPut s.reading h n
     → (r : ℕ) → Told s.answer v₀ v r → NextTold w h n k₀ k v₀ v r
 next_told {w} {k₀} {k} {v₀} {v} {s} st h n put r told =
     record {
@@ -94,12 +93,12 @@ pub record Called {S : Type 0} (c : Calls S) (v : S) (k₀ k : List ℕ) (x : Re
   pub reading : v' ≡ c.after v (length k₀)
   pub buffer : k ≡ written (c.answer v (length k₀)) k₀
 
-pub bare_called : (f : List ℕ) (v : View) {k₀ k : List ℕ} {t : Step} → Stepped (R.next f v (length k₀)) k₀ k t
+pub bare_called : (f : List ℕ) (v : View) {k₀ k : List ℕ} {t : Step Reading} → Stepped (R.next f v (length k₀)) k₀ k t
     → Called (bare_calls f) v k₀ k t.answer (view_is t.reading)
 bare_called f v st = record { answer = st.answer; reading = st.reading; buffer = st.buffer }
 
-pub plain_called : (f : List ℕ) (p : P.Plain) {k₀ k : List ℕ} {t : PlainStep} → PlainStepped (P.next_plain f p (length k₀)) k₀ k t
-    → Called (plain_calls f) p k₀ k t.answer (plain_is t.plain)
+pub plain_called : (f : List ℕ) (p : P.Plain) {k₀ k : List ℕ} {t : Step Plain} → PlainStepped (P.next_plain f p (length k₀)) k₀ k t
+    → Called (plain_calls f) p k₀ k t.answer (plain_is t.reading)
 plain_called f p st = record { answer = st.gave.answer; reading = st.gave.plain; buffer = st.buffer }
 
 module _ {S : Type 0} (c : Calls S) (v : S) {k₀ k : List ℕ} {x : Result (Option (ℕ × ℕ)) Refusal} {v' : S} (st : Called c v k₀ k x v') where

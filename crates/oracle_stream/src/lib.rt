@@ -14,6 +14,7 @@ ghost use Rattle.oracle_stream.specs.StreamTells.{StartTold, Told, NextTold};
 ghost use Rattle.oracle_stream.specs.Runs.{key_test, KeysTold, PlainKeysTold, StartKeysTold, BareKeysTold};
 
 use format::Refusal;
+use oracle_numbers::{END, REFUSED};
 use stream::Plain;
 use stream_arrays::{bound_with, put_plain, reading_of};
 use stream_start::Reading;
@@ -66,8 +67,8 @@ pub fn told(answer: Result<Option<(usize, u64)>, Refusal>, value: &mut [u64; 1])
             *value = [v];
             n as u64
         }
-        Ok(None) => 1000,
-        Err(why) => 2000 + (u64::from(u8::from(why))),
+        Ok(None) => END,
+        Err(why) => REFUSED + u64::from(u8::from(why)),
     }
 }
 
@@ -106,7 +107,7 @@ pub fn oracle_next(
         keys: n[0],
     };
     let step = stream::next(file, plain, key);
-    let after = step.plain;
+    let after = step.reading;
     put_plain(after, head, bound, addrs, inps, trans, outs, keys);
     let answer = step.answer;
     told(answer, value)
@@ -131,7 +132,7 @@ fn keys_from(file: &[u8], plain: Plain, most: u64, key: &mut [u8]) -> u64
         if !is_key(step.answer) {
             return n;
         }
-        here = step.plain;
+        here = step.reading;
     }
     most
 }

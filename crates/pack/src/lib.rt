@@ -6,12 +6,11 @@ ghost use Rattle.std.specs.Prelude.{length};
 ghost use Rattle.format.specs.Limits.{max_len};
 ghost use Rattle.packing.specs.Packing.{pack_answer};
 ghost use Rattle.pack_blank.specs.PackBlank.{tables_test};
-ghost use Rattle.pack_cells.specs.Pairs.{pairs_is};
 ghost use Rattle.pack.specs.PackList.{PacksBy};
 
 use format::{MAX_LEN, Refusal};
 use pack_cell::{Cell, empty_cells};
-use pack_cells::{empty_after, run};
+use pack_cells::run;
 use pack_end::finish;
 
 // Packs the list, where the file may have up to limit bytes. Answers the length of the file, which stands at the output's front; where it
@@ -28,7 +27,7 @@ pub fn pack_within(
     ensures { PacksBy
         (pack_answer limit list.now (tables_test (length inputs.old) (length leasts.old) (length targets.old))
         (length cells.old) (length output.old))
-        output.new (pairs_is cells.new) inputs.new leasts.new targets.new result }
+        output.new cells.new inputs.new leasts.new targets.new result }
 {
     output.fill(0);
     empty_cells(cells);
@@ -37,7 +36,9 @@ pub fn pack_within(
     inputs.fill(0);
     leasts.fill(0);
     targets.fill(0);
-    empty_after(cells, answer.is_err());
+    if answer.is_err() {
+        empty_cells(cells);
+    }
     answer
 }
 
@@ -53,7 +54,7 @@ pub fn pack(
     ensures { PacksBy
         (pack_answer max_len list.now (tables_test (length inputs.old) (length leasts.old) (length targets.old))
         (length cells.old) (length output.old))
-        output.new (pairs_is cells.new) inputs.new leasts.new targets.new result }
+        output.new cells.new inputs.new leasts.new targets.new result }
 {
     pack_within(MAX_LEN, list, output, cells, inputs, leasts, targets)
 }

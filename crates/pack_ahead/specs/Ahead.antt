@@ -13,6 +13,7 @@ use Rattle.packing.specs.Lists.{count_in, key_at, value_at, pairs_of}
 use Rattle.packing.specs.Registry.{empty_cell}
 use Rattle.packing.specs.Packing.{State, insert_all, start}
 use Rattle.packing_rows.specs.WorkTables.{Tables}
+use Rattle.pack_cell.specs.declared.Cell.{Cell}
 use Rattle.pack_intern.specs.Interning.{build_is}
 use Rattle.pack_close.specs.Closing.{RowsFit, node_from, least_in, closed_to, ClosingTo}
 use Rattle.pack_close.specs.OpenNodes.{tables_of}
@@ -41,9 +42,9 @@ pub record OpensKey (s : List ℕ) (i m : ℕ) (T T' : Tables) (r : Way) : Type 
   pub leaves : LeavesAt s T'.led r.depth r.keys r.to
 
 -- the state when the last key was opened, with its deepest node at depth k, and what has been finished since
-pub record Underway (s : List ℕ) (cells : ℕ) (out : List ℕ) (table : List (List ℕ)) (T : Tables) (next : ℕ) (w : Way) : Type 0 where
+pub record Underway (s : List ℕ) (cells : ℕ) (out : List ℕ) (table : List Cell) (T : Tables) (next : ℕ) (w : Way) : Type 0 where
   pub out₀ : List ℕ
-  pub table₀ : List (List ℕ)
+  pub table₀ : List Cell
   pub T₀ : Tables
   pub next₀ : ℕ
   pub k : ℕ
@@ -59,7 +60,7 @@ way_left s w = (count_in s - w.keys) * 256 + w.depth
 pub record Started (s : List ℕ) (o : Open) (w : Way) : Type 0 where
   pub cells : ℕ
   pub out : List ℕ
-  pub table : List (List ℕ)
+  pub table : List Cell
   pub inputs : List ℕ
   pub leasts : List ℕ
   pub targets : List ℕ
@@ -68,7 +69,7 @@ pub record Started (s : List ℕ) (o : Open) (w : Way) : Type 0 where
 
 -- for all of them
 pub record GoneTo (s : List ℕ) (o : Open) (w : Way) (o' : Open) (r : Way) : Type 0 where
-  pub on : (cells : ℕ) (out : List ℕ) (table : List (List ℕ)) (inputs leasts targets : List ℕ) (next : ℕ)
+  pub on : (cells : ℕ) (out : List ℕ) (table : List Cell) (inputs leasts targets : List ℕ) (next : ℕ)
       → Underway s cells out table (tables_of inputs leasts targets o) next w
       → Underway s cells out table (tables_of inputs leasts targets o') next r
   pub less : way_left s r ≤ way_left s w

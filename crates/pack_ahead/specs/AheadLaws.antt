@@ -20,6 +20,8 @@ use Rattle.packing.specs.Registry.{Cell, empty_cell, intern}
 use Rattle.packing.specs.Packing.{State, insert_all, start, pack_nodes, least_at, record_of}
 use Rattle.packing_rows.specs.WorkTables.{Tables, tables_with, row_in, zip_arcs, count_at, open_at, levels, Sized}
 use Rattle.packing_rows.specs.WorkTableLaws.{length_row, open_least, record_row}
+use Rattle.pack_cell.specs.Cells.{empty}
+use Rattle.pack_cell.specs.declared.Cell as code
 use Rattle.pack_intern.specs.Interning.{cells_is, build_is, InternIs}
 use Rattle.pack_intern.specs.declared.Placed.{Placed}
 use Rattle.pack_finish.specs.LeastLaws.{from_each, from_value}
@@ -75,12 +77,12 @@ leaves_none s led k i h = record { low = omega arith; on = λ l. absurd (omega a
 abbrev fresh_tables : List ℕ → List ℕ → List ℕ → Tables
 fresh_tables inputs leasts targets = tables_with inputs leasts targets (replicate 256 0) (replicate 256 0) (replicate 256 false) (replicate 256 0)
 
-start_is : (out : List ℕ) (table : List (List ℕ)) → Blank out table → (inputs leasts targets : List ℕ)
+start_is : (out : List ℕ) (table : List code.Cell) → Blank out table → (inputs leasts targets : List ℕ)
     → state_of (build_is out 16 table) (fresh_tables inputs leasts targets) 0 ≡ start (replicate (length table) empty_cell)
 unfolding open_at levels zip_arcs
 start_is out table blank inputs leasts targets = ap start blank.empty
 
-pub underway_none : (s out : List ℕ) (table : List (List ℕ)) → Blank out table → (inputs leasts targets : List ℕ) → 65536 ≤ length inputs → 65536 ≤ length leasts → 65536 ≤ length targets
+pub underway_none : (s out : List ℕ) (table : List code.Cell) → Blank out table → (inputs leasts targets : List ℕ) → 65536 ≤ length inputs → 65536 ≤ length leasts → 65536 ≤ length targets
     → Underway s (length table) out table (fresh_tables inputs leasts targets) 16 (way_with 0 0 0)
 underway_none s out table blank inputs leasts targets il ll tl =
     let T : Tables = fresh_tables inputs leasts targets in
@@ -106,15 +108,15 @@ module _ (cells : ℕ) (two : 2 ≤ cells) where
   abbrev zeros : List ℕ
   zeros = replicate 32 0
 
-  abbrev empties : List (List ℕ)
-  empties = replicate cells (1 ∷ 0 ∷ [])
+  abbrev empties : List code.Cell
+  empties = replicate cells empty
 
-  empties_are : (n : ℕ) → cells_is (replicate n (1 ∷ 0 ∷ [])) ≡ replicate n empty_cell
+  empties_are : (n : ℕ) → cells_is (replicate n empty) ≡ replicate n empty_cell
   empties_are zero = refl
   empties_are (suc n) = ap (λ (l : List Cell). empty_cell ∷ l) (empties_are n)
 
   empties_length : length empties ≡ cells
-  empties_length = length-replicate cells (1 ∷ 0 ∷ [])
+  empties_length = length-replicate cells empty
 
   blank : Blank zeros empties
   blank = record {
@@ -128,12 +130,12 @@ module _ (cells : ℕ) (two : 2 ≤ cells) where
   whole_is s inputs leasts targets =
       ap (λ (x : State). insert_all x (pairs_of s)) (start_is zeros empties blank inputs leasts targets ∙ ap (λ (n : ℕ). start (replicate n empty_cell)) empties_length)
 
-  run_as : (s : List ℕ) {out : List ℕ} {table : List (List ℕ)} {r : Option Placed} → Runs (pack_nodes (pairs_of s) (length empties)) out table r → Runs (pack_nodes (pairs_of s) cells) out table r
+  run_as : (s : List ℕ) {out : List ℕ} {table : List code.Cell} {r : Option Placed} → Runs (pack_nodes (pairs_of s) (length empties)) out table r → Runs (pack_nodes (pairs_of s) cells) out table r
   run_as s {out} {table} {r} w = subst (λ (n : ℕ). Runs (pack_nodes (pairs_of s) n) out table r) empties_length w
 
 -- ---- a key opened, a node finished
 
-module _ {s : List ℕ} {cells : ℕ} {out : List ℕ} {table : List (List ℕ)} {T : Tables} {next : ℕ} {w : Way} (u : Underway s cells out table T next w) (ok : IsList s) where
+module _ {s : List ℕ} {cells : ℕ} {out : List ℕ} {table : List code.Cell} {T : Tables} {next : ℕ} {w : Way} (u : Underway s cells out table T next w) (ok : IsList s) where
   pub underway_open : w.keys < count_in s → w.depth ≤ w.to → {T' : Tables} {r : Way} → OpensKey s w.keys w.to T T' r
       → Underway s cells out table T' next (way_with r.depth r.to (w.keys + 1))
   underway_open l e {T'} {r} o =
@@ -156,7 +158,7 @@ module _ {s : List ℕ} {cells : ℕ} {out : List ℕ} {table : List (List ℕ)}
         leaves = subst (λ (i : ℕ). LeavesAt s T'.led r.depth i r.to) o.more o.leaves;
       }
 
-  pub underway_close : (e : ℕ) → w.depth ≡ e + 1 → w.to ≤ e → {out' : List ℕ} {table' : List (List ℕ)} {T' : Tables} {next' : ℕ}
+  pub underway_close : (e : ℕ) → w.depth ≡ e + 1 → w.to ≤ e → {out' : List ℕ} {table' : List code.Cell} {T' : Tables} {next' : ℕ}
       → StepTo (build_is out next table) next T e out' table' T' next' → T'.led ≡ T.led → Underway s cells out' table' T' next' (way_with e w.to w.keys)
   underway_close e de le st led_same = record {
     out₀ = u.out₀;
@@ -173,7 +175,7 @@ module _ {s : List ℕ} {cells : ℕ} {out : List ℕ} {table : List (List ℕ)}
   -- ---- no room
 
   module _ (two : 2 ≤ cells) where
-    builds : {out' : List ℕ} {table' : List (List ℕ)} {T' : Tables} {r : _} → Builds (whole s cells) out' table' T' r
+    builds : {out' : List ℕ} {table' : List code.Cell} {T' : Tables} {r : _} → Builds (whole s cells) out' table' T' r
         → Builds (insert_all (state_of (build_is (zeros cells two) 16 (empties cells two)) (fresh_tables T.inputs T.leasts T.targets) 0) (pairs_of s)) out' table' T' r
     builds {out'} {table'} {T'} {r} b = subst (λ (t : State). Builds t out' table' T' r) (sym (whole_is cells two s T.inputs T.leasts T.targets)) b
 
@@ -222,7 +224,7 @@ module _ {s : List ℕ} {cells : ℕ} {out : List ℕ} {table : List (List ℕ)}
       root_asked =
           root_finishable (zeros cells two) (empties cells two) (blank cells two) T.inputs T.leasts T.targets S.inputs_long S.leasts_long S.targets_long (pairs_of s) (all_open none_left) joined_root
 
-      pub root_done : {out' : List ℕ} {table' : List (List ℕ)} {r : Option Placed} → InternIs (intern (build_is out next table) root_node) next out' table' r → Runs (pack_nodes (pairs_of s) cells) out' table' r
+      pub root_done : {out' : List ℕ} {table' : List code.Cell} {r : Option Placed} → InternIs (intern (build_is out next table) root_node) next out' table' r → Runs (pack_nodes (pairs_of s) cells) out' table' r
       root_done i =
           run_as cells two s (run_done (zeros cells two) (empties cells two) (blank cells two) T.inputs T.leasts T.targets S.inputs_long S.leasts_long S.targets_long (pairs_of s) (all_open none_left) joined_root i)
 
@@ -256,7 +258,7 @@ module _ {s : List ℕ} {o₀ : Open} {w : Way} {o : Open} {v : Way} (g : GoneTo
 -- ---- the row of the node to be finished
 
 -- what the loop asks of the next row
-pub row_asked : {s : List ℕ} {cells : ℕ} {out : List ℕ} {table : List (List ℕ)} {T : Tables} {next : ℕ} {w : Way} → Underway s cells out table T next w → 2 ≤ cells
+pub row_asked : {s : List ℕ} {cells : ℕ} {out : List ℕ} {table : List code.Cell} {T : Tables} {next : ℕ} {w : Way} → Underway s cells out table T next w → 2 ≤ cells
     → RowAsked cells w.depth T
 row_asked {w = w} u two =
     let C = u.closing.closable in

@@ -1,5 +1,6 @@
 // Keys opened until a node has to be finished, and the row of that node. No output and no cell is touched.
-// The list is lent as bytes and no type says that it was judged, so each function that reads it asks `IsList`.
+// Each function that reads the list asks `IsList`. A type of judged lists would not say less: it would be made anew of the bytes in each step, which is
+// lent them by itself, and `IsList` would be asked there.
 #![tactic(auto)]
 
 ghost use Rattle.std.specs.Prelude.{◌≡◌, List, ℕ, ◌+◌, ◌*◌, ◌/◌, ◌%◌, ◌≤◌, ◌<◌, length};

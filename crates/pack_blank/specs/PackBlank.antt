@@ -8,6 +8,7 @@ use Rattle.format.specs.declared.Refusal.{Refusal}
 use Rattle.format.specs.Bytes.{bytes_of}
 use Rattle.buffers.specs.Put.{put}
 use Rattle.packing.specs.Packing.{Answer, written, refused, output_after, cells_after}
+use Rattle.pack_cell.specs.declared.Cell.{Cell}
 use Rattle.pack_intern.specs.Interning.{cells_is}
 
 abbrev pub tables_test : ℕ → ℕ → ℕ → Bool
@@ -22,7 +23,7 @@ abbrev pub trailed : List ℕ → ℕ → ℕ → ℕ → List ℕ
 trailed out count root next = put (put (put out 0 (bytes_of 8 2)) next (bytes_of 8 count)) (next + 8) (bytes_of 8 root)
 
 -- A is what the definition answers
-pub record Answers (A : Answer) (out : List ℕ) (cells : List (List ℕ)) (r : Result ℕ Refusal) : Type 0 where
+pub record Answers (A : Answer) (out : List ℕ) (cells : List Cell) (r : Result ℕ Refusal) : Type 0 where
   pub answer : r ≡ answer_as A
   pub output : (n : ℕ) → r ≡ Ok n → out ≡ output_after A (length out)
   pub cells_left : (n : ℕ) → r ≡ Ok n → cells_is cells ≡ cells_after A (length cells)

@@ -5,7 +5,7 @@
 use Rattle.std.specs.Prelude.{◌≡◌, Option, None, Bool, true, false, ◌&&◌, leb, drop, Ok, Err, Result, ℕ}
 use Rattle.std.proofs.Math.Path.{refl, ap, ap₂}
 use Rattle.std.proofs.Common.{sym, ◌∙◌, arith, take_at}
-use mathlib.Core.List.{List, [], ◌∷◌, ◌++◌, append_assoc}
+use mathlib.Core.List.{List, ◌∷◌, ◌++◌, append_assoc}
 use Prim.Native.Nat.{ℕ, zero, suc, ◌+◌, ◌-◌, ◌≤◌, ◌<◌}
 use borrow.Author.Tests.{le-leb, leb-true}
 use Rattle.std.proofs.Math.ListN.{length, replicate, length-append}
@@ -24,6 +24,8 @@ use Rattle.packing.specs.Packing.{pack_nodes, file_of, pack_file, pack_cells, An
 use Rattle.packing.proofs.ListLaws.{decides_list, length_pairs}
 use Rattle.packing.proofs.ListedLaws.{answer_room, answer_over}
 use Rattle.packing.proofs.TrailerLaws.{length_file}
+use Rattle.pack_cell.specs.Cells.{empty}
+use Rattle.pack_cell.specs.declared.Cell as code
 use Rattle.pack_intern.specs.Interning.{nodes_in, cells_is}
 use Rattle.pack_intern.specs.InterningLaws.{nodes_length, laid_is}
 use Rattle.pack_intern.specs.declared.Placed.{Placed}
@@ -33,12 +35,12 @@ use Rattle.pack_blank.specs.PackBlank.{answer_as, trailed, Answers}
 pub refused_not : {k : Refusal} {n : ℕ} → ¬ (◌≡◌ {A = Result ℕ Refusal} (Err k) (Ok n))
 refused_not e = let z : ◌≡◌ {A = ℕ} 0 1 = cc in omega arith
 
-pub answer_refused : {A : Answer} {k : Refusal} → A ≡ refused k → (out : List ℕ) (cells : List (List ℕ)) → Answers A out cells (Err k)
+pub answer_refused : {A : Answer} {k : Refusal} → A ≡ refused k → (out : List ℕ) (cells : List code.Cell) → Answers A out cells (Err k)
 answer_refused e out cells = record { answer = sym (ap answer_as e); output = λ n q. absurd (refused_not q); cells_left = λ n q. absurd (refused_not q) }
 
 -- ---- zeros and empty cells
 
-pub cells_empty : (n : ℕ) → cells_is (replicate n (1 ∷ 0 ∷ [])) ≡ replicate n empty_cell
+pub cells_empty : (n : ℕ) → cells_is (replicate n empty) ≡ replicate n empty_cell
 cells_empty zero = refl
 cells_empty (suc n) = ap (λ (l : List Cell). empty_cell ∷ l) (cells_empty n)
 
@@ -46,7 +48,7 @@ cells_empty (suc n) = ap (λ (l : List Cell). empty_cell ∷ l) (cells_empty n)
 pub zeros_again : {A : Type 0} (v : A) (n : ℕ) {d : List A} → d ≡ replicate n v → d ≡ replicate (length d) v
 zeros_again {A} v n {d} e = e ∙ ap (λ (k : ℕ). replicate k v) (sym (ap length e ∙ length-replicate n v))
 
-pub blank_of : (out : List ℕ) (cells : List (List ℕ)) → out ≡ replicate (length out) 0 → cells ≡ replicate (length cells) (1 ∷ 0 ∷ []) → 2 ≤ length cells → 32 ≤ length out → Blank out cells
+pub blank_of : (out : List ℕ) (cells : List code.Cell) → out ≡ replicate (length out) 0 → cells ≡ replicate (length cells) empty → 2 ≤ length cells → 32 ≤ length out → Blank out cells
 blank_of out cells z e two room = record { room = room; zeros = z; empty = ap cells_is e ∙ cells_empty (length cells); two = two }
 
 -- what the test on the tables says
@@ -121,13 +123,13 @@ module _ (limit : ℕ) (s : List ℕ) (tables : Bool) (n room : ℕ) (ok : IsLis
   size : length file ≡ 32 + length R.build.nodes
   size = length_file (length (pairs_of s)) R
 
-  pub small_answer : room < 32 → (out : List ℕ) (cells : List (List ℕ)) → Answers A out cells (Err SPACE)
+  pub small_answer : room < 32 → (out : List ℕ) (cells : List code.Cell) → Answers A out cells (Err SPACE)
   small_answer h out cells = answer_refused (answer_room limit s tables n room ok fit two (omega (arith, size))) out cells
 
-  pub full_answer : {out : List ℕ} {cells : List (List ℕ)} {r : Option Placed} → Runs R out cells r → r ≡ None → length out ≡ room → Answers A out cells (Err SPACE)
+  pub full_answer : {out : List ℕ} {cells : List code.Cell} {r : Option Placed} → Runs R out cells r → r ≡ None → length out ≡ room → Answers A out cells (Err SPACE)
   full_answer {out} {cells} w e len = answer_refused (answer_room limit s tables n room ok fit two (omega (arith, size, w.full e))) out cells
 
-  module _ {out : List ℕ} {cells : List (List ℕ)} {a next : ℕ} (w : RunAt R out cells a next) (len : length out ≡ room) where
+  module _ {out : List ℕ} {cells : List code.Cell} {a next : ℕ} (w : RunAt R out cells a next) (len : length out ≡ room) where
     nodes_are : R.build.nodes ≡ nodes_in out next
     nodes_are = ap (λ (x : Interned). x.build.nodes) w.is
 

@@ -5,15 +5,16 @@ ghost use Rattle.std.specs.Prelude.{◌≡◌, ◌+◌, ◌≤◌, length};
 ghost use Rattle.pack_blank.specs.PackBlank.{tables_test, trailed};
 
 use le_bytes::pack_uint_in;
+use pack_close::Tables;
 
 // The entries of each working table: 256 for each of 256 depths.
 pub const TABLE: usize = 65536;
 
 // Whether every working table has its size.
-pub fn tables_fit(inputs: usize, leasts: usize, targets: usize) -> bool
-    ensures { result ≡ tables_test inputs leasts targets }
+pub fn tables_fit(tables: &Tables<'_>) -> bool
+    ensures { result ≡ tables_test (length tables.now.inputs.now) (length tables.now.leasts.now) (length tables.now.targets.now) }
 {
-    TABLE <= inputs && (TABLE <= leasts && TABLE <= targets)
+    TABLE <= tables.inputs.len() && (TABLE <= tables.leasts.len() && TABLE <= tables.targets.len())
 }
 
 // Writes the version, and after the nodes the number of keys and the root's address.

@@ -1,11 +1,11 @@
-// The table of cells as a slice of structs, an address and a hash each: a cell stored, the two cells of a row stored or exchanged, all emptied.
+// The table of cells as a slice of structs, an address and a hash each: the two cells of a row stored or exchanged, all emptied.
 #![tactic(auto)]
 
 ghost use Rattle.std.specs.Prelude.{◌≡◌, ◌+◌, ◌<◌, length, set, replicate};
 ghost use Rattle.pack_cell.specs.Cells.{empty, at};
 
 // The address of an empty cell: no node's.
-const NONE_ADDRESS: u64 = 1;
+pub const NONE_ADDRESS: u64 = 1;
 
 // Two words for a C caller: functions for C are lent a table of them.
 #[repr(C)]
@@ -17,32 +17,21 @@ pub struct Cell {
     pub hash: u64,
 }
 
-// Stores the cell at place i.
-pub fn put_cell(cells: &mut [Cell], i: usize, c: Cell)
-    requires { i < length cells.old }
-    ensures { cells.new ≡ set cells.old i c }
-{
-    cells[i] = c;
-}
-
 // Stores the two cells of the row that begins at i.
 pub fn put_row(cells: &mut [Cell], i: usize, row: [Cell; 2])
     requires { i + 1 < length cells.old }
     ensures { cells.new ≡ set (set cells.old i (at row 0)) (i + 1) (at row 1) }
 {
-    put_cell(cells, i, row[0]);
-    put_cell(cells, i + 1, row[1]);
+    cells[i] = row[0];
+    cells[i + 1] = row[1];
 }
 
-// The two cells of the row that begins at i change places. The packer does not call it: it is for a program that keeps its own table of cells.
+// The two cells of the row that begins at i change places.
 pub fn promote(cells: &mut [Cell], i: usize)
     requires { i + 1 < length cells.old }
     ensures { cells.new ≡ set (set cells.old i (at cells.old (i + 1))) (i + 1) (at cells.old i) }
 {
-    let first = cells[i];
-    let second = cells[i + 1];
-    cells[i] = second;
-    cells[i + 1] = first;
+    cells.swap(i, i + 1);
 }
 
 // An empty cell.

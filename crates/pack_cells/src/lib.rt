@@ -2,14 +2,13 @@
 // The three working tables are lent one by one, by the C caller: here they become one struct with the open nodes.
 #![tactic(auto)]
 
-ghost use Rattle.std.specs.Prelude.{◌≡◌, cond, length, replicate};
+ghost use Rattle.std.specs.Prelude.{◌≡◌, length, replicate};
 ghost use Rattle.pack_blank.specs.PackBlank.{tables_test};
 ghost use Rattle.pack_cell.specs.Cells.{empty};
 ghost use Rattle.pack_step.specs.Standing.{Ended};
-ghost use Rattle.pack_cells.specs.Pairs.{pairs_is};
 
 use format::Refusal;
-use pack_cell::{Cell, empty_cells, put_row};
+use pack_cell::{Cell, put_row};
 use pack_close::{Open, Tables};
 use pack_intern::Placed;
 use pack_step::Turn;
@@ -25,7 +24,7 @@ pub fn run(
 ) -> Result<Placed, Refusal>
     requires { (output.old ≡ replicate (length output.old) 0) × (cells.old ≡ replicate (length cells.old) empty) }
     ensures { Ended list.now (tables_test (length inputs.old) (length leasts.old) (length targets.old))
-        (length cells.old) (length output.old) output.new (pairs_is cells.new) result }
+        (length cells.old) (length output.old) output.new cells.new result }
 {
     let mut tables = Tables {
         inputs,
@@ -45,14 +44,5 @@ pub fn run(
         let next = pack_step::step(list, cells.len(), output, &mut row, due, &mut tables);
         put_row(cells, i, row);
         turn = next?;
-    }
-}
-
-// Every cell empty after a refusal.
-pub fn empty_after(cells: &mut [Cell], refused: bool)
-    ensures { cells.new ≡ cond refused (replicate (length cells.old) empty) cells.old }
-{
-    if refused {
-        empty_cells(cells);
     }
 }

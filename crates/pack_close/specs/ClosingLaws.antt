@@ -3,7 +3,7 @@
 --     row_closable         the deepest row can be read
 --     finishable           an orderly row can be finished
 --     step_at, step_full   the deepest node is finished, or has no room
---     closing_none, -step, -full, -all     the loop that closes down to a depth
+--     closing_none, -step, -full, -all     nodes closed one after the other, down to a depth
 -- Assumes nothing.
 use Rattle.std.specs.Prelude.{◌≡◌, Option, None, Some, refl, false, cond, List, ◌++◌, map, ℕ, suc, ◌+◌, ◌-◌, ◌*◌, ◌≤◌, ◌<◌, length, get_or, take, drop}
 use Rattle.std.proofs.Common.{sym, ◌∙◌, subst, arith, length-append, get_or-take, get_or-drop}
@@ -16,6 +16,7 @@ use Rattle.packing.specs.Packing.{Open, least_at, record_of, with_arc, finish, c
 use Rattle.packing_rows.specs.WorkTables.{Tables, tables_with, row_in, arc_with, count_at, open_at, levels, Joined, close_into, Sized, Orderly, SameAbove}
 use Rattle.packing_rows.specs.OpenLaws.{closed_with, close_deepest, finish_into_grows}
 use Rattle.packing_rows.specs.WorkTableLaws.{length_row, open_least, record_row, open_same, with_entry, open_more, same_more, sized_more, room_for_one, orderly_more}
+use Rattle.pack_cell.specs.declared.Cell.{Cell}
 use Rattle.pack_intern.specs.Interning.{build_is, Ready, AtIs, InternIs}
 use Rattle.pack_intern.specs.declared.Placed.{Placed}
 use Rattle.pack_finish.specs.FinishRow.{Lessened, EachAtLeast}
@@ -25,7 +26,7 @@ use Rattle.pack_finish.specs.LeastLaws.{from_each, from_value, length_less, less
 
 -- ---- one node
 
-module _ (out : List ℕ) (first : ℕ) (cells : List (List ℕ)) (T : Tables) (d base : ℕ) (F : CanFinish out first cells T d base) where
+module _ (out : List ℕ) (first : ℕ) (cells : List Cell) (T : Tables) (d base : ℕ) (F : CanFinish out first cells T d base) where
   -- the row subtracted from
   pub finish_high : (n : ℕ) → n ≡ count_at T d → EachAtLeast base (take n (drop (256 * d) T.leasts))
   finish_high n same = part_high d (count_at T d) n base T.leasts same F.high
@@ -54,7 +55,7 @@ module _ (out : List ℕ) (first : ℕ) (cells : List (List ℕ)) (T : Tables) (
       pub finish_asked : {b : BuilderNode} → b ≡ node_at (with_leasts T leasts') d fo → Ready out first cells × RecordFits first b
       finish_asked e = (F.ready, subst (RecordFits first) (sym (e ∙ node_same)) F.fits)
 
-      pub finish_done : {b : BuilderNode} → b ≡ node_at (with_leasts T leasts') d fo → {out' : List ℕ} {cells' : List (List ℕ)} {r : Option Placed}
+      pub finish_done : {b : BuilderNode} → b ≡ node_at (with_leasts T leasts') d fo → {out' : List ℕ} {cells' : List Cell} {r : Option Placed}
           → InternIs (intern (build_is out first cells) b) first out' cells' r → RowFinished out first cells T d base out' cells' (with_leasts T leasts') r
       finish_done e {out'} {cells'} {r} w = record {
         less = less;
@@ -64,7 +65,7 @@ module _ (out : List ℕ) (first : ℕ) (cells : List (List ℕ)) (T : Tables) (
 
 -- ---- the deepest node
 
-module _ (out : List ℕ) (first : ℕ) (cells : List (List ℕ)) (T : Tables) (e : ℕ) (C : Closable out first cells T (e + 1))
+module _ (out : List ℕ) (first : ℕ) (cells : List Cell) (T : Tables) (e : ℕ) (C : Closable out first cells T (e + 1))
     (bytes : (i : ℕ) → get_or T.inputs i 0 < 256) (base : ℕ)
     (least : base ≡ least_in T (e + 1)) where
   abbrev d : ℕ
@@ -156,7 +157,7 @@ module _ (out : List ℕ) (first : ℕ) (cells : List (List ℕ)) (T : Tables) (
       let same = ap (λ (k : ℕ). length (close_into B (open_at T m) (levels (open_at T) (m + 1) k)).build.nodes) r in
       omega (arith, short, l, same, ap (λ (c : _). length c.build.nodes) finish_is)
 
-  module _ (out' : List ℕ) (cells' : List (List ℕ)) (leasts' : List ℕ) (less : Lessened T.leasts leasts' (256 * d) n base) (a next : ℕ)
+  module _ (out' : List ℕ) (cells' : List Cell) (leasts' : List ℕ) (less : Lessened T.leasts leasts' (256 * d) n base) (a next : ℕ)
       (at : AtIs (intern B node) first out' cells' a next) where
     abbrev T₁ : Tables
     T₁ = tables_with T.inputs leasts' T.targets T.counts T.led T.finals T.values
@@ -226,39 +227,39 @@ module _ (out : List ℕ) (first : ℕ) (cells : List (List ℕ)) (T : Tables) (
     pub step_at : (T' : Tables) → T' ≡ with_entry T₁ e (get_or T.led d 0) base a → StepTo B first T e out' cells' T' next
     step_at T' p = rw p step_two
 
-pub step_done : {B : Build} {first : ℕ} {T : Tables} {e : ℕ} {out : List ℕ} {cells : List (List ℕ)} {T' : Tables} {next : ℕ} → StepTo B first T e out cells T' next
+pub step_done : {B : Build} {first : ℕ} {T : Tables} {e : ℕ} {out : List ℕ} {cells : List Cell} {T' : Tables} {next : ℕ} → StepTo B first T e out cells T' next
     → StepIs B first T e out cells T' (Some next)
 step_done {B} {first} {T} {e} {out} {cells} {T'} {next} s = record {
   at = λ k z. let p : next ≡ k = cc in subst (λ (x : ℕ). StepTo B first T e out cells T' x) p s;
   full = λ z. cc;
 }
 
-pub step_no_room : {B : Build} {first : ℕ} {T : Tables} {e : ℕ} {out : List ℕ} {cells : List (List ℕ)} {T' : Tables}
+pub step_no_room : {B : Build} {first : ℕ} {T : Tables} {e : ℕ} {out : List ℕ} {cells : List Cell} {T' : Tables}
     → ((m : ℕ) → m ≤ e → length out < 16 + length (closed_to B T m (e + 1)).build.nodes) → StepIs B first T e out cells T' None
 step_no_room f = record { at = λ k z. cc; full = λ z. f }
 
--- ---- the loop
+-- ---- down to a depth
 
-pub closing_none : (out : List ℕ) (first : ℕ) (cells : List (List ℕ)) (T : Tables) (k m : ℕ) → Closable out first cells T k → m ≤ k
+pub closing_none : (out : List ℕ) (first : ℕ) (cells : List Cell) (T : Tables) (k m : ℕ) → Closable out first cells T k → m ≤ k
     → ClosingTo (closed_to (build_is out first cells) T m k) T m out cells T first k
 closing_none out first cells T k m C le = record { is = refl; same = λ j l. refl; closable = C; low = le }
 
-pub closing_step : {J : Joined} {T₀ : Tables} {m : ℕ} {out : List ℕ} {cells : List (List ℕ)} {T : Tables} {next d e : ℕ} → ClosingTo J T₀ m out cells T next d → d ≡ e + 1 → m ≤ e
-    → {out' : List ℕ} {cells' : List (List ℕ)} {T' : Tables} {r : Option ℕ} {after : ℕ} → StepIs (build_is out next cells) next T e out' cells' T' r → r ≡ Some after
+pub closing_step : {J : Joined} {T₀ : Tables} {m : ℕ} {out : List ℕ} {cells : List Cell} {T : Tables} {next d e : ℕ} → ClosingTo J T₀ m out cells T next d → d ≡ e + 1 → m ≤ e
+    → {out' : List ℕ} {cells' : List Cell} {T' : Tables} {r : Option ℕ} {after : ℕ} → StepIs (build_is out next cells) next T e out' cells' T' r → r ≡ Some after
     → ClosingTo J T₀ m out' cells' T' after e
 closing_step {m = m} {out} {cells} {T} {next} {d} {e} c de le s z =
     let t = s.at _ z in
     record { is = c.is ∙ ap (closed_to (build_is out next cells) T m) de ∙ t.is m le; same = λ j l. t.same j (omega arith) ∙ c.same j l; closable = t.closable; low = le }
 
-pub closing_full : {J : Joined} {T₀ : Tables} {m : ℕ} {out : List ℕ} {cells : List (List ℕ)} {T : Tables} {next d e : ℕ} → ClosingTo J T₀ m out cells T next d → d ≡ e + 1 → m ≤ e
-    → {out' : List ℕ} {cells' : List (List ℕ)} {T' : Tables} {r : Option ℕ} → StepIs (build_is out next cells) next T e out' cells' T' r → r ≡ None
+pub closing_full : {J : Joined} {T₀ : Tables} {m : ℕ} {out : List ℕ} {cells : List Cell} {T : Tables} {next d e : ℕ} → ClosingTo J T₀ m out cells T next d → d ≡ e + 1 → m ≤ e
+    → {out' : List ℕ} {cells' : List Cell} {T' : Tables} {r : Option ℕ} → StepIs (build_is out next cells) next T e out' cells' T' r → r ≡ None
     → ClosesTo J T₀ m out' cells' T' None
 closing_full {m = m} {out} {cells} {T} {next} c de le s z = record {
   at = λ k q. cc;
   full = λ q. omega (arith, s.full z m le, ap (λ (j : Joined). length j.build.nodes) (c.is ∙ ap (closed_to (build_is out next cells) T m) de));
 }
 
-pub closing_all : {J : Joined} {T₀ : Tables} {m : ℕ} {out : List ℕ} {cells : List (List ℕ)} {T : Tables} {next e : ℕ} → ClosingTo J T₀ m out cells T next e → e ≤ m
+pub closing_all : {J : Joined} {T₀ : Tables} {m : ℕ} {out : List ℕ} {cells : List Cell} {T : Tables} {next e : ℕ} → ClosingTo J T₀ m out cells T next e → e ≤ m
     → ClosesTo J T₀ m out cells T (Some next)
 unfolding levels
 closing_all {J} {T₀} {m} {out} {cells} {T} {next} {e} c le =

@@ -1,22 +1,24 @@
 // Open nodes finished, deepest first: each becomes a transition of the node above it, along the byte that led to it and with the least
 // value below it.
-// output, cells and first are three parameters and no struct: the place of the next node comes back as a result, and there is none where
-// the output has no room.
+// output, cells and first are three parameters and no struct: they are together for one node. The next node is lent another row of cells, and between
+// two nodes first alone goes on, in a pack_node `Due`.
 #![tactic(auto)]
 
 ghost use Rattle.std.specs.Prelude.{◌≡◌, ℕ, ◌+◌, ◌*◌, ◌≤◌, ◌<◌, length, get_or};
 ghost use Rattle.packing_rows.specs.WorkTableLaws.{with_entry};
 ghost use Rattle.node_compile.specs.Compile.{builder_is};
 ghost use Rattle.pack_intern.specs.Interning.{build_is};
-ghost use Rattle.pack_close.specs.Closing.{Closable, RowsFit, node_at, least_in, CanFinish, RowFinished, StepIs, closed_to, ClosesTo};
+ghost use Rattle.pack_close.specs.Closing.{Closable, RowsFit, node_at, least_in, CanFinish, RowFinished, StepIs};
 ghost use Rattle.pack_close.specs.OpenNodes.{no_open, tables_in};
 
 use format::are_bytes;
 use node_record::BuilderNode;
+use pack_cell::Cell;
 use pack_intern::Placed;
 use std::ops::Range;
 
-// The open nodes, by depth. Four arrays: an array of structs would take 24 bytes a depth in the place of 18, and it lies on the stack.
+// The open nodes, by depth. Four arrays: a call of fst_pack takes less than 1,000 bytes under the 8,192 of stack that include/baxhiso.h tells C
+// (FST_STACK_PACK), and an array of structs would take 1,536 more, 24 bytes a depth in the place of 18; values as Options would take 1,792 more.
 #[derive(Clone, Copy)]
 pub struct Open {
     // how many finished transitions each has
@@ -109,7 +111,7 @@ impl Tables<'_> {
     pub fn finish_row(
         &mut self,
         output: &mut [u8],
-        cells: &mut [[u64; 2]],
+        cells: &mut [Cell],
         first: usize,
         d: usize,
         base: u64,
@@ -141,10 +143,10 @@ impl Tables<'_> {
 
     // Finishes the node at depth e + 1, the deepest, and adds its transition to the node at depth e. Answers the place past the nodes, or
     // nothing where the output has no room.
-    fn close_one(
+    pub fn close_one(
         &mut self,
         output: &mut [u8],
-        cells: &mut [[u64; 2]],
+        cells: &mut [Cell],
         first: usize,
         e: usize,
     ) -> Option<usize>
@@ -160,29 +162,5 @@ impl Tables<'_> {
         let input = self.nodes.led[d];
         self.add_arc(e, input, base, placed.addr);
         Some(placed.next)
-    }
-
-    // ---- down to a depth
-
-    // Finishes the open nodes below depth m, where the deepest is at depth k: deepest first, each into the node above it. Answers the
-    // place past the nodes, or nothing where the output has no room.
-    pub fn close_to(
-        &mut self,
-        output: &mut [u8],
-        cells: &mut [[u64; 2]],
-        first: usize,
-        k: usize,
-        m: usize,
-    ) -> Option<usize>
-        requires { Closable output.old first cells.old (tables_in self.old) k × (m ≤ k) }
-        ensures { ClosesTo (closed_to (build_is output.old first cells.old) (tables_in self.old) m k)
-            (tables_in self.old) m output.new cells.new (tables_in self.new) result
-            × (self.new.nodes.led ≡ self.old.nodes.led) }
-    {
-        let mut next = first;
-        for e in (m..k).rev() {
-            next = self.close_one(output, cells, next, e)?;
-        }
-        Some(next)
     }
 }

@@ -8,6 +8,7 @@ use Rattle.format.specs.Packed.{BuilderNode}
 use Rattle.node_compile.specs.Compile.{builder_with}
 use Rattle.node_compile.specs.Parts.{RecordFits}
 use Rattle.packing_rows.specs.WorkTables.{row_in}
+use Rattle.pack_cell.specs.declared.Cell.{Cell}
 use Rattle.pack_intern.specs.Interning.{Ready}
 
 pub record Lessened (d₀ d : List ℕ) (at n base : ℕ) : Type 0 where
@@ -29,7 +30,7 @@ abbrev pub row_node : Bool → ℕ → List ℕ → List ℕ → List ℕ → �
 row_node final v inputs leasts targets d n base =
     builder_with final (cond final (v - base) 0) (row_in inputs d n) (map (λ (m : ℕ). m - base) (row_in leasts d n)) (row_in targets d n)
 
-pub record Finishable (out : List ℕ) (first : ℕ) (cells : List (List ℕ)) (final : Bool) (v : ℕ) (inputs leasts targets : List ℕ) (d n base : ℕ) : Type 0 where
+pub record Finishable (out : List ℕ) (first : ℕ) (cells : List Cell) (final : Bool) (v : ℕ) (inputs leasts targets : List ℕ) (d n base : ℕ) : Type 0 where
   pub ready : Ready out first cells
   pub fits : RecordFits first (row_node final v inputs leasts targets d n base)
   pub low : d < 256

@@ -1,5 +1,6 @@
 // The numbers of a row of the working tables: its least value, and its outputs counted from a base.
-// is_final and value go beside each other: the open nodes keep them in two arrays, and the definitions have both.
+// is_final and value are two and no Option: the open nodes have them in two arrays, since Options take stack that packing has not (pack_close `Open`),
+// and an Option made of the two for a call would be taken apart here at once.
 #![tactic(auto)]
 
 ghost use Rattle.std.specs.Prelude.{◌≡◌, true, cond, map, ℕ, ◌-◌, ◌≤◌};

@@ -10,6 +10,7 @@ use Rattle.format.specs.Strings.{Before}
 use Rattle.packing.specs.Registry.{Build}
 use Rattle.packing.specs.Packing.{State, state_with}
 use Rattle.packing_rows.specs.WorkTables.{Tables, count_at, open_at, levels}
+use Rattle.pack_cell.specs.declared.Cell.{Cell}
 use Rattle.pack_intern.specs.Interning.{build_is}
 use Rattle.pack_close.specs.Closing.{Closable}
 
@@ -54,7 +55,7 @@ abbrev pub state_of : Build → Tables → ℕ → State
 state_of B T k = state_with B (open_at T 0) (levels (open_at T) 1 k)
 
 -- between two keys: the deepest open node has no transition yet
-pub record Between (out : List ℕ) (first : ℕ) (cells : List (List ℕ)) (T : Tables) (k : ℕ) : Type 0 where
+pub record Between (out : List ℕ) (first : ℕ) (cells : List Cell) (T : Tables) (k : ℕ) : Type 0 where
   pub closable : Closable out first cells T k
   pub bare : count_at T k ≡ 0
 
@@ -62,16 +63,16 @@ pub record Between (out : List ℕ) (first : ℕ) (cells : List (List ℕ)) (T :
 abbrev pub Follows : List ℕ → List ℕ → Type 0
 Follows last key = (Before last key) ⊎ ((last ≡ []) × (key ≡ []))
 
-pub record Insertable (out : List ℕ) (first : ℕ) (cells : List (List ℕ)) (T : Tables) (k : ℕ) (key : List ℕ) : Type 0 where
+pub record Insertable (out : List ℕ) (first : ℕ) (cells : List Cell) (T : Tables) (k : ℕ) (key : List ℕ) : Type 0 where
   pub between : Between out first cells T k
   pub short : length key < 256
   pub follows : Follows (last_key T.led k) key
 
-pub record InsertedAt (t : State) (key : List ℕ) (out : List ℕ) (cells : List (List ℕ)) (T : Tables) (next : ℕ) : Type 0 where
+pub record InsertedAt (t : State) (key : List ℕ) (out : List ℕ) (cells : List Cell) (T : Tables) (next : ℕ) : Type 0 where
   pub is : t ≡ state_of (build_is out next cells) T (length key)
   pub between : Between out next cells T (length key)
   pub last : last_key T.led (length key) ≡ key
 
-pub record Inserts (t : State) (key : List ℕ) (out : List ℕ) (cells : List (List ℕ)) (T : Tables) (r : Option ℕ) : Type 0 where
+pub record Inserts (t : State) (key : List ℕ) (out : List ℕ) (cells : List Cell) (T : Tables) (r : Option ℕ) : Type 0 where
   pub at : (next : ℕ) → r ≡ Some next → InsertedAt t key out cells T next
   pub full : r ≡ None → length out < 16 + length t.build.nodes

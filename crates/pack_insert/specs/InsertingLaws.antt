@@ -20,6 +20,7 @@ use Rattle.packing.proofs.InsertLaws.{insert_grows}
 use Rattle.packing_rows.specs.WorkTables.{Tables, row_in, zip_arcs, count_at, open_at, levels, Joined, joined, close_into, Sized, Orderly, SameAbove}
 use Rattle.packing_rows.specs.OpenLaws.{new_open, levels_new, insert_levels, insert_build}
 use Rattle.packing_rows.specs.WorkTableLaws.{length_row, open_inputs, open_same}
+use Rattle.pack_cell.specs.declared.Cell.{Cell}
 use Rattle.pack_intern.specs.Interning.{build_is}
 use Rattle.pack_close.specs.Closing.{Closable, closed_to, JoinedAt, ClosesTo}
 use Rattle.pack_insert.specs.Inserting.{CommonIs, OpenedTo, Opened, last_key, state_of, Follows, Insertable, InsertedAt, Inserts}
@@ -82,7 +83,7 @@ empty_insert B o s l v p q = rw (p, q)
 
 -- ---- one key
 
-module _ (out : List ℕ) (first : ℕ) (cells : List (List ℕ)) (T : Tables) (k : ℕ) (key : List ℕ) (v : ℕ) (I : Insertable out first cells T k key) (m : ℕ)
+module _ (out : List ℕ) (first : ℕ) (cells : List Cell) (T : Tables) (k : ℕ) (key : List ℕ) (v : ℕ) (I : Insertable out first cells T k key) (m : ℕ)
     (shared : CommonIs key T.led k m) where
   abbrev B : Build
   B = build_is out first cells
@@ -121,7 +122,7 @@ module _ (out : List ℕ) (first : ℕ) (cells : List (List ℕ)) (T : Tables) (
           omega (arith, up, at)
       go (inr (p, q)) = absurd (omega (arith, ap length q))
 
-  module _ (out' : List ℕ) (cells' : List (List ℕ)) (T₁ : Tables) (next : ℕ) (J : JoinedAt (closed_to B T m k) T m out' cells' T₁ next) (T₂ : Tables) (O : Opened key m v T₁ T₂)
+  module _ (out' : List ℕ) (cells' : List Cell) (T₁ : Tables) (next : ℕ) (J : JoinedAt (closed_to B T m k) T m out' cells' T₁ next) (T₂ : Tables) (O : Opened key m v T₁ T₂)
       (led_kept : T₁.led ≡ T.led) (bytes : (i : ℕ) → get_or key i 0 < 256) where
     C₁ : Closable out' next cells' T₁ m
     C₁ = J.closable
@@ -333,10 +334,10 @@ module _ (out : List ℕ) (first : ℕ) (cells : List (List ℕ)) (T : Tables) (
         omega (arith, ap (λ (b : Build). length b.nodes) e)
   ]
 
-  pub insert_full : (out' : List ℕ) (cells' : List (List ℕ)) (T₁ T₂ : Tables) (r : std.Option ℕ) → ClosesTo (closed_to B T m k) T m out' cells' T₁ r → r ≡ None → Inserts t key out' cells' T₂ None
+  pub insert_full : (out' : List ℕ) (cells' : List Cell) (T₁ T₂ : Tables) (r : std.Option ℕ) → ClosesTo (closed_to B T m k) T m out' cells' T₁ r → r ≡ None → Inserts t key out' cells' T₂ None
   insert_full out' cells' T₁ T₂ r c e = record { at = λ n q. cc; full = λ q. omega (arith, c.full e, insert_grown) }
 
-pub insert_done : {t : State} {key out : List ℕ} {cells : List (List ℕ)} {T : Tables} {next : ℕ} → InsertedAt t key out cells T next → Inserts t key out cells T (Some next)
+pub insert_done : {t : State} {key out : List ℕ} {cells : List Cell} {T : Tables} {next : ℕ} → InsertedAt t key out cells T next → Inserts t key out cells T (Some next)
 insert_done {t} {key} {out} {cells} {T} {next} w = record {
   at = λ n q. let p : next ≡ n = cc in subst (λ (x : ℕ). InsertedAt t key out cells T x) p w;
   full = λ q. cc;

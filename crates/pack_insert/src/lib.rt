@@ -12,15 +12,10 @@ pub fn common(key: &[u8], nodes: &Open, k: usize) -> usize
     requires { k < 256 }
     ensures { CommonIs key.now nodes.now.led k result }
 {
-    for (m, input) in key.iter().enumerate() {
-        if m == k {
-            return k;
-        }
-        if *input != nodes.led[m + 1] {
-            return m;
-        }
-    }
-    key.len()
+    key.iter()
+        .zip(nodes.led[1..k + 1].iter())
+        .position(|(input, led)| *input != *led)
+        .unwrap_or(k.min(key.len()))
 }
 
 // Opens the nodes along the key below depth m; the key ends at the deepest, with this value.
@@ -30,11 +25,12 @@ pub fn open_key(key: &[u8], m: usize, value: u64, nodes: &mut Open)
         (tables_of inputs leasts targets nodes.old) (tables_of inputs leasts targets nodes.new) }
 {
     let n = key.len();
+    // not by copy_from_slice, which became a call of memmove in range_rows and node_parts: the C library may call memcpy and memset alone
     for d in m..n {
         nodes.led[d + 1] = key[d];
-        nodes.counts[d + 1] = 0;
-        nodes.finals[d + 1] = false;
     }
+    nodes.counts[m + 1..n + 1].fill(0);
+    nodes.finals[m + 1..n + 1].fill(false);
     nodes.finals[n] = true;
     nodes.values[n] = value;
 }

@@ -11,16 +11,17 @@ use Rattle.std.specs.Prelude.{◌≡◌, Option, None, Some, ◌⊎◌, false, L
 use Rattle.format.specs.Packed.{BuilderNode, TargetOk, packed, packs_to_nothing}
 use Rattle.node_compile.specs.Parts.{RecordFits}
 use Rattle.packing.specs.Registry.{hash_of, Cell, Build, cell_at, row_of, Interned, write_node}
+use Rattle.pack_cell.specs.declared.Cell as code
 use Rattle.registry.specs.Matching.{cell_of}
 use Rattle.pack_intern.specs.declared.Placed.{Placed}
 
 abbrev pub nodes_in : List ℕ → ℕ → List ℕ
 nodes_in out first = take (first - 16) (drop 16 out)
 
-abbrev pub cells_is : List (List ℕ) → List Cell
+abbrev pub cells_is : List code.Cell → List Cell
 cells_is cells = map cell_of cells
 
-abbrev pub build_is : List ℕ → ℕ → List (List ℕ) → Build
+abbrev pub build_is : List ℕ → ℕ → List code.Cell → Build
 build_is out first cells = record { nodes = nodes_in out first; cells = cells_is cells }
 
 pub record Laid (out : List ℕ) (first : ℕ) : Type 0 where
@@ -33,16 +34,16 @@ pub record Laid (out : List ℕ) (first : ℕ) : Type 0 where
 abbrev pub CellFit : ℕ → Cell → Type 0
 CellFit first c = (c.addr ≡ 1) ⊎ ((16 ≤ c.addr) × (c.addr < first))
 
-pub record CellsFit (first : ℕ) (cells : List (List ℕ)) : Type 0 where
+pub record CellsFit (first : ℕ) (cells : List code.Cell) : Type 0 where
   pub fit : (i : ℕ) → CellFit first (cell_at (cells_is cells) i)
 
-pub record Ready (out : List ℕ) (first : ℕ) (cells : List (List ℕ)) : Type 0 where
+pub record Ready (out : List ℕ) (first : ℕ) (cells : List code.Cell) : Type 0 where
   pub laid : Laid out first
   pub cells_fit : CellsFit first cells
   pub two : 2 ≤ length cells
 
 -- what writing a record asks: its row begins at i
-pub record Writable (out : List ℕ) (first : ℕ) (cells : List (List ℕ)) (i hash : ℕ) (b : BuilderNode) : Type 0 where
+pub record Writable (out : List ℕ) (first : ℕ) (cells : List code.Cell) (i hash : ℕ) (b : BuilderNode) : Type 0 where
   pub ready : Ready out first cells
   pub fits : RecordFits first b
   pub some : packs_to_nothing b ≡ false
@@ -61,13 +62,13 @@ abbrev pub placed : ℕ → ℕ → Placed
 placed a n = record { addr = a; next = n }
 
 -- the record's address, and the place past the nodes
-pub record AtIs (R : Interned) (first : ℕ) (out : List ℕ) (cells : List (List ℕ)) (a next : ℕ) : Type 0 where
+pub record AtIs (R : Interned) (first : ℕ) (out : List ℕ) (cells : List code.Cell) (a next : ℕ) : Type 0 where
   pub is : R ≡ interned_with (build_is out next cells) a
   pub ready : Ready out next cells
   pub grown : first ≤ next
   pub target : TargetOk next a
 
-pub record InternIs (R : Interned) (first : ℕ) (out : List ℕ) (cells : List (List ℕ)) (r : Option Placed) : Type 0 where
+pub record InternIs (R : Interned) (first : ℕ) (out : List ℕ) (cells : List code.Cell) (r : Option Placed) : Type 0 where
   pub at : (p : Placed) → r ≡ Some p → AtIs R first out cells p.addr p.next
   -- the nodes have no room
   pub full : r ≡ None → length out < 16 + length R.build.nodes

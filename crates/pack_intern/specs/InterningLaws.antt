@@ -4,7 +4,7 @@
 --     cell_at_lem              a lent cell
 --     found_nothing, found_first, found_second, written, no_room    what each way of the code leaves
 -- Assumes nothing.
-use Rattle.std.specs.Prelude.{◌≡◌, Option, None, Some, Bool, true, false, cond, ◌&&◌, not, eqb, leb, get_or, take, drop, set, replicate, Ok, Err, Result, ℕ}
+use Rattle.std.specs.Prelude.{◌≡◌, Option, None, Some, Bool, true, false, cond, ◌&&◌, not, eqb, leb, take, drop, set, replicate, Ok, Err, Result, ℕ}
 use Rattle.std.proofs.Math.Path.{refl, ap, ap₂, subst}
 use Rattle.std.specs.Result.{result_ok}
 use Rattle.std.proofs.Common.{sym, ◌∙◌, eq-eqb, leb-true, leb-false, length-drop, take-append-drop, drop_of_length-le, length-take-le, take_all, take_at, drop_at, take-add}
@@ -22,6 +22,8 @@ use Rattle.node_compile.specs.Parts.{Fitted}
 use Rattle.packing.specs.Registry.{hash_of, Cell, Build, cell_at, row_of, matches, Interned, row_set, write_node, promote, intern}
 use Rattle.packing.proofs.FileLaws.{packed_some}
 use Rattle.packing.proofs.BuildLaws.{row_set_lem}
+use Rattle.pack_cell.specs.Cells.{at}
+use Rattle.pack_cell.specs.declared.Cell as code
 use Rattle.registry.specs.Matching.{cell_with, cell_of, matches_in, matches_in_lem, chosen, intern_by, intern_chosen}
 use Rattle.registry.specs.declared.Choice.{Choice}
 use Rattle.registry.specs.declared.Choice.TheVariants.{First, Second, Write}
@@ -79,21 +81,21 @@ drop_replicate (suc k) (suc n) = let e : suc n - suc k ≡ n - k = omega arith i
 
 -- ---- cells
 
-pub cell_at_lem : (cells : List (List ℕ)) (i : ℕ) → i < length cells → cell_at (cells_is cells) i ≡ cell_of (get_or cells i [])
-cell_at_lem [] i l = absurd (omega arith)
-cell_at_lem (c ∷ cells) zero l = refl
-cell_at_lem (c ∷ cells) (suc i) l = cell_at_lem cells i (omega arith)
+pub cell_at_lem : (cells : List code.Cell) (i : ℕ) → cell_at (cells_is cells) i ≡ cell_of (at cells i)
+cell_at_lem [] i = refl
+cell_at_lem (c ∷ cells) zero = refl
+cell_at_lem (c ∷ cells) (suc i) = cell_at_lem cells i
 
-pub length_cells : (cells : List (List ℕ)) → length (cells_is cells) ≡ length cells
+pub length_cells : (cells : List code.Cell) → length (cells_is cells) ≡ length cells
 length_cells [] = refl
 length_cells (c ∷ cells) = ap suc (length_cells cells)
 
-map_set : (cells : List (List ℕ)) (i : ℕ) (c : List ℕ) → cells_is (set cells i c) ≡ set (cells_is cells) i (cell_of c)
+map_set : (cells : List code.Cell) (i : ℕ) (c : code.Cell) → cells_is (set cells i c) ≡ set (cells_is cells) i (cell_of c)
 map_set [] i c = refl
 map_set (x ∷ cells) zero c = refl
 map_set (x ∷ cells) (suc i) c = ap (λ (l : List Cell). cell_of x ∷ l) (map_set cells i c)
 
-pub row_stored : (cells : List (List ℕ)) (i : ℕ) (c d : List ℕ) → cells_is (set (set cells i c) (i + 1) d) ≡ row_set (cells_is cells) i (cell_of c) (cell_of d)
+pub row_stored : (cells : List code.Cell) (i : ℕ) (c d : code.Cell) → cells_is (set (set cells i c) (i + 1) d) ≡ row_set (cells_is cells) i (cell_of c) (cell_of d)
 row_stored cells i c d = map_set (set cells i c) (i + 1) d ∙ ap (λ (l : List Cell). set l (i + 1) (cell_of d)) (map_set cells i c)
 
 fit_grows : (first later : ℕ) (c : Cell) → first ≤ later → CellFit first c → CellFit later c
@@ -101,7 +103,7 @@ fit_grows first later c le (inl z) = inl z
 fit_grows first later c le (inr w) = inr (w.0, omega (arith, w.1))
 
 -- the two cells of a row are stored
-row_fits : (first later : ℕ) (cells cells' : List (List ℕ)) (i : ℕ) (c d : Cell) → first ≤ later → CellsFit first cells → cells_is cells' ≡ row_set (cells_is cells) i c d
+row_fits : (first later : ℕ) (cells cells' : List code.Cell) (i : ℕ) (c d : Cell) → first ≤ later → CellsFit first cells → cells_is cells' ≡ row_set (cells_is cells) i c d
     → CellFit later c → CellFit later d → CellsFit later cells'
 row_fits first later cells cells' i c d le f is fc fd = record {
   fit = λ j.
@@ -137,13 +139,13 @@ chosen_second false false e = absurd (let z : ◌≡◌ {A = ℕ} 0 1 = cc in om
 -- ---- what each way leaves
 
 -- an answer with an address
-pub answered : {R : Interned} {first : ℕ} {out : List ℕ} {cells : List (List ℕ)} {a next : ℕ} → AtIs R first out cells a next → InternIs R first out cells (Some (placed a next))
+pub answered : {R : Interned} {first : ℕ} {out : List ℕ} {cells : List code.Cell} {a next : ℕ} → AtIs R first out cells a next → InternIs R first out cells (Some (placed a next))
 answered {R} {first} {out} {cells} {a} {next} w = record {
   at = λ p e. let same : placed a next ≡ p = cc in subst (λ (q : Placed). AtIs R first out cells q.addr q.next) same w;
   full = λ e. cc;
 }
 
-module _ (out : List ℕ) (first : ℕ) (cells : List (List ℕ)) (ready : Ready out first cells) (b : BuilderNode) where
+module _ (out : List ℕ) (first : ℕ) (cells : List code.Cell) (ready : Ready out first cells) (b : BuilderNode) where
   abbrev B : Build
   B = build_is out first cells
 
@@ -151,15 +153,19 @@ module _ (out : List ℕ) (first : ℕ) (cells : List (List ℕ)) (ready : Ready
   unfolding intern TargetOk
   found_nothing e = answered (record { is = rw e; ready = ready; grown = omega arith; target = inl refl })
 
-  module _ (some : packs_to_nothing b ≡ false) (i : ℕ) (row : i ≡ row_of (cells_is cells) b) (low : i + 1 < length cells) (choice : Choice)
-      (is : choice ≡ chosen (matches_in (take first out) b (cell_of (get_or cells i []))) (matches_in (take first out) b (cell_of (get_or cells (i + 1) [])))) where
+  module _ (some : packs_to_nothing b ≡ false) (i : ℕ) (row : i ≡ row_of (cells_is cells) b) (low : i + 1 < length cells)
+      {one two : code.Cell} (one_is : one ≡ at cells i) (two_is : two ≡ at cells (i + 1)) (choice : Choice)
+      (by : choice ≡ chosen (matches_in (take first out) b (cell_of one)) (matches_in (take first out) b (cell_of two))) where
     abbrev M : ℕ → Bool
-    M j = matches_in (take first out) b (cell_of (get_or cells j []))
+    M j = matches_in (take first out) b (cell_of (at cells j))
+
+    is : choice ≡ chosen (M i) (M (i + 1))
+    is = by ∙ ap₂ (λ (c d : code.Cell). chosen (matches_in (take first out) b (cell_of c)) (matches_in (take first out) b (cell_of d))) one_is two_is
 
     match_is : (j : ℕ) → j < length cells → M j ≡ matches B.nodes b (cell_at (cells_is cells) j)
     match_is j l =
-        ap (λ (f : List ℕ). matches_in f b (cell_of (get_or cells j []))) (laid_front ready.laid) ∙ matches_in_lem (nodes_in out first) b (cell_of (get_or cells j []))
-        ∙ ap (matches B.nodes b) (sym (cell_at_lem cells j l))
+        ap (λ (f : List ℕ). matches_in f b (cell_of (at cells j))) (laid_front ready.laid) ∙ matches_in_lem (nodes_in out first) b (cell_of (at cells j))
+        ∙ ap (matches B.nodes b) (sym (cell_at_lem cells j))
 
     pub by_choice : intern B b ≡ intern_by B b choice
     by_choice =
@@ -167,37 +173,38 @@ module _ (out : List ℕ) (first : ℕ) (cells : List (List ℕ)) (ready : Ready
         ∙ ap (intern_by B b) (ap₂ chosen (sym (match_is i (omega arith) ∙ ap (λ (j : ℕ). matches B.nodes b (cell_at (cells_is cells) j)) row))
         (sym (match_is (i + 1) low ∙ ap (λ (j : ℕ). matches B.nodes b (cell_at (cells_is cells) (j + 1))) row)) ∙ sym is)
 
-    pub found_first : choice ≡ First → InternIs (intern B b) first out cells (Some (placed (get_or (get_or cells i []) 0 0) first))
-    found_first e = answered (record {
-      is = by_choice ∙ ap (intern_by B b) e ∙ ap (λ (a : ℕ). interned_with B a) (ap (λ (j : ℕ). (cell_at (cells_is cells) j).addr) (sym row) ∙ ap (λ (c : Cell). c.addr) (cell_at_lem cells i (omega arith)));
+    pub found_first : choice ≡ First → InternIs (intern B b) first out cells (Some (placed one.addr first))
+    found_first e = rw one_is (answered (record {
+      is = by_choice ∙ ap (intern_by B b) e ∙ ap (λ (a : ℕ). interned_with B a) (ap (λ (j : ℕ). (cell_at (cells_is cells) j).addr) (sym row) ∙ ap (λ (c : Cell). c.addr) (cell_at_lem cells i));
       ready = ready;
       grown = omega arith;
-      target = match_target (take first out) b (cell_of (get_or cells i [])) first (chosen_first (M i) (M (i + 1)) (sym is ∙ e))
-          (subst (CellFit first) (cell_at_lem cells i (omega arith)) (ready.cells_fit.fit i));
-    })
+      target = match_target (take first out) b (cell_of (at cells i)) first (chosen_first (M i) (M (i + 1)) (sym is ∙ e))
+          (subst (CellFit first) (cell_at_lem cells i) (ready.cells_fit.fit i));
+    }))
 
-    pub found_second : choice ≡ Second → (cells' : List (List ℕ)) → length cells' ≡ length cells
-        → cells_is cells' ≡ row_set (cells_is cells) i (cell_of (get_or cells (i + 1) [])) (cell_of (get_or cells i []))
-        → InternIs (intern B b) first out cells' (Some (placed (get_or (get_or cells (i + 1) []) 0 0) first))
-    found_second e cells' len stored =
-        let c₀ = cell_at_lem cells i (omega arith) in
-        let c₁ = cell_at_lem cells (i + 1) low in
+    pub found_second : choice ≡ Second → (cells' : List code.Cell) → length cells' ≡ length cells
+        → cells' ≡ set (set cells i (at cells (i + 1))) (i + 1) (at cells i)
+        → InternIs (intern B b) first out cells' (Some (placed two.addr first))
+    found_second e cells' len put =
+        let stored = ap cells_is put ∙ row_stored cells i (at cells (i + 1)) (at cells i) in
+        let c₀ = cell_at_lem cells i in
+        let c₁ = cell_at_lem cells (i + 1) in
         let fit₀ = subst (CellFit first) c₀ (ready.cells_fit.fit i) in
         let fit₁ = subst (CellFit first) c₁ (ready.cells_fit.fit (i + 1)) in
-        answered (record {
+        rw two_is (answered (record {
           is = by_choice ∙ ap (intern_by B b) e ∙ ap (promote B) (sym row)
               ∙ ap₂ (λ (x y : Cell). interned_with (record { nodes = B.nodes; cells = row_set (cells_is cells) i y x }) y.addr) c₀ c₁
-              ∙ ap (λ (l : List Cell). interned_with (record { nodes = B.nodes; cells = l }) (get_or (get_or cells (i + 1) []) 0 0)) (sym stored);
+              ∙ ap (λ (l : List Cell). interned_with (record { nodes = B.nodes; cells = l }) ((at cells (i + 1)).addr)) (sym stored);
           ready = record {
             laid = ready.laid;
-            cells_fit = row_fits first first cells cells' i (cell_of (get_or cells (i + 1) [])) (cell_of (get_or cells i [])) (omega arith) ready.cells_fit stored fit₁ fit₀;
+            cells_fit = row_fits first first cells cells' i (cell_of (at cells (i + 1))) (cell_of (at cells i)) (omega arith) ready.cells_fit stored fit₁ fit₀;
             two = omega (arith, len, ready.two);
           };
           grown = omega arith;
-          target = match_target (take first out) b (cell_of (get_or cells (i + 1) [])) first (chosen_second (M i) (M (i + 1)) (sym is ∙ e)) fit₁;
-        })
+          target = match_target (take first out) b (cell_of (at cells (i + 1))) first (chosen_second (M i) (M (i + 1)) (sym is ∙ e)) fit₁;
+        }))
 
-    pub by_write : choice ≡ Write → (out' : List ℕ) (cells' : List (List ℕ)) (r : Option Placed) → InternIs (write_of B b) first out' cells' r → InternIs (intern B b) first out' cells' r
+    pub by_write : choice ≡ Write → (out' : List ℕ) (cells' : List code.Cell) (r : Option Placed) → InternIs (write_of B b) first out' cells' r → InternIs (intern B b) first out' cells' r
     by_write e out' cells' r w = subst (λ (x : Interned). InternIs x first out' cells' r) (sym (by_choice ∙ ap (intern_by B b) e)) w
 
   pub row_is : (hash i : ℕ) → hash ≡ hash_of b → i ≡ 2 * (hash % (length cells / 2)) → i ≡ row_of (cells_is cells) b
@@ -230,8 +237,8 @@ module _ (out : List ℕ) (first : ℕ) (cells : List (List ℕ)) (ready : Ready
   no_room short = omega (arith, short, length-append (nodes_in out first) bytes, length_nodes ready.laid, ready.laid.high)
 
   pub written_at : (some : packs_to_nothing b ≡ false) (i : ℕ) → i ≡ row_of (cells_is cells) b → i + 1 < length cells → length bytes ≤ z
-      → (part : List ℕ) → part ≡ bytes ++ drop (length bytes) (drop first out) → (cells' : List (List ℕ)) → length cells' ≡ length cells
-      → cells_is cells' ≡ row_set (cells_is cells) i (cell_with (first + length bytes - 1) (hash_of b)) (cell_of (get_or cells i []))
+      → (part : List ℕ) → part ≡ bytes ++ drop (length bytes) (drop first out) → (cells' : List code.Cell) → length cells' ≡ length cells
+      → cells_is cells' ≡ row_set (cells_is cells) i (cell_with (first + length bytes - 1) (hash_of b)) (cell_of (at cells i))
       → AtIs R first (grown_out part) cells' (first + length bytes - 1) (first + length bytes)
   unfolding TargetOk
   written_at some i row low room part is cells' len stored =
@@ -246,7 +253,7 @@ module _ (out : List ℕ) (first : ℕ) (cells : List (List ℕ)) (ready : Ready
       ap₂ (λ (l : List ℕ) (k : ℕ). nodes_in l k) w (sym place) ∙ nodes_of nodes (z - length bytes) in
       let laid : Laid (grown_out part) (first + length bytes) =
       subst (λ (l : List ℕ). Laid l (first + length bytes)) (sym w) (subst (Laid _) place (laid_of nodes (z - length bytes))) in
-      let c₀ = cell_at_lem cells i (omega arith) in
+      let c₀ = cell_at_lem cells i in
       record {
         is =
             ap (λ (a : ℕ). interned_with (record { nodes = nodes; cells = row_set (cells_is cells) (row_of (cells_is cells) b) (cell_with a (hash_of b)) (cell_at (cells_is cells) (row_of (cells_is cells) b)) }) a) addr
@@ -255,9 +262,9 @@ module _ (out : List ℕ) (first : ℕ) (cells : List (List ℕ)) (ready : Ready
             ∙ ap₂ (λ (m : List ℕ) (l : List Cell). interned_with (record { nodes = m; cells = l }) (first + length bytes - 1)) (sym nodes_are) (sym stored);
         ready = record {
           laid = laid;
-          cells_fit = row_fits first (first + length bytes) cells cells' i (cell_with (first + length bytes - 1) (hash_of b)) (cell_of (get_or cells i [])) (omega arith)
+          cells_fit = row_fits first (first + length bytes) cells cells' i (cell_with (first + length bytes - 1) (hash_of b)) (cell_of (at cells i)) (omega arith)
               ready.cells_fit stored (inr (omega (arith, ready.laid.low), omega arith))
-              (fit_grows first (first + length bytes) (cell_of (get_or cells i [])) (omega arith) (subst (CellFit first) c₀ (ready.cells_fit.fit i)));
+              (fit_grows first (first + length bytes) (cell_of (at cells i)) (omega arith) (subst (CellFit first) c₀ (ready.cells_fit.fit i)));
           two = omega (arith, len, ready.two);
         };
         grown = omega arith;
@@ -313,12 +320,14 @@ module _ (out : List ℕ) (first : ℕ) (cells : List (List ℕ)) (ready : Ready
       go false fits is buf = (omega (arith, leb-false (length (packed first b)) (length part₀) fits, part_length, ap length bytes_at), buf)
 
   pub wrote : (i hash : ℕ) → Writable out first cells i hash b → (part : List ℕ) (r : Result ℕ Refusal) (len : ℕ) → Fitted (packed first b) part₀ part r → r ≡ Ok len
-      → (cells' : List (List ℕ)) → length cells' ≡ length cells → cells_is cells' ≡ row_set (cells_is cells) i (cell_with (first + len - 1) hash) (cell_of (get_or cells i []))
+      → {old : code.Cell} → old ≡ at cells i → {cells' : List code.Cell} → length cells' ≡ length cells → cells' ≡ set (set cells i (record { addr = first + len - 1; hash = hash })) (i + 1) old
       → InternIs (write_of B b) first (out_after part) cells' (Some (placed (first + len - 1) (first + len)))
-  wrote i hash w part r len f e cells' long stored =
+  wrote i hash w part r len f e {old} old_is {cells'} long put =
+      let stored : cells_is cells' ≡ row_set (cells_is cells) i (cell_with (first + len - 1) hash) (cell_of (at cells i)) =
+      ap cells_is put ∙ row_stored cells i (record { addr = first + len - 1; hash = hash }) old ∙ ap (λ (c : code.Cell). row_set (cells_is cells) i (cell_with (first + len - 1) hash) (cell_of c)) old_is in
       let p = fitted_len part r len f e in
       let at = written_at w.some i w.row w.low p.0 part p.2 cells' long
-      (stored ∙ ap₂ (λ (n h : ℕ). row_set (cells_is cells) i (cell_with (first + n - 1) h) (cell_of (get_or cells i []))) p.1 w.hash_is) in
+      (stored ∙ ap₂ (λ (n h : ℕ). row_set (cells_is cells) i (cell_with (first + n - 1) h) (cell_of (at cells i))) p.1 w.hash_is) in
       answered (subst (λ (l : List ℕ). AtIs R first l cells' (first + len - 1) (first + len)) (sym (out_after_lem part))
       (subst (λ (n : ℕ). AtIs R first (grown_out part) cells' (first + n - 1) (first + n)) (sym p.1) at))
 

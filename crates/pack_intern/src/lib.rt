@@ -1,17 +1,17 @@
 // One record interned: its address among the nodes so far, found through the cells or written after them.
 // A cell is an address and a hash, a row two cells, as in `RegistryCache` of src/raw/registry.rs.
-// output, cells and first are three parameters and no struct: the place of the next node comes back as a result, and there is none where
-// the output has no room.
+// output, cells and first are three parameters and no struct: they are together for one node. The next node is lent another row of cells, and between
+// two nodes first alone goes on, in a pack_node `Due`.
 #![tactic(auto)]
 
-ghost use Rattle.std.specs.Prelude.{◌≡◌, ◌+◌, ◌*◌, ◌/◌, ◌%◌, ◌≤◌, ◌<◌, length};
+ghost use Rattle.std.specs.Prelude.{◌≡◌, ◌+◌, ◌*◌, ◌/◌, ◌%◌, ◌≤◌, ◌<◌};
 ghost use Rattle.node_compile.specs.Compile.{builder_is};
 ghost use Rattle.node_compile.specs.Parts.{RecordFits};
-ghost use Rattle.packing.specs.Registry.{row_set, intern};
-ghost use Rattle.registry.specs.Matching.{cell_of};
-ghost use Rattle.pack_intern.specs.Interning.{cells_is, build_is, Ready, Writable, write_of, InternIs};
+ghost use Rattle.packing.specs.Registry.{intern};
+ghost use Rattle.pack_intern.specs.Interning.{build_is, Ready, Writable, write_of, InternIs};
 
 use node_record::BuilderNode;
+use pack_cell::{Cell, promote, put_row};
 use registry::Choice;
 
 // Where a record is. There is none where it would have to be written, and the output has no room.
@@ -31,19 +31,10 @@ pub fn row_of(own_hash: u64, n: usize) -> usize
     2 * (own_hash as usize % (n / 2))
 }
 
-// Stores the two cells of the row that begins at i.
-fn put_row(cells: &mut [[u64; 2]], i: usize, first: [u64; 2], second: [u64; 2])
-    requires { i + 1 < length cells.old }
-    ensures { cells_is cells.new ≡ row_set (cells_is cells.old) i (cell_of first) (cell_of second) }
-{
-    cells[i] = first;
-    cells[i + 1] = second;
-}
-
 // Writes the record after the nodes; its cell goes first in its row, which begins at i.
 fn write_node(
     output: &mut [u8],
-    cells: &mut [[u64; 2]],
+    cells: &mut [Cell],
     first: usize,
     i: usize,
     own_hash: u64,
@@ -57,7 +48,11 @@ fn write_node(
     let next = first + len;
     let old = cells[i];
     let addr = next - 1;
-    put_row(cells, i, [addr as u64, own_hash], old);
+    let own = Cell {
+        addr: addr as u64,
+        hash: own_hash,
+    };
+    put_row(cells, i, [own, old]);
     Some(Placed { addr, next })
 }
 
@@ -65,7 +60,7 @@ fn write_node(
 // written.
 pub fn intern(
     output: &mut [u8],
-    cells: &mut [[u64; 2]],
+    cells: &mut [Cell],
     first: usize,
     node: BuilderNode<'_>,
 ) -> Option<Placed>
@@ -85,14 +80,14 @@ pub fn intern(
     let two = cells[i + 1];
     match registry::choose(&output[..first], one, two, own_hash, node) {
         Choice::First => Some(Placed {
-            addr: one[0] as usize,
+            addr: one.addr as usize,
             next: first,
         }),
         // the cell that matched goes first
         Choice::Second => {
-            put_row(cells, i, two, one);
+            promote(cells, i);
             Some(Placed {
-                addr: two[0] as usize,
+                addr: two.addr as usize,
                 next: first,
             })
         }

@@ -6,21 +6,22 @@ use Rattle.std.specs.Prelude.{◌≡◌, Option, None, Some, List, ℕ, ◌+◌,
 use Rattle.packing.specs.Lists.{count_in, key_at, pairs_from}
 use Rattle.packing.specs.Packing.{State, insert_all}
 use Rattle.packing_rows.specs.WorkTables.{Tables}
+use Rattle.pack_cell.specs.declared.Cell.{Cell}
 use Rattle.pack_intern.specs.Interning.{build_is}
 use Rattle.pack_close.specs.Closing.{Closable}
 use Rattle.pack_insert.specs.Inserting.{last_key, state_of, Between}
 
 -- the place past the nodes is next, and the deepest open node is at depth k
-pub record BuildsTo (t : State) (out : List ℕ) (cells : List (List ℕ)) (T : Tables) (next k : ℕ) : Type 0 where
+pub record BuildsTo (t : State) (out : List ℕ) (cells : List Cell) (T : Tables) (next k : ℕ) : Type 0 where
   pub is : t ≡ state_of (build_is out next cells) T k
   pub closable : Closable out next cells T k
 
-pub record Builds (t : State) (out : List ℕ) (cells : List (List ℕ)) (T : Tables) (r : Option (ℕ × ℕ)) : Type 0 where
+pub record Builds (t : State) (out : List ℕ) (cells : List Cell) (T : Tables) (r : Option (ℕ × ℕ)) : Type 0 where
   pub at : (next k : ℕ) → r ≡ Some (next, k) → BuildsTo t out cells T next k
   pub full : r ≡ None → length out < 16 + length t.build.nodes
 
 -- where the loop stands: i keys have been added
-pub record Building (t : State) (s : List ℕ) (out : List ℕ) (cells : List (List ℕ)) (T : Tables) (next k i : ℕ) : Type 0 where
+pub record Building (t : State) (s : List ℕ) (out : List ℕ) (cells : List Cell) (T : Tables) (next k i : ℕ) : Type 0 where
   pub within : i ≤ count_in s
   pub is : t ≡ insert_all (state_of (build_is out next cells) T k) (pairs_from s i (count_in s - i))
   pub between : Between out next cells T k

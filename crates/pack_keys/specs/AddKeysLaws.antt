@@ -15,6 +15,7 @@ use Rattle.packing.specs.Lists.{count_in, total_in, end_at, begin_at, key_at, va
 use Rattle.packing.specs.Packing.{State, insert, insert_all}
 use Rattle.packing.proofs.InsertLaws.{insert_all_grows}
 use Rattle.packing_rows.specs.WorkTables.{Tables, open_at, levels}
+use Rattle.pack_cell.specs.declared.Cell.{Cell}
 use Rattle.pack_intern.specs.Interning.{build_is}
 use Rattle.pack_insert.specs.Inserting.{last_key, state_of, Between, Follows, Insertable, Inserts}
 use Rattle.pack_keys.specs.AddKeys.{BuildsTo, Builds, Building}
@@ -56,7 +57,7 @@ module _ (s : List ℕ) (ok : IsList s) (i n b e : ℕ) (l : i < count_in s) (n_
 
 -- ---- the loop
 
-pub building_none : (s out : List ℕ) (cells : List (List ℕ)) (T : Tables) → Between out 16 cells T 0
+pub building_none : (s out : List ℕ) (cells : List Cell) (T : Tables) → Between out 16 cells T 0
     → Building (insert_all (state_of (build_is out 16 cells) T 0) (pairs_of s)) s out cells T 16 0 0
 unfolding pairs_of
 building_none s out cells T b = record {
@@ -71,7 +72,7 @@ nil_follows : (key : List ℕ) → Follows [] key
 nil_follows [] = inr (refl, refl)
 nil_follows (x ∷ key) = inl shorter
 
-module _ {t : State} {s out : List ℕ} {cells : List (List ℕ)} {T : Tables} {next k i : ℕ} (w : Building t s out cells T next k i) (ok : IsList s) (l : i < count_in s)
+module _ {t : State} {s out : List ℕ} {cells : List Cell} {T : Tables} {next k i : ℕ} (w : Building t s out cells T next k i) (ok : IsList s) (l : i < count_in s)
     (key : List ℕ) (key_is_lem : key ≡ key_at s i) (short : length key < 256) (v : ℕ) (v_is : v ≡ value_at s i) where
   pub insertable : Insertable out next cells T k key
   insertable = record {
@@ -96,7 +97,7 @@ module _ {t : State} {s out : List ℕ} {cells : List (List ℕ)} {T : Tables} {
       w.is ∙ ap (λ (n : ℕ). insert_all (state_of (build_is out next cells) T k) (pairs_from s i n)) e
       ∙ ap₂ (λ (x : List ℕ) (y : ℕ). insert_all (insert (build_is out next cells) (open_at T 0) (levels (open_at T) 1 k) x y) (pairs_from s (i + 1) (count_in s - (i + 1)))) (sym key_is_lem) (sym v_is)
 
-  pub building_step : {out' : List ℕ} {cells' : List (List ℕ)} {T' : Tables} {r : Option ℕ} {after k' : ℕ} → Inserts t₁ key out' cells' T' r → r ≡ Some after
+  pub building_step : {out' : List ℕ} {cells' : List Cell} {T' : Tables} {r : Option ℕ} {after k' : ℕ} → Inserts t₁ key out' cells' T' r → r ≡ Some after
       → length key ≡ k' → Building t s out' cells' T' after k' (i + 1)
   building_step {out'} {cells'} {T'} {r} {after} {k'} ins e len =
       let a = ins.at after e in
@@ -109,7 +110,7 @@ module _ {t : State} {s out : List ℕ} {cells : List (List ℕ)} {T : Tables} {
         last = λ h. a.last ∙ key_is_lem ∙ ap (key_at s) (sym q);
       })
 
-  pub building_full : {out' : List ℕ} {cells' : List (List ℕ)} {T' : Tables} {r : Option ℕ} → Inserts t₁ key out' cells' T' r → r ≡ None → Builds t out' cells' T' None
+  pub building_full : {out' : List ℕ} {cells' : List Cell} {T' : Tables} {r : Option ℕ} → Inserts t₁ key out' cells' T' r → r ≡ None → Builds t out' cells' T' None
   building_full {out'} ins e = record {
     at = λ n d q. cc;
     full = λ q.
@@ -120,7 +121,7 @@ module _ {t : State} {s out : List ℕ} {cells : List (List ℕ)} {T : Tables} {
 same_pair : {x y : ℕ × ℕ} → ◌≡◌ {A = Option (ℕ × ℕ)} (Some x) (Some y) → x ≡ y
 same_pair e = cc
 
-pub building_all : {t : State} {s out : List ℕ} {cells : List (List ℕ)} {T : Tables} {next k i : ℕ} → Building t s out cells T next k i → count_in s ≤ i
+pub building_all : {t : State} {s out : List ℕ} {cells : List Cell} {T : Tables} {next k i : ℕ} → Building t s out cells T next k i → count_in s ≤ i
     → Builds t out cells T (Some (next, k))
 unfolding insert_all pairs_from
 building_all {t} {s} {out} {cells} {T} {next} {k} {i} w le =

@@ -1,6 +1,6 @@
 // The list that is packed, judged before anything is written, and read: the number of keys, ends, values.
 // A list is: the number of keys and the total of their bytes, an end for each key, a value for each key, the key bytes.
-// A key's place in the list is its number and the count: the list is lent as bytes.
+// A key is told by its number, since the list is lent as bytes: where its end, its value and its bytes stand is worked out of it.
 #![tactic(auto)]
 
 ghost use Rattle.std.specs.Prelude.{◌≡◌, ◌+◌, ◌*◌, ◌≤◌, ◌<◌, length};
@@ -75,6 +75,7 @@ fn comes_before(a: &[u8], b: &[u8]) -> bool
 
 // Whether no end is less than the one before, no key is too long, and the last end, 0 with no keys, is the total.
 // n and total are the list's own, here and below: judge_list has read both, and gives them on.
+// No `all`, here and below: tried over the range of the keys, and the proof did not close, since what the closure told of each key was not found.
 fn ends_ok(list: &[u8], n: usize, total: usize) -> bool
     requires { (n < 4294967296) × (8 + 12 * n ≤ length list.now) }
     ensures { Decides result (EndsOk list.now n total) }

@@ -10,7 +10,6 @@ use Rattle.packing.specs.Packing.{pack_nodes}
 use Rattle.packing_rows.specs.WorkTables.{Tables}
 use Rattle.pack_cell.specs.declared.Cell.{Cell}
 use Rattle.pack_row.specs.Row.{put_pair, TakenFrom}
-use Rattle.pack_turn.specs.RowClosing.{pair_of}
 use Rattle.pack_ahead.specs.declared.Way.{Way}
 use Rattle.pack_ahead.specs.Ahead.{Underway, way_left, row_next}
 use Rattle.pack_node.specs.declared.Due.{Due}
@@ -18,7 +17,7 @@ use Rattle.pack_node.specs.declared.Due.{Due}
 abbrev pub hash_next : Tables → ℕ → ℕ
 hash_next T d = hash_of (row_next T d)
 
-pub record NodeAt (s : List ℕ) (cells : ℕ) (out : List ℕ) (table : List (List ℕ)) (T : Tables) (next : ℕ) (w : Way) (row : ℕ) : Type 0 where
+pub record NodeAt (s : List ℕ) (cells : ℕ) (out : List ℕ) (table : List Cell) (T : Tables) (next : ℕ) (w : Way) (row : ℕ) : Type 0 where
   pub list : IsList s
   pub two : 2 ≤ cells
   pub count : length table ≡ cells
@@ -30,17 +29,17 @@ pub record NodeAt (s : List ℕ) (cells : ℕ) (out : List ℕ) (table : List (L
 
 -- the two cells are those of the node's row, in some table
 pub record NodeAsked (s : List ℕ) (cells : ℕ) (out : List ℕ) (pair : List Cell) (T : Tables) (next : ℕ) (w : Way) : Type 0 where
-  pub table : List (List ℕ)
+  pub table : List Cell
   pub row : ℕ
   pub at : NodeAt s cells out table T next w row
-  pub taken : TakenFrom table row (pair_of pair)
+  pub taken : TakenFrom table row pair
   pub low : 0 < w.depth
 
 -- in every table that has them there
 pub record NodeSteps (s : List ℕ) (cells : ℕ) (out : List ℕ) (pair : List Cell) (T : Tables) (next : ℕ) (w : Way) (out' : List ℕ) (back : List Cell) (T' : Tables) (r : Option Due) : Type 0 where
-  pub at : (n : Due) → r ≡ Some n → (table : List (List ℕ)) (row : ℕ) → NodeAt s cells out table T next w row → TakenFrom table row (pair_of pair)
-      → NodeAt s cells out' (put_pair table row (pair_of back)) T' n.next n.way n.row
+  pub at : (n : Due) → r ≡ Some n → (table : List Cell) (row : ℕ) → NodeAt s cells out table T next w row → TakenFrom table row pair
+      → NodeAt s cells out' (put_pair table row back) T' n.next n.way n.row
   -- the nodes have no room
-  pub full : r ≡ None → (table : List (List ℕ)) (row : ℕ) → NodeAt s cells out table T next w row → TakenFrom table row (pair_of pair)
+  pub full : r ≡ None → (table : List Cell) (row : ℕ) → NodeAt s cells out table T next w row → TakenFrom table row pair
       → length out' < 16 + length (pack_nodes (pairs_of s) cells).build.nodes
   pub less : (n : Due) → r ≡ Some n → way_left s n.way < way_left s w

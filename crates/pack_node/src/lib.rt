@@ -1,4 +1,5 @@
 // A node that is not the root, finished in the two cells of its row, and then keys opened until the next node has to be finished.
+// output, row and first are no struct: the next node gets another row and another first, which a `Due` tells.
 #![tactic(auto)]
 
 ghost use Rattle.pack_close.specs.OpenNodes.{tables_in};
@@ -35,7 +36,7 @@ pub fn node_in_row(
         output.new row.new (tables_in tables.new) result }
 {
     let e = way.depth - 1;
-    let next = pack_turn::close_in_row(output, row, first, e, tables)?;
+    let next = tables.close_one(output, row, first, e)?;
     let from = Way { depth: e, ..way };
     let on = pack_ahead::ahead(list, from, &mut tables.nodes);
     let d = on.depth;

@@ -13,11 +13,12 @@ use Rattle.packing.specs.Promise.{PackRight}
 use Rattle.packing.proofs.ListLaws.{decides_list, list_listed, count_lt}
 use Rattle.packing.specs.Kept.{pack_keeps, KeptSeen}
 use Rattle.packing.proofs.PackLaws.{pack_admitted, pack_right, pack_kept}
+use Rattle.pack_cell.specs.declared.Cell.{Cell}
 use Rattle.pack_intern.specs.Interning.{cells_is}
 use Rattle.pack_blank.specs.PackBlank.{answer_as}
 use Rattle.pack.specs.PackList.{PacksBy}
 
-pub record PackedList (s : List ℕ) (n : ℕ) (out : List ℕ) (cells : List (List ℕ)) : Type 0 where
+pub record PackedList (s : List ℕ) (n : ℕ) (out : List ℕ) (cells : List Cell) : Type 0 where
   pub list : IsList s
   pub output : out ≡ pack_file (pairs_of s) n ++ replicate (length out - length (pack_file (pairs_of s) n)) 0
   pub cells_are : cells_is cells ≡ pack_cells (pairs_of s) n
@@ -26,7 +27,7 @@ pub record PackedList (s : List ℕ) (n : ℕ) (out : List ℕ) (cells : List (L
   -- whether no filled cell was overwritten is seen from outside
   pub kept : KeptSeen (pack_keeps (pairs_of s) n) (pack_cells (pairs_of s) n) admitted.nodes
 
-pub pack_promise : (s : List ℕ) → ((i : ℕ) → get_or s i 0 < 256) → (tables : Bool) (n room : ℕ) (out : List ℕ) (cells : List (List ℕ)) (inputs leasts targets : List ℕ) (len : ℕ)
+pub pack_promise : (s : List ℕ) → ((i : ℕ) → get_or s i 0 < 256) → (tables : Bool) (n room : ℕ) (out : List ℕ) (cells : List Cell) (inputs leasts targets : List ℕ) (len : ℕ)
     → PacksBy (pack_answer max_len s tables n room) out cells inputs leasts targets (Ok len) → PackedList s n out cells
 unfolding pack_answer
 pack_promise s bytes tables n room out cells inputs leasts targets len w =

@@ -8,6 +8,8 @@
 use Rattle.std.specs.Prelude.{◌≡◌, List, [], ◌∷◌, true, false, ℕ, ◌+◌, ◌*◌, ◌≤◌, ◌<◌, length, get_or, set}
 use Rattle.packing.specs.Registry.{Cell, cell_at, row_set, Interned}
 use Rattle.packing_rows.specs.WorkTables.{Tables, count_at}
+use Rattle.pack_cell.specs.Cells.{at}
+use Rattle.pack_cell.specs.declared.Cell as code
 use Rattle.pack_finish.specs.FinishRow.{AllAtLeast}
 use Rattle.pack_close.specs.Closing.{RowsFit}
 
@@ -21,12 +23,12 @@ back_in cells i R = record {
 }
 
 -- of lent cells
-abbrev pub put_pair : List (List ℕ) → ℕ → List (List ℕ) → List (List ℕ)
-put_pair cells i row = set (set cells i (get_or row 0 [])) (i + 1) (get_or row 1 [])
+abbrev pub put_pair : List code.Cell → ℕ → List code.Cell → List code.Cell
+put_pair cells i row = set (set cells i (at row 0)) (i + 1) (at row 1)
 
-pub record TakenFrom (cells : List (List ℕ)) (i : ℕ) (row : List (List ℕ)) : Type 0 where
+pub record TakenFrom (cells : List code.Cell) (i : ℕ) (row : List code.Cell) : Type 0 where
   pub within : i + 1 < length cells
-  pub is : row ≡ get_or cells i [] ∷ get_or cells (i + 1) [] ∷ []
+  pub is : row ≡ at cells i ∷ at cells (i + 1) ∷ []
 
 -- ---- the row of a node
 

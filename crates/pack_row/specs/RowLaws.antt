@@ -1,10 +1,10 @@
 -- Laws of a row of two cells: what is done in it alone is what is done in the whole table.
 --     intern_in_row        a record interned in its row
---     row_interned         so of lent cells, which are put back; same_cells: of cells that are the same one by one
+--     row_interned         so of lent cells, which are put back
 --     row_ready, row_closable  what interning a record, and finishing a node, asks, in its row alone
 --     step_in_row, step_full   the deepest node finished in its row alone, or the output is full
 -- Assumes nothing.
-use Rattle.std.specs.Prelude.{◌≡◌, Option, refl, Bool, true, false, cond, List, [], ◌∷◌, ◌++◌, ℕ, zero, suc, ◌+◌, ◌-◌, ◌*◌, ◌≤◌, ◌<◌, length, get_or, set}
+use Rattle.std.specs.Prelude.{◌≡◌, Option, refl, Bool, true, false, cond, List, [], ◌∷◌, ◌++◌, ℕ, zero, suc, ◌+◌, ◌-◌, ◌*◌, ◌≤◌, ◌<◌, length, set}
 use Rattle.std.proofs.Common.{sym, ap₂, ◌∙◌, subst, inl, inr, length-set, length-append, get_or-set_same, get_or-set_other}
 use Rattle.std.proofs.Math.Path.{ap}
 use Rattle.std.proofs.Math.Decide.{ℕ_discrete}
@@ -17,6 +17,8 @@ use Rattle.packing.specs.Packing.{Arc, Open, least_at, record_of, close, finish,
 use Rattle.packing.proofs.CloseLaws.{intern_grows}
 use Rattle.packing_rows.specs.WorkTables.{Tables, open_at, levels, Joined, joined, join, close_into}
 use Rattle.packing_rows.specs.OpenLaws.{closed_with, close_deepest, finish_into_grows}
+use Rattle.pack_cell.specs.Cells.{at}
+use Rattle.pack_cell.specs.declared.Cell as code
 use Rattle.pack_intern.specs.Interning.{nodes_in, cells_is, build_is, Laid, CellFit, CellsFit, Ready, interned_with, InternIs}
 use Rattle.pack_intern.specs.declared.Placed.{Placed}
 use Rattle.pack_intern.specs.InterningLaws.{nodes_length, cell_at_lem, length_cells, row_stored}
@@ -75,8 +77,8 @@ intern_in_row nodes cells b =
 -- ---- cells
 
 -- a cell of the row in the whole table
-cell_of_row : (cells : List (List ℕ)) (i : ℕ) → i + 1 < length cells → cells_is (get_or cells i [] ∷ get_or cells (i + 1) [] ∷ []) ≡ pair_at (cells_is cells) i
-cell_of_row cells i l = ap₂ (λ (c d : Cell). c ∷ d ∷ []) (sym (cell_at_lem cells i (omega arith))) (sym (cell_at_lem cells (i + 1) l))
+cell_of_row : (cells : List code.Cell) (i : ℕ) → cells_is (at cells i ∷ at cells (i + 1) ∷ []) ≡ pair_at (cells_is cells) i
+cell_of_row cells i = ap₂ (λ (c d : Cell). c ∷ d ∷ []) (sym (cell_at_lem cells i)) (sym (cell_at_lem cells (i + 1)))
 
 fit_later : (first later : ℕ) (c : Cell) → first ≤ later → CellFit first c → CellFit later c
 fit_later first later c l (inl e) = inl e
@@ -84,12 +86,12 @@ fit_later first later c l (inr (p, q)) = inr (p, omega arith)
 
 -- ---- the row put back
 
-cells_after_lem : (cells : List (List ℕ)) (i : ℕ) (row : List (List ℕ)) → length row ≡ 2 → row_set (cells_is cells) i (cell_at (cells_is row) 0) (cell_at (cells_is row) 1) ≡ cells_is (put_pair cells i row)
-cells_after_lem cells i row two =
-    ap₂ (row_set (cells_is cells) i) (cell_at_lem row 0 (omega arith)) (cell_at_lem row 1 (omega arith)) ∙ sym (row_stored cells i (get_or row 0 []) (get_or row 1 []))
+cells_after_lem : (cells : List code.Cell) (i : ℕ) (row : List code.Cell) → row_set (cells_is cells) i (cell_at (cells_is row) 0) (cell_at (cells_is row) 1) ≡ cells_is (put_pair cells i row)
+cells_after_lem cells i row =
+    ap₂ (row_set (cells_is cells) i) (cell_at_lem row 0) (cell_at_lem row 1) ∙ sym (row_stored cells i (at row 0) (at row 1))
 
-module _ (out : List ℕ) (first : ℕ) (cells : List (List ℕ)) (i : ℕ) (ready : Ready out first cells) (within : i + 1 < length cells) {out' : List ℕ} {next : ℕ} {row : List (List ℕ)} (grown : first ≤ next) (laid : Laid out' next)
-    (fit : CellsFit next row) (two : length row ≡ 2) where
+module _ (out : List ℕ) (first : ℕ) (cells : List code.Cell) (i : ℕ) (ready : Ready out first cells) (within : i + 1 < length cells) {out' : List ℕ} {next : ℕ} {row : List code.Cell} (grown : first ≤ next) (laid : Laid out' next)
+    (fit : CellsFit next row) where
   abbrev c₀ : Cell
   c₀ = cell_at (cells_is row) 0
 
@@ -119,58 +121,39 @@ module _ (out : List ℕ) (first : ℕ) (cells : List (List ℕ)) (i : ℕ) (rea
   pub ready_after : Ready out' next (put_pair cells i row)
   ready_after = record {
     laid = laid;
-    cells_fit = record { fit = λ k. subst (λ (t : List Cell). CellFit next (cell_at t k)) (cells_after_lem cells i row two) (fits_all k) };
-    two = omega (arith, ready.two, length-set (set cells i (get_or row 0 [])) (i + 1) (get_or row 1 []), length-set cells i (get_or row 0 []));
+    cells_fit = record { fit = λ k. subst (λ (t : List Cell). CellFit next (cell_at t k)) (cells_after_lem cells i row) (fits_all k) };
+    two = omega (arith, ready.two, length-set (set cells i (at row 0)) (i + 1) (at row 1), length-set cells i (at row 0));
   }
 
 -- ---- a record
 
-module _ (out : List ℕ) (first : ℕ) (cells : List (List ℕ)) (i : ℕ) (row : List (List ℕ)) (ready : Ready out first cells) (taken : TakenFrom cells i row) (b : BuilderNode) (at_row : i ≡ row_of (cells_is cells) b) where
+module _ (out : List ℕ) (first : ℕ) (cells : List code.Cell) (i : ℕ) (row : List code.Cell) (ready : Ready out first cells) (taken : TakenFrom cells i row) (b : BuilderNode) (at_row : i ≡ row_of (cells_is cells) b) where
   interned_as : intern (build_is out first cells) b ≡ back_in (cells_is cells) i (intern (build_is out first row) b)
   interned_as =
       intern_in_row (nodes_in out first) (cells_is cells) b
       ∙ ap (λ (k : ℕ). back_in (cells_is cells) k (intern (record { nodes = nodes_in out first; cells = pair_at (cells_is cells) k }) b)) (sym at_row)
-      ∙ ap (λ (t : List Cell). back_in (cells_is cells) i (intern (record { nodes = nodes_in out first; cells = t }) b)) (sym (ap cells_is taken.is ∙ cell_of_row cells i taken.within))
+      ∙ ap (λ (t : List Cell). back_in (cells_is cells) i (intern (record { nodes = nodes_in out first; cells = t }) b)) (sym (ap cells_is taken.is ∙ cell_of_row cells i))
 
   -- what interning in the row alone answers and leaves is what interning in the whole table does
-  pub row_interned : {out' : List ℕ} {row' : List (List ℕ)} {r : Option Placed} → InternIs (intern (build_is out first row) b) first out' row' r → length row' ≡ 2
+  pub row_interned : {out' : List ℕ} {row' : List code.Cell} {r : Option Placed} → InternIs (intern (build_is out first row) b) first out' row' r
       → InternIs (intern (build_is out first cells) b) first out' (put_pair cells i row') r
-  row_interned {out'} {row'} w two = record {
+  row_interned {out'} {row'} w = record {
     at = λ p e.
         let g = w.at p e in
         record {
-          is = interned_as ∙ ap (back_in (cells_is cells) i) g.is ∙ ap (λ (t : List Cell). interned_with (record { nodes = nodes_in out' p.next; cells = t }) p.addr) (cells_after_lem cells i row' two);
-          ready = ready_after out first cells i ready taken.within g.grown g.ready.laid g.ready.cells_fit two;
+          is = interned_as ∙ ap (back_in (cells_is cells) i) g.is ∙ ap (λ (t : List Cell). interned_with (record { nodes = nodes_in out' p.next; cells = t }) p.addr) (cells_after_lem cells i row');
+          ready = ready_after out first cells i ready taken.within g.grown g.ready.laid g.ready.cells_fit;
           grown = g.grown;
           target = g.target;
         };
     full = λ e. omega (arith, w.full e, ap (λ (x : Interned). length x.build.nodes) interned_as);
   }
 
--- cells of which each is the same cell
-pub same_cells : {R : Interned} {first : ℕ} {out : List ℕ} {cells cells' : List (List ℕ)} {r : Option Placed} → InternIs R first out cells r → cells_is cells ≡ cells_is cells' → length cells ≡ length cells'
-    → InternIs R first out cells' r
-same_cells {R} {first} {out} {cells} {cells'} w e l = record {
-  at = λ p q.
-      let g = w.at p q in
-      record {
-        is = g.is ∙ ap (λ (t : List Cell). interned_with (record { nodes = nodes_in out p.next; cells = t }) p.addr) e;
-        ready = record {
-          laid = g.ready.laid;
-          cells_fit = record { fit = λ k. subst (λ (t : List Cell). CellFit p.next (cell_at t k)) e (g.ready.cells_fit.fit k) };
-          two = omega (arith, g.ready.two, l);
-        };
-        grown = g.grown;
-        target = g.target;
-      };
-  full = w.full;
-}
-
 -- ---- the deepest node finished
 
-module _ (out : List ℕ) (first : ℕ) (cells : List (List ℕ)) (i : ℕ) (row : List (List ℕ)) (ready : Ready out first cells) (taken : TakenFrom cells i row) where
+module _ (out : List ℕ) (first : ℕ) (cells : List code.Cell) (i : ℕ) (row : List code.Cell) (ready : Ready out first cells) (taken : TakenFrom cells i row) where
   row_taken : cells_is row ≡ pair_at (cells_is cells) i
-  row_taken = ap cells_is taken.is ∙ cell_of_row cells i taken.within
+  row_taken = ap cells_is taken.is ∙ cell_of_row cells i
 
   pair_fits : (j : ℕ) → CellFit first (cell_at (pair_at (cells_is cells) i) j)
   pair_fits zero = ready.cells_fit.fit i
@@ -181,10 +164,10 @@ module _ (out : List ℕ) (first : ℕ) (cells : List (List ℕ)) (i : ℕ) (row
   row_ready = record {
     laid = ready.laid;
     cells_fit = record { fit = λ j. subst (λ (t : List Cell). CellFit first (cell_at t j)) (sym row_taken) (pair_fits j) };
-    two = subst (λ (t : List (List ℕ)). 2 ≤ length t) (sym taken.is) (omega arith);
+    two = subst (λ (t : List code.Cell). 2 ≤ length t) (sym taken.is) (omega arith);
   }
 
-module _ (out : List ℕ) (first : ℕ) (cells : List (List ℕ)) (T : Tables) (e i : ℕ) (row : List (List ℕ)) (C : Closable out first cells T (e + 1)) (taken : TakenFrom cells i row) where
+module _ (out : List ℕ) (first : ℕ) (cells : List code.Cell) (T : Tables) (e i : ℕ) (row : List code.Cell) (C : Closable out first cells T (e + 1)) (taken : TakenFrom cells i row) where
   row_is : cells_is row ≡ pair_at (cells_is cells) i
   row_is = row_taken out first cells i row C.ready taken
 
@@ -228,7 +211,7 @@ module _ (out : List ℕ) (first : ℕ) (cells : List (List ℕ)) (T : Tables) (
         let same = ap (λ (k : ℕ). length (close_into B' (open_at T m) (levels (open_at T) (m + 1) k)).build.nodes) q in
         omega (arith, short, l, same, ap (λ (x : Interned). length x.build.nodes) interned, ap (λ (x : Joined). length x.build.nodes) closed_one)
 
-    module _ {out' : List ℕ} {row' : List (List ℕ)} {T' : Tables} {next : ℕ} (j : JoinedAt (closed_to B₂' T e (e + 1)) T e out' row' T' next) (two' : length row' ≡ 2) where
+    module _ {out' : List ℕ} {row' : List code.Cell} {T' : Tables} {next : ℕ} (j : JoinedAt (closed_to B₂' T e (e + 1)) T e out' row' T' next) where
       here : join (open_at T e) (finish B₂' p) ≡ joined (build_is out' next row') (open_at T' e)
       here = sym closed_one ∙ j.is
 
@@ -242,7 +225,7 @@ module _ (out : List ℕ) (first : ℕ) (cells : List (List ℕ)) (T : Tables) (
       done =
           ap (closed_as p) interned
           ∙ ap (λ (b : Build). closed_with (record { nodes = b.nodes; cells = row_set (cells_is cells) i (cell_at b.cells 0) (cell_at b.cells 1) }) arc) build_row
-          ∙ ap (λ (t : List Cell). closed_with (record { nodes = nodes_in out' next; cells = t }) arc) (cells_after_lem cells i row' two')
+          ∙ ap (λ (t : List Cell). closed_with (record { nodes = nodes_in out' next; cells = t }) arc) (cells_after_lem cells i row')
 
       grown : first ≤ next
       grown =
@@ -257,7 +240,7 @@ module _ (out : List ℕ) (first : ℕ) (cells : List (List ℕ)) (T : Tables) (
             ∙ close_deepest (open_at T) (open_at T') B' (build_is out' next (put_pair cells i row')) arc (e + 1) e done (sym (ap (λ (x : Joined). x.top) here)) j.same m (e - m) (omega arith) (omega arith);
         same = j.same;
         closable = record {
-          ready = ready_after out first cells i C.ready taken.within grown j.closable.ready.laid j.closable.ready.cells_fit two';
+          ready = ready_after out first cells i C.ready taken.within grown j.closable.ready.laid j.closable.ready.cells_fit;
           sized = j.closable.sized;
           orderly = j.closable.orderly;
           low = j.closable.low;

@@ -17,6 +17,7 @@ use Rattle.packing.proofs.RootLaws.{cell_empty}
 use Rattle.packing_rows.specs.WorkTables.{Tables, tables_with, row_in, zip_arcs, count_at, open_at, levels, Joined, close_into}
 use Rattle.packing_rows.specs.OpenLaws.{close_into_grows}
 use Rattle.packing_rows.specs.WorkTableLaws.{length_row, record_row}
+use Rattle.pack_cell.specs.declared.Cell as code
 use Rattle.pack_intern.specs.Interning.{build_is, Laid, InternIs}
 use Rattle.pack_intern.specs.InterningLaws.{laid_of}
 use Rattle.pack_intern.specs.declared.Placed.{Placed}
@@ -37,7 +38,7 @@ none_targets : (first : ℕ) → TargetsOk first []
 unfolding TargetsOk
 none_targets first i h = absurd (omega arith)
 
-module _ (out : List ℕ) (cells : List (List ℕ)) (blank : Blank out cells) (inputs leasts targets : List ℕ) (is_long : 65536 ≤ length inputs) (ls_long : 65536 ≤ length leasts)
+module _ (out : List ℕ) (cells : List code.Cell) (blank : Blank out cells) (inputs leasts targets : List ℕ) (is_long : 65536 ≤ length inputs) (ls_long : 65536 ≤ length leasts)
     (ts_long : 65536 ≤ length targets) where
   abbrev T₀ : Tables
   T₀ = tables_with inputs leasts targets (replicate 256 0) (replicate 256 0) (replicate 256 false) (replicate 256 0)
@@ -112,23 +113,23 @@ module _ (out : List ℕ) (cells : List (List ℕ)) (blank : Blank out cells) (i
         let g = intern_grows (J t₀).build (record_of (J t₀).top 0) in
         omega (arith, ap length g.is, length-append (J t₀).build.nodes g.added, ap (λ (x : Interned). length x.build.nodes) root_is)
 
-    full_runs : (out' : List ℕ) (cells' : List (List ℕ)) → length out' < 16 + length R.build.nodes → Runs R out' cells' None
+    full_runs : (out' : List ℕ) (cells' : List code.Cell) → length out' < 16 + length R.build.nodes → Runs R out' cells' None
     full_runs out' cells' h = record { at = λ p q. cc; full = λ q. h }
 
-    pub run_full : {out' : List ℕ} {cells' : List (List ℕ)} {T : Tables} {r : Option (ℕ × ℕ)} → Builds t₀ out' cells' T r → r ≡ None → Runs R out' cells' None
+    pub run_full : {out' : List ℕ} {cells' : List code.Cell} {T : Tables} {r : Option (ℕ × ℕ)} → Builds t₀ out' cells' T r → r ≡ None → Runs R out' cells' None
     run_full {out'} {cells'} b e =
         let g = close_into_grows t₀.build t₀.top t₀.below in
         full_runs out' cells' (omega (arith, b.full e, joined_le, ap length g.is, length-append t₀.build.nodes g.added))
 
-    module _ {out₁ : List ℕ} {cells₁ : List (List ℕ)} {T₁ : Tables} {next k : ℕ} (b : BuildsTo t₀ out₁ cells₁ T₁ next k) where
+    module _ {out₁ : List ℕ} {cells₁ : List code.Cell} {T₁ : Tables} {next k : ℕ} (b : BuildsTo t₀ out₁ cells₁ T₁ next k) where
       joined_is : J t₀ ≡ closed_to (build_is out₁ next cells₁) T₁ 0 k
       joined_is = ap J b.is ∙ ap (λ (n : ℕ). close_into (build_is out₁ next cells₁) (open_at T₁ 0) (levels (open_at T₁) 1 n)) (sym (sub-zero k))
 
-      pub run_closed_full : {out₂ : List ℕ} {cells₂ : List (List ℕ)} {T₂ : Tables} {r : Option ℕ} → ClosesTo (closed_to (build_is out₁ next cells₁) T₁ 0 k) T₁ 0 out₂ cells₂ T₂ r
+      pub run_closed_full : {out₂ : List ℕ} {cells₂ : List code.Cell} {T₂ : Tables} {r : Option ℕ} → ClosesTo (closed_to (build_is out₁ next cells₁) T₁ 0 k) T₁ 0 out₂ cells₂ T₂ r
           → r ≡ None → Runs R out₂ cells₂ None
       run_closed_full {out₂} {cells₂} c e = full_runs out₂ cells₂ (omega (arith, c.full e, joined_le, ap (λ (j : Joined). length j.build.nodes) joined_is))
 
-      module _ {out₂ : List ℕ} {cells₂ : List (List ℕ)} {T₂ : Tables} {last : ℕ} (j : JoinedAt (closed_to (build_is out₁ next cells₁) T₁ 0 k) T₁ 0 out₂ cells₂ T₂ last) where
+      module _ {out₂ : List ℕ} {cells₂ : List code.Cell} {T₂ : Tables} {last : ℕ} (j : JoinedAt (closed_to (build_is out₁ next cells₁) T₁ 0 k) T₁ 0 out₂ cells₂ T₂ last) where
         C : Closable out₂ last cells₂ T₂ 0
         C = j.closable
 
@@ -169,7 +170,7 @@ module _ (out : List ℕ) (cells : List (List ℕ)) (blank : Blank out cells) (i
             root_is ∙ ap (λ (x : Joined). intern x.build (record_of x.top 0)) (joined_is ∙ j.is)
             ∙ ap (intern (build_is out₂ last cells₂)) (record_row T₂ C.sized 0 (omega arith) (C.orderly.few 0 (omega arith)) 0)
 
-        pub run_done : {out₃ : List ℕ} {cells₃ : List (List ℕ)} {r : Option Placed} → InternIs (intern (build_is out₂ last cells₂) node) last out₃ cells₃ r → Runs R out₃ cells₃ r
+        pub run_done : {out₃ : List ℕ} {cells₃ : List code.Cell} {r : Option Placed} → InternIs (intern (build_is out₂ last cells₂) node) last out₃ cells₃ r → Runs R out₃ cells₃ r
         run_done w = record {
           at = λ q e. let p = w.at q e in record { is = root_row ∙ p.is; laid = p.ready.laid };
           full = λ e. omega (arith, w.full e, ap (λ (x : Interned). length x.build.nodes) root_row);

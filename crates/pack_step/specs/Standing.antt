@@ -14,7 +14,6 @@ use Rattle.packing_rows.specs.WorkTables.{Tables}
 use Rattle.pack_cell.specs.declared.Cell.{Cell}
 use Rattle.pack_intern.specs.declared.Placed.{Placed}
 use Rattle.pack_row.specs.Row.{put_pair, TakenFrom}
-use Rattle.pack_turn.specs.RowClosing.{pair_of}
 use Rattle.pack_run.specs.Running.{RunAt}
 use Rattle.pack_ahead.specs.Ahead.{Underway, way_left}
 use Rattle.pack_node.specs.NodeSteps.{hash_next}
@@ -36,7 +35,7 @@ pub record Judged (s : List ℕ) (tables : Bool) (cells room : ℕ) (r : Result 
 
 -- ---- where packing stands
 
-pub record Going (s : List ℕ) (tables : Bool) (cells : ℕ) (out : List ℕ) (table : List (List ℕ)) (T : Tables) (n : Due) : Type 0 where
+pub record Going (s : List ℕ) (tables : Bool) (cells : ℕ) (out : List ℕ) (table : List Cell) (T : Tables) (n : Due) : Type 0 where
   pub sound : Sound s tables cells
   pub underway : Underway s cells out table T n.next n.way
   -- there is a node below where the next key leaves, or no key is left
@@ -44,7 +43,7 @@ pub record Going (s : List ℕ) (tables : Bool) (cells : ℕ) (out : List ℕ) (
   pub row : n.row ≡ 2 * (hash_next T n.way.depth % (cells / 2))
   pub within : n.row + 1 < cells
 
-pub record Ended (s : List ℕ) (tables : Bool) (cells room : ℕ) (out : List ℕ) (table : List (List ℕ)) (r : Result Placed Refusal) : Type 0 where
+pub record Ended (s : List ℕ) (tables : Bool) (cells room : ℕ) (out : List ℕ) (table : List Cell) (r : Result Placed Refusal) : Type 0 where
   pub done : (p : Placed) → r ≡ Ok p → Sound s tables cells × RunAt (pack_nodes (pairs_of s) cells) out table p.addr p.next
   pub refuses : (why : Refusal) → r ≡ Err why → (limit : ℕ) → pack_answer limit s tables cells room ≡ refused why
 
@@ -53,7 +52,7 @@ ended_as (Ok p) = Ok (Done p)
 ended_as (Err why) = Err why
 
 -- room is the output's length, tables whether the working tables have their sizes
-pub record Standing (s : List ℕ) (tables : Bool) (cells room : ℕ) (out : List ℕ) (table : List (List ℕ)) (T : Tables) (t : Result Turn Refusal) : Type 0 where
+pub record Standing (s : List ℕ) (tables : Bool) (cells room : ℕ) (out : List ℕ) (table : List Cell) (T : Tables) (t : Result Turn Refusal) : Type 0 where
   pub long : length out ≡ room
   pub count : length table ≡ cells
   pub on : (n : Due) → t ≡ Ok (Next n) → Going s tables cells out table T n
@@ -69,12 +68,12 @@ turn_left s (Err why) = 0
 -- the two cells are those of the turn's row, in some table
 pub record StepAsked (s : List ℕ) (cells : ℕ) (out : List ℕ) (pair : List Cell) (T : Tables) (n : Due) : Type 0 where
   pub tables : Bool
-  pub table : List (List ℕ)
+  pub table : List Cell
   pub standing : Standing s tables cells (length out) out table T (Ok (Next n))
-  pub taken : TakenFrom table n.row (pair_of pair)
+  pub taken : TakenFrom table n.row pair
 
 -- in every table that has them there
 pub record Steps (s : List ℕ) (cells : ℕ) (out : List ℕ) (pair : List Cell) (T : Tables) (n : Due) (out' : List ℕ) (back : List Cell) (T' : Tables) (t : Result Turn Refusal) : Type 0 where
-  pub stands : (tables : Bool) (table : List (List ℕ)) → Standing s tables cells (length out) out table T (Ok (Next n)) → TakenFrom table n.row (pair_of pair)
-      → Standing s tables cells (length out) out' (put_pair table n.row (pair_of back)) T' t
+  pub stands : (tables : Bool) (table : List Cell) → Standing s tables cells (length out) out table T (Ok (Next n)) → TakenFrom table n.row pair
+      → Standing s tables cells (length out) out' (put_pair table n.row back) T' t
   pub less : turn_left s t < turn_left s (Ok (Next n))

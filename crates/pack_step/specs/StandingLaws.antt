@@ -5,7 +5,7 @@
 --     node_of_turn, node_asked_of, steps_next, steps_no_room      a node that is not the root
 --     root_in_pair, steps_placed, steps_full     the root
 -- Assumes nothing.
-use Rattle.std.specs.Prelude.{◌≡◌, ⊤, Option, None, Some, Ok, Err, Result, refl, Bool, true, false, List, [], ◌∷◌, ℕ, ◌+◌, ◌*◌, ◌/◌, ◌%◌, ◌≤◌, ◌<◌, length, replicate}
+use Rattle.std.specs.Prelude.{◌≡◌, ⊤, Option, None, Some, Ok, Err, Result, refl, Bool, true, false, List, ℕ, ◌+◌, ◌*◌, ◌/◌, ◌%◌, ◌≤◌, ◌<◌, length, replicate}
 use Rattle.std.proofs.Common.{sym, ap, ◌∙◌, subst, ⊎_elim, arith}
 use Rattle.std.proofs.lemmas.List.{length-replicate}
 use Rattle.format.specs.declared.Refusal.{Refusal}
@@ -17,6 +17,7 @@ use Rattle.packing.specs.Packing.{pack_nodes, refused, pack_answer}
 use Rattle.packing.proofs.ListedLaws.{answer_list, answer_tables, answer_cells, answer_room}
 use Rattle.packing.proofs.TrailerLaws.{length_file}
 use Rattle.packing_rows.specs.WorkTables.{Tables}
+use Rattle.pack_cell.specs.Cells.{empty}
 use Rattle.pack_intern.specs.Interning.{cells_is, build_is, InternIs}
 use Rattle.pack_intern.specs.declared.Placed.{Placed}
 use Rattle.pack_close.specs.Closing.{node_from, CanFinish}
@@ -25,7 +26,6 @@ use Rattle.pack_close.specs.declared.Open.{Open}
 use Rattle.pack_cell.specs.declared.Cell.{Cell}
 use Rattle.pack_row.specs.Row.{put_pair, TakenFrom}
 use Rattle.pack_row.specs.RowLaws.{row_ready, row_interned}
-use Rattle.pack_turn.specs.RowClosing.{pair_of}
 use Rattle.pack_run.specs.Running.{Blank, RunAt, Runs}
 use Rattle.pack_blank.specs.PackBlank.{tables_test}
 use Rattle.pack_blank.specs.PackBlankLaws.{sizes, zeros_again, blank_of}
@@ -87,7 +87,7 @@ module _ (s : List ℕ) (tables : Bool) (cells room : ℕ) where
 
   -- ---- where packing stands
 
-  module _ {out : List ℕ} {table : List (List ℕ)} where
+  module _ {out : List ℕ} {table : List Cell} where
     ended_refused : {why : Refusal} → ((limit : ℕ) → pack_answer limit s tables cells room ≡ refused why) → Ended s tables cells room out table (Err why)
     ended_refused f = record { done = λ p z. absurd (err_ok z); refuses = λ k z limit. f limit ∙ ap refused (err_same z) }
 
@@ -120,19 +120,19 @@ module _ (s : List ℕ) (tables : Bool) (cells room : ℕ) where
           go (Err k) z = absurd (err_ok (sym z))
 
   pub begin_refused : {T : Tables} {r : Result ⊤ Refusal} {why : Refusal} → Judged s tables cells room r → r ≡ Err why
-      → (out : List ℕ) (table : List (List ℕ)) → out ≡ replicate room 0 → table ≡ replicate cells (1 ∷ 0 ∷ []) → Standing s tables cells room out table T (Err why)
-  begin_refused {why = why} j e out table o_is t_is = stands_refused (ap length o_is ∙ length-replicate room 0) (ap length t_is ∙ length-replicate cells (1 ∷ 0 ∷ [])) (j.refuses why e)
+      → (out : List ℕ) (table : List Cell) → out ≡ replicate room 0 → table ≡ replicate cells empty → Standing s tables cells room out table T (Err why)
+  begin_refused {why = why} j e out table o_is t_is = stands_refused (ap length o_is ∙ length-replicate room 0) (ap length t_is ∙ length-replicate cells empty) (j.refuses why e)
 
 -- ---- the start
 
 module _ (s : List ℕ) (cells room : ℕ) (inputs leasts targets : List ℕ) (o : Open)
     (sound : Sound s (tables_test (length inputs) (length leasts) (length targets)) cells) (long : 32 ≤ room) (none : o ≡ no_open) where
-  at_start : (out : List ℕ) (table : List (List ℕ)) → out ≡ replicate room 0 → table ≡ replicate cells (1 ∷ 0 ∷ [])
+  at_start : (out : List ℕ) (table : List Cell) → out ≡ replicate room 0 → table ≡ replicate cells empty
       → Underway s cells out table (tables_of inputs leasts targets o) 16 (way_with 0 0 0)
   at_start out table o_is t_is =
       let lo : length out ≡ room = ap length o_is ∙ length-replicate room 0 in
-      let lt : length table ≡ cells = ap length t_is ∙ length-replicate cells (1 ∷ 0 ∷ []) in
-      let b : Blank out table = blank_of out table (zeros_again 0 room o_is) (zeros_again (1 ∷ 0 ∷ []) cells t_is) (omega (arith, sound.two, lt)) (omega (arith, long, lo)) in
+      let lt : length table ≡ cells = ap length t_is ∙ length-replicate cells empty in
+      let b : Blank out table = blank_of out table (zeros_again 0 room o_is) (zeros_again empty cells t_is) (omega (arith, sound.two, lt)) (omega (arith, long, lo)) in
       let z = sizes (length inputs) (length leasts) (length targets) sound.fit in
       rw none
       (subst (λ (n : ℕ). Underway s n out table (tables_of inputs leasts targets no_open) 16 (way_with 0 0 0)) lt
@@ -142,28 +142,28 @@ module _ (s : List ℕ) (cells room : ℕ) (inputs leasts targets : List ℕ) (o
   begin_started = record {
     cells = cells;
     out = replicate room 0;
-    table = replicate cells (1 ∷ 0 ∷ []);
+    table = replicate cells empty;
     inputs = inputs;
     leasts = leasts;
     targets = targets;
     next = 16;
-    underway = at_start (replicate room 0) (replicate cells (1 ∷ 0 ∷ [])) refl refl;
+    underway = at_start (replicate room 0) (replicate cells empty) refl refl;
   }
 
   module _ {o' : Open} {w : Way} (go : GoesAhead s o (way_with 0 0 0) o' w) where
-    after : (out : List ℕ) (table : List (List ℕ)) → out ≡ replicate room 0 → table ≡ replicate cells (1 ∷ 0 ∷ [])
+    after : (out : List ℕ) (table : List Cell) → out ≡ replicate room 0 → table ≡ replicate cells empty
         → Underway s cells out table (tables_of inputs leasts targets o') 16 w
     after out table o_is t_is = go.gone.on cells out table inputs leasts targets 16 (at_start out table o_is t_is)
 
     pub begin_asked : RowAsked cells w.depth (tables_of inputs leasts targets o')
-    begin_asked = row_asked (after (replicate room 0) (replicate cells (1 ∷ 0 ∷ [])) refl refl) sound.two
+    begin_asked = row_asked (after (replicate room 0) (replicate cells empty) refl refl) sound.two
 
     pub begin_stands : {row : ℕ} → (row ≡ 2 * (hash_of (row_next (tables_of inputs leasts targets o') w.depth) % (cells / 2))) × (row + 1 < cells)
-        → (out : List ℕ) (table : List (List ℕ)) → out ≡ replicate room 0 → table ≡ replicate cells (1 ∷ 0 ∷ [])
+        → (out : List ℕ) (table : List Cell) → out ≡ replicate room 0 → table ≡ replicate cells empty
         → Standing s (tables_test (length inputs) (length leasts) (length targets)) cells room out table (tables_of inputs leasts targets o')
         (Ok (Next (record { next = 16; way = w; row = row })))
     begin_stands row out table o_is t_is =
-        stands_next s (tables_test (length inputs) (length leasts) (length targets)) cells room (ap length o_is ∙ length-replicate room 0) (ap length t_is ∙ length-replicate cells (1 ∷ 0 ∷ [])) _
+        stands_next s (tables_test (length inputs) (length leasts) (length targets)) cells room (ap length o_is ∙ length-replicate room 0) (ap length t_is ∙ length-replicate cells empty) _
         (record {
           sound = sound;
           underway = after out table o_is t_is;
@@ -174,8 +174,8 @@ module _ (s : List ℕ) (cells room : ℕ) (inputs leasts targets : List ℕ) (o
 
 -- ---- a step
 
-module _ (pair : List Cell) {s : List ℕ} {cells : ℕ} {out : List ℕ} {T : Tables} {n : Due} {tables : Bool} {table : List (List ℕ)}
-    (st : Standing s tables cells (length out) out table T (Ok (Next n))) (taken : TakenFrom table n.row (pair_of pair)) where
+module _ (pair : List Cell) {s : List ℕ} {cells : ℕ} {out : List ℕ} {T : Tables} {n : Due} {tables : Bool} {table : List Cell}
+    (st : Standing s tables cells (length out) out table T (Ok (Next n))) (taken : TakenFrom table n.row pair) where
   G : Going s tables cells out table T n
   G = st.on n refl
 
@@ -205,9 +205,9 @@ module _ (pair : List Cell) {s : List ℕ} {cells : ℕ} {out : List ℕ} {T : T
     F : CanFinish out n.next table T 0 0
     F = root_asked u G.sound.list G.sound.two top none_left
 
-    pub root_in_pair : CanFinish out n.next (pair_of pair) T 0 0
+    pub root_in_pair : CanFinish out n.next pair T 0 0
     root_in_pair = record {
-      ready = row_ready out n.next table n.row (pair_of pair) F.ready taken;
+      ready = row_ready out n.next table n.row pair F.ready taken;
       fits = F.fits;
       low = F.low;
       few = F.few;
@@ -221,21 +221,21 @@ module _ (pair : List Cell) {s : List ℕ} {cells : ℕ} {out : List ℕ} {T : T
     root_row : n.row ≡ row_of (cells_is table) node
     root_row = row_of_record node_of_turn node (ap (row_next T) top)
 
-    module _ (back : List Cell) {out' : List ℕ} {p : Option Placed} (w : InternIs (intern (build_is out n.next (pair_of pair)) node) n.next out' (pair_of back) p) (same : length out' ≡ length out) where
-      runs : Runs (pack_nodes (pairs_of s) cells) out' (put_pair table n.row (pair_of back)) p
-      runs = root_done u G.sound.list G.sound.two top none_left (row_interned out n.next table n.row (pair_of pair) F.ready taken node root_row w refl)
+    module _ (back : List Cell) {out' : List ℕ} {p : Option Placed} (w : InternIs (intern (build_is out n.next pair) node) n.next out' back p) (same : length out' ≡ length out) where
+      runs : Runs (pack_nodes (pairs_of s) cells) out' (put_pair table n.row back) p
+      runs = root_done u G.sound.list G.sound.two top none_left (row_interned out n.next table n.row pair F.ready taken node root_row w)
 
-      root_count : length (put_pair table n.row (pair_of back)) ≡ cells
-      root_count = put_length table n.row (pair_of back) ∙ st.count
+      root_count : length (put_pair table n.row back) ≡ cells
+      root_count = put_length table n.row back ∙ st.count
 
-      pub root_stands : {T' : Tables} (at : Placed) → p ≡ Some at → Standing s tables cells (length out) out' (put_pair table n.row (pair_of back)) T' (Ok (Done at))
+      pub root_stands : {T' : Tables} (at : Placed) → p ≡ Some at → Standing s tables cells (length out) out' (put_pair table n.row back) T' (Ok (Done at))
       root_stands at p_is = stands_done s tables cells (length out) same root_count at (G.sound, runs.at at p_is)
 
-      pub root_full : {T' : Tables} → p ≡ None → Standing s tables cells (length out) out' (put_pair table n.row (pair_of back)) T' (Err SPACE)
+      pub root_full : {T' : Tables} → p ≡ None → Standing s tables cells (length out) out' (put_pair table n.row back) T' (Err SPACE)
       root_full f = stands_refused s tables cells (length out) same root_count (no_room s tables cells (length out) G.sound (omega (arith, runs.full f, same)))
 
 module _ {s : List ℕ} {cells : ℕ} {out : List ℕ} {pair : List Cell} {T : Tables} {n : Due} (top : n.way.depth ≡ 0) (back : List Cell) {out' : List ℕ} {T' : Tables} {p : Option Placed}
-    (w : InternIs (intern (build_is out n.next (pair_of pair)) (node_from T 0 0)) n.next out' (pair_of back) p)
+    (w : InternIs (intern (build_is out n.next pair) (node_from T 0 0)) n.next out' back p)
     (same : length out' ≡ length out) where
   pub steps_placed : (at : Placed) → p ≡ Some at → Steps s cells out pair T n out' back T' (Ok (Done at))
   steps_placed at e = record { stands = λ tables table st taken. root_stands pair st taken top back w same at e; less = omega arith }
@@ -251,19 +251,19 @@ node_asked_of {pair = pair} {n = n} a l = record { table = a.table; row = n.row;
 
 module _ {s : List ℕ} {cells : ℕ} {out : List ℕ} {pair : List Cell} {T : Tables} {n : Due} {out' : List ℕ} {back : List Cell} {T' : Tables} {m : Option Due}
     (w : NodeSteps s cells out pair T n.next n.way out' back T' m) (same : length out' ≡ length out) where
-  module _ (tables : Bool) (table : List (List ℕ)) (st : Standing s tables cells (length out) out table T (Ok (Next n))) (taken : TakenFrom table n.row (pair_of pair)) where
+  module _ (tables : Bool) (table : List Cell) (st : Standing s tables cells (length out) out table T (Ok (Next n))) (taken : TakenFrom table n.row pair) where
     g : Going s tables cells out table T n
     g = st.on n refl
 
-    count' : length (put_pair table n.row (pair_of back)) ≡ cells
-    count' = put_length table n.row (pair_of back) ∙ st.count
+    count' : length (put_pair table n.row back) ≡ cells
+    count' = put_length table n.row back ∙ st.count
 
-    full_stands : m ≡ None → Standing s tables cells (length out) out' (put_pair table n.row (pair_of back)) T' (Err SPACE)
+    full_stands : m ≡ None → Standing s tables cells (length out) out' (put_pair table n.row back) T' (Err SPACE)
     full_stands d =
         let short = w.full d table n.row (node_of_turn pair st taken) taken in
         stands_refused s tables cells (length out) same count' (no_room s tables cells (length out) g.sound (omega (arith, short, same)))
 
-    next_stands : (k : Due) → m ≡ Some k → Standing s tables cells (length out) out' (put_pair table n.row (pair_of back)) T' (Ok (Next k))
+    next_stands : (k : Due) → m ≡ Some k → Standing s tables cells (length out) out' (put_pair table n.row back) T' (Ok (Next k))
     next_stands k d =
         let A = w.at k d table n.row (node_of_turn pair st taken) taken in
         stands_next s tables cells (length out) same count' k

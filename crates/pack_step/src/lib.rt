@@ -1,8 +1,10 @@
 // Packing that stops at each finished node: a turn says which row of cells the next node wants, and a step is lent that row.
 // So whoever has the table of cells takes two of them, makes a step, and puts two back.
+// output and row are lent for one step, and no struct keeps them: what goes on to the next step is the `Due` and the tables.
 #![tactic(auto)]
 
-ghost use Rattle.std.specs.Prelude.{◌≡◌, List, ◌∷◌, [], ℕ, length, replicate};
+ghost use Rattle.std.specs.Prelude.{◌≡◌, List, ℕ, length, replicate};
+ghost use Rattle.pack_cell.specs.Cells.{empty};
 ghost use Rattle.pack_close.specs.OpenNodes.{no_open, tables_in, tables_of};
 ghost use Rattle.pack_blank.specs.PackBlank.{tables_test};
 ghost use Rattle.pack_step.specs.Standing.{Judged, Standing, StepAsked, Steps};
@@ -26,20 +28,14 @@ pub enum Turn {
 // ---- the start
 
 // LIST or SPACE, as they are judged before the run.
-fn judged(
-    list: &[u8],
-    room: usize,
-    cells: usize,
-    inputs: usize,
-    leasts: usize,
-    targets: usize,
-) -> Result<(), Refusal>
-    ensures { Judged list.now (tables_test inputs leasts targets) cells room result }
+fn judged(list: &[u8], room: usize, cells: usize, tables: &Tables<'_>) -> Result<(), Refusal>
+    ensures { Judged list.now
+        (tables_test (length tables.now.inputs.now) (length tables.now.leasts.now) (length tables.now.targets.now)) cells room result }
 {
     if !pack_list::judge_list(list) {
         return Err(Refusal::List);
     }
-    if !pack_blank::tables_fit(inputs, leasts, targets) || cells < 2 || room < 32 {
+    if !pack_blank::tables_fit(tables) || cells < 2 || room < 32 {
         return Err(Refusal::Space);
     }
     Ok(())
@@ -53,19 +49,12 @@ pub fn begin(
     tables: &mut Tables<'_>,
 ) -> Result<Turn, Refusal>
     requires { tables.old.nodes ≡ no_open }
-    ensures { ((out : List ℕ) (table : List (List ℕ)) → out ≡ replicate room 0 → table ≡ replicate cells (1 ∷ 0 ∷ []) → Standing list.now
+    ensures { ((out : List ℕ) (table : List Cell) → out ≡ replicate room 0 → table ≡ replicate cells empty → Standing list.now
         (tables_test (length tables.old.inputs.now) (length tables.old.leasts.now) (length tables.old.targets.now)) cells room out table
         (tables_in tables.new) result)
         × (tables_in tables.new ≡ tables_of tables.old.inputs.now tables.old.leasts.now tables.old.targets.now tables.new.nodes) }
 {
-    judged(
-        list,
-        room,
-        cells,
-        tables.inputs.len(),
-        tables.leasts.len(),
-        tables.targets.len(),
-    )?;
+    judged(list, room, cells, tables)?;
     let start = Way {
         depth: 0,
         to: 0,
@@ -100,7 +89,9 @@ pub fn step(
     let first = due.next;
     let way = due.way;
     if way.depth == 0 {
-        let at = pack_turn::root_in_row(output, row, first, tables).ok_or(Refusal::Space)?;
+        let at = tables
+            .finish_row(output, row, first, 0, 0)
+            .ok_or(Refusal::Space)?;
         return Ok(Turn::Done(at));
     }
     let made = pack_node::node_in_row(list, cells, output, row, first, way, tables);

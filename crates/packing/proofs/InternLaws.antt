@@ -11,6 +11,7 @@ use Rattle.std.proofs.Math.Decide.{ℕ_discrete}
 use borrow.Author.Tests.{eqb-true, eq-eqb, ne_eqb}
 use Rattle.std.proofs.Math.Dec.{eqb}
 use Rattle.std.proofs.Math.ListN.{length}
+use Rattle.std.proofs.lemmas.Bool.{and_parts}
 use Rattle.format.specs.declared.Transition.{Transition}
 use Rattle.format.specs.Limits.{max_len}
 use Rattle.format.specs.Node.{Node, Judgement, sound, unsound, transitions_of, node_at}
@@ -100,23 +101,15 @@ same_bool_self : (b : Bool) → same_bool b b ≡ true
 same_bool_self true = refl
 same_bool_self false = refl
 
-and_left : (p q : Bool) → (p && q) ≡ true → p ≡ true
-and_left true q e = refl
-and_left false q e = e
-
-and_right : (p q : Bool) → (p && q) ≡ true → q ≡ true
-and_right true q e = e
-and_right false q e = absurd (let z : ◌≡◌ {A = ℕ} 0 1 = cc in omega arith)
-
 same_node_means : (first : ℕ) (c b : BuilderNode) → same_node (sound (node_with first c)) b ≡ true → Alike c b
 same_node_means first c b e =
     let p : Bool = same_bool c.final b.final in
     let q : Bool = eqb c.final_output b.final_output in
     let r : Bool = same_transitions (transitions_in c) (transitions_in b) in
     record {
-      final = same_bool_means c.final b.final (and_left p (q && r) e);
-      final_output = eqb-true c.final_output b.final_output (and_left q r (and_right p (q && r) e));
-      transitions = same_transitions_means (transitions_in c) (transitions_in b) (and_right q r (and_right p (q && r) e));
+      final = same_bool_means c.final b.final (and_parts p (q && r) e).0;
+      final_output = eqb-true c.final_output b.final_output (and_parts q r (and_parts p (q && r) e).1).0;
+      transitions = same_transitions_means (transitions_in c) (transitions_in b) (and_parts q r (and_parts p (q && r) e).1).1;
     }
 
 same_node_of : (first : ℕ) (c b : BuilderNode) → Alike c b → same_node (sound (node_with first c)) b ≡ true
@@ -134,7 +127,7 @@ module _ (nodes : List ℕ) (small : 15 + length nodes < max_len) (b : BuilderNo
       let p : Bool = not (eqb c.addr 1) in
       let q : Bool = eqb c.hash (hash_of b) in
       let z : Bool = same_node (stored_at nodes c.addr) b in
-      same_node_means r.first d b (subst (λ (j : Judgement). same_node j b ≡ true) r.is (and_right q z (and_right p (q && z) e)))
+      same_node_means r.first d b (subst (λ (j : Judgement). same_node j b ≡ true) r.is (and_parts q z (and_parts p (q && z) e).1).1)
 
   pub match_filled : (c : Cell) → matches nodes b c ≡ true → ¬ (c.addr ≡ 1)
   unfolding matches
@@ -142,7 +135,7 @@ module _ (nodes : List ℕ) (small : 15 + length nodes < max_len) (b : BuilderNo
       let p : Bool = not (eqb c.addr 1) in
       let q : Bool = eqb c.hash (hash_of b) in
       let y : Bool = same_node (stored_at nodes c.addr) b in
-      let filled : p ≡ true = and_left p (q && y) e in
+      let filled : p ≡ true = (and_parts p (q && y) e).0 in
       let empty : p ≡ false = rw (eq-eqb c.addr 1 z) in
       absurd (let w : true ≡ false = sym filled ∙ empty in let v : ◌≡◌ {A = ℕ} 0 1 = cc in omega arith)
 

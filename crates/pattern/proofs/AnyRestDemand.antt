@@ -9,7 +9,7 @@ use Rattle.format.specs.Strings.{Bound, Between}
 use Rattle.reading.specs.Reading.{View, Answer, Step, refuse}
 use Rattle.reading.specs.Demand.{Within, Extra, Call, call, reading_after, answers, unrefused, at_zero, followed, Entry, handed_in, NotAfterLast, NoneLeft, Demand3}
 use Rattle.reading.specs.Demand as Demand
-use Rattle.pattern.specs.Pattern.{FitsStart, Fits}
+use Rattle.pattern.specs.Pattern.{FitsStart}
 use Rattle.pattern.specs.PatternDemand.{StartFits, Followed, ExtraBy, one_more, no_more, Wanted, call_by, reading_after_by, answers_by, NoneLeftBy, DemandBy}
 use Rattle.pattern.proofs.ViableLaws.{most}
 use Rattle.pattern.proofs.FitLaws.{snoc_of}

@@ -15,7 +15,6 @@ use borrow.Author.Tests.{lt-ltb, le-ltb, ltb-true}
 use Rattle.format.specs.Limits.{max_path, max_sum, NODE, SUM, SPACE, STATE, PATTERN}
 use Rattle.format.specs.Node.{Node, Judgement, sound, unsound}
 use Rattle.format.specs.Opening.{Opening, opened, opening}
-use Rattle.format.specs.Opening as Opening
 use Rattle.format.specs.Paths.{Fst, fst_of, node_in}
 use Rattle.format.specs.Laws.TransitionLaws.{at_member}
 use Rattle.format.specs.Strings.{Bound}

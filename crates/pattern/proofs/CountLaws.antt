@@ -11,7 +11,7 @@ use Rattle.std.specs.Prelude.{◌≡◌, refl, Bool, true, false, cond, ◌&&◌
 use Rattle.std.proofs.Common.{sym, ◌∙◌, ap, arith, length-take-le, take-take, take_all, le-leb, leb-true, leb-false}
 use Rattle.std.proofs.Math.Option.{Option}
 use lib.ListN.{length, take}
-use Rattle.std.proofs.lemmas.Bool.{lt-leb}
+use Rattle.std.proofs.lemmas.Bool.{and_parts, lt-leb}
 use Rattle.pattern.specs.Pattern.{Pattern, at_test, start_test, fits_test}
 use Rattle.pattern.specs.FitCount.{fit_count, place_test, goes_on, key_fits, Tells}
 
@@ -116,10 +116,6 @@ count_take (p ∷ ps) (x ∷ k) (suc i) h = by (at_test p x) (count_take ps k i 
 
 -- ---- what a number tells of each beginning of a key
 
-and_left : (a b : Bool) → (a && b) ≡ true → a ≡ true
-and_left true b h = refl
-and_left false b h = h
-
 module _ (p : Pattern) (k : List ℕ) where
   pub tells_count : Tells p k (fit_count p.positions k)
   tells_count = record { each = λ i h. start_by_count p.positions p.rest k i h }
@@ -137,7 +133,7 @@ module _ (p : Pattern) (k : List ℕ) where
   module _ (live : start_test p.positions p.rest k ≡ true) where
     count_whole : fit_count p.positions k ≡ length k
     count_whole =
-        let h = leb-true (length k) (fit_count p.positions k) (and_left _ _ (sym (tells_last tells_count) ∙ live)) in
+        let h = leb-true (length k) (fit_count p.positions k) (and_parts _ _ (sym (tells_last tells_count) ∙ live)).0 in
         omega (arith, count_le p.positions k)
 
     pub tells_all : (fit : ℕ) → length k ≤ fit → Tells p k fit

@@ -1,9 +1,9 @@
 -- What the viable visits of a start are, in the words of the demand by pattern: `facts_by`.
 -- Assumes nothing.
 use Prim.{tt}
-use Rattle.std.specs.Prelude.{◌≡◌, refl, Bool, true, false, cond, ◌&&◌, ℕ}
+use Rattle.std.specs.Prelude.{◌≡◌, refl, Bool, true, false, cond, ℕ}
 use Rattle.std.proofs.Common.{◌∙◌, ap, subst}
-use Rattle.std.proofs.lemmas.Bool.{false≢true}
+use Rattle.std.proofs.lemmas.Bool.{and_parts}
 use Rattle.std.proofs.Math.Option.{Option, none, some}
 use mathlib.Core.List.Memᴰ
 use mathlib.Core.List.{List, [], ◌∷◌, map, Memᴰ}
@@ -29,10 +29,6 @@ Begun f p x = BeginsHeld f x × StartFits p x
 
 abbrev pub Out : Fst → Pattern → List ℕ → ℕ → Type 0
 Out f p k v = Held f k v × Fits p k
-
-and_both : (a b : Bool) → (a && b) ≡ true → (a ≡ true) × (b ≡ true)
-and_both true b h = (refl, h)
-and_both false b h = absurd (false≢true h)
 
 judged_after : (p : Pattern) (k : List ℕ) (vs : List Visit) → AllV (λ w. Before k w.key) vs → AllV (λ w. Before k w.key) (map (judged_by p) vs)
 judged_after p k [] h = tt
@@ -65,7 +61,7 @@ module _ (f : Fst) (lo : Bound) (U : List Visit) (pend : Option ℕ) (F : Facts 
 
   held_by : (w : Visit) → Memᴰ w U → (judged_by p w).final ≡ true → Out f p w.key w.value
   held_by w on fin =
-      let b = and_both w.final (fits_test p.positions p.rest w.key) fin in
+      let b = and_parts w.final (fits_test p.positions p.rest w.key) fin in
       (F.held w on b.0, (fits_decides p w.key).yes b.1)
 
   pub facts_of : FactsOf (Begun f p) (Out f p) lo W (fitting p pend)

@@ -3,7 +3,7 @@
 --     fits_viable                     a string that fits is viable
 --     viable_decides                  the test of a visit decides `StartFits`
 -- Assumes nothing.
-use Rattle.std.specs.Prelude.{◌≡◌, refl, Bool, true, false, ◌⊎◌, List, [], ◌∷◌, ◌++◌, ℕ, zero, suc, ◌≤◌, ◌<◌, length, get_or}
+use Rattle.std.specs.Prelude.{◌≡◌, refl, Bool, true, false, List, [], ◌∷◌, ◌++◌, ℕ, zero, suc, ◌≤◌, ◌<◌, length, get_or}
 use Rattle.std.proofs.Common.{sym, ◌∙◌, ap, true≢false, inl, inr, ⊎_elim, arith}
 use Rattle.std.proofs.Math.Option.{Option, none, some}
 use Rattle.buffers.specs.Decide.{Decides}

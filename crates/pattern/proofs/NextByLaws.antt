@@ -9,12 +9,11 @@ use Rattle.std.proofs.Math.Path.{refl}
 use Rattle.std.proofs.Common.{sym, ◌∙◌, ap}
 use Rattle.std.proofs.Math.Bool.{false}
 use Rattle.std.proofs.Math.Option.{Option, none, some}
-use borrow.Author.Tests.{le-leb, lt-leb, eq-eqb, ne_eqb}
+use borrow.Author.Tests.{le-leb, lt-leb, ne_eqb}
 use Rattle.std.proofs.Math.Dec.{eqb}
 use Rattle.format.specs.declared.Refusal.{Refusal}
 use Rattle.format.specs.Limits.{max_path, max_levels, SPACE, STATE}
 use Rattle.format.specs.Opening.{Meta, Opening, opened, opening}
-use Rattle.format.specs.Opening as Opening
 use Rattle.format.specs.Paths.{Fst, fst_of}
 use Rattle.format.specs.Strings.{Bound}
 use Rattle.reading.specs.Demand.{capped}

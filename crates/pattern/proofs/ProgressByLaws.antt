@@ -12,7 +12,7 @@ use Rattle.format.specs.Limits.{max_path, SPACE}
 use Rattle.format.specs.Opening.{Meta, opened, opening}
 use Rattle.format.specs.Paths.{fst_of}
 use Rattle.format.specs.Strings.{Bound}
-use Rattle.reading.specs.Reading.{passes_test, Level, View, Answer, key, end, Step, refuse}
+use Rattle.reading.specs.Reading.{passes_test, Level, View, Answer, end, Step, refuse}
 use Rattle.reading.specs.Visits.{Visit, Sane, AllV}
 use Rattle.reading.specs.VisitLists.{all_append}
 use Rattle.reading.proofs.RunLaws.{Idle, lt_or}

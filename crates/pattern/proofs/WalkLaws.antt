@@ -2,16 +2,17 @@
 --     walk_by_lem      the walk is one turn, and the walk from there
 -- Assumes nothing.
 use Rattle.std.specs.Prelude.{◌≡◌, refl, Bool, true, false, cond, ◌&&◌, List, [], ◌∷◌, ltb, leb, length}
+use Rattle.std.proofs.lemmas.Bool.{and_parts}
 use Prim.Native.Nat.{ℕ, zero, suc, ◌+◌, ◌<◌}
 use Rattle.std.proofs.Common.{arith, ltb-true}
-use Rattle.format.specs.Limits.{max_path, max_sum, NODE, DEEP, SUM}
+use Rattle.format.specs.Limits.{max_path, max_sum, NODE}
 use Rattle.format.specs.Node.{Node, Judgement, sound, unsound}
 use Rattle.format.specs.Paths.{Fst, node_in}
 use Rattle.format.specs.Strings.{Bound}
 use Rattle.reading.specs.Reading.{passes_test, Level, key_of, on_node, counted, next_trans, child, stepped}
 use Rattle.reading.specs.Visits.{left}
 use Rattle.reading.proofs.LeftLaws.{left_pop, left_follow}
-use Rattle.pattern.specs.Pattern.{Pattern, start_test, fits_test, WentBy, found, ended, halted, turn_by, walk_to, walk_by}
+use Rattle.pattern.specs.Pattern.{Pattern, start_test, fits_test, WentBy, halted, turn_by, walk_to, walk_by}
 
 -- ---- more fuel changes nothing
 
@@ -22,10 +23,6 @@ cond_cong false h k = k
 node_cong : {A : Type 0} (stop : A) (j : Judgement) {go go' : Node → A} → ((m : Node) → j ≡ sound m → go m ≡ go' m) → on_node j go stop ≡ on_node j go' stop
 node_cong stop (sound m) h = h m refl
 node_cong stop unsound h = refl
-
-and_left : (a b : Bool) → (a && b) ≡ true → a ≡ true
-and_left true b h = refl
-and_left false b h = h
 
 module _ (f : Fst) (p : Pattern) (hi : Bound) where
   turn_cong : (a b : List Level → ℕ → WentBy) (s : List Level) (t : ℕ) → ((s' : List Level) (t' : ℕ) → left f s' < left f s → a s' t' ≡ b s' t')
@@ -45,7 +42,7 @@ module _ (f : Fst) (p : Pattern) (hi : Bound) where
       cond_cong (passes_test hi (key_of (child l m ∷ stepped l ∷ s))) (λ _. refl)
       (cond_cong (n.final && fits_test p.positions p.rest (key_of (child l m ∷ stepped l ∷ s))) (λ _. refl)
       (h (child l m ∷ stepped l ∷ s) (counted t)
-      (left_follow f l m s (ltb-true (length s) max_path room) e (ltb-true l.trans (length m.transitions) (and_left _ _ live)))))))
+      (left_follow f l m s (ltb-true (length s) max_path room) e (ltb-true l.trans (length m.transitions) (and_parts _ _ live).0))))))
       refl)
       refl)
       (h s t (left_pop f l s)))

@@ -12,8 +12,7 @@ use Rattle.std.specs.Prelude.{◌≡◌, ◌⊎◌, Bool, true, false, cond, ◌
 use Rattle.std.proofs.Math.Option.{Option, none, some}
 use Rattle.format.specs.declared.Refusal.{Refusal}
 use Rattle.format.specs.Limits.{max_path, max_sum, NODE, DEEP, SUM, SPACE, STATE, PATTERN}
-use Rattle.format.specs.Node.{Node}
-use Rattle.format.specs.Opening.{Meta, opening}
+use Rattle.format.specs.Opening.{opening}
 use Rattle.format.specs.Paths.{Fst, fst_of, node_in}
 use Rattle.format.specs.Strings.{Bound}
 use Rattle.reading.specs.Reading.{passes_test, Level, View, key_of, on_node, on_opened, Started, start, key, end, Step, refuse, moved, counted, next_trans, child, stepped, state_test}

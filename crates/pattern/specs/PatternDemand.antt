@@ -10,7 +10,7 @@
 --     the excluded empty key case stays                               `total_excluded`, `none_followed`: whether or not it fits
 --     the per-call limit is for plain readings only                   no `limit`
 -- Assumes nothing.
-use Rattle.std.specs.Prelude.{◌≡◌, ℕ, ◌+◌, ◌≤◌, ◌<◌, length, replicate}
+use Rattle.std.specs.Prelude.{◌≡◌, ℕ, ◌+◌, ◌<◌, replicate}
 use Rattle.format.specs.declared.Refusal.{Refusal}
 use mathlib.Core.List.{List, [], ◌∷◌, ◌++◌, map, Memᴰ}
 use Rattle.format.specs.Paths.{Fst, fst_of, Held}

@@ -5,19 +5,18 @@
 use mathlib.Core.Path.{◌≡◌, refl, sym, ◌∙◌, ap}
 use Rattle.std.specs.Prelude.{Result, Ok, Err}
 use Rattle.format.specs.declared.Refusal.{Refusal}
-use mathlib.Core.Bool.{Bool, cond}
+use mathlib.Core.Bool.{Bool}
 use mathlib.Core.List.{List}
 use Prim.Native.Nat.{ℕ, ◌<◌, ◌≤◌}
 use native.Mathlib.Omega.{arith}
 use borrow.Author.Tests.{le-leb, lt-leb}
-use lib.Dec.{leb}
 use lib.ListN.{length, length-map}
 use Rattle.format.specs.Limits.{max_path, PATTERN}
 use Rattle.format.specs.Opening as O
 use Rattle.format.specs.Opening.{Meta, Opening, opened, opening}
 use Rattle.format.specs.Strings.{Bound}
 use Rattle.reading.specs.Reading as R
-use Rattle.reading.specs.Reading.{on_opened, start}
+use Rattle.reading.specs.Reading.{start}
 use Rattle.stream_start.specs.declared.Reading.{Reading}
 use Rattle.stream_start.specs.Views.{started_is}
 use Rattle.pattern.specs.Pattern as P

@@ -9,11 +9,11 @@ use Rattle.reading.specs.Reading as R
 use Rattle.reading.specs.Reading.{written}
 use Rattle.stream_start.specs.Views.{view_is}
 use Rattle.stream_step.specs.Stepped.{answer_as}
+use Rattle.stream_step.specs.declared.Step.{Step}
 use Rattle.pattern.specs.Pattern as P
 use Rattle.patterned_fit.specs.declared.Pattern.{Pattern}
 use Rattle.patterned_held.specs.HeldPatterns.{held_is}
 use Rattle.patterned.specs.declared.Patterned.{Patterned}
-use Rattle.patterned.specs.declared.PatternedStep.{PatternedStep}
 
 abbrev pub begun_is : Result Patterned Refusal → R.Started
 begun_is (Ok q) = R.started (view_is q.reading)
@@ -23,8 +23,8 @@ pub record StartedBy (w : R.Started) (p : P.Pattern) (r : Result Patterned Refus
   pub answer : begun_is r ≡ w
   pub pattern : (q : Patterned) → r ≡ Ok q → held_is q.pattern ≡ p
 
-pub record SteppedBy (w : R.Step) (q : Pattern) (buf₀ buf : List ℕ) (r : PatternedStep) : Type 0 where
+pub record SteppedBy (w : R.Step) (q : Pattern) (buf₀ buf : List ℕ) (r : Step Patterned) : Type 0 where
   pub answer : r.answer ≡ answer_as w.answer
-  pub reading : view_is r.patterned.reading ≡ w.reading
-  pub pattern : r.patterned.pattern ≡ q
+  pub reading : view_is r.reading.reading ≡ w.reading
+  pub pattern : r.reading.pattern ≡ q
   pub buffer : buf ≡ written w.answer buf₀

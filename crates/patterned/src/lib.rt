@@ -1,7 +1,7 @@
 // Readings by pattern (src/raw/mod.rs: `next_with` with an automaton for the pattern): the keys between two bounds that fit, on any file, admitted
 // or not, and from any reading, also one that no start gave.
 // A start is given its pattern as the C caller has it, positions and whether any rest may follow.
-// The two bounds are two values and no pair: each is taken by itself.
+// The two bounds are two values and no struct: a start hands them on to stream_start's, which makes its walk with the lower and keeps the upper.
 #![tactic(auto)]
 
 ghost use Rattle.std.specs.Prelude.{◌<◌, length};
@@ -15,20 +15,13 @@ use patterned_held::{Pattern, hold};
 use patterned_step::step;
 use std::ops::Bound;
 use stream_start::Reading;
+use stream_step::Step;
 
 // A reading by pattern, passed by value. Its own type, so that a request for a plain reading cannot be handed one.
 #[derive(Clone, Copy)]
 pub struct Patterned {
     pub reading: Reading,
     pub pattern: Pattern,
-}
-
-// What a call of next gives back: its answer, and the reading after it.
-// The answer stands beside the reading, and the two are no Result: a caller may go on with the reading that is given back, after a refusal too.
-#[derive(Clone, Copy)]
-pub struct PatternedStep {
-    pub answer: Result<Option<(usize, u64)>, Refusal>,
-    pub patterned: Patterned,
 }
 
 // ---- start
@@ -65,15 +58,15 @@ pub fn start(
 // followed DEEP, SUM for the running sum, NODE for its target, the upper bound, and SUM with the final output where the key fits. The buffer is
 // written only where a key is found: the key from its first byte on. After a refusal the reading is the one given. A call may follow any number of
 // transitions.
-pub fn next(file: &[u8], patterned: Patterned, key: &mut [u8]) -> PatternedStep
+pub fn next(file: &[u8], patterned: Patterned, key: &mut [u8]) -> Step<Patterned>
     ensures { SteppedBy (next_by file.now (held_is patterned.pattern)
         (view_is patterned.reading) (length key.old)) patterned.pattern
         key.old key.new result }
 {
     let stepped = step(file, patterned.reading, patterned.pattern, key);
-    PatternedStep {
+    Step {
         answer: stepped.answer,
-        patterned: Patterned {
+        reading: Patterned {
             reading: stepped.reading,
             ..patterned
         },

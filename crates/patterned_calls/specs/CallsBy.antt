@@ -20,7 +20,7 @@ use Rattle.pattern.specs.PatternDemand.{DemandBy, reading_after_by, answers_by}
 use Rattle.stream_start.specs.Views.{view_is}
 use Rattle.stream_calls.specs.Calls.{in_hand}
 use Rattle.patterned.specs.declared.Patterned.{Patterned}
-use Rattle.patterned.specs.declared.PatternedStep.{PatternedStep}
+use Rattle.stream_step.specs.declared.Step.{Step}
 use Rattle.patterned_held.specs.HeldPatterns.{held_is}
 use Rattle.patterned.specs.Patterns.{SteppedBy}
 
@@ -30,7 +30,7 @@ pub record CodeCallBy : Type 0 where
   pub file : List ℕ
   pub before : List ℕ
   pub after : List ℕ
-  pub step : PatternedStep
+  pub step : Step Patterned
 
 -- what the contract of next says, of a call on the reading r with the file s or one of another length
 pub record CallMadeBy (s : List ℕ) (r : Patterned) (c : CodeCallBy) : Type 0 where
@@ -44,21 +44,21 @@ answered_by c = in_hand c.step.answer c.after
 
 abbrev pub MadeBy : List ℕ → Patterned → List CodeCallBy → Type 0
 MadeBy s r [] = Unit {0}
-MadeBy s r (c ∷ cs) = CallMadeBy s r c × MadeBy s c.step.patterned cs
+MadeBy s r (c ∷ cs) = CallMadeBy s r c × MadeBy s c.step.reading cs
 
 abbrev pub code_answers_by : List CodeCallBy → List R.Answer
 code_answers_by cs = map answered_by cs
 
 abbrev pub last_reading_by : Patterned → List CodeCallBy → Patterned
 last_reading_by r [] = r
-last_reading_by r (c ∷ cs) = last_reading_by c.step.patterned cs
+last_reading_by r (c ∷ cs) = last_reading_by c.step.reading cs
 
 abbrev pub call_by_is : {s : List ℕ} {r : Patterned} (c : CodeCallBy) → CallMadeBy s r c → Call s
 call_by_is c w = record { file = c.file; space = length c.before; which = w.which }
 
 abbrev pub calls_by_is : {s : List ℕ} (r : Patterned) (cs : List CodeCallBy) → MadeBy s r cs → List (Call s)
 calls_by_is r [] w = []
-calls_by_is r (c ∷ cs) w = call_by_is c w.0 ∷ calls_by_is c.step.patterned cs w.1
+calls_by_is r (c ∷ cs) w = call_by_is c w.0 ∷ calls_by_is c.step.reading cs w.1
 
 -- ---- the claim
 

@@ -38,22 +38,22 @@ answer_by_is {s} {r} c w =
 
 pub pattern_stays : (s : List ℕ) (r : Patterned) (cs : List CodeCallBy) → MadeBy s r cs → (last_reading_by r cs).pattern ≡ r.pattern
 pattern_stays s r [] w = refl
-pattern_stays s r (c ∷ cs) w = pattern_stays s c.step.patterned cs w.1 ∙ w.0.stepped.pattern
+pattern_stays s r (c ∷ cs) w = pattern_stays s c.step.reading cs w.1 ∙ w.0.stepped.pattern
 
 pub answers_by_are : (s : List ℕ) (r : Patterned) (cs : List CodeCallBy) (w : MadeBy s r cs)
     → code_answers_by cs ≡ answers_by (held_is r.pattern) (view_is r.reading) (calls_by_is r cs w)
 answers_by_are s r [] w = refl
 answers_by_are s r (c ∷ cs) w =
     ap₂ ◌∷◌ (answer_by_is c w.0)
-    (answers_by_are s c.step.patterned cs w.1
-    ∙ ap₂ (λ (q : Pattern) (v : View). answers_by (held_is q) v (calls_by_is c.step.patterned cs w.1)) w.0.stepped.pattern w.0.stepped.reading)
+    (answers_by_are s c.step.reading cs w.1
+    ∙ ap₂ (λ (q : Pattern) (v : View). answers_by (held_is q) v (calls_by_is c.step.reading cs w.1)) w.0.stepped.pattern w.0.stepped.reading)
 
 pub reading_by_is : (s : List ℕ) (r : Patterned) (cs : List CodeCallBy) (w : MadeBy s r cs)
     → view_is (last_reading_by r cs).reading ≡ reading_after_by (held_is r.pattern) (view_is r.reading) (calls_by_is r cs w)
 reading_by_is s r [] w = refl
 reading_by_is s r (c ∷ cs) w =
-    reading_by_is s c.step.patterned cs w.1
-    ∙ ap₂ (λ (q : Pattern) (v : View). reading_after_by (held_is q) v (calls_by_is c.step.patterned cs w.1)) w.0.stepped.pattern w.0.stepped.reading
+    reading_by_is s c.step.reading cs w.1
+    ∙ ap₂ (λ (q : Pattern) (v : View). reading_after_by (held_is q) v (calls_by_is c.step.reading cs w.1)) w.0.stepped.pattern w.0.stepped.reading
 
 -- ---- the start
 

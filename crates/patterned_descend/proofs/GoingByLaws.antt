@@ -3,17 +3,20 @@
 --     going-..                        the contract at each way out, and the next turn
 -- Assumes nothing.
 use mathlib.Core.Path.{◌≡◌, refl, sym, ◌∙◌, ap, subst}
-use Rattle.std.specs.Prelude.{Ok, Err, Result}
+use Rattle.std.specs.Prelude.{Ok, Err, Some, None, Result}
+use Rattle.std.proofs.lemmas.Bool.{and_parts}
 use Rattle.format.specs.declared.Refusal.{Refusal}
-use mathlib.Core.Bool.{Bool, true, false, cond, ◌&&◌}
+use mathlib.Core.Bool.{true, false, cond, ◌&&◌}
+use mathlib.Core.Logic.{⊎_elim}
 use mathlib.Core.List.{List, [], ◌∷◌, ◌++◌}
 use Prim.Native.Nat.{ℕ, suc, ◌+◌, ◌-◌, ◌<◌, ◌≤◌}
 use native.Mathlib.Omega.{arith}
-use borrow.Author.Tests.{ltb-true}
+use borrow.Author.Tests.{lt-ltb, ltb-true}
 use lib.Dec.{ltb}
 use lib.ListN.{length, get_or, take, drop, length-drop}
 use lib.Seq.{length-take-le}
 use Rattle.format.specs.Limits.{max_sum, DEEP, SUM}
+use Rattle.format.specs.Node as F
 use Rattle.format.specs.Paths.{Fst, fst_with}
 use Rattle.format.specs.Strings.{Bound}
 use Rattle.node.specs.declared.Node.{Node}
@@ -30,10 +33,18 @@ use Rattle.stream_pop.specs.ReadyLaws.{ready_length}
 use Rattle.pattern.specs.Pattern.{Pattern, start_test, fits_test, ended, halted, walk_by}
 use Rattle.pattern.specs.FitCount.{fit_count, place_test, goes_on, key_fits}
 use Rattle.pattern.proofs.CountLaws.{fits_by_count, tells_count, tells_last, count_on}
-use Rattle.pattern.proofs.TurnLaws.{live_test, turn_popped, turn_deep, turn_past, turn_on, turn_key, turn_final}
-use Rattle.patterned_descend.specs.declared.Down.TheVariants.{Found, Passed, Stuck}
-use Rattle.patterned_descend.specs.Descents.{Pushed, Follows, DescendsBy}
-use Rattle.patterned_descend.proofs.FollowLaws.{live_by, room_of}
+use Rattle.pattern.proofs.TurnLaws.{live_test, turn_popped, turn_deep, turn_sum, turn_target, turn_past, turn_on, turn_key, turn_final}
+use Rattle.patterned_descend.specs.declared.Down.TheVariants.{Done, Stuck}
+use Rattle.stream_descend.specs.Descent.{Pushed, Follows}
+use Rattle.patterned_descend.specs.Descents.{DescendsBy}
+
+-- a level that has a transition and fits is left by it; how many levels are below it
+live_by : (p : Pattern) (m : F.Node) (l : Level) (s : List Level) → l.trans < length m.transitions
+    → start_test p.positions p.rest (key_of (l ∷ s)) ≡ true → live_test p m l s ≡ true
+live_by p m l s h e = rw (lt-ltb l.trans (length m.transitions) h, e)
+
+room_of : (k : ℕ) (xs is ps os : List ℕ) → k < 255 → length (stack_is k xs is ps os) < 255
+room_of k xs is ps os h = rw (stack_length k xs is ps os) h
 
 -- ---- the loop
 
@@ -56,10 +67,6 @@ below_all h g e = omega arith
 
 below_some : {b c d : ℕ} → b < c → c ≤ d → b ≤ d
 below_some g e = omega arith
-
-and_parts : (a b : Bool) → (a && b) ≡ true → (a ≡ true) × (b ≡ true)
-and_parts true b e = (refl, e)
-and_parts false b e = absurd (let z : ◌≡◌ {A = ℕ} 0 1 = cc in omega arith)
 
 module _ {s : List ℕ} {v root : ℕ} {p : Pattern} {hi : Bound} {levels : List Level} {total : ℕ} {xs is ps os : List ℕ} {k : ℕ} {m : Node} {t : ℕ}
     (g : GoingBy s v root p hi levels total xs is ps os k m t) where
@@ -95,9 +102,14 @@ module _ {s : List ℕ} {v root : ℕ} {p : Pattern} {hi : Bound} {levels : List
   pub going_deep : 255 ≤ k → DescendsBy f p hi levels total xs is ps os (Err DEEP)
   going_deep h = stops DEEP g.arrays (turn_deep f p hi t l below (meaning s m) g.ready.node alive (rw (stack_length k xs is ps os) h))
 
-  pub going_halted : {xs' is' ps' os' : List ℕ} {r : Result Node Refusal} → Follows s v root k l (meaning s m) below xs' is' ps' os' r → (why : Refusal) → r ≡ Err why
-      → DescendsBy f p hi levels total xs' is' ps' os' (Err why)
-  going_halted w why e = stops why w.kept (w.stops why e p hi t fits_key)
+  pub going_halted : k < 255 → {xs' is' ps' os' : List ℕ} {r : Result Node Refusal} → Follows s v root k l (meaning s m) below xs' is' ps' os' r → (why : Refusal)
+      → r ≡ Err why → DescendsBy f p hi levels total xs' is' ps' os' (Err why)
+  going_halted hk w why e =
+      stops why w.kept
+      (⊎_elim
+      (λ q. turn_sum f p hi t l below (meaning s m) g.ready.node alive (room_of k xs is ps os hk) q.1 ∙ ap halted (sym q.0))
+      (λ q. turn_target f p hi t l below (meaning s m) g.ready.node alive (room_of k xs is ps os hk) q.1 q.2 ∙ ap halted (sym q.0))
+      (w.stops why e))
 
   -- ---- a transition is followed
 
@@ -136,7 +148,7 @@ module _ {s : List ℕ} {v root : ℕ} {p : Pattern} {hi : Bound} {levels : List
     follow_less = left_follow f l (meaning s m) below room g.ready.node (ready_length g.ready)
 
     module _ {u : ℕ} (eu : u ≡ counted t) where
-      pub going_passed : passes_test hi (take (k + 1) (drop 1 is⁺)) ≡ true → DescendsBy f p hi levels total xs⁺ is⁺ ps⁺ os⁺ (Ok (Passed u))
+      pub going_passed : passes_test hi (take (k + 1) (drop 1 is⁺)) ≡ true → DescendsBy f p hi levels total xs⁺ is⁺ ps⁺ os⁺ (Ok (Done (record { found = None; total = u })))
       going_passed e = record {
         low = omega arith;
         arrays = w.arrays;
@@ -183,7 +195,7 @@ module _ {s : List ℕ} {v root : ℕ} {p : Pattern} {hi : Bound} {levels : List
             value_is = ap (λ (x : ℕ). x + n.final_output) sum_is
 
             pub going_key : {x : ℕ} → x ≡ get_or os⁺ (k + 1) 0 + n.final_output → x ≤ max_sum
-                → DescendsBy f p hi levels total xs⁺ is⁺ ps⁺ os⁺ (Ok (Found (k + 1) x u))
+                → DescendsBy f p hi levels total xs⁺ is⁺ ps⁺ os⁺ (Ok (Done (record { found = Some (k + 1, x); total = u })))
             going_key ex h =
                 let turned = turn_key f p hi t l below (meaning s m) g.ready.node alive room w.light (meaning s n) w.node within is_key (rw (ex, value_is) at h) in
                 record {

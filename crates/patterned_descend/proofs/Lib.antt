@@ -1,3 +1,2 @@
--- Lemmas on one transition and on the descent, for the proofs of this crate.
-mod FollowLaws
+-- Lemmas on the descent, for the proofs of this crate.
 mod GoingByLaws

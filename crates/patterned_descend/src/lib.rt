@@ -5,55 +5,26 @@
 ghost use Rattle.std.specs.Prelude.{◌≡◌, true, ◌∷◌, ◌≤◌, ◌<◌, take, drop, get_or};
 ghost use Rattle.format.specs.Limits.{max_path, max_levels};
 ghost use Rattle.format.specs.View.{fst_is};
-ghost use Rattle.node.specs.Read.{meaning};
 ghost use Rattle.stream_start.specs.Views.{bound_of, level_at, stack_of};
 ghost use Rattle.stream_pop.specs.Pops.{Ready};
 ghost use Rattle.pattern.specs.Pattern.{start_test};
 ghost use Rattle.patterned_fit.specs.Positions.{positions_is, held_is};
-ghost use Rattle.patterned_descend.specs.Descents.{Follows, DescendsBy};
+ghost use Rattle.patterned_descend.specs.Descents.{DescendsBy};
 
-use format::{FstRef, MAX_KEY, Refusal, are_bytes};
+use format::{FstRef, MAX_KEY, Refusal};
 use node::Node;
 use patterned_fit::Pattern;
 use std::ops::Bound;
 use stream_bounds::exceeded;
-use stream_descend::counted;
+use stream_descend::{Followed, counted, follow};
 use stream_levels::Stack;
 
-// What a descent finds: the place of the level where a key ends, the key's value and the total; the total where the upper bound is
-// passed; or how many levels are left below a level that cannot go on, with the total.
+// What a descent comes to: what a walk comes to, a key or the upper bound; or how many levels are left below a level that cannot go on, with the
+// total, so that the walk goes on from them.
 #[derive(Clone, Copy)]
 pub enum Down {
-    Found(usize, u64, u64),
-    Passed(u64),
+    Done(Followed),
     Stuck(usize, u64),
-}
-
-// The next transition of level k, whose node is judged: SUM for the running sum, NODE for the target; then the target's level is written.
-fn follow(fst: FstRef<'_>, k: usize, node: Node, stack: &mut Stack) -> Result<Node, Refusal>
-    requires arrays { (k < max_path)
-        × (fst.root < 4294967296) }
-    requires ready { Ready fst.bytes.now fst.version fst.root (get_or stack.old.addrs k 0) (get_or stack.old.trans k 0) node }
-    ensures { Follows fst.entry.bytes.now fst.entry.version fst.entry.root k
-        (level_at k stack.old.addrs stack.old.inps stack.old.trans
-        stack.old.outs) (meaning fst.entry.bytes.now node)
-        (stack_of k stack.old) stack.new.addrs stack.new.inps stack.new.trans
-        stack.new.outs result }
-{
-    are_bytes(fst.bytes);
-    let i = usize::from(stack.trans[k]);
-    let out = node::output(fst.bytes, node, i);
-    let sum = stack.outs[k].checked_add(out).ok_or(Refusal::Sum)?;
-    let target = node::transition_addr(fst.bytes, node, i);
-    let n = node::node_at(fst, target)?;
-    let inp = node::input(fst.bytes, node, i);
-    stack.trans[k] = (i + 1) as u16;
-    let top = k + 1;
-    stack.addrs[top] = target as u32;
-    stack.inps[top] = inp;
-    stack.trans[top] = 0;
-    stack.outs[top] = sum;
-    Ok(n)
 }
 
 // From the level at top, which can go on and whose node is judged, down by each level's next transition: to a key that fits, or to a level
@@ -90,13 +61,19 @@ pub fn descend_by(
         let fit = pattern.fit_after(k, b);
         t = counted(t);
         if exceeded(upper, &stack.inps[1..=next]) {
-            return Ok(Down::Passed(t));
+            return Ok(Down::Done(Followed {
+                found: None,
+                total: t,
+            }));
         }
         if pattern.is_key(n.is_final, next, fit) {
             let value = stack.outs[next]
                 .checked_add(n.final_output)
                 .ok_or(Refusal::Sum)?;
-            return Ok(Down::Found(next, value, t));
+            return Ok(Down::Done(Followed {
+                found: Some((next, value)),
+                total: t,
+            }));
         }
         if !pattern.live(0, n.ntrans, next, fit) {
             return Ok(Down::Stuck(next, t));

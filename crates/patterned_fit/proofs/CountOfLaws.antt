@@ -11,7 +11,7 @@ use native.Mathlib.Omega.{arith}
 use native.Mathlib.Numerals.{add-one}
 use lib.Dec.{leb}
 use lib.ListN.{length, take, drop, get_or, length-drop}
-use lib.Seq.{length-take-le, take-suc, get_or-drop, get_or-take}
+use lib.Seq.{length-take-le, take-suc}
 use Rattle.pattern.specs.FitCount.{fit_count, place_test}
 use Rattle.pattern.proofs.CountLaws.{count_snoc_on, count_take}
 
@@ -47,8 +47,3 @@ module _ {ps : List (Option ℕ)} {key : List ℕ} {i : ℕ} (w : Fitted ps key 
 
 pub inputs_length : (k : ℕ) (is : List ℕ) → length is ≡ 256 → k < 256 → length (take k (drop 1 is)) ≡ k
 inputs_length k is e h = length-take-le k (drop 1 is) (simp length-drop (omega arith))
-
-pub input_at : (k i : ℕ) (is : List ℕ) → i < k → get_or is (i + 1) 0 ≡ get_or (take k (drop 1 is)) i 0
-input_at k i is h =
-    let e : i + 1 ≡ 1 + i = omega arith in
-    ap (λ (j : ℕ). get_or is j 0) e ∙ sym (get_or-drop 1 is i 0) ∙ sym (get_or-take k (drop 1 is) i 0 h)

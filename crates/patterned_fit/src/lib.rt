@@ -12,7 +12,7 @@ use format::MAX_KEY;
 use stream_levels::Stack;
 
 // A pattern, passed by value. A position below 256 is its byte, any other number is any byte, so that no position can be wrong. Entries past the
-// pattern's length carry no meaning.
+// pattern's length carry no meaning: a length stands beside the array, since there is no heap for a list, and C lends the room for 255 positions.
 #[derive(Clone, Copy)]
 pub struct Pattern {
     pub len: usize,
@@ -46,8 +46,8 @@ impl Pattern {
         ensures { result ≡ fit_count (positions_is self.now.len self.now.positions)
             (take k (drop 1 stack.now.inps)) }
     {
-        for i in 0..k {
-            if !self.fits_place(i, stack.inps[i + 1]) {
+        for (i, b) in stack.inps[1..=k].iter().enumerate() {
+            if !self.fits_place(i, *b) {
                 return i;
             }
         }

@@ -1,5 +1,4 @@
 -- The cases of a step by pattern, each by what leads to it: the answer, the reading and the buffer.
---     filled r k t q      the reading with k levels of the stack of q, and the total t
 --     walks_is            what a walk ensures of its answer, of what that answer is
 --     ended_is, found_is  what a walk comes to, by what it found
 --     after-..            what the walk leads to
@@ -7,8 +6,7 @@
 --     pending-..          the pending empty key
 --     fits-..             whether the empty key fits
 -- Assumes nothing.
-use mathlib.Core.Path.{◌≡◌, refl, ◌∙◌, ap}
-use mathlib.Core.Path.{subst}
+use mathlib.Core.Path.{◌≡◌, refl, ap, subst}
 use Rattle.std.specs.Prelude.{Result, Ok, Some, None, Option as Maybe}
 use Rattle.format.specs.declared.Refusal.{Refusal}
 use mathlib.Core.Bool.{Bool, true, false}
@@ -20,32 +18,19 @@ use lib.ListN.{length, take, drop, length-drop}
 use lib.Seq.{length-take-le}
 use Rattle.format.specs.Paths.{Fst}
 use Rattle.reading.specs.Reading.{Level, passes_test, moved}
+use Rattle.stream_levels.specs.declared.Stack.{Stack}
 use Rattle.stream_start.specs.declared.Reading.{Reading}
 use Rattle.stream_start.specs.Views.{level_at, stack_of, view_is}
 use Rattle.stream_start.specs.StackLaws.{stack_more, key_stack}
 use Rattle.stream_step.specs.declared.Step.{Step}
 use Rattle.stream_step.specs.Stepped.{Stepped}
-use Rattle.stream_step.specs.Steps.{placed_at, ended_at}
+use Rattle.stream_step.specs.Steps.{placed_at, ended_at, found_at}
 use Rattle.pattern.specs.Pattern as P
 use Rattle.pattern.specs.Pattern.{fits_test, WentBy, found, ended, after_walk, pending_by}
 use Rattle.patterned_fit.specs.Positions.{positions_is}
 use Rattle.stream_descend.specs.declared.Followed.{Followed}
 use Rattle.patterned_walk.specs.Walks.{WalksBy}
 use Rattle.patterned_pending.specs.PendingWalks.{walk_of}
-
--- ---- the reading after a call
-
-abbrev pub filled : Reading → ℕ → ℕ → Reading → Reading
-filled r k t q = record {
-  len = r.len;
-  kind = r.kind;
-  bound_len = r.bound_len;
-  bound = r.bound;
-  empty_output = None;
-  total = t;
-  levels = k;
-  stack = q.stack;
-}
 
 -- ---- the walk
 
@@ -60,19 +45,17 @@ pub found_is : (g : Followed) → (q : ℕ × ℕ) → g.found ≡ Some q → �
 found_is g q e = ap (λ (o : Maybe (ℕ × ℕ)). Ok (record { found = o; total = g.total })) e
 
 module _ (r : Reading) (w : WentBy) where
-  pub after_ended : (buf : List ℕ) (t : ℕ) → w ≡ ended t → (x : Step) → Stepped (ended_at (view_is r) t) buf buf x → Stepped (after_walk (view_is r) w) buf buf x
+  pub after_ended : (buf : List ℕ) (t : ℕ) → w ≡ ended t → (x : Step Reading) → Stepped (ended_at (view_is r) t) buf buf x → Stepped (after_walk (view_is r) w) buf buf x
   after_ended buf t e x h = rw e h
 
-  pub after_found : (k v t : ℕ) (q : Reading) (buf₀ buf : List ℕ) → q ≡ filled r (k + 1) t q
-      → w ≡ found (level_at k q.stack.addrs q.stack.inps q.stack.trans q.stack.outs ∷ stack_of k q.stack) v t → k + 1 ≤ length q.stack.inps
-      → buf ≡ take k (drop 1 q.stack.inps) ++ drop k buf₀
-      → Stepped (after_walk (view_is r) w) buf₀ buf (record { answer = Ok (Some (k, v)); reading = q })
-  after_found k v t q buf₀ buf is e low copy =
-      let key = key_stack k q.stack.addrs q.stack.inps q.stack.trans q.stack.outs low in
-      let len : length (take k (drop 1 q.stack.inps)) ≡ k = length-take-le k (drop 1 q.stack.inps) (simp length-drop (omega arith)) in
+  pub after_found : (k v t : ℕ) (q : Stack) (buf₀ buf : List ℕ) → w ≡ found (level_at k q.addrs q.inps q.trans q.outs ∷ stack_of k q) v t → k + 1 ≤ length q.inps
+      → buf ≡ take k (drop 1 q.inps) ++ drop k buf₀ → Stepped (after_walk (view_is r) w) buf₀ buf (found_at r q k v t)
+  after_found k v t q buf₀ buf e low copy =
+      let key = key_stack k q.addrs q.inps q.trans q.outs low in
+      let len : length (take k (drop 1 q.inps)) ≡ k = length-take-le k (drop 1 q.inps) (simp length-drop (omega arith)) in
       rw e (record {
         answer = rw (key, len);
-        reading = ap view_is is ∙ ap (λ (x : List Level). moved (view_is r) x t) (stack_more k q.stack.addrs q.stack.inps q.stack.trans q.stack.outs);
+        reading = ap (λ (x : List Level). moved (view_is r) x t) (stack_more k q.addrs q.inps q.trans q.outs);
         buffer = rw (key, len) copy;
       })
 
@@ -84,7 +67,7 @@ inputs_copied is copied n k buf same e = rw (e, same)
 -- ---- the pending empty key
 
 module _ (f : Fst) (p : P.Pattern) (r : Reading) (v : ℕ) where
-  pub pending_passed : (buf : List ℕ) → passes_test (view_is r).bound [] ≡ true → (x : Step) → Stepped (ended_at (view_is r) r.total) buf buf x
+  pub pending_passed : (buf : List ℕ) → passes_test (view_is r).bound [] ≡ true → (x : Step Reading) → Stepped (ended_at (view_is r) r.total) buf buf x
       → Stepped (pending_by f p (view_is r) (some v)) buf buf x
   pending_passed buf e x h = rw e h
 
@@ -93,7 +76,7 @@ module _ (f : Fst) (p : P.Pattern) (r : Reading) (v : ℕ) where
         → Stepped (pending_by f p (view_is r) (some v)) buf buf (record { answer = Ok (Some (0, v)); reading = q })
     pending_key buf t q is = rw (e, t) (record { answer = refl; reading = ap view_is is; buffer = refl })
 
-    pub pending_walk : (buf₀ buf : List ℕ) → fits_test p.positions p.rest [] ≡ false → (x : Step) → Stepped (walk_of f p (view_is r)) buf₀ buf x
+    pub pending_walk : (buf₀ buf : List ℕ) → fits_test p.positions p.rest [] ≡ false → (x : Step Reading) → Stepped (walk_of f p (view_is r)) buf₀ buf x
         → Stepped (pending_by f p (view_is r) (some v)) buf₀ buf x
     pending_walk buf₀ buf t x h = rw (e, t) h
 

@@ -16,46 +16,25 @@ use patterned_held::Pattern;
 use patterned_walk::walk_by;
 use stream_bounds::exceeded;
 use stream_start::Reading;
-use stream_step::{Step, ended, placed};
+use stream_step::{Step, ended, found, placed};
 
 // The walk, where no empty key is pending or it is dropped. The levels are copied, so that a refusal gives the reading back as it was.
-pub fn walk(fst: FstRef<'_>, reading: Reading, pattern: Pattern, key: &mut [u8]) -> Step
+pub fn walk(fst: FstRef<'_>, reading: Reading, pattern: Pattern, key: &mut [u8]) -> Step<Reading>
     requires { (reading.levels ≤ max_levels) × (reading.bound_len ≤ max_path)
         × (fst.root < 4294967296) × (max_path ≤ length key.old) × (pattern.len ≤ max_path) }
     ensures { Stepped (walk_of (fst_is fst.entry) (held_is pattern)
         (view_is reading)) key.old key.new result }
 {
     let mut stack = reading.stack;
-    let walked = match walk_by(
-        fst,
-        reading.levels,
-        reading.total,
-        &mut stack,
-        reading.upper(),
-        &pattern,
-    ) {
+    let walked = match walk_by(fst, &reading, &mut stack, &pattern) {
         Ok(walked) => walked,
-        Err(why) => {
-            return Step {
-                answer: Err(why),
-                reading,
-            };
-        }
+        Err(why) => return Step::refused(reading, why),
     };
     let Some((k, value)) = walked.found else {
         return ended(reading, walked.total);
     };
     key[..k].copy_from_slice(&stack.inps[1..k + 1]);
-    Step {
-        answer: Ok(Some((k, value))),
-        reading: Reading {
-            empty_output: None,
-            total: walked.total,
-            levels: k + 1,
-            stack,
-            ..reading
-        },
-    }
+    found(reading, stack, k, value, walked.total)
 }
 
 // The pending empty key: the end where it passes the upper bound; else it is handed out where it fits, or dropped, and the same call walks on.
@@ -65,7 +44,7 @@ pub fn pending(
     value: u64,
     pattern: Pattern,
     key: &mut [u8],
-) -> Step
+) -> Step<Reading>
     requires { (reading.levels ≤ max_levels) × (reading.bound_len ≤ max_path)
         × (fst.root < 4294967296) × (max_path ≤ length key.old) × (pattern.len ≤ max_path) }
     ensures { Stepped (pending_by (fst_is fst.entry) (held_is pattern)

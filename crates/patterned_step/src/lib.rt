@@ -10,45 +10,27 @@ ghost use Rattle.patterned_held.specs.HeldPatterns.{held_is};
 use format::{MAX_KEY, Refusal};
 use patterned_held::Pattern;
 use patterned_pending::{pending, walk};
-use stream_bounds::state_right;
 use stream_start::Reading;
-use stream_step::Step;
+use stream_step::{Step, judge};
 
 // A call of next on a reading and a pattern.
-pub fn step(file: &[u8], reading: Reading, pattern: Pattern, key: &mut [u8]) -> Step
+pub fn step(file: &[u8], reading: Reading, pattern: Pattern, key: &mut [u8]) -> Step<Reading>
     ensures { Stepped (next_by file.now (held_is pattern) (view_is reading)
         (length key.old)) key.old key.new result }
 {
-    let m = match fst::open(file) {
-        Ok(m) => m,
-        Err(why) => {
-            return Step {
-                answer: Err(why),
-                reading,
-            };
-        }
+    let fst = match judge(file, &reading) {
+        Ok(fst) => fst,
+        Err(why) => return Step::refused(reading, why),
     };
-    if !state_right(reading.levels, reading.bound_len, reading.len, file.len()) {
-        return Step {
-            answer: Err(Refusal::State),
-            reading,
-        };
-    }
     let too_many = MAX_KEY < pattern.len;
     if too_many {
-        return Step {
-            answer: Err(Refusal::Pattern),
-            reading,
-        };
+        return Step::refused(reading, Refusal::Pattern);
     }
     if key.len() < MAX_KEY {
-        return Step {
-            answer: Err(Refusal::Space),
-            reading,
-        };
+        return Step::refused(reading, Refusal::Space);
     }
     match reading.empty_output {
-        Some(value) => pending(m.over(file), reading, value, pattern, key),
-        None => walk(m.over(file), reading, pattern, key),
+        Some(value) => pending(fst, reading, value, pattern, key),
+        None => walk(fst, reading, pattern, key),
     }
 }

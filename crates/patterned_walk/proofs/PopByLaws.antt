@@ -5,6 +5,7 @@
 -- Assumes nothing.
 use mathlib.Core.Path.{◌≡◌, refl, sym, ◌∙◌, ap, subst}
 use Rattle.std.specs.Prelude.{Ok, Err, Some, None, Result, Option}
+use Rattle.std.proofs.lemmas.Bool.{and_parts}
 use mathlib.Core.Bool.{Bool, true, false, ◌&&◌}
 use mathlib.Core.List.{List, ◌∷◌}
 use Prim.Native.Nat.{ℕ, ◌-◌, ◌<◌, ◌≤◌}
@@ -52,10 +53,6 @@ popping_none s v root n rest xs ps levels fit h =
 
 below_one : {a b c : ℕ} → a < b → b ≤ c → a ≤ c
 below_one h g = omega arith
-
-and_parts : (a b : Bool) → (a && b) ≡ true → (a ≡ true) × (b ≡ true)
-and_parts true b e = (refl, e)
-and_parts false b e = absurd (let z : ◌≡◌ {A = ℕ} 0 1 = cc in omega arith)
 
 pair_of : {k j : ℕ} {m y : Node} → ◌≡◌ {A = Result (Option (ℕ × Node)) Unsound} (Ok (Some (k, m))) (Ok (Some (j, y))) → (k ≡ j) × (m ≡ y)
 pair_of {k} {j} {m} {y} e =

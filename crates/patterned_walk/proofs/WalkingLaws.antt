@@ -24,6 +24,7 @@ use Rattle.pattern.specs.Pattern.{Pattern, start_test, WentBy, walk_by}
 use Rattle.pattern.specs.FitCount.{fit_count, Tells}
 use Rattle.pattern.proofs.CountLaws.{tells_count, tells_all}
 use Rattle.pattern.proofs.TurnLaws.{turn_end}
+use Rattle.stream_descend.specs.declared.Followed.{Followed}
 use Rattle.patterned_descend.specs.declared.Down.{Down}
 use Rattle.patterned_descend.specs.Descents.{down_seen, down_at, DescendsBy}
 use Rattle.patterned_walk.specs.Walks.{Told, pop_seen, PopsBy, WalksBy}
@@ -89,11 +90,8 @@ module _ {s : List ℕ} {v root : ℕ} {p : Pattern} {hi : Bound} {want : WentBy
         down_is : (d' : Result Down Refusal) → d ≡ d' → down_seen f p hi xs' is' ps' os' d' ≡ want
         down_is d' q = ap (down_seen f p hi xs' is' ps' os') (sym q) ∙ down.seen ∙ pops_is (Ok (Some (k, m))) e
 
-        pub walking_found : (j x u : ℕ) → d ≡ Ok (Down.Found j x u) → WalksBy want xs' is' ps' os' (Ok (record { found = Some (j, x); total = u }))
-        walking_found j x u q = record { low = rw (ap down_at q) at down.low; inps_len = down.arrays.inps_len; seen = down_is (Ok (Down.Found j x u)) q }
-
-        pub walking_passed : (u : ℕ) → d ≡ Ok (Down.Passed u) → WalksBy want xs' is' ps' os' (Ok (record { found = None; total = u }))
-        walking_passed u q = record { low = omega arith; inps_len = down.arrays.inps_len; seen = down_is (Ok (Down.Passed u)) q }
+        pub walking_done : (r' : Followed) → d ≡ Ok (Down.Done r') → WalksBy want xs' is' ps' os' (Ok r')
+        walking_done r' q = record { low = rw (ap down_at q) at down.low; inps_len = down.arrays.inps_len; seen = down_is (Ok (Down.Done r')) q }
 
         pub walking_halted : (why : Refusal) → d ≡ Err why → WalksBy want xs' is' ps' os' (Err why)
         walking_halted why q = record { low = omega arith; inps_len = down.arrays.inps_len; seen = down_is (Err why) q }

@@ -1,7 +1,7 @@
 -- What the walk by pattern answers, and what it leans on.
 --     Told                  what a number tells of each level
 --     PopsBy                what the pops answer: the walk from the level that they find is the walk from all levels
---     found_seen, walked_seen, WalksBy   what the walk answered, read against the four arrays; its contract
+--     walked_seen, WalksBy   what the walk answered, read against the four arrays; its contract
 -- Assumes nothing.
 use Rattle.std.specs.Prelude.{◌≡◌, Bool, true, List, ◌∷◌, ℕ, ◌-◌, ◌≤◌, ◌<◌, length, get_or, take, drop, Ok, Err, Some, None, Result, Option}
 use Rattle.format.specs.declared.Refusal.{Refusal}
@@ -13,10 +13,11 @@ use Rattle.node.specs.declared.Unsound.{Unsound}
 use Rattle.reading.specs.Visits.{left}
 use Rattle.stream_start.specs.Views.{level_at, stack_is}
 use Rattle.stream_pop.specs.Pops.{Ready}
-use Rattle.pattern.specs.Pattern.{Pattern, WentBy, found, ended, halted, walk_by}
+use Rattle.pattern.specs.Pattern.{Pattern, WentBy, ended, halted, walk_by}
 use Rattle.pattern.specs.FitCount.{goes_on, Tells}
 use Rattle.stream_descend.specs.declared.Followed.{Followed}
 use Rattle.stream_descend.specs.Descent.{down_at}
+use Rattle.patterned_descend.specs.Descents.{found_seen}
 
 -- ---- the pops
 
@@ -43,10 +44,6 @@ pub record PopsBy (s : List ℕ) (v root n : ℕ) (rest : Bool) (xs ps : List �
       → left (fst_with s v root) (level_at k xs is ps os ∷ stack_is k xs is ps os) ≤ left (fst_with s v root) (stack_is levels xs is ps os)
 
 -- ---- the walk
-
-abbrev pub found_seen : List ℕ → List ℕ → List ℕ → List ℕ → Option (ℕ × ℕ) → ℕ → WentBy
-found_seen xs is ps os (Some (k, v)) t = found (level_at k xs is ps os ∷ stack_is k xs is ps os) v t
-found_seen xs is ps os None t = ended t
 
 abbrev pub walked_seen : List ℕ → List ℕ → List ℕ → List ℕ → Result Followed Refusal → WentBy
 walked_seen xs is ps os (Ok r) = found_seen xs is ps os r.found r.total

@@ -6,7 +6,7 @@
 ghost use Rattle.std.specs.Prelude.{◌≤◌, ◌<◌};
 ghost use Rattle.format.specs.Limits.{max_path, max_levels};
 ghost use Rattle.format.specs.View.{fst_is};
-ghost use Rattle.stream_start.specs.Views.{bound_of, stack_of};
+ghost use Rattle.stream_start.specs.Views.{view_is, stack_of};
 ghost use Rattle.pattern.specs.Pattern.{walk_by};
 ghost use Rattle.patterned_fit.specs.Positions.{held_is};
 ghost use Rattle.patterned_walk.specs.Walks.{PopsBy, WalksBy};
@@ -15,9 +15,9 @@ use format::{FstRef, Refusal};
 use node::{Node, Unsound};
 use patterned_descend::{Down, descend_by};
 use patterned_fit::Pattern;
-use std::ops::Bound;
 use stream_descend::Followed;
 use stream_levels::Stack;
+use stream_start::Reading;
 
 // The highest of the first levels that can go on, with its node, if one can: it has a transition left, and its bytes fit the pattern's start. Each level that
 // is looked at is judged, as a reading can be made by hand.
@@ -34,6 +34,7 @@ fn pop_by(
     ensures { PopsBy fst.entry.bytes.now fst.entry.version fst.entry.root pattern.now.len pattern.now.rest stack.now.addrs
         stack.now.trans levels fit result }
 {
+    // by place: it is what is answered, and two arrays are read at it
     for top in (0..levels).rev() {
         let m = node::node_at(fst, stack.addrs[top] as usize)?;
         if pattern.live(usize::from(stack.trans[top]), m.ntrans, top, fit) {
@@ -43,25 +44,24 @@ fn pop_by(
     Ok(None)
 }
 
-// The walk from the first levels of the stack: NODE for each level that is looked at, and for each transition that is followed DEEP, SUM
-// for the running sum, NODE for its target, the upper bound, and SUM with the final output where the key fits.
+// The walk of a reading over a copy of its stack, from its first levels on: NODE for each level that is looked at, and for each transition that is
+// followed DEEP, SUM for the running sum, NODE for its target, the upper bound, and SUM with the final output where the key fits.
 pub fn walk_by(
     fst: FstRef<'_>,
-    levels: usize,
-    total: u64,
+    reading: &Reading,
     stack: &mut Stack,
-    upper: Bound<&[u8]>,
     pattern: &Pattern,
 ) -> Result<Followed, Refusal>
-    requires levels_le_max_levels { (levels ≤ max_levels) × (fst.root < 4294967296) × (pattern.now.len ≤ max_path) }
-    ensures { WalksBy (walk_by (fst_is fst.entry) (held_is pattern.now) (bound_of upper.entry)
-        (stack_of levels stack.old) total) stack.new.addrs stack.new.inps stack.new.trans
+    requires levels_le_max_levels { (reading.now.levels ≤ max_levels) × (fst.root < 4294967296) × (pattern.now.len ≤ max_path)
+        × (reading.now.bound_len ≤ max_path) }
+    ensures { WalksBy (walk_by (fst_is fst.entry) (held_is pattern.now) (view_is reading.now).bound
+        (stack_of reading.now.levels stack.old) reading.now.total) stack.new.addrs stack.new.inps stack.new.trans
         stack.new.outs result }
 {
     stack.are_arrays();
-    let mut n = levels;
-    let mut t = total;
-    let mut fit = pattern.fit_of(stack, levels);
+    let mut n = reading.levels;
+    let mut t = reading.total;
+    let mut fit = pattern.fit_of(stack, reading.levels);
     // a `while`: where a descent cannot go on, the walk goes on from the levels that it left
     while 0 < n {
         let Some((top, m)) = pop_by(fst, stack, n, fit, pattern)? else {
@@ -70,16 +70,8 @@ pub fn walk_by(
                 total: t,
             });
         };
-        match descend_by(fst, top, m, t, stack, upper, pattern)? {
-            Down::Found(k, value, total) => {
-                return Ok(Followed {
-                    found: Some((k, value)),
-                    total,
-                });
-            }
-            Down::Passed(total) => {
-                return Ok(Followed { found: None, total });
-            }
+        match descend_by(fst, top, m, t, stack, reading.upper(), pattern)? {
+            Down::Done(followed) => return Ok(followed),
             // the bytes of the levels that are left fit the pattern's start
             Down::Stuck(k, total) => {
                 n = k;

@@ -11,7 +11,7 @@
 -- Assumes nothing.
 use Rattle.std.specs.Prelude.{◌≡◌, refl, Bool, true, false, cond, ◌&&◌, ◌⊎◌, ℕ, zero, suc, ◌+◌, ◌*◌, ◌-◌, ◌≤◌, ◌<◌, ltb, eqb, length, get_or, take}
 use Rattle.std.proofs.Common.{sym, ap, ◌∙◌, subst, inl, inr, ⊎_elim, arith, ltb-true, ltb-false, eq-eqb, ne_eqb, lt-ltb, le-ltb}
-use Rattle.std.proofs.lemmas.Bool.{false≢true, eqb-false}
+use Rattle.std.proofs.lemmas.Bool.{eqb-false, and_parts}
 use mathlib.Core.List.{List, [], ◌∷◌, ◌++◌, Memᴰ}
 use Rattle.std.proofs.Math.Decide.{ℕ_discrete}
 use Rattle.format.specs.declared.Transition.{Transition}
@@ -126,10 +126,6 @@ below_take c b (t ∷ ts) (suc p) small large =
 
 -- ---- the keys up to a string
 
-and_both : (p q : Bool) → (p && q) ≡ true → (p ≡ true) × (q ≡ true)
-and_both true q e = (refl, e)
-and_both false q e = absurd (false≢true e)
-
 both_and : (p q : Bool) → p ≡ true → q ≡ true → (p && q) ≡ true
 both_and p q e g = rw (e, g)
 
@@ -137,7 +133,7 @@ both_and p q e g = rw (e, g)
 end_number : (f : Fst) (own : Bool) (a : ℕ) (m : Node) → node_in f a ≡ sound m → NumberOf (λ k. KeyFrom f a k × UpTo own [] k) (one (own && m.final))
 end_number f own a m e =
     number_iff (λ k. (k ≡ []) × ((own && m.final) ≡ true)) (λ k. KeyFrom f a k × UpTo own [] k) (one (own && m.final))
-    (λ k h. let w = and_both own m.final h.1 in (node_key f a m e k (inl (h.0, w.1)), inr (h.0, w.0)))
+    (λ k h. let w = and_parts own m.final h.1 in (node_key f a m e k (inl (h.0, w.1)), inr (h.0, w.0)))
     from (number_when (own && m.final) [])
   where
     final : (k : List ℕ) → k ≡ [] → KeyFrom f a k → m.final ≡ true

@@ -2,7 +2,8 @@
 // 256 bytes with its value beside it, on any file, admitted or not.
 // rows and values are two slices and no struct: the C caller lends two, a row is written by a function that takes the rows alone, and the definitions speak of
 // each, so that a struct would only be taken apart again.
-// The two bounds are two values and no pair: each is taken by itself.
+// The two bounds are two values and no struct: the start is made with the lower, and the loop goes up to the upper, so that a struct would be taken apart
+// at once, as C hands them apart.
 // How many keys are asked for is a number of its own, and no length of rows or values.
 #![tactic(auto)]
 

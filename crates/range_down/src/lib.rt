@@ -1,5 +1,6 @@
 // The descent of a range, from a level that has a transition left down to the next key, on a stack that the next descent goes on with. A node is
-// judged once, as it is entered, and read by its address after that.
+// judged once, as it is entered, and read by its address after that: a turn is no `stream_descend::follow`, which reads a node that is kept, and answers
+// the next one to be kept.
 #![tactic(auto)]
 
 ghost use Rattle.std.specs.Prelude.{◌+◌, ◌<◌, drop, get_or};

@@ -66,6 +66,7 @@ pub fn fill(
 {
     let mut height = levels;
     let mut standing = stand(stack, levels.saturating_sub(1), upper);
+    // by place: where the range ends, it is what is answered
     for count in first..most {
         match step_on(fst, height, stack, upper, standing) {
             Ok(None) => {

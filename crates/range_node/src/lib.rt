@@ -7,7 +7,7 @@ ghost use Rattle.format.specs.Paths.{node_in};
 ghost use Rattle.format.specs.View.{fst_is};
 ghost use Rattle.range_node.specs.Entries.{met_of, Entered, Leads, CountsAt, TakesAt};
 
-use format::{FstRef, Transition};
+use format::{FstRef, State, Transition};
 use node::Unsound;
 use node_sound::is_sound;
 
@@ -16,15 +16,13 @@ fn ending_of(fst: FstRef<'_>, addr: usize) -> Option<u64>
     requires { SoundAt fst.bytes.now fst.version fst.root addr }
     ensures { Ok result ≡ met_of (node_in (fst_is fst.entry) addr) }
 {
-    let one_transition = 128 <= fst.bytes[addr];
-    if one_transition {
-        return None;
+    match State::from(fst.bytes[addr]) {
+        State::AnyTrans => {
+            let m = node::any_node(fst, addr);
+            m.is_final.then_some(m.final_output)
+        }
+        State::OneTrans | State::OneTransNext => None,
     }
-    let m = node::any_node(fst, addr);
-    if m.is_final {
-        return Some(m.final_output);
-    }
-    None
 }
 
 // Judges the node at addr, as it is entered: whether a key ends there, with what that adds to its value.
@@ -61,9 +59,9 @@ pub fn take(fst: FstRef<'_>, addr: usize, i: usize) -> Transition
     requires { Leads (fst_is fst) addr i }
     ensures { TakesAt (fst_is fst.entry) addr i result }
 {
-    match fst.bytes[addr] {
-        0..=127 => node::transition(fst.bytes, node::any_node(fst, addr), i),
-        128..=191 => node::transition(fst.bytes, node::one_node(fst, addr), i),
-        _ => node::transition(fst.bytes, node::next_node(fst, addr), i),
+    match State::from(fst.bytes[addr]) {
+        State::AnyTrans => node::transition(fst.bytes, node::any_node(fst, addr), i),
+        State::OneTrans => node::transition(fst.bytes, node::one_node(fst, addr), i),
+        State::OneTransNext => node::transition(fst.bytes, node::next_node(fst, addr), i),
     }
 }

@@ -25,6 +25,7 @@ fn highest(fst: FstRef<'_>, stack: &Stack, levels: usize) -> Option<usize>
     ensures { Tops (fst_is fst.entry) stack.now.addrs
         stack.now.trans levels result }
 {
+    // by place: it is what is answered, and two arrays are read at it
     for top in (0..levels).rev() {
         let count = count_of(fst, stack.addrs[top] as usize);
         if (stack.trans[top] as usize) < count {

@@ -6,7 +6,7 @@
 use Rattle.std.specs.Prelude.{◌≡◌, Bool, true, false, cond, ◌&&◌, ◌⊎◌, List, [], ◌∷◌, ℕ, ◌-◌, ◌<◌, ◌≤◌, leb, eqb}
 use Rattle.std.proofs.Math.Path.{refl}
 use Rattle.std.proofs.Common.{sym, ◌∙◌, ap, subst, ⊎_elim, inl, inr, arith}
-use Rattle.std.proofs.lemmas.Bool.{false≢true}
+use Rattle.std.proofs.lemmas.Bool.{and_parts}
 use Rattle.std.proofs.Math.Option.{Option, none, some}
 use borrow.Author.Tests.{le-leb, lt-leb, ne_eqb, eqb-true}
 use Rattle.std.proofs.Math.ListN.{length}
@@ -85,10 +85,6 @@ module _ (s : List ℕ) (r : View) where
 
 -- ---- a reading at its end
 
-both_right : (a b : Bool) → (a && b) ≡ true → b ≡ true
-both_right true b e = e
-both_right false b e = absurd (false≢true e)
-
 both_false : (a b : Bool) → (a && (b && false)) ≡ false
 both_false true true = refl
 both_false true false = refl
@@ -97,7 +93,7 @@ both_false false b = refl
 module _ (s : List ℕ) (r : View) (m : Meta) (opens : opening s ≡ opened m) (state : state_test r (length s) ≡ true) (t : ℕ) where
   -- the state is right with no level too
   state_end : state_test (moved r [] t) (length s) ≡ true
-  state_end = both_right (leb (length r.levels) max_levels) (leb r.bound_len max_path && eqb r.len (length s)) state
+  state_end = (and_parts (leb (length r.levels) max_levels) (leb r.bound_len max_path && eqb r.len (length s)) state).1
 
   end_again : (space : ℕ) → max_path ≤ space → next s (moved r [] t) space ≡ record { answer = end; reading = moved r [] t }
   unfolding next
@@ -112,7 +108,7 @@ module _ (s : List ℕ) (r : View) (m : Meta) (opens : opening s ≡ opened m) (
   end_other other ne space = by (opening other) refl
     where
       len_is : r.len ≡ length s
-      len_is = eqb-true r.len (length s) (both_right (leb r.bound_len max_path) (eqb r.len (length s)) state_end)
+      len_is = eqb-true r.len (length s) (and_parts (leb r.bound_len max_path) (eqb r.len (length s)) state_end).1
 
       wrong : state_test (moved r [] t) (length other) ≡ false
       wrong = rw (ne_eqb r.len (length other) (λ q. ne (sym q ∙ len_is))) (both_false true (leb r.bound_len max_path))

@@ -1,15 +1,13 @@
--- Two rows of transitions compared one after the other: the rest decides.
---     Compared ts us i     the rows from place i on are the same exactly where the whole rows are
+-- Two rows of transitions, as long as each other, are the same exactly where each place is.
+--     same_at t u      two transitions, as the code compares them
 -- Assumes nothing.
-use Rattle.std.proofs.Common.{◌≡◌, ℕ, suc, ◌+◌, ◌<◌, ◌≤◌, Bool, true, false, ◌&&◌, eqb, List, [], ◌∷◌, length, get_or, drop, sym, refl, ap, ◌∙◌, ap₂, add-one, arith, drop_of_length-le, drop-cons}
+use Rattle.std.proofs.Common.{◌≡◌, ℕ, zero, suc, ◌<◌, Bool, true, false, ◌&&◌, eqb, List, [], ◌∷◌, length, refl, sym, ap, arith}
 use Rattle.format.specs.declared.Transition.{Transition}
-use Rattle.format.specs.Node.{transitions_of, transition_at}
-use Rattle.format.specs.Laws.TransitionLaws.{length_transitions_of, transition_at_of}
+use Rattle.format.specs.Node.{transition_at}
 use Rattle.packing.specs.Registry.{same_transitions}
 
-pub record Compared (ts us : List Transition) (i : ℕ) : Type 0 where
-  pub within : i ≤ length ts
-  pub rest : same_transitions (drop i ts) (drop i us) ≡ same_transitions ts us
+abbrev pub same_at : Transition → Transition → Bool
+same_at t u = (eqb t.inp u.inp && eqb t.out u.out) && eqb t.addr u.addr
 
 -- rows of different lengths
 pub lengths_differ : (ts us : List Transition) → ¬ (length ts ≡ length us) → same_transitions ts us ≡ false
@@ -25,45 +23,42 @@ lengths_differ (t ∷ ts) (u ∷ us) ne = rw (lengths_differ ts us (λ e. ne (ap
     and_false true false c = refl
     and_false false b c = refl
 
-and_all : (a b c d r : Bool) → r ≡ (a && (b && c)) → (a && (b && (c && d))) ≡ (r && d)
-and_all true true c d r e = rw e
-and_all true false c d r e = rw e
-and_all false b c d r e = rw e
+not_so : {A : Type 0} → false ≡ true → A
+not_so e = absurd (let z : ◌≡◌ {A = ℕ} 0 1 = cc in omega arith)
 
--- one place, as the code compares it
-compared_at : (ts us : List Transition) (i : ℕ) (r : Bool) → i < length ts → i < length us
-    → r ≡ (eqb (transition_at ts i).inp (transition_at us i).inp && (eqb (transition_at ts i).out (transition_at us i).out && eqb (transition_at ts i).addr (transition_at us i).addr))
-    → same_transitions (drop i ts) (drop i us) ≡ (r && same_transitions (drop (suc i) ts) (drop (suc i) us))
+parted : (a b c d : Bool) → (a && (b && (c && d))) ≡ true → (((a && b) && c) ≡ true) × (d ≡ true)
+parted true true true d e = (refl, e)
+parted true true false d e = not_so e
+parted true false c d e = not_so e
+parted false b c d e = not_so e
+
+joined : (a b c d : Bool) → ((a && b) && c) ≡ true → d ≡ true → (a && (b && (c && d))) ≡ true
+joined true true true d e f = f
+joined true true false d e f = e
+joined true false c d e f = e
+joined false b c d e f = e
+
+each_of : (ts us : List Transition) → length us ≡ length ts → same_transitions ts us ≡ true → (i : ℕ) → i < length ts → same_at (transition_at ts i) (transition_at us i) ≡ true
 unfolding same_transitions
-compared_at ts us i r l m e =
-    ap₂ same_transitions (drop-cons ts i (record { inp = 0; out = 0; addr = 0 }) l) (drop-cons us i (record { inp = 0; out = 0; addr = 0 }) m)
-    ∙ and_all (eqb (transition_at ts i).inp (transition_at us i).inp) (eqb (transition_at ts i).out (transition_at us i).out) (eqb (transition_at ts i).addr (transition_at us i).addr)
-    (same_transitions (drop (suc i) ts) (drop (suc i) us)) r e
+each_of [] us n e i l = absurd (omega arith)
+each_of (t ∷ ts) [] n e i l = absurd (omega arith)
+each_of (t ∷ ts) (u ∷ us) n e zero l = (parted (eqb t.inp u.inp) (eqb t.out u.out) (eqb t.addr u.addr) (same_transitions ts us) e).0
+each_of (t ∷ ts) (u ∷ us) n e (suc i) l = each_of ts us (omega arith) (parted (eqb t.inp u.inp) (eqb t.out u.out) (eqb t.addr u.addr) (same_transitions ts us) e).1 i (omega arith)
 
-module _ (ts : List Transition) (bs os ads : List ℕ) (outs : length os ≡ length bs) (addrs : length ads ≡ length bs) (same : length bs ≡ length ts) where
-  abbrev us : List Transition
-  us = transitions_of bs os ads
+same_of : (ts us : List Transition) → length us ≡ length ts → ((i : ℕ) → i < length ts → same_at (transition_at ts i) (transition_at us i) ≡ true) → same_transitions ts us ≡ true
+unfolding same_transitions
+same_of [] [] n f = refl
+same_of [] (u ∷ us) n f = absurd (omega arith)
+same_of (t ∷ ts) [] n f = absurd (omega arith)
+same_of (t ∷ ts) (u ∷ us) n f =
+    joined (eqb t.inp u.inp) (eqb t.out u.out) (eqb t.addr u.addr) (same_transitions ts us) (f 0 (omega arith)) (same_of ts us (omega arith) (λ i l. f (suc i) (omega arith)))
 
-  count : length us ≡ length bs
-  count = length_transitions_of bs os ads outs addrs
+both_ways : (a b : Bool) → (a ≡ true → b ≡ true) → (b ≡ true → a ≡ true) → a ≡ b
+both_ways true b f g = sym (f refl)
+both_ways false true f g = g refl
+both_ways false false f g = refl
 
-  pub compared_none : Compared ts us 0
-  compared_none = record { within = omega arith; rest = refl }
-
-  module _ (i : ℕ) (l : i < length ts) (t : Transition) (is_t : t ≡ transition_at ts i) (r : Bool)
-      (is_r : r ≡ (eqb t.inp (get_or bs i 0) && (eqb t.out (get_or os i 0) && eqb t.addr (get_or ads i 0)))) (c : Compared ts us i) where
-    place : same_transitions (drop i ts) (drop i us) ≡ (r && same_transitions (drop (suc i) ts) (drop (suc i) us))
-    place =
-        let at = transition_at_of bs os ads i outs addrs (omega arith) in
-        compared_at ts us i r l (omega (arith, count)) (is_r ∙ (rw (is_t, at)))
-
-    pub compared_step : r ≡ true → Compared ts us (i + 1)
-    compared_step e = record { within = omega arith; rest = rw add-one (sym (place ∙ (rw e)) ∙ c.rest) }
-
-    pub compared_differ : r ≡ false → false ≡ same_transitions ts us
-    compared_differ e = sym (place ∙ (rw e)) ∙ c.rest
-
-  pub compared_all : (i : ℕ) → length ts ≤ i → Compared ts us i → true ≡ same_transitions ts us
-  unfolding same_transitions
-  compared_all i l c =
-      sym (ap₂ same_transitions (drop_of_length-le ts {i = i} l) (drop_of_length-le us {i = i} (omega (arith, count)))) ∙ c.rest
+-- a test of every place
+pub rows_same : (ts us : List Transition) → length us ≡ length ts → (r : Bool) → (r ≡ true → (i : ℕ) → i < length ts → same_at (transition_at ts i) (transition_at us i) ≡ true)
+    → (((i : ℕ) → i < length ts → same_at (transition_at ts i) (transition_at us i) ≡ true) → r ≡ true) → r ≡ same_transitions ts us
+rows_same ts us n r f g = both_ways r (same_transitions ts us) (λ e. same_of ts us n (f e)) (λ e. g (each_of ts us n e))

@@ -8,12 +8,13 @@
 --     chosen x y           the choice, where the first cell matches by x and the second by y
 --     intern_chosen        a record's address by the choice
 -- Assumes nothing.
-use Rattle.std.specs.Prelude.{◌≡◌, ℕ, ◌+◌, ◌-◌, Bool, true, false, cond, not, ◌&&◌, List, ◌++◌, length, get_or, replicate, ◌==◌, refl}
+use Rattle.std.specs.Prelude.{◌≡◌, ℕ, ◌+◌, ◌-◌, Bool, true, false, cond, not, ◌&&◌, List, ◌++◌, length, replicate, ◌==◌, refl}
 use Rattle.std.proofs.Common.{ap, arith, length-append}
 use Rattle.std.proofs.lemmas.List.{length-replicate}
 use Rattle.format.specs.Node.{node_at}
 use Rattle.format.specs.Packed.{BuilderNode, packed, packs_to_nothing}
 use Rattle.packing.specs.Registry.{hash_of, Cell, Build, cell_at, row_of, same_node, matches, Interned, write_node, promote, intern}
+use Rattle.pack_cell.specs.declared.Cell as code
 use Rattle.registry.specs.declared.Choice.{Choice}
 use Rattle.registry.specs.declared.Choice.TheVariants.{First, Second, Write}
 
@@ -24,8 +25,8 @@ pub record Paired (b : BuilderNode) : Type 0 where
 abbrev pub cell_with : ℕ → ℕ → Cell
 cell_with a h = record { addr = a; hash = h }
 
-abbrev pub cell_of : List ℕ → Cell
-cell_of c = cell_with (get_or c 0 0) (get_or c 1 0)
+abbrev pub cell_of : code.Cell → Cell
+cell_of c = cell_with c.addr c.hash
 
 abbrev pub matches_in : List ℕ → BuilderNode → Cell → Bool
 matches_in file b c = not (c.addr == 1) && (c.hash == hash_of b && same_node (node_at file 2 (length file - 1) c.addr) b)

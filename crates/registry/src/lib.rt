@@ -2,7 +2,7 @@
 // Ports `Registry::hash` of src/raw/registry.rs and the comparison of `RegistryCache::entry`, which here reads the node back.
 #![tactic(auto)]
 
-ghost use Rattle.std.specs.Prelude.{◌≡◌, ◌-◌, ◌≤◌, length};
+ghost use Rattle.std.specs.Prelude.{◌≡◌, ◌-◌, length};
 ghost use Rattle.format.specs.Node.{transitions_of, node_at};
 ghost use Rattle.node.specs.Read.{transitions_in, Readable};
 ghost use Rattle.node_compile.specs.Compile.{builder_is};
@@ -12,6 +12,7 @@ ghost use Rattle.registry.specs.Matching.{Paired, cell_of, matches_in, chosen};
 use format::FstRef;
 use node::Node;
 use node_record::BuilderNode;
+use pack_cell::{Cell, NONE_ADDRESS};
 
 // ---- the hash
 
@@ -52,22 +53,17 @@ fn same_transitions(file: &[u8], stored: Node, node: BuilderNode<'_>) -> bool
     ensures { result ≡ same_transitions (transitions_in file.now stored)
         (transitions_of node.entry.inputs.now node.entry.outputs.now node.entry.targets.now) }
 {
-    if node.inputs.len() != stored.ntrans {
-        return false;
-    }
-    for (i, inp) in node.inputs.iter().enumerate() {
-        let t = node::transition(file, stored, i);
-        if (t.inp, t.out, t.addr) != (*inp, node.outputs[i], node.targets[i]) {
-            return false;
-        }
-    }
-    true
+    node.inputs.len() == stored.ntrans
+        && (0..stored.ntrans).all(|i| {
+            let t = node::transition(file, stored, i);
+            (t.inp, t.out, t.addr) == (node.inputs[i], node.outputs[i], node.targets[i])
+        })
 }
 
 // Whether the node that is stored at addr among the nodes so far is the record. The file is 16 bytes and the nodes,
 // so its last byte is the last node's.
-pub fn same_node(file: &[u8], addr: usize, node: BuilderNode<'_>) -> bool
-    requires { (1 ≤ length file.now) × Paired (builder_is node) }
+fn same_node(file: &[u8], addr: usize, node: BuilderNode<'_>) -> bool
+    requires { Paired (builder_is node) }
     ensures { result ≡ same_node (node_at file.now 2 (length file.now - 1) addr)
         (builder_is node.entry) }
 {
@@ -75,7 +71,7 @@ pub fn same_node(file: &[u8], addr: usize, node: BuilderNode<'_>) -> bool
         FstRef {
             bytes: file,
             version: 2,
-            root: file.len() - 1,
+            root: file.len().saturating_sub(1),
         },
         addr,
     );
@@ -91,9 +87,6 @@ pub fn same_node(file: &[u8], addr: usize, node: BuilderNode<'_>) -> bool
 
 // ---- the cells of a row
 
-// The address of an empty cell.
-pub const NONE_ADDRESS: usize = 1;
-
 // What a row's two cells say of a record.
 #[derive(Clone, Copy)]
 pub enum Choice {
@@ -103,33 +96,24 @@ pub enum Choice {
     Write,
 }
 
-// Whether the cell, an address and a hash, has the record, whose own hash is given. Another hash is enough to tell that it has not; an
+// Whether the cell has the record, whose own hash is given. Another hash is enough to tell that it has not; an
 // equal one is not enough, so the node is read back.
-fn matches(file: &[u8], cell: [u64; 2], own_hash: u64, node: BuilderNode<'_>) -> bool
-    requires { (1 ≤ length file.now) × Paired (builder_is node)
-        × (own_hash ≡ hash_of (builder_is node)) }
+fn matches(file: &[u8], cell: Cell, own_hash: u64, node: BuilderNode<'_>) -> bool
+    requires { Paired (builder_is node) × (own_hash ≡ hash_of (builder_is node)) }
     ensures { result ≡ matches_in file.now (builder_is node.entry) (cell_of cell) }
 {
-    let addr = cell[0] as usize;
-    if addr == NONE_ADDRESS {
-        return false;
-    }
-    if cell[1] != own_hash {
-        return false;
-    }
-    same_node(file, addr, node)
+    cell.addr != NONE_ADDRESS && cell.hash == own_hash && same_node(file, cell.addr as usize, node)
 }
 
 // Which of a row's two cells has the record: the first is asked first.
 pub fn choose(
     file: &[u8],
-    first: [u64; 2],
-    second: [u64; 2],
+    first: Cell,
+    second: Cell,
     own_hash: u64,
     node: BuilderNode<'_>,
 ) -> Choice
-    requires { (1 ≤ length file.now) × Paired (builder_is node)
-        × (own_hash ≡ hash_of (builder_is node)) }
+    requires { Paired (builder_is node) × (own_hash ≡ hash_of (builder_is node)) }
     ensures { result ≡ chosen (matches_in file.now (builder_is node.entry) (cell_of first))
         (matches_in file.now (builder_is node.entry) (cell_of second)) }
 {

@@ -4,20 +4,18 @@
 #![tactic(auto)]
 
 use format::MAX_LEN;
-use replay_list::{Entry, FILE, KEPT, answer_number, at_most, number};
+use replay_list::{
+    CELLS, Entry, FILE, KEPT, KEPT16, KEPT64, MALFORMED, answer_number, at_most, number,
+};
 use std::io;
 use std::io::Read;
 
 // The list's length, and one byte more by which a longer list is seen.
 const LIST: u64 = 69_587;
-// The entries of each table: more than the longest file of the list has bytes.
-const CELLS: usize = 1_024;
-// What an entry holds before it is lent.
-const KEPT16: u16 = 43_690;
-
+// The bytes of a row of the table of new addresses: address 2, new address 4.
+const ROW: usize = 6;
+// What an entry of the table of new addresses holds before it is lent.
 const KEPT32: u32 = 2_863_311_530;
-
-const KEPT64: u64 = 12_297_829_382_473_034_410;
 
 // What a refusal is added to, in a record's answer: no file of the list is as long.
 const REFUSED: u16 = 20_000;
@@ -52,15 +50,12 @@ fn writes_alike(file: &[u8], entry: Entry<'_>) -> bool {
 
 // ---- the table of new addresses
 
-// Whether the table has the new addresses of these rows: address 2, new address 4.
+// Whether the table has the new addresses of these rows.
 fn rows_alike(rows: &[u8], table: &[u32; CELLS]) -> bool {
-    for row in rows.chunks_exact(6) {
+    rows.chunks_exact(ROW).all(|row| {
         let addr = at_most(number(row, 0, 2), CELLS - 1);
-        if u64::from(table[addr]) != number(row, 2, 4) {
-            return false;
-        }
-    }
-    true
+        u64::from(table[addr]) == number(row, 2, 4)
+    })
 }
 
 // How many of the entries that are written have a new address, which is not 0; None where another entry is not what it was.
@@ -94,7 +89,7 @@ fn addresses_alike(file: &[u8], entry: Entry<'_>) -> bool {
     } else {
         0
     };
-    entries(&table[..written], &table[written..]) == Some(entry.part.len() / 6)
+    entries(&table[..written], &table[written..]) == Some(entry.part.len() / ROW)
         && rows_alike(entry.part, &table)
 }
 
@@ -142,14 +137,10 @@ fn alike(file: &[u8], entry: Entry<'_>) -> bool {
 fn main(rt: HostRuntime) -> io::Result<()> {
     let mut list = Vec::new(rt.alloc());
     rt.stdin().take(LIST).read_to_end(&mut list)?;
-    let mut counts = [0u64; 16];
-    replay_list::replay(&list, &mut counts, |entry, file, tallies| {
-        replay_list::tally(tallies, entry.kind, alike(file, entry));
-        Ok(())
-    })?;
-    replay_list::line(&rt, &counts, 1, b"files")?;
-    replay_list::line(&rt, &counts, 2, b"new files")?;
-    replay_list::line(&rt, &counts, 3, b"tables of new addresses")?;
-    replay_list::line(&rt, &counts, 4, b"work tables restored")?;
-    replay_list::line(&rt, &counts, 0, b"malformed")
+    let counts = replay_list::replay(&list, |entry, file| Ok(alike(file, entry)))?;
+    counts.line(&rt, FILE, b"files")?;
+    counts.line(&rt, NEW_FILE, b"new files")?;
+    counts.line(&rt, NEW_ADDRESSES, b"tables of new addresses")?;
+    counts.line(&rt, WORK_TABLES, b"work tables restored")?;
+    counts.line(&rt, MALFORMED, b"malformed")
 }

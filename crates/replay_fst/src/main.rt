@@ -6,20 +6,16 @@
 
 ghost use Rattle.std.specs.Prelude.{◌≤◌, IfSome};
 
-use format::Refusal;
 use fst::Meta;
-use replay_list::{Entry, FILE, KEPT, at_most, begins_number, number};
+use oracle_numbers::{NO_CHECKSUM, NOT_HELD, done, key_number};
+use replay_list::{CELLS, Entry, FILE, KEPT, KEPT16, KEPT64, MALFORMED, at_most, number};
 use std::io;
 use std::io::Read;
 
 // The list's length, and one byte more by which a longer list is seen.
 const LIST: u64 = 198_022;
-// The entries of each table: more than the longest file of the list has bytes.
-const CELLS: usize = 1_024;
-// What an entry holds before it is lent: no entry of an admitted file.
-const KEPT16: u16 = 43_690;
-
-const KEPT64: u64 = 12_297_829_382_473_034_410;
+// The bytes of a row of both tables: address 2, depth 2, sum 8.
+const ROW: usize = 12;
 
 // The kinds of record beside the file.
 const OPENING: u64 = 2;
@@ -39,7 +35,7 @@ fn meta_alike(part: &[u8], meta: Meta) -> bool {
         && number(part, 8, 8) == meta.ty
         && number(part, 16, 8) == meta.len
         && number(part, 24, 8) == meta.root as u64
-        && number(part, 32, 8) == meta.checksum.map_or(4_294_967_296, u64::from)
+        && number(part, 32, 8) == meta.checksum.map_or(NO_CHECKSUM, u64::from)
 }
 
 fn opens_alike(file: &[u8], entry: Entry<'_>) -> bool {
@@ -51,15 +47,12 @@ fn opens_alike(file: &[u8], entry: Entry<'_>) -> bool {
 
 // ---- admission
 
-// Whether the entries of the nodes are those of the rows: address 2, depth 2, sum 8.
+// Whether the entries of the nodes are those of the rows.
 fn rows_alike(rows: &[u8], depths: &[u16; CELLS], sums: &[u64; CELLS]) -> bool {
-    for row in rows.chunks_exact(12) {
+    rows.chunks_exact(ROW).all(|row| {
         let addr = at_most(number(row, 0, 2), CELLS - 1);
-        if u64::from(depths[addr]) != number(row, 2, 2) || sums[addr] != number(row, 4, 8) {
-            return false;
-        }
-    }
-    true
+        u64::from(depths[addr]) == number(row, 2, 2) && sums[addr] == number(row, 4, 8)
+    })
 }
 
 // How many nodes have the entries of one address: 1, or 0 where they are 0 in what is written and
@@ -89,7 +82,7 @@ fn entries(depths: &[u16; CELLS], sums: &[u64; CELLS], n: usize) -> Option<usize
 
 // Whether both tables are as recorded: so many entries written, and of those the rows of the part, the others 0.
 fn tables_alike(entry: Entry<'_>, depths: &[u16; CELLS], sums: &[u64; CELLS]) -> bool {
-    entries(depths, sums, entry.c as usize) == Some(entry.part.len() / 12)
+    entries(depths, sums, entry.c as usize) == Some(entry.part.len() / ROW)
         && rows_alike(entry.part, depths, sums)
 }
 
@@ -100,7 +93,7 @@ fn admits_alike(file: &[u8], entry: Entry<'_>) -> bool {
     let mut depths = [KEPT16; CELLS];
     let mut sums = [KEPT64; CELLS];
     let answer = admission::admit(file, &mut depths[..lent], &mut sums[..lent]);
-    begins_number(answer) == entry.a && tables_alike(entry, &depths, &sums)
+    done(answer) == entry.a && tables_alike(entry, &depths, &sums)
 }
 
 // ---- lookup
@@ -108,17 +101,8 @@ fn admits_alike(file: &[u8], entry: Entry<'_>) -> bool {
 fn gets_alike(file: &[u8], entry: Entry<'_>) -> bool {
     match lookup::get(file, entry.part) {
         Ok(Some(v)) => entry.a == 0 && v == entry.b,
-        Ok(None) => entry.a == 100,
+        Ok(None) => entry.a == NOT_HELD,
         Err(why) => u64::from(u8::from(why)) == entry.a,
-    }
-}
-
-// The answer as the list has it: the key's length, 1000 for none, or 2000 plus the refusal. No plainer by `map_or_else`: there are three cases.
-fn key_number(answer: Result<Option<usize>, Refusal>) -> u64 {
-    match answer {
-        Ok(Some(n)) => n as u64,
-        Ok(None) => 1000,
-        Err(why) => 2000 + u64::from(u8::from(why)),
     }
 }
 
@@ -142,23 +126,14 @@ fn alike(file: &[u8], entry: Entry<'_>) -> bool {
     }
 }
 
-// Every record of the list.
-fn replay(list: &[u8], counts: &mut [u64; 16]) -> io::Result<()> {
-    replay_list::replay(list, counts, |entry, file, tallies| {
-        replay_list::tally(tallies, entry.kind, alike(file, entry));
-        Ok(())
-    })
-}
-
 fn main(rt: HostRuntime) -> io::Result<()> {
     let mut list = Vec::new(rt.alloc());
     rt.stdin().take(LIST).read_to_end(&mut list)?;
-    let mut counts = [0u64; 16];
-    replay(&list, &mut counts)?;
-    replay_list::line(&rt, &counts, 1, b"files")?;
-    replay_list::line(&rt, &counts, 2, b"opened")?;
-    replay_list::line(&rt, &counts, 3, b"admitted or refused")?;
-    replay_list::line(&rt, &counts, 4, b"lookups by key")?;
-    replay_list::line(&rt, &counts, 5, b"lookups by value")?;
-    replay_list::line(&rt, &counts, 0, b"malformed")
+    let counts = replay_list::replay(&list, |entry, file| Ok(alike(file, entry)))?;
+    counts.line(&rt, FILE, b"files")?;
+    counts.line(&rt, OPENING, b"opened")?;
+    counts.line(&rt, ADMISSION, b"admitted or refused")?;
+    counts.line(&rt, KEY, b"lookups by key")?;
+    counts.line(&rt, VALUE, b"lookups by value")?;
+    counts.line(&rt, MALFORMED, b"malformed")
 }

@@ -1,15 +1,10 @@
--- How the lists of answers record what a start, an admission, a next and a call that writes answer (the README.md of each program that replays).
---     start_number a       0 where a start or an admission is not refused, else the refusal
+-- How the lists of answers record what a next and a call that writes answer (the README.md of each program that replays).
 --     answer_number a n    how many bytes a call wrote, or the refusal added to n
 --     answer_test a n v    whether an answer has the number n and the value v: a key's length and value, 1000 at the end, 2000 and the refusal
 -- Assumes nothing.
-use Rattle.std.specs.Prelude.{Bool, ◌&&◌, ℕ, ◌+◌, eqb, Ok, Err, Some, None, Result, Option, ⊤}
+use Rattle.std.specs.Prelude.{Bool, ◌&&◌, ℕ, ◌+◌, eqb, Ok, Err, Some, None, Result, Option}
 use Rattle.format.specs.Limits.{number}
 use Rattle.format.specs.declared.Refusal.{Refusal}
-
-abbrev pub start_number : Result ⊤ Refusal → ℕ
-start_number (Ok tt) = 0
-start_number (Err n) = number n
 
 abbrev pub answer_number : Result ℕ Refusal → ℕ → ℕ
 answer_number (Ok k) n = k

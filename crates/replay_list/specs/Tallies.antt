@@ -4,9 +4,11 @@
 --     AllKept bs           each byte is what a buffer holds before it is lent
 --     smaller n most       the smaller of the two
 --     more_at c k           the counts with one more at place k, up to 2^64 - 1
---     tallied c kind t     the counts after a record of this kind: one more at 2 * kind, and if alike at 2 * kind + 1
+--     no_counts            the counts before any record
+--     tallied c kind t     the counts after a record of this kind: one more that was asked, and if alike one more that was answered so
 -- Assumes nothing.
-use Rattle.std.specs.Prelude.{◌≡◌, Bool, cond, List, ℕ, ◌+◌, ◌*◌, ◌≤◌, ◌<◌, ltb, length, get_or, set}
+use Rattle.std.specs.Prelude.{◌≡◌, Bool, cond, List, ℕ, ◌+◌, ◌≤◌, ◌<◌, leb, ltb, length, get_or, set, replicate}
+use Rattle.replay_list.specs.declared.Counts.{Counts}
 
 -- 170 is what every buffer holds before it is lent
 unfoldable pub wanted_at : List ℕ → ℕ → ℕ
@@ -25,9 +27,12 @@ smaller n most = cond (ltb n most) n most
 unfoldable pub more_at : List ℕ → ℕ → List ℕ
 more_at c k = cond (ltb (get_or c k 0) 18446744073709551615) (set c k (get_or c k 0 + 1)) c
 
--- kinds past 7 are none
-unfoldable pub tallied : List ℕ → ℕ → Bool → List ℕ
+abbrev pub no_counts : Counts
+no_counts = record { asked = replicate 8 0; alike = replicate 8 0 }
+
+-- a kind from 8 on is none, and is counted as 0
+unfoldable pub tallied : Counts → ℕ → Bool → Counts
 tallied c kind alike =
-    cond (ltb 7 kind)
-    (more_at c 0)
-    (cond alike (more_at (more_at c (2 * kind)) (2 * kind + 1)) (more_at c (2 * kind)))
+    cond (leb 8 kind)
+    (record { asked = more_at c.asked 0; alike = c.alike })
+    (record { asked = more_at c.asked kind; alike = cond alike (more_at c.alike kind) c.alike })

@@ -1,22 +1,36 @@
 // A list of recorded answers, as the replay programs read it: its records, what they are about,
 // bytes that are held to a part of it, and the counts that a program writes (oracle/README.md, "The
-// replay lists").
+// replay lists"). The comparison with the Rust recorded the lists, so the numbers for answers are those of oracle_numbers.
 #![tactic(auto)]
 
-ghost use Rattle.std.specs.Prelude.{◌≡◌, ◌+◌, ◌*◌, ◌≤◌, ◌<◌, length, take, drop, IfSome};
+ghost use Rattle.std.specs.Prelude.{◌≡◌, ◌+◌, ◌≤◌, ◌<◌, length, take, drop, IfSome};
 ghost use Rattle.buffers.specs.Decide.{Decides};
 ghost use Rattle.format.specs.Bytes.{le};
 ghost use Rattle.replay_list.specs.Records.{entry_is, parsed_is, parsed_at, asked_file};
-ghost use Rattle.replay_list.specs.Recorded.{start_number, answer_number, answer_test};
-ghost use Rattle.replay_list.specs.Tallies.{AllKept, Holds, smaller, more_at, tallied};
+ghost use Rattle.replay_list.specs.Recorded.{answer_number, answer_test};
+ghost use Rattle.replay_list.specs.Tallies.{AllKept, Holds, smaller, more_at, no_counts, tallied};
 
 use format::Refusal;
+use oracle_numbers::{END, REFUSED};
 use std::io;
 
-// The kind of a record that those after it are about, as a file: its part is what they ask of.
+// The kind of a record that those after it are about, as a file: its part is what they ask of. The other kinds are each program's own, so a kind is the
+// number that stands in the list, and each program names its own by constants.
 pub const FILE: u64 = 1;
+// The kind by which a list that ends within a record is counted, and a record of a kind past the last one: the kinds of records begin with 1.
+pub const MALFORMED: u64 = 0;
+// How many kinds are counted, MALFORMED among them.
+const KINDS: usize = 8;
+// How many bytes of a record stand before its part.
+const HEAD: usize = 15;
 // What a buffer of the programs holds before it is lent.
 pub const KEPT: u8 = 170;
+// What an entry of a table of the programs holds before it is lent: no entry of an admitted file.
+pub const KEPT16: u16 = 43_690;
+
+pub const KEPT64: u64 = 12_297_829_382_473_034_410;
+// The entries of each table of the programs: more than the longest file of a list has bytes.
+pub const CELLS: usize = 1_024;
 
 // A record of the list: its numbers, and its part.
 #[derive(Clone, Copy)]
@@ -44,23 +58,13 @@ pub fn parse(list: &[u8], at: usize) -> Option<Entry<'_>>
     ensures value { parsed_is result ≡ parsed_at list.now at }
     ensures within { IfSome result (λ entry. at + 15 + length entry.part.now ≤ length list.now) }
 {
-    if list.len() <= at {
-        return None;
-    }
-    let left = list.len() - at;
-    if left < 15 {
-        return None;
-    }
-    let len = number(list, at + 13, 2) as usize;
-    if left - 15 < len {
-        return None;
-    }
-    let kind = number(list, at, 1);
-    let a = number(list, at + 1, 2);
-    let b = number(list, at + 3, 8);
-    let c = number(list, at + 11, 2);
-    let from = at + 15;
-    let part = &list[from..from + len];
+    let (head, behind) = list.get(at..)?.split_at_checked(HEAD)?;
+    let kind = number(head, 0, 1);
+    let a = number(head, 1, 2);
+    let b = number(head, 3, 8);
+    let c = number(head, 11, 2);
+    let len = number(head, 13, 2) as usize;
+    let part = behind.get(..len)?;
     Some(Entry {
         kind,
         a,
@@ -79,16 +83,6 @@ pub fn file_of<'l>(entry: Entry<'l>, file: &'l [u8]) -> &'l [u8]
 
 // ---- answers
 
-// How a start or an admission is recorded: 0 where it is not refused, else the refusal. No plainer by `map_or_else`: it takes the refusal's case first.
-pub fn begins_number(answer: Result<(), Refusal>) -> u64
-    ensures { result ≡ start_number answer }
-{
-    match answer {
-        Ok(()) => 0,
-        Err(why) => u64::from(u8::from(why)),
-    }
-}
-
 // How the answer of a call that writes is recorded: the number of bytes, or the refusal added to a number that no count of bytes reaches.
 pub fn answer_number(answer: Result<usize, Refusal>, added: u16) -> u64
     ensures { result ≡ answer_number answer added }
@@ -105,8 +99,8 @@ pub fn answer_alike(answer: Result<Option<(usize, u64)>, Refusal>, number: u64, 
 {
     match answer {
         Ok(Some((n, v))) => n as u64 == number && v == value,
-        Ok(None) => number == 1000,
-        Err(why) => 2000 + u64::from(u8::from(why)) == number,
+        Ok(None) => number == END,
+        Err(why) => REFUSED + u64::from(u8::from(why)) == number,
     }
 }
 
@@ -142,60 +136,81 @@ pub fn at_most(n: u64, most: usize) -> usize
 
 // ---- the counts
 
+// How many records there were of each kind, and how many of those were answered alike.
+#[derive(Clone, Copy)]
+pub struct Counts {
+    pub asked: [u64; KINDS],
+    pub alike: [u64; KINDS],
+}
+
 // One more at place k, up to 2^64 - 1.
-fn more(counts: &mut [u64; 16], k: usize)
-    requires { k < 16 }
+fn more(counts: &mut [u64; KINDS], k: usize)
+    requires { k < 8 }
     ensures { counts.new ≡ more_at counts.old k }
 {
     counts[k] = counts[k].saturating_add(1);
 }
 
-// Counts a record of this kind, and whether it was answered alike. Kinds past 7 are counted as kind
-// 0: no record has it.
-#[tactic(auto, unfolding(crate::specs::Tallies::tallied))]
-pub fn tally(counts: &mut [u64; 16], kind: u64, alike: bool)
-    ensures { counts.new ≡ tallied counts.old kind alike }
-{
-    if 7 < kind {
-        more(counts, 0);
-        return;
+impl Counts {
+    // No record of any kind.
+    pub fn new() -> Counts
+        ensures { result ≡ no_counts }
+    {
+        Counts {
+            asked: [0; KINDS],
+            alike: [0; KINDS],
+        }
     }
-    let k = 2 * (kind as usize);
-    more(counts, k);
-    if alike {
-        more(counts, k + 1);
-    }
-}
 
-// Writes how many records there were of a kind, and how many were answered alike.
-pub fn line(rt: &impl Print, counts: &[u64; 16], kind: usize, name: &[u8]) -> io::Result<()>
-    requires { kind < 8 }
-{
-    rt.write_all(name)?;
-    println!(rt; ": {}, alike {}", counts[2 * kind], counts[2 * kind + 1])
+    // Counts a record of this kind, and whether it was answered alike. A kind past the last one is counted as MALFORMED, never as alike.
+    #[tactic(auto, unfolding(crate::specs::Tallies::tallied))]
+    pub fn tally(&mut self, kind: u64, alike: bool)
+        ensures { self.new ≡ tallied self.old kind alike }
+    {
+        if KINDS as u64 <= kind {
+            more(&mut self.asked, MALFORMED as usize);
+            return;
+        }
+        let k = kind as usize;
+        more(&mut self.asked, k);
+        if alike {
+            more(&mut self.alike, k);
+        }
+    }
+
+    // Writes how many records there were of a kind, and how many were answered alike.
+    pub fn line(&self, rt: &impl Print, kind: u64, name: &[u8]) -> io::Result<()>
+        requires { kind < 8 }
+    {
+        let k = kind as usize;
+        rt.write_all(name)?;
+        println!(rt; ": {}, alike {}", self.asked[k], self.alike[k])
+    }
 }
 
 // ---- the list
 
-// Goes through the records of a list, which ends with the last of them: hands each record and the file that it is about to `one`, which counts it.
-pub fn replay<F: FnMut(Entry<'_>, &[u8], &mut [u64; 16]) -> io::Result<()>>(
+// Goes through the records of a list, which ends with the last of them: hands each record and the file that it is about to `one`, which says whether it is
+// answered alike, and counts it.
+pub fn replay<F: FnMut(Entry<'_>, &[u8]) -> io::Result<bool>>(
     list: &[u8],
-    counts: &mut [u64; 16],
     mut one: F,
-) -> io::Result<()>
+) -> io::Result<Counts>
     requires { F.IsAlwaysCallable one }
 {
+    let mut counts = Counts::new();
     let mut file: &[u8] = &[];
     let mut at = 0;
     // by place: each record says where the next begins
     while at < list.len() {
         let Some(entry) = parse(list, at) else {
-            tally(counts, 0, false);
-            return Ok(());
+            counts.tally(MALFORMED, false);
+            return Ok(counts);
         };
         file = file_of(entry, file);
-        one(entry, file, counts)?;
-        at += 15 + entry.part.len();
+        let alike = one(entry, file)?;
+        counts.tally(entry.kind, alike);
+        at += HEAD + entry.part.len();
     }
-    Ok(())
+    Ok(counts)
 }

@@ -9,7 +9,7 @@ ghost use Rattle.std.specs.Prelude.{◌+◌, ◌≤◌, IfSome};
 use format::FstRef;
 use node_record::BuilderNode;
 use node_view::Node;
-use replay_list::{Entry, FILE, KEPT, answer_number, at_most, number};
+use replay_list::{Entry, FILE, KEPT, MALFORMED, answer_number, at_most, number};
 use std::io;
 use std::io::Read;
 
@@ -109,15 +109,15 @@ fn packed(node: &Listed<'_>, outputs: usize, targets: usize, out: &mut [u8]) -> 
 // Whether the node packs to the recorded bytes or is refused, in the recorded room, with the rest
 // of the buffer as it was.
 fn packs_alike(node: &Listed<'_>, entry: Entry<'_>) -> bool {
-    if entry.part.len() < 4 {
+    let Some((lent, bytes)) = entry.part.split_at_checked(4) else {
         return false;
-    }
-    let outputs = at_most(number(entry.part, 0, 2), ROOM);
-    let targets = at_most(number(entry.part, 2, 2), ROOM);
+    };
+    let outputs = at_most(number(lent, 0, 2), ROOM);
+    let targets = at_most(number(lent, 2, 2), ROOM);
     let room = at_most(entry.b, 4096);
     let mut buffer = [KEPT; 4096];
     packed(node, outputs, targets, &mut buffer[..room]) == entry.a
-        && replay_list::same_bytes(&entry.part[4..], &buffer)
+        && replay_list::same_bytes(bytes, &buffer)
 }
 
 // ---- reading
@@ -172,10 +172,9 @@ fn node_alike(listed: &Listed<'_>, node: Node<'_>, sound: u64) -> bool {
 // Whether recorded bytes, laid into a file of zeros that ends with them, are read as recorded in
 // both versions.
 fn reads_alike(listed: &Listed<'_>, entry: Entry<'_>) -> bool {
-    if entry.part.len() < 24 {
+    let Some((places, stored)) = entry.part.split_at_checked(24) else {
         return false;
-    }
-    let (places, stored) = entry.part.split_at(24);
+    };
     let laid = at_most(number(places, 0, 8), SPACE);
     let root = number(places, 8, 8) as usize;
     let addr = number(places, 16, 8) as usize;
@@ -224,22 +223,12 @@ fn asked(rt: &impl Print, node: &[u8], entry: Entry<'_>) -> io::Result<bool> {
     Ok(false)
 }
 
-// Every record of the list.
-fn replay(rt: &impl Print, list: &[u8], counts: &mut [u64; 16]) -> io::Result<()> {
-    replay_list::replay(list, counts, |entry, node, tallies| {
-        let same = asked(rt, node, entry)?;
-        replay_list::tally(tallies, entry.kind, same);
-        Ok(())
-    })
-}
-
 fn main(rt: HostRuntime) -> io::Result<()> {
     let mut list = Vec::new(rt.alloc());
     rt.stdin().take(LIST).read_to_end(&mut list)?;
-    let mut counts = [0u64; 16];
-    replay(&rt, &list, &mut counts)?;
-    replay_list::line(&rt, &counts, 1, b"nodes")?;
-    replay_list::line(&rt, &counts, 2, b"packed")?;
-    replay_list::line(&rt, &counts, 3, b"read")?;
-    replay_list::line(&rt, &counts, 0, b"malformed")
+    let counts = replay_list::replay(&list, |entry, node| asked(&rt, node, entry))?;
+    counts.line(&rt, FILE, b"nodes")?;
+    counts.line(&rt, PACK, b"packed")?;
+    counts.line(&rt, READ, b"read")?;
+    counts.line(&rt, MALFORMED, b"malformed")
 }

@@ -3,9 +3,10 @@
 // to what is recorded. A difference changes a count that is written.
 #![tactic(auto)]
 
+use oracle_numbers::done;
 use patterned::Patterned;
 use patterned_held::Pattern;
-use replay_list::{Entry, FILE, KEPT, answer_alike, at_most, begins_number, number};
+use replay_list::{Counts, Entry, FILE, KEPT, MALFORMED, answer_alike, at_most, number};
 use std::io;
 use std::io::Read;
 use stream_arrays::bound_with;
@@ -30,10 +31,9 @@ const ROOM: usize = 300;
 // it is refused the one before.
 fn replay_start(here: &mut Patterned, file: &[u8], entry: Entry<'_>) -> bool {
     let n = at_most(entry.b % 65_536, ROOM);
-    if entry.part.len() < 2 * n {
+    let Some((listed, bounds)) = entry.part.split_at_checked(2 * n) else {
         return false;
-    }
-    let (listed, bounds) = entry.part.split_at(2 * n);
+    };
     let mut positions = [0u16; ROOM];
     for (position, bytes) in positions.iter_mut().zip(listed.chunks_exact(2)) {
         *position = u16::from_le_bytes([bytes[0], bytes[1]]);
@@ -47,7 +47,7 @@ fn replay_start(here: &mut Patterned, file: &[u8], entry: Entry<'_>) -> bool {
             *here = begun;
             entry.a == 0
         }
-        Err(why) => begins_number(Err(why)) == entry.a,
+        Err(why) => done(Err(why)) == entry.a,
     }
 }
 
@@ -55,10 +55,12 @@ fn replay_start(here: &mut Patterned, file: &[u8], entry: Entry<'_>) -> bool {
 
 // Whether the reading after a call, by its total and its levels, and the buffer are what is recorded.
 fn left_alike(part: &[u8], after: Reading, key: &[u8; 4096]) -> bool {
-    10 <= part.len()
-        && number(part, 0, 8) == after.total
-        && number(part, 8, 2) == after.levels as u64
-        && replay_list::same_bytes(&part[10..], key)
+    let Some((head, bytes)) = part.split_at_checked(10) else {
+        return false;
+    };
+    number(head, 0, 8) == after.total
+        && number(head, 8, 2) == after.levels as u64
+        && replay_list::same_bytes(bytes, key)
 }
 
 // Calls next again: whether it is answered as recorded. The reading that it leaves is left in `here`.
@@ -66,9 +68,9 @@ fn replay_next(here: &mut Patterned, file: &[u8], entry: Entry<'_>) -> bool {
     let space = at_most(entry.c, 4096);
     let mut key = [KEPT; 4096];
     let step = patterned::next(file, *here, &mut key[..space]);
-    *here = step.patterned;
+    *here = step.reading;
     answer_alike(step.answer, entry.a, entry.b)
-        && left_alike(entry.part, step.patterned.reading, &key)
+        && left_alike(entry.part, step.reading.reading, &key)
 }
 
 // ---- what no start gives
@@ -95,28 +97,26 @@ fn nothing() -> Patterned {
 // ---- the list
 
 // Every record of the list, each with the reading that the one before left.
-fn replay(list: &[u8], counts: &mut [u64; 16]) -> io::Result<()> {
+fn replay(list: &[u8]) -> io::Result<Counts> {
     let mut here = nothing();
-    replay_list::replay(list, counts, |entry, file, tallies| {
+    replay_list::replay(list, |entry, file| {
         let same = match entry.kind {
             START => replay_start(&mut here, file, entry),
             NEXT => replay_next(&mut here, file, entry),
             HELD => replay_stated(&mut here, entry),
             kind => kind == FILE,
         };
-        replay_list::tally(tallies, entry.kind, same);
-        Ok(())
+        Ok(same)
     })
 }
 
 fn main(rt: HostRuntime) -> io::Result<()> {
     let mut list = Vec::new(rt.alloc());
     rt.stdin().take(LIST).read_to_end(&mut list)?;
-    let mut counts = [0u64; 16];
-    replay(&list, &mut counts)?;
-    replay_list::line(&rt, &counts, 1, b"files")?;
-    replay_list::line(&rt, &counts, 2, b"starts by pattern")?;
-    replay_list::line(&rt, &counts, 3, b"calls of next by pattern")?;
-    replay_list::line(&rt, &counts, 4, b"levels and positions stated")?;
-    replay_list::line(&rt, &counts, 0, b"malformed")
+    let counts = replay(&list)?;
+    counts.line(&rt, FILE, b"files")?;
+    counts.line(&rt, START, b"starts by pattern")?;
+    counts.line(&rt, NEXT, b"calls of next by pattern")?;
+    counts.line(&rt, HELD, b"levels and positions stated")?;
+    counts.line(&rt, MALFORMED, b"malformed")
 }

@@ -5,7 +5,8 @@
 #![tactic(auto)]
 
 use format::LEVELS;
-use replay_list::{Entry, FILE, KEPT, answer_alike, at_most, begins_number, number};
+use oracle_numbers::done;
+use replay_list::{CELLS, Counts, Entry, FILE, KEPT, MALFORMED, answer_alike, at_most, number};
 use std::io;
 use std::io::Read;
 use stream::Plain;
@@ -25,8 +26,13 @@ const MADE: u64 = 4;
 
 const TABLE: u64 = 5;
 
-// The entries of a table of keys: more than the longest file of the list has bytes.
-const CELLS: usize = 1_024;
+// The bytes of an entry that the record of a table lists: address 2, number 8.
+const TABLE_ROW: usize = 10;
+
+// The bytes of a made reading before its bound, and of each of its levels behind that: address 4, input 1, transition 2, output 8.
+const MADE_HEAD: usize = 26;
+
+const LEVEL: usize = 15;
 
 // What the records up to a place leave: the reading that the last of them left, and the table of keys with how many of its entries are lent.
 #[derive(Drop)]
@@ -38,9 +44,9 @@ struct Left {
 
 // ---- tables of keys
 
-// The entries that a record lists: address 2, number 8.
+// The entries that a record lists.
 fn fill_table(rows: &[u8], table: &mut [u64; CELLS]) {
-    for row in rows.chunks_exact(10) {
+    for row in rows.chunks_exact(TABLE_ROW) {
         let addr = number(row, 0, 2) as usize;
         if addr < CELLS {
             table[addr] = number(row, 2, 8);
@@ -53,7 +59,7 @@ fn replay_table(left: &mut Left, entry: Entry<'_>) -> bool {
     left.table = [entry.b; CELLS];
     fill_table(entry.part, &mut left.table);
     left.lent = entry.c;
-    entry.part.len() % 10 == 0
+    entry.part.len() % TABLE_ROW == 0
 }
 
 // ---- starts
@@ -61,17 +67,16 @@ fn replay_table(left: &mut Left, entry: Entry<'_>) -> bool {
 // Starts again with so many entries of the table: whether it is answered as recorded. The reading that it gives is left, or where it is
 // refused the one before.
 fn replay_start(left: &mut Left, file: &[u8], entry: Entry<'_>) -> bool {
-    if entry.part.len() < 8 {
+    let Some((head, bounds)) = entry.part.split_at_checked(8) else {
         return false;
-    }
-    let keys = number(entry.part, 0, 8);
-    let bounds = &entry.part[8..];
+    };
+    let keys = number(head, 0, 8);
     let (low, high) = bounds.split_at(at_most(entry.b, bounds.len()));
     let lower = bound_with(entry.c / 3, low);
     let upper = bound_with(entry.c % 3, high);
     let lent = at_most(left.lent, CELLS);
     let start = stream::start(file, lower, upper, &left.table[..lent]);
-    let alike = begins_number(start.map(|_| ())) == entry.a;
+    let alike = done(start.map(|_| ())) == entry.a;
     match start {
         Ok(begun) => {
             left.plain = begun;
@@ -85,11 +90,13 @@ fn replay_start(left: &mut Left, file: &[u8], entry: Entry<'_>) -> bool {
 
 // Whether the reading after a call, by its total, its levels and its number of keys to come, and the buffer are what is recorded.
 fn left_alike(part: &[u8], after: Plain, key: &[u8; 4096]) -> bool {
-    18 <= part.len()
-        && number(part, 0, 8) == after.reading.total
-        && number(part, 8, 2) == after.reading.levels as u64
-        && number(part, 10, 8) == after.keys
-        && replay_list::same_bytes(&part[18..], key)
+    let Some((head, bytes)) = part.split_at_checked(18) else {
+        return false;
+    };
+    number(head, 0, 8) == after.reading.total
+        && number(head, 8, 2) == after.reading.levels as u64
+        && number(head, 10, 8) == after.keys
+        && replay_list::same_bytes(bytes, key)
 }
 
 // Calls next again: whether it is answered as recorded. The reading that it leaves is left.
@@ -97,16 +104,16 @@ fn replay_next(left: &mut Left, file: &[u8], entry: Entry<'_>) -> bool {
     let space = at_most(entry.c, 4096);
     let mut key = [KEPT; 4096];
     let step = stream::next(file, left.plain, &mut key[..space]);
-    left.plain = step.plain;
-    answer_alike(step.answer, entry.a, entry.b) && left_alike(entry.part, step.plain, &key)
+    left.plain = step.reading;
+    answer_alike(step.answer, entry.a, entry.b) && left_alike(entry.part, step.reading, &key)
 }
 
 // ---- readings that no start gave
 
-// The levels: address 4, input 1, transition 2, output 8. Those past 256 are none of a reading's.
+// The levels. Those past 256 are none of a reading's.
 fn levels_of(rows: &[u8]) -> Stack {
     let mut stack = Stack::new();
-    for (i, row) in rows.chunks_exact(15).take(LEVELS).enumerate() {
+    for (i, row) in rows.chunks_exact(LEVEL).take(LEVELS).enumerate() {
         stack.put(
             i,
             le_bytes::read_u32_le(row),
@@ -122,10 +129,10 @@ fn levels_of(rows: &[u8]) -> Stack {
 fn made(entry: Entry<'_>) -> Option<Reading> {
     let bytes = at_most(entry.c, 255);
     let levels = at_most(entry.a, LEVELS);
-    if entry.part.len() != 26 + bytes + 15 * levels {
+    if entry.part.len() != MADE_HEAD + bytes + LEVEL * levels {
         return None;
     }
-    let (head, behind) = entry.part.split_at(26);
+    let (head, behind) = entry.part.split_at(MADE_HEAD);
     let (bound_bytes, rows) = behind.split_at(bytes);
     let mut bound = [0u8; 255];
     bound[..bytes].copy_from_slice(bound_bytes);
@@ -144,7 +151,7 @@ fn made(entry: Entry<'_>) -> Option<Reading> {
 
 // A recorded reading with its number of keys, or one of nothing: whether its part is as long as it says.
 fn replay_made(left: &mut Left, entry: Entry<'_>) -> bool {
-    let keys = if entry.part.len() < 26 {
+    let keys = if entry.part.len() < MADE_HEAD {
         0
     } else {
         number(entry.part, 18, 8)
@@ -158,16 +165,13 @@ fn replay_made(left: &mut Left, entry: Entry<'_>) -> bool {
 // ---- the list
 
 // Every record of the list.
-fn replay(list: &[u8], counts: &mut [u64; 16]) -> io::Result<()> {
+fn replay(list: &[u8]) -> io::Result<Counts> {
     let mut left = Left {
-        plain: Plain {
-            reading: stream_start::no_reading(),
-            keys: 0,
-        },
+        plain: stream::no_plain(),
         table: [0; CELLS],
         lent: 0,
     };
-    replay_list::replay(list, counts, |entry, file, tallies| {
+    replay_list::replay(list, |entry, file| {
         let same = match entry.kind {
             TABLE => replay_table(&mut left, entry),
             START => replay_start(&mut left, file, entry),
@@ -175,20 +179,18 @@ fn replay(list: &[u8], counts: &mut [u64; 16]) -> io::Result<()> {
             MADE => replay_made(&mut left, entry),
             kind => kind == FILE,
         };
-        replay_list::tally(tallies, entry.kind, same);
-        Ok(())
+        Ok(same)
     })
 }
 
 fn main(rt: HostRuntime) -> io::Result<()> {
     let mut list = Vec::new(rt.alloc());
     rt.stdin().take(LIST).read_to_end(&mut list)?;
-    let mut counts = [0u64; 16];
-    replay(&list, &mut counts)?;
-    replay_list::line(&rt, &counts, 1, b"files")?;
-    replay_list::line(&rt, &counts, 2, b"starts")?;
-    replay_list::line(&rt, &counts, 3, b"calls of next")?;
-    replay_list::line(&rt, &counts, 4, b"readings that no start gave")?;
-    replay_list::line(&rt, &counts, 5, b"tables of keys")?;
-    replay_list::line(&rt, &counts, 0, b"malformed")
+    let counts = replay(&list)?;
+    counts.line(&rt, FILE, b"files")?;
+    counts.line(&rt, START, b"starts")?;
+    counts.line(&rt, NEXT, b"calls of next")?;
+    counts.line(&rt, MADE, b"readings that no start gave")?;
+    counts.line(&rt, TABLE, b"tables of keys")?;
+    counts.line(&rt, MALFORMED, b"malformed")
 }

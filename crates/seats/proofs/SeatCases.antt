@@ -26,7 +26,7 @@ use Rattle.turns.specs.Turns.{seat_at, right_test, turn, done, by_answer}
 use Rattle.turns.proofs.TurnsLaws.{turn_some, turn_le, turn_held, dispatch_wrong, dispatch_turn}
 use Rattle.stream_step.specs.SteppedLaws.{step_key, step_end, step_refused}
 use Rattle.stream.specs.declared.Plain.{Plain}
-use Rattle.stream.specs.declared.Step.{Step}
+use Rattle.stream_step.specs.declared.Step.{Step}
 use Rattle.stream.specs.Plains.{plain_is, PlainStepped}
 use Rattle.stream.specs.PlainsLaws.{plain_told}
 use Rattle.seats_turn.specs.declared.Seat.{Seat}
@@ -35,7 +35,7 @@ use Rattle.seats_turn.specs.SeatViews.{held_is, seat_is, seats_is, put_seat}
 use Rattle.seats_turn.specs.SeatViewsLaws.{seat_at_lem}
 use Rattle.seats.specs.declared.Served.TheVariants as S
 use Rattle.seats.specs.declared.Dispatched.{Dispatched}
-use Rattle.seats.specs.SeatCalls.{changed_is, served_of, seats_after, DispatchTold}
+use Rattle.seats.specs.SeatCalls.{changed_is, DispatchTold}
 
 -- ---- seat
 
@@ -135,7 +135,7 @@ turn_empty s eight i d right its e =
     omega arith
 
 module _ (file : List ℕ) (s : Seats) (eight : length s.seats ≡ 8) (i : ℕ) (d : Seat) (right : right_test (seats_is s) ≡ true) (its : turn (seats_is s) ≡ some i) (p : Plain)
-    (held : (get_or s.seats i d).reading ≡ Some p) (buf₀ buf : List ℕ) (o : Step) (h : PlainStepped (next_plain file (plain_is p) (length buf₀)) buf₀ buf o) where
+    (held : (get_or s.seats i d).reading ≡ Some p) (buf₀ buf : List ℕ) (o : Step Plain) (h : PlainStepped (next_plain file (plain_is p) (length buf₀)) buf₀ buf o) where
   abbrev given : P.PlainStep
   given = next_plain file (plain_is p) (length buf₀)
 
@@ -144,13 +144,13 @@ module _ (file : List ℕ) (s : Seats) (eight : length s.seats ≡ 8) (i : ℕ) 
       dispatch_turn file (seats_is s) (length buf₀) i (plain_is p) right its (reading_is s eight i d (turn_number (seats_is s) i its) (Some p) held)
       ∙ ap (by_answer (seats_is s) i given.reading) e
 
-  kept_is : (t : Seats) → seats_is t ≡ T.kept (seats_is s) i (plain_is o.plain) → seats_is t ≡ T.kept (seats_is s) i given.reading
+  kept_is : (t : Seats) → seats_is t ≡ T.kept (seats_is s) i (plain_is o.reading) → seats_is t ≡ T.kept (seats_is s) i given.reading
   kept_is t e = e ∙ ap (T.kept (seats_is s) i) h.gave.plain
 
   wrote : (a : R.Answer) → given.answer ≡ a → buf ≡ written a buf₀
   wrote a e = h.buffer ∙ ap (λ (x : R.Answer). written x buf₀) e
 
-  pub serve_key : (m u : ℕ) (r : Dispatched) → r.served ≡ S.Key i m u → o.answer ≡ Ok (Some (m, u)) → seats_is r.seats ≡ T.kept (seats_is s) i (plain_is o.plain)
+  pub serve_key : (m u : ℕ) (r : Dispatched) → r.served ≡ S.Key i m u → o.answer ≡ Ok (Some (m, u)) → seats_is r.seats ≡ T.kept (seats_is s) i (plain_is o.reading)
       → DispatchTold (T.dispatch file (seats_is s) (length buf₀)) (seats_is s) buf₀ buf (Ok r)
   serve_key m u r is e seats =
       let q = step_key (plain_told h) m u e in
@@ -161,7 +161,7 @@ module _ (file : List ℕ) (s : Seats) (eight : length s.seats ≡ 8) (i : ℕ) 
         buffer = wrote (key q.0 u) q.1;
       })
 
-  pub serve_end : (r : Dispatched) → o.answer ≡ Ok None → r.served ≡ S.End i → seats_is r.seats ≡ T.kept (seats_is s) i (plain_is o.plain)
+  pub serve_end : (r : Dispatched) → o.answer ≡ Ok None → r.served ≡ S.End i → seats_is r.seats ≡ T.kept (seats_is s) i (plain_is o.reading)
       → DispatchTold (T.dispatch file (seats_is s) (length buf₀)) (seats_is s) buf₀ buf (Ok r)
   serve_end r e is seats =
       let q = step_end (plain_told h) e in

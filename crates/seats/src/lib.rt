@@ -19,8 +19,8 @@ use stream::Plain;
 // or that nobody waits.
 #[derive(Clone, Copy)]
 pub enum Served {
-    Key(u8, usize, u64),
-    End(u8),
+    Key(usize, usize, u64),
+    End(usize),
     Nobody,
 }
 
@@ -96,12 +96,12 @@ fn serve(file: &[u8], seats: Seats, number: usize, key: &mut [u8]) -> Result<Dis
     let step = stream::next(file, reading, key);
     let found = step.answer?;
     let served = match found {
-        Some((n, value)) => Served::Key(number as u8, n, value),
-        None => Served::End(number as u8),
+        Some((n, value)) => Served::Key(number, n, value),
+        None => Served::End(number),
     };
     Ok(Dispatched {
         served,
-        seats: kept(seats, number, step.plain),
+        seats: kept(seats, number, step.reading),
     })
 }
 

@@ -1,24 +1,28 @@
--- The two loops over the seats: what is known after each turn.
+-- The two searches through the seats.
 --     seat_passes                                          one seat
---     right_over, right_on, right_wrong, right_through     whether the seats are right
+--     right_over, right_is                                 whether the seats are right
 --     turn_begins, turn_here, turn_on, turn_none           whose turn it is
 -- Assumes nothing.
-use mathlib.Core.Path.{◌≡◌, refl, sym, ap, ◌∙◌}
-use mathlib.Core.Bool.{Bool, true, false, cond, ◌&&◌}
-use mathlib.Core.Logic.{◌⊎◌, inl, inr}
+use mathlib.Core.Path.{◌≡◌, refl, sym, ap, ap₂, ◌∙◌}
+use mathlib.Core.Bool.{Bool, true, false, cond, ◌&&◌, ◌||◌, not}
 use mathlib.Core.Option.{some, none}
 use mathlib.Core.List.{List, []}
-use Prim.Native.Nat.{ℕ, suc, ◌+◌, ◌-◌, ◌%◌, ◌≤◌, ◌<◌}
+use Prim.Native.Nat.{ℕ, zero, suc, ◌+◌, ◌-◌, ◌%◌, ◌≤◌, ◌<◌}
 use native.Mathlib.Omega.{arith}
-use native.Mathlib.Numerals.{add-one}
 use borrow.Author.Tests.{lt-leb, le-leb}
-use lib.ListN.{get_or, drop, drop_of_length-le}
+use lib.ListN.{length, get_or, drop, drop_of_length-le}
 use lib.Seq.{drop-cons}
+use Rattle.std.proofs.Math.Dec.{eqb, eqb-suc-zero}
+use Rattle.std.specs.List.{list_all, zip}
 use Rattle.plain.specs.Plain as P
 use Rattle.turns.specs.Turns as T
 use Rattle.turns.specs.Turns.{no_seat, seat_test, all_seats, right_test, turn_from, turn}
 use Rattle.seats_arrays.specs.SeatArrays.{flag, held_if, seat_of, table, seats_of}
 use Rattle.seats_arrays.specs.SeatArraysLaws.{flag_yes, flag_no, table_len, table_at, seat_in}
+
+-- as the code judges the two numbers of a seat
+abbrev pub seat_passes : ℕ × ℕ → Bool
+seat_passes p = eqb p.1 0 || not (eqb p.0 0)
 
 module _ (last : ℕ) (t w : List ℕ) (plains : ℕ → P.Plain) where
   abbrev pub all : T.Seats
@@ -28,46 +32,37 @@ module _ (last : ℕ) (t w : List ℕ) (plains : ℕ → P.Plain) where
   views = table 8 (seat_of t w plains)
 
   -- a seat that does not wait, or has a reading
-  held_taken : (b : Bool) (p : P.Plain) → T.taken (held_if b p) ≡ b
-  held_taken true p = refl
-  held_taken false p = refl
-
-  pub seat_passes : (i : ℕ) → ((¬ (get_or w i 0 ≡ 0)) × (¬ (get_or t i 0 ≡ 0))) ⊎ (get_or w i 0 ≡ 0) → seat_test (seat_of t w plains i) ≡ true
-  seat_passes i (inl h) =
-      let a = flag_yes (get_or w i 0) h.0 in
-      let b = flag_yes (get_or t i 0) h.1 in
-      rw (a, b)
-  seat_passes i (inr h) = let a = flag_no (get_or w i 0) h in rw a
+  passes_is : (has waits : ℕ) (p : P.Plain) → (eqb waits 0 || not (eqb has 0)) ≡ cond (flag waits) (T.taken (held_if (flag has) p)) true
+  passes_is zero zero p = refl
+  passes_is zero (suc m) p = rw (eqb-suc-zero m)
+  passes_is (suc n) zero p = refl
+  passes_is (suc n) (suc m) p = rw (eqb-suc-zero n, eqb-suc-zero m)
 
   -- ---- whether they are right
 
   -- the seats from place i on
-  all_from : (i : ℕ) → i < 8 → all_seats (drop i views) ≡ (seat_test (seat_of t w plains i) && all_seats (drop (i + 1) views))
+  all_from : (i : ℕ) → i < 8 → all_seats (drop i views) ≡ (seat_test (seat_of t w plains i) && all_seats (drop (suc i) views))
   unfolding all_seats
   all_from i h =
-      rw (add-one, drop-cons views i no_seat (omega (arith, table_len 8 (seat_of t w plains))))
-      (ap (λ (x : T.Seat). seat_test x && all_seats (drop (suc i) views)) (table_at 8 (seat_of t w plains) i no_seat h))
+      ap all_seats (drop-cons views i no_seat (omega (arith, table_len 8 (seat_of t w plains))))
+      ∙ ap (λ (x : T.Seat). seat_test x && all_seats (drop (suc i) views)) (table_at 8 (seat_of t w plains) i no_seat h)
 
   pub right_over : 7 < last → false ≡ right_test all
   right_over h = rw (lt-leb last 7 h)
 
-  pub right_on : (i : ℕ) → i < 8 → seat_test (seat_of t w plains i) ≡ true → all_seats views ≡ all_seats (drop i views) → all_seats views ≡ all_seats (drop (i + 1) views)
-  right_on i h p e = e ∙ all_from i h ∙ ap (λ (b : Bool). b && all_seats (drop (i + 1) views)) p
-
-  pub right_wrong : (i : ℕ) → i < 8 → ¬ (get_or w i 0 ≡ 0) → get_or t i 0 ≡ 0 → all_seats views ≡ all_seats (drop i views) → last ≤ 7 → false ≡ right_test all
-  right_wrong i h ww tt e hl =
-      let a = flag_yes (get_or w i 0) ww in
-      let b = flag_no (get_or t i 0) tt in
-      let off : seat_test (seat_of t w plains i) ≡ false = rw (a, b) in
-      let none : all_seats views ≡ false = e ∙ all_from i h ∙ ap (λ (b : Bool). b && all_seats (drop (i + 1) views)) off in
-      rw (le-leb last 7 hl, none)
-
-  pub right_through : (i : ℕ) → 8 ≤ i → all_seats views ≡ all_seats (drop i views) → last ≤ 7 → true ≡ right_test all
+  passes_left : length t ≡ 8 → length w ≡ 8 → (n i : ℕ) → n + i ≡ 8 → list_all seat_passes (zip (drop i t) (drop i w)) ≡ all_seats (drop i views)
   unfolding all_seats
-  right_through i h e hl =
+  passes_left a b zero i e =
+      let none : drop i t ≡ [] = drop_of_length-le t {i = i} (omega arith) in
       let past : drop i views ≡ [] = drop_of_length-le views {i = i} (omega (arith, table_len 8 (seat_of t w plains))) in
-      let every : all_seats views ≡ true = e ∙ ap all_seats past in
-      rw (le-leb last 7 hl, every)
+      ap (λ (xs : List ℕ). list_all seat_passes (zip xs (drop i w))) none ∙ sym (ap all_seats past)
+  passes_left a b (suc n) i e =
+      ap₂ (λ (xs ys : List ℕ). list_all seat_passes (zip xs ys)) (drop-cons t i 0 (omega arith)) (drop-cons w i 0 (omega arith))
+      ∙ ap₂ (λ (x y : Bool). x && y) (passes_is (get_or t i 0) (get_or w i 0) (plains i)) (passes_left a b n (suc i) (omega arith))
+      ∙ sym (all_from i (omega arith))
+
+  pub right_is : length t ≡ 8 → length w ≡ 8 → last ≤ 7 → list_all seat_passes (zip t w) ≡ right_test all
+  right_is a b h = rw (le-leb last 7 h) (passes_left a b 8 0 refl)
 
   -- ---- whose turn it is
 

@@ -11,18 +11,11 @@ use seats_turn::{LAST_SEAT, SEATS};
 pub fn seats_right(last: usize, taken: [u8; 8], waiting: [u8; 8]) -> bool
     ensures { RightTold last taken waiting result }
 {
-    if LAST_SEAT < last {
-        return false;
-    }
-    for i in 0..SEATS {
-        if waiting[i] != 0 {
-            let empty = taken[i] == 0;
-            if empty {
-                return false;
-            }
-        }
-    }
-    true
+    last <= LAST_SEAT
+        && taken
+            .iter()
+            .zip(waiting.iter())
+            .all(|(has, waits)| *waits == 0 || *has != 0)
 }
 
 // The first seat that waits after the one served last, around the eight, whoever has a reading.
@@ -30,6 +23,7 @@ pub fn turn_of(last: usize, waiting: [u8; 8]) -> Option<usize>
     requires { last ≤ 7 }
     ensures { TurnTold last waiting result }
 {
+    // by a loop: std's `find` over these places would have to ask again, of each, that it is below eight
     for looked in 0..SEATS {
         let i = (last + 1 + looked) % SEATS;
         if waiting[i] != 0 {

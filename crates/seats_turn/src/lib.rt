@@ -56,6 +56,7 @@ pub fn turn_of(seats: Seats) -> Option<usize>
     requires { seats.last ≤ 7 }
     ensures { turn_is result ≡ T.turn (seats_is seats) }
 {
+    // by a loop: std's `find` over these places would have to ask again, of each, that it is below eight
     for looked in 0..SEATS {
         let i = (seats.last + 1 + looked) % SEATS;
         if seats.seats[i].waiting {

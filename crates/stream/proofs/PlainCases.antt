@@ -22,27 +22,28 @@ use Rattle.reading.specs.Reading as R
 use Rattle.reading.specs.Reading.{View, key, end, written}
 use Rattle.plain.specs.Plain as P
 use Rattle.plain.specs.Plain.{plain_with, counting, counted_step, next_plain}
+use Rattle.stream_start.specs.declared.Reading.{Reading}
 use Rattle.stream_start.specs.Views.{view_is}
-use Rattle.stream_step.specs.declared.Step as S
+use Rattle.stream_step.specs.declared.Step.{Step}
 use Rattle.stream_step.specs.Stepped.{answer_as, Stepped}
 use Rattle.stream_step.specs.SteppedLaws.{told, step_key}
-use Rattle.stream.specs.declared.Step.{Step}
+use Rattle.stream.specs.declared.Plain.{Plain}
 use Rattle.stream.specs.Plains.{plain_is, CallGave, PlainStepped}
 
-gave_of : {w w' : P.PlainStep} {r : Step} → w ≡ w' → r.answer ≡ answer_as w'.answer → plain_is r.plain ≡ w'.reading → CallGave w r
+gave_of : {w w' : P.PlainStep} {r : Step Plain} → w ≡ w' → r.answer ≡ answer_as w'.answer → plain_is r.reading ≡ w'.reading → CallGave w r
 gave_of {w} {w'} {r} e a p = subst (λ x. CallGave x r) (sym e) (record { answer = a; plain = p })
 
-module _ {w : R.Step} {buf₀ buf : List ℕ} {o : S.Step} (h : Stepped w buf₀ buf o) (r : Step) (v : View) (n : ℕ) where
+module _ {w : R.Step} {buf₀ buf : List ℕ} {o : Step Reading} (h : Stepped w buf₀ buf o) (r : Step Plain) (v : View) (n : ℕ) where
   counted_as : (a : R.Answer) → w.answer ≡ a → counted_step (plain_with v n) w ≡ counting (plain_with v n) w.reading a
   counted_as a e = ap (counting (plain_with v n) w.reading) e
 
-  pub gave_too_many : (m u : ℕ) → o.answer ≡ Ok (Some (m, u)) → n ≡ 0 → r.answer ≡ Err STATE → plain_is r.plain ≡ plain_with v n → CallGave (counted_step (plain_with v n) w) r
+  pub gave_too_many : (m u : ℕ) → o.answer ≡ Ok (Some (m, u)) → n ≡ 0 → r.answer ≡ Err STATE → plain_is r.reading ≡ plain_with v n → CallGave (counted_step (plain_with v n) w) r
   gave_too_many m u e z is same =
       let q = step_key (told h) m u e in
       let none : counting (plain_with v n) w.reading (key q.0 u) ≡ record { answer = R.Answer.refused STATE; reading = plain_with v n } = rw z in
       gave_of (counted_as (key q.0 u) q.1 ∙ none) is same
 
-  pub gave_key : (m u : ℕ) → o.answer ≡ Ok (Some (m, u)) → ¬ (n ≡ 0) → r.answer ≡ Ok (Some (m, u)) → plain_is r.plain ≡ plain_with (view_is o.reading) (n - 1)
+  pub gave_key : (m u : ℕ) → o.answer ≡ Ok (Some (m, u)) → ¬ (n ≡ 0) → r.answer ≡ Ok (Some (m, u)) → plain_is r.reading ≡ plain_with (view_is o.reading) (n - 1)
       → PlainStepped (counted_step (plain_with v n) w) buf₀ buf r
   gave_key m u e ne is same =
       let q = step_key (told h) m u e in
@@ -55,7 +56,7 @@ module _ {w : R.Step} {buf₀ buf : List ℕ} {o : S.Step} (h : Stepped w buf₀
       }
 
   -- any other answer stands, and the number with it
-  pub gave_other : ((q : ℕ × ℕ) → ¬ (o.answer ≡ Ok (Some q))) → r.answer ≡ o.answer → plain_is r.plain ≡ plain_with (view_is o.reading) n
+  pub gave_other : ((q : ℕ × ℕ) → ¬ (o.answer ≡ Ok (Some q))) → r.answer ≡ o.answer → plain_is r.reading ≡ plain_with (view_is o.reading) n
       → PlainStepped (counted_step (plain_with v n) w) buf₀ buf r
   gave_other none is same = by w.answer refl
     where
@@ -95,13 +96,13 @@ unfolding R.next
 room_same s v space room = rw (le-leb max_path space room)
 
 -- where a key was handed out, the number was not 0 or the buffer short
-pub some_left : (s : List ℕ) (v : View) (space : ℕ) {buf₀ buf : List ℕ} {o : S.Step} → Stepped (R.next s v space) buf₀ buf o → (m u : ℕ) → o.answer ≡ Ok (Some (m, u)) → (n : ℕ)
+pub some_left : (s : List ℕ) (v : View) (space : ℕ) {buf₀ buf : List ℕ} {o : Step Reading} → Stepped (R.next s v space) buf₀ buf o → (m u : ℕ) → o.answer ≡ Ok (Some (m, u)) → (n : ℕ)
     → ((n ≡ 0) × (space < 255)) ⊎ (¬ (n ≡ 0)) → ¬ (n ≡ 0)
 some_left s v space h m u e n (inl x) z = let q = step_key (told h) m u e in let room = key_room s v space q.0 u q.1 in let short = x.1 in omega arith
 some_left s v space h m u e n (inr ne) z = ne z
 
 -- a call with no key left, by one with room for every key
-pub none_left : (s : List ℕ) (v : View) (n space : ℕ) (buf : List ℕ) (r : Step) → n ≡ 0 → 255 ≤ space → CallGave (next_plain s (plain_with v 0) max_path) r
+pub none_left : (s : List ℕ) (v : View) (n space : ℕ) (buf : List ℕ) (r : Step Plain) → n ≡ 0 → 255 ≤ space → CallGave (next_plain s (plain_with v 0) max_path) r
     → PlainStepped (next_plain s (plain_with v n) space) buf buf r
 none_left s v n space buf r z room g =
     let same = room_same s v space room in

@@ -3,8 +3,9 @@
 use Rattle.std.specs.Prelude.{List, ℕ}
 use Rattle.plain.specs.Plain as P
 use Rattle.stream_step.specs.SteppedLaws.{Told}
-use Rattle.stream.specs.declared.Step.{Step}
+use Rattle.stream_step.specs.declared.Step.{Step}
+use Rattle.stream.specs.declared.Plain.{Plain}
 use Rattle.stream.specs.Plains.{PlainStepped}
 
-pub plain_told : {w : P.PlainStep} {buf₀ buf : List ℕ} {r : Step} → PlainStepped w buf₀ buf r → Told w.answer r.answer buf₀ buf
+pub plain_told : {w : P.PlainStep} {buf₀ buf : List ℕ} {r : Step Plain} → PlainStepped w buf₀ buf r → Told w.answer r.answer buf₀ buf
 plain_told h = record { answer = h.gave.answer; buffer = h.buffer }

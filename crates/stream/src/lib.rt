@@ -1,6 +1,6 @@
 // Plain readings (document 02, N11): a reading with the number of keys still to come. A start works the number out from a table of keys, without
 // visiting them, and each key that a call hands out lowers it by one.
-// The two bounds are two values and no pair: each is taken by itself.
+// The two bounds are two values and no struct: a start hands them on one after the other, to the walk that is made with the lower and to the number of keys.
 #![tactic(auto)]
 
 ghost use Rattle.std.specs.Prelude.{◌<◌, ◌≡◌, length};
@@ -12,11 +12,12 @@ ghost use Rattle.plain.specs.Plain as P;
 ghost use Rattle.plain.specs.Plain.{plain_with};
 ghost use Rattle.stream_start.specs.Views.{view_is, bound_of};
 ghost use Rattle.stream_number.specs.Totals.{TableLent};
-ghost use Rattle.stream.specs.Plains.{plain_is, begun_is, CallGave, PlainStepped};
+ghost use Rattle.stream.specs.Plains.{plain_is, begun_is, no_plain, CallGave, PlainStepped};
 
 use format::{FstRef, MAX_KEY, Refusal};
 use std::ops::Bound;
 use stream_start::{Reading, bounds_right};
+use stream_step::Step;
 
 // A plain reading, passed by value.
 #[derive(Clone, Copy)]
@@ -26,12 +27,14 @@ pub struct Plain {
     pub keys: u64,
 }
 
-// What a call gives back: its answer, and the reading after it.
-// The answer stands beside the reading, and the two are no Result: a caller may go on with the reading that is given back, after a refusal too.
-#[derive(Clone, Copy)]
-pub struct Step {
-    pub answer: Result<Option<(usize, u64)>, Refusal>,
-    pub plain: Plain,
+// A plain reading without levels, of no file, with no key to come.
+pub fn no_plain() -> Plain
+    ensures { result ≡ no_plain }
+{
+    Plain {
+        reading: stream_start::no_reading(),
+        keys: 0,
+    }
 }
 
 // ---- start
@@ -80,19 +83,16 @@ pub fn start(
 
 // The next key where the number says that none is to come: a key that came would be too many. It is written beside the caller's buffer, so that
 // the buffer stays as it is.
-fn next_of_none(file: &[u8], reading: Reading) -> Step
+fn next_of_none(file: &[u8], reading: Reading) -> Step<Plain>
     ensures { CallGave (P.next_plain file.now (plain_with (view_is reading) 0) max_path) result }
 {
     let mut key = [0u8; MAX_KEY];
     let step = stream_next::next(file, reading, &mut key);
     match step.answer {
-        Ok(Some(_)) => Step {
-            answer: Err(Refusal::State),
-            plain: Plain { reading, keys: 0 },
-        },
+        Ok(Some(_)) => Step::refused(Plain { reading, keys: 0 }, Refusal::State),
         answer => Step {
             answer,
-            plain: Plain {
+            reading: Plain {
                 reading: step.reading,
                 keys: 0,
             },
@@ -102,7 +102,7 @@ fn next_of_none(file: &[u8], reading: Reading) -> Step
 
 // The next key between the bounds, with the answers of stream_next::next, and STATE, as the last thing judged, for a key where the number says that
 // none is to come. A key lowers the number by one; "end" and a refusal leave it. The buffer is written only where a key is handed out.
-pub fn next(file: &[u8], plain: Plain, key: &mut [u8]) -> Step
+pub fn next(file: &[u8], plain: Plain, key: &mut [u8]) -> Step<Plain>
     ensures { PlainStepped (P.next_plain file.now (plain_is plain)
         (length key.old)) key.old key.new result }
 {
@@ -118,7 +118,7 @@ pub fn next(file: &[u8], plain: Plain, key: &mut [u8]) -> Step
     };
     Step {
         answer: step.answer,
-        plain: Plain {
+        reading: Plain {
             reading: step.reading,
             keys: left,
         },

@@ -12,7 +12,7 @@ use Rattle.std.specs.declared.ops.Bound.TheVariants.{Included, Excluded, Unbound
 use Rattle.stream_start.specs.declared.Reading.{Reading}
 use Rattle.stream_start.specs.Views.{bound_is, view_is}
 use Rattle.stream.specs.declared.Plain.{Plain}
-use Rattle.stream.specs.declared.Step.{Step}
+use Rattle.stream_step.specs.declared.Step.{Step}
 use Rattle.stream.specs.Plains.{plain_is, PlainStepped}
 use Rattle.stream_arrays.specs.Arrays.{kind_is, kind_number, pending_is, pending_flag, pending_value, Held, held_is, held_as, held_plain, PlainPut}
 
@@ -47,6 +47,6 @@ start_bounds f lo hi c n m a b e = bounds_of (λ x y. P.start_plain f x y c) lo 
 
 -- ---- the reading that is handed on is the one that the arrays hold
 
-pub next_of : (f : List ℕ) (m : ℕ) (h : Held) (n : List ℕ) {k₀ k : List ℕ} {r : Reading} {s : Step} → r ≡ held_is h
+pub next_of : (f : List ℕ) (m : ℕ) (h : Held) (n : List ℕ) {k₀ k : List ℕ} {r : Reading} {s : Step Plain} → r ≡ held_is h
     → PlainStepped (P.next_plain f (P.plain_with (view_is r) (get_or n 0 0)) m) k₀ k s → PlainStepped (P.next_plain f (held_plain h n) m) k₀ k s
 next_of f m h n {k₀} {k} {r} {s} e st = subst (λ x. PlainStepped (P.next_plain f (P.plain_with (view_is x) (get_or n 0 0)) m) k₀ k s) e st

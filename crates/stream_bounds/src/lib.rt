@@ -8,6 +8,7 @@ ghost use Rattle.stream_bounds.specs.State.{state_right};
 
 use format::{LEVELS, MAX_KEY};
 use std::ops::Bound;
+use stream_start::Reading;
 
 // Whether a key passes the upper bound (`Bound::exceeded_by`).
 pub fn exceeded(upper: Bound<&[u8]>, key: &[u8]) -> bool
@@ -21,8 +22,8 @@ pub fn exceeded(upper: Bound<&[u8]>, key: &[u8]) -> bool
 }
 
 // Whether a reading can go on: at most 256 levels, a held bound of at most 255 bytes, and the length of the file that is lent.
-pub fn state_right(levels: usize, bound_len: usize, held: usize, len: usize) -> bool
-    ensures { result ≡ state_right levels bound_len held len }
+pub fn state_right(reading: &Reading, len: usize) -> bool
+    ensures { result ≡ state_right reading.now.levels reading.now.bound_len reading.now.len len }
 {
-    levels <= LEVELS && bound_len <= MAX_KEY && held == len
+    reading.levels <= LEVELS && reading.bound_len <= MAX_KEY && reading.len == len
 }

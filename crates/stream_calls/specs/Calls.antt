@@ -24,7 +24,7 @@ use Rattle.reading.specs.Demand.{Within, Extra, EmptyExcluded, Call, unrefused, 
 use Rattle.plain.specs.Plain.{start_plain, next_plain, plain_after, answers_plain}
 use Rattle.plain.specs.PlainDemand.{keys_out, StillToCome, DemandPlain}
 use Rattle.stream.specs.declared.Plain.{Plain}
-use Rattle.stream.specs.declared.Step.{Step}
+use Rattle.stream_step.specs.declared.Step.{Step}
 use Rattle.stream.specs.Plains.{plain_is, begun_is, PlainStepped}
 
 -- ---- a call
@@ -33,7 +33,7 @@ pub record CodeCall : Type 0 where
   pub file : List ℕ
   pub before : List ℕ
   pub after : List ℕ
-  pub step : Step
+  pub step : Step Plain
 
 -- what the contract of next says, of a call on the reading r with the file s or one of another length
 pub record CallMade (s : List ℕ) (r : Plain) (c : CodeCall) : Type 0 where
@@ -52,21 +52,21 @@ answered c = in_hand c.step.answer c.after
 
 abbrev pub Made : List ℕ → Plain → List CodeCall → Type 0
 Made s r [] = Unit {0}
-Made s r (c ∷ cs) = CallMade s r c × Made s c.step.plain cs
+Made s r (c ∷ cs) = CallMade s r c × Made s c.step.reading cs
 
 abbrev pub code_answers : List CodeCall → List R.Answer
 code_answers cs = map answered cs
 
 abbrev pub last_reading : Plain → List CodeCall → Plain
 last_reading r [] = r
-last_reading r (c ∷ cs) = last_reading c.step.plain cs
+last_reading r (c ∷ cs) = last_reading c.step.reading cs
 
 abbrev pub call_is : {s : List ℕ} {r : Plain} (c : CodeCall) → CallMade s r c → Call s
 call_is c w = record { file = c.file; space = length c.before; which = w.which }
 
 abbrev pub calls_is : {s : List ℕ} (r : Plain) (cs : List CodeCall) → Made s r cs → List (Call s)
 calls_is r [] w = []
-calls_is r (c ∷ cs) w = call_is c w.0 ∷ calls_is c.step.plain cs w.1
+calls_is r (c ∷ cs) w = call_is c w.0 ∷ calls_is c.step.reading cs w.1
 
 -- ---- the claim
 
@@ -102,7 +102,7 @@ pub record DemandCode {s : List ℕ} (A : Admitted s) (lo hi : S.Bound) (b : Pla
   pub refused_exactly : (cs₁ cs₂ : List CodeCall) (c : CodeCall) → cs ≡ cs₁ ++ (c ∷ cs₂)
       → (CodeAllowed s c → (n : Refusal) → ¬ (c.step.answer ≡ Err n))
       × (¬ CodeAllowed s c
-      → (n : Refusal) × (c.step.answer ≡ Err n) × (plain_is c.step.plain ≡ plain_is (last_reading b cs₁)) × (c.after ≡ c.before))
+      → (n : Refusal) × (c.step.answer ≡ Err n) × (plain_is c.step.reading ≡ plain_is (last_reading b cs₁)) × (c.after ≡ c.before))
   -- the total after the list
   pub total_ended : ¬ EmptyExcluded (fst_of s A.meta) lo hi → 0 < ends
       → (n e : ℕ) × NumberOf (Within (fst_of s A.meta) lo hi) n × Extra (fst_of s A.meta) lo hi e × ((last_reading b cs).reading.total ≡ capped (n + e))
@@ -112,6 +112,6 @@ pub record DemandCode {s : List ℕ} (A : Admitted s) (lo hi : S.Bound) (b : Pla
   pub total_excluded : EmptyExcluded (fst_of s A.meta) lo hi → (last_reading b cs).reading.total ≡ 0
   -- the transitions of each call
   pub limit : (cs₁ cs₂ : List CodeCall) (c : CodeCall) → cs ≡ cs₁ ++ (c ∷ cs₂) → (n : ℕ)
-      → ((k : List ℕ) (v : ℕ) → Held (fst_of s A.meta) k v → length k ≤ n) → c.step.plain.reading.total ≤ (last_reading b cs₁).reading.total + n
+      → ((k : List ℕ) (v : ℕ) → Held (fst_of s A.meta) k v → length k ≤ n) → c.step.reading.reading.total ≤ (last_reading b cs₁).reading.total + n
   -- the number after the list
   pub keys_to_come : NumberOf (StillToCome (fst_of s A.meta) lo hi (keys_out handed)) (last_reading b cs).keys

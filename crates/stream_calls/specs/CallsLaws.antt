@@ -49,18 +49,18 @@ pub answers_are : (s : List ℕ) (r : Plain) (cs : List CodeCall) (w : Made s r 
 answers_are s r [] w = refl
 answers_are s r (c ∷ cs) w =
     ap₂ ◌∷◌ (answer_is_lem c w.0)
-    (answers_are s c.step.plain cs w.1 ∙ ap (λ (p : P.Plain). answers_plain p (calls_is c.step.plain cs w.1)) w.0.stepped.gave.plain)
+    (answers_are s c.step.reading cs w.1 ∙ ap (λ (p : P.Plain). answers_plain p (calls_is c.step.reading cs w.1)) w.0.stepped.gave.plain)
 
 pub reading_is : (s : List ℕ) (r : Plain) (cs : List CodeCall) (w : Made s r cs) → plain_is (last_reading r cs) ≡ plain_after (plain_is r) (calls_is r cs w)
 reading_is s r [] w = refl
 reading_is s r (c ∷ cs) w =
-    reading_is s c.step.plain cs w.1 ∙ ap (λ (p : P.Plain). plain_after p (calls_is c.step.plain cs w.1)) w.0.stepped.gave.plain
+    reading_is s c.step.reading cs w.1 ∙ ap (λ (p : P.Plain). plain_after p (calls_is c.step.reading cs w.1)) w.0.stepped.gave.plain
 
 -- the calls before one, and that one
 made_apart : (s : List ℕ) (r : Plain) (cs : List CodeCall) (c : CodeCall) (more : List CodeCall) → Made s r (cs ++ (c ∷ more))
     → Made s r cs × CallMade s (last_reading r cs) c
 made_apart s r [] c more w = (tt, w.0)
-made_apart s r (d ∷ cs) c more w = let q = made_apart s d.step.plain cs c more w.1 in ((w.0, q.0), q.1)
+made_apart s r (d ∷ cs) c more w = let q = made_apart s d.step.reading cs c more w.1 in ((w.0, q.0), q.1)
 
 -- ---- the cases of an answer
 
@@ -185,7 +185,7 @@ module _ {s : List ℕ} (A : Admitted s) (lo hi : S.Bound) (t : List ℕ) (fits 
         (sym answer_as_lem ∙ refused_of asked.answer n (sym at.stepped.gave.answer ∙ e))
 
     not_taken : ¬ CodeAllowed s c
-        → (n : Refusal) × (c.step.answer ≡ Err n) × (plain_is c.step.plain ≡ plain_is before) × (c.after ≡ c.before)
+        → (n : Refusal) × (c.step.answer ≡ Err n) × (plain_is c.step.reading ≡ plain_is before) × (c.after ≡ c.before)
     not_taken out =
         let w = (D₁.refused_exactly earlier [] (call_is c at) refl).1 (λ h. out (record { same = h.same; room = h.room })) in
         let n : R.next c.file (plain_is before).view (length c.before) ≡ R.refuse (plain_is before).view w.0 =
@@ -198,7 +198,7 @@ module _ {s : List ℕ} (A : Admitted s) (lo hi : S.Bound) (t : List ℕ) (fits 
         )
 
     at_most : (n : ℕ) → ((k : List ℕ) (v : ℕ) → Held (fst_of s A.meta) k v → length k ≤ n)
-        → c.step.plain.reading.total ≤ before.reading.total + n
+        → c.step.reading.reading.total ≤ before.reading.total + n
     at_most n most =
         let few : followed (plain_is before).view (call_is c at) ≤ n =
         subst (λ (v : View). followed v (call_is c at) ≤ n) (sym view_is_lem) (D₁.limit earlier [] (call_is c at) refl n most) in

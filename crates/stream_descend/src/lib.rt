@@ -3,11 +3,12 @@
 #![tactic(auto)]
 
 ghost use Rattle.std.specs.Prelude.{◌≡◌, ◌<◌, get_or};
-ghost use Rattle.format.specs.Limits.{max_levels};
+ghost use Rattle.format.specs.Limits.{max_path, max_levels};
+ghost use Rattle.node.specs.Read.{meaning};
 ghost use Rattle.reading.specs.Reading as R;
-ghost use Rattle.stream_start.specs.Views.{bound_of};
+ghost use Rattle.stream_start.specs.Views.{bound_of, level_at, stack_of};
 ghost use Rattle.stream_pop.specs.Pops.{Ready};
-ghost use Rattle.stream_descend.specs.Descent.{Descends, down_from};
+ghost use Rattle.stream_descend.specs.Descent.{Follows, Descends, down_from};
 
 use format::{FstRef, MAX_KEY, Refusal, are_bytes};
 use node::Node;
@@ -30,6 +31,30 @@ pub fn counted(total: u64) -> u64
     total.saturating_add(1)
 }
 
+// The next transition of level k, whose node is judged: SUM for the running sum, NODE for the target; then the target's level is written.
+#[inline(always)]
+pub fn follow(fst: FstRef<'_>, k: usize, node: Node, stack: &mut Stack) -> Result<Node, Refusal>
+    requires room { (k < max_path) × (fst.root < 4294967296) }
+    requires ready { Ready fst.bytes.now fst.version fst.root (get_or stack.old.addrs k 0) (get_or stack.old.trans k 0) node }
+    ensures { Follows fst.entry.bytes.now fst.entry.version fst.entry.root k
+        (level_at k stack.old.addrs stack.old.inps stack.old.trans
+        stack.old.outs) (meaning fst.entry.bytes.now node)
+        (stack_of k stack.old) stack.new.addrs stack.new.inps stack.new.trans
+        stack.new.outs result }
+{
+    are_bytes(fst.bytes);
+    stack.are_arrays();
+    let i = usize::from(stack.trans[k]);
+    let out = node::output(fst.bytes, node, i);
+    let sum = stack.outs[k].checked_add(out).ok_or(Refusal::Sum)?;
+    let target = node::transition_addr(fst.bytes, node, i);
+    let n = node::node_at(fst, target)?;
+    let inp = node::input(fst.bytes, node, i);
+    stack.trans[k] = (i + 1) as u16;
+    stack.put(k + 1, target as u32, inp, 0, sum);
+    Ok(n)
+}
+
 // From the level at top, whose node is judged, down to the next key by each level's next transition. A node is judged once: as it is
 // entered.
 pub fn descend(
@@ -47,23 +72,13 @@ pub fn descend(
         stack.old.inps stack.old.trans stack.old.outs top node total)
         stack.new.addrs stack.new.inps stack.new.trans stack.new.outs result }
 {
-    are_bytes(fst.bytes);
+    stack.are_arrays();
     let mut m = node;
     let mut t = total;
     // a reading has at most 256 levels
     for k in top..MAX_KEY {
-        let i = usize::from(stack.trans[k]);
-        let out = node::output(fst.bytes, m, i);
-        let sum = stack.outs[k].checked_add(out).ok_or(Refusal::Sum)?;
-        let target = node::transition_addr(fst.bytes, m, i);
-        let n = node::node_at(fst, target)?;
-        let inp = node::input(fst.bytes, m, i);
-        stack.trans[k] = (i + 1) as u16;
+        let n = follow(fst, k, m, stack)?;
         let next = k + 1;
-        stack.addrs[next] = target as u32;
-        stack.inps[next] = inp;
-        stack.trans[next] = 0;
-        stack.outs[next] = sum;
         t = counted(t);
         if exceeded(upper, &stack.inps[1..=next]) {
             return Ok(Followed {
@@ -72,7 +87,9 @@ pub fn descend(
             });
         }
         if n.is_final {
-            let value = sum.checked_add(n.final_output).ok_or(Refusal::Sum)?;
+            let value = stack.outs[next]
+                .checked_add(n.final_output)
+                .ok_or(Refusal::Sum)?;
             return Ok(Followed {
                 found: Some((next, value)),
                 total: t,

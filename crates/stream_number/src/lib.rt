@@ -1,7 +1,8 @@
 // The number of keys between two bounds, as a start works it out from a table of the keys from each node (document 02, N11): those that do
 // not pass the upper bound, less those that do not meet the lower. On any file, admitted or not, and with any table; no key is visited. The
 // Rust has nothing of it.
-// The two bounds are two values and no pair: each is taken by itself.
+// The two bounds are two values and no struct: of the upper and of the lower another number is worked out, and only `crosses` looks at both, as the
+// definitions do, which take one after the other.
 #![tactic(auto)]
 
 ghost use Rattle.std.specs.Prelude.{◌≡◌, ℕ, ◌≤◌, ◌<◌, length};

@@ -21,6 +21,7 @@ pub fn highest(
     ensures { Pops fst.entry.bytes.now fst.entry.version fst.entry.root stack.now.addrs stack.now.trans
         levels result }
 {
+    // by place: it is what is answered, and two arrays are read at it
     for top in (0..levels).rev() {
         let m = node::node_at(fst, stack.addrs[top] as usize)?;
         if usize::from(stack.trans[top]) < m.ntrans {

@@ -1,6 +1,7 @@
 // The start of a reading (src/raw/mod.rs: `StreamBuilder`, `seek_min`), on any file, admitted or not; and the reading itself, which next takes
 // and gives back (crate stream_next).
-// The two bounds are two values and no pair: each is taken by itself.
+// The two bounds are two values and no struct, since each goes its own way: the walk is made along the lower, and the upper is kept in the reading. Only
+// `bounds_right` asks the same of both, and C hands them one by one. Std's `RangeBounds` would be a type parameter of each start, with `has_bounds` as a premise.
 // An FstRef may have any version and root, since node_at answers for each. What needs those of a file that opens asks for them: BlankTold of the version,
 // and that the root is below 2^32 where levels are made.
 #![tactic(auto)]

@@ -1,3 +1,5 @@
+pub mod Judged
+pub mod JudgedLaws
 pub mod Stepped
 pub mod Steps
 pub mod SteppedLaws

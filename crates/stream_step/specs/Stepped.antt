@@ -7,6 +7,7 @@ use Rattle.format.specs.declared.Refusal.{Refusal}
 use Rattle.reading.specs.Reading as R
 use Rattle.reading.specs.Reading.{key, end, written}
 use Rattle.stream_start.specs.Views.{view_is}
+use Rattle.stream_start.specs.declared.Reading.{Reading}
 use Rattle.stream_step.specs.declared.Step.{Step}
 
 abbrev pub answer_as : R.Answer → Result (Option (ℕ × ℕ)) Refusal
@@ -14,7 +15,7 @@ answer_as (key k v) = Ok (Some (length k, v))
 answer_as end = Ok None
 answer_as (R.Answer.refused n) = Err n
 
-pub record Stepped (w : R.Step) (buf₀ buf : List ℕ) (r : Step) : Type 0 where
+pub record Stepped (w : R.Step) (buf₀ buf : List ℕ) (r : Step Reading) : Type 0 where
   pub answer : r.answer ≡ answer_as w.answer
   pub reading : view_is r.reading ≡ w.reading
   pub buffer : buf ≡ written w.answer buf₀

@@ -10,6 +10,7 @@ use Rattle.std.proofs.Math.Seq.{take-append_seam}
 use Rattle.format.specs.declared.Refusal.{Refusal}
 use Rattle.reading.specs.Reading as R
 use Rattle.reading.specs.Reading.{key, end, written}
+use Rattle.stream_start.specs.declared.Reading.{Reading}
 use Rattle.stream_step.specs.declared.Step.{Step}
 use Rattle.stream_step.specs.Stepped.{answer_as, Stepped}
 
@@ -17,7 +18,7 @@ pub record Told (a : R.Answer) (b : Result (Option (ℕ × ℕ)) Refusal) (buf�
   pub answer : b ≡ answer_as a
   pub buffer : buf ≡ written a buf₀
 
-pub told : {w : R.Step} {buf₀ buf : List ℕ} {o : Step} → Stepped w buf₀ buf o → Told w.answer o.answer buf₀ buf
+pub told : {w : R.Step} {buf₀ buf : List ℕ} {o : Step Reading} → Stepped w buf₀ buf o → Told w.answer o.answer buf₀ buf
 told h = record { answer = h.answer; buffer = h.buffer }
 
 module _ {a : R.Answer} {b : Result (Option (ℕ × ℕ)) Refusal} {buf₀ buf : List ℕ} (h : Told a b buf₀ buf) where

@@ -48,6 +48,7 @@ fn below(file: &[u8], node: Node, p: usize, counts: &[u64], total: Option<u64>) 
         (take p (transitions_in file.now node))) }
 {
     let mut sum = total;
+    // by place: the transitions stand in the file, and are read by their place there
     for i in 0..p {
         let t = node::transition_addr(file, node, i);
         let k = keys_at(counts, t);

@@ -10,6 +10,7 @@
 use Rattle.std.specs.Prelude.{◌≡◌, refl, ◌⊎◌, Bool, true, false, cond, ◌&&◌, List, [], ◌∷◌, ℕ, zero, suc, ◌+◌, ◌%◌, ◌≤◌, ◌<◌, leb, length, get_or, set}
 use Rattle.std.proofs.Common.{sym, ◌∙◌, ap, subst, ⊎_elim, inl, inr, arith, leb-true, le-leb, length-set, get_or-set_same, get_or-set_other}
 use Rattle.std.proofs.Math.Option.{Option, none, some}
+use Rattle.std.proofs.lemmas.Bool.{and_parts, and_from}
 use Rattle.format.specs.declared.Refusal.{Refusal}
 use Rattle.format.specs.Limits.{SEAT}
 use Rattle.reading.specs.Reading.{Answer, key, end}
@@ -122,29 +123,18 @@ turn_le t = rw t.is (omega arith)
 
 -- ---- right seats
 
-and_left : (a b : Bool) → (a && b) ≡ true → a ≡ true
-and_left true b e = refl
-and_left false b e = e
-
-and_right : (a b : Bool) → (a && b) ≡ true → b ≡ true
-and_right true b e = e
-and_right false b e = absurd (let z : ◌≡◌ {A = ℕ} 0 1 = cc in omega arith)
-
-and_both : (a b : Bool) → a ≡ true → b ≡ true → (a && b) ≡ true
-and_both a b e q = rw (e, q)
-
 pub right_last : (s : Seats) → right_test s ≡ true → s.last ≤ 7
-right_last s e = leb-true s.last 7 (and_left (leb s.last 7) (all_seats s.seats) e)
+right_last s e = leb-true s.last 7 (and_parts (leb s.last 7) (all_seats s.seats) e).0
 
 right_all : (s : Seats) → right_test s ≡ true → all_seats s.seats ≡ true
-right_all s e = and_right (leb s.last 7) (all_seats s.seats) e
+right_all s e = (and_parts (leb s.last 7) (all_seats s.seats) e).1
 
 all_set : (l : List Seat) (i : ℕ) (x : Seat) → all_seats l ≡ true → seat_test x ≡ true → all_seats (set l i x) ≡ true
 unfolding all_seats
 all_set [] i x h hx = h
-all_set (y ∷ l) zero x h hx = and_both (seat_test x) (all_seats l) hx (and_right (seat_test y) (all_seats l) h)
+all_set (y ∷ l) zero x h hx = and_from (seat_test x) (all_seats l) hx (and_parts (seat_test y) (all_seats l) h).1
 all_set (y ∷ l) (suc i) x h hx =
-    and_both (seat_test y) (all_seats (set l i x)) (and_left (seat_test y) (all_seats l) h) (all_set l i x (and_right (seat_test y) (all_seats l) h) hx)
+    and_from (seat_test y) (all_seats (set l i x)) (and_parts (seat_test y) (all_seats l) h).0 (all_set l i x (and_parts (seat_test y) (all_seats l) h).1 hx)
 
 -- a seat with a reading is never wrong
 pub held_right : (b : Bool) (r : Plain) → seat_test (record { reading = some r; waiting = b }) ≡ true
@@ -154,13 +144,13 @@ held_right false r = refl
 all_at : (l : List Seat) (i : ℕ) → all_seats l ≡ true → seat_test (get_or l i no_seat) ≡ true
 unfolding all_seats
 all_at [] i h = refl
-all_at (x ∷ l) zero h = and_left (seat_test x) (all_seats l) h
-all_at (x ∷ l) (suc i) h = all_at l i (and_right (seat_test x) (all_seats l) h)
+all_at (x ∷ l) zero h = (and_parts (seat_test x) (all_seats l) h).0
+all_at (x ∷ l) (suc i) h = all_at l i (and_parts (seat_test x) (all_seats l) h).1
 
 all_from : (l : List Seat) → ((i : ℕ) → seat_test (get_or l i no_seat) ≡ true) → all_seats l ≡ true
 unfolding all_seats
 all_from [] h = refl
-all_from (x ∷ l) h = and_both (seat_test x) (all_seats l) (h 0) (all_from l (λ i. h (suc i)))
+all_from (x ∷ l) h = and_from (seat_test x) (all_seats l) (h 0) (all_from l (λ i. h (suc i)))
 
 pub seat_test_true : (x : Seat) → (x.waiting ≡ true → taken x.reading ≡ true) → seat_test x ≡ true
 seat_test_true x h = by x.waiting refl
@@ -171,8 +161,7 @@ seat_test_true x h = by x.waiting refl
 
 pub right_test_lem : {s : Seats} → SeatsRight s → right_test s ≡ true
 right_test_lem {s} h =
-    and_both (leb s.last 7) (all_seats s.seats) (le-leb s.last 7 h.last_within)
-    (all_from s.seats (λ i. seat_test_true (seat_at s i) (h.waiting_taken i)))
+    and_from (leb s.last 7) (all_seats s.seats) (le-leb s.last 7 h.last_within) (all_from s.seats (λ i. seat_test_true (seat_at s i) (h.waiting_taken i)))
 
 pub test_right : (s : Seats) → length s.seats ≡ 8 → right_test s ≡ true → SeatsRight s
 test_right s h e =
@@ -185,7 +174,7 @@ test_right s h e =
 pub right_set : (s : Seats) (last i : ℕ) (x : Seat) → SeatsRight s → last ≤ 7 → seat_test x ≡ true → SeatsRight (record { last = last; seats = set s.seats i x })
 right_set s last i x h hl hx =
     test_right (record { last = last; seats = set s.seats i x }) (length-set s.seats i x ∙ h.eight)
-    (and_both (leb last 7) (all_seats (set s.seats i x)) (le-leb last 7 hl) (all_set s.seats i x (right_all s (right_test_lem h)) hx))
+    (and_from (leb last 7) (all_seats (set s.seats i x)) (le-leb last 7 hl) (all_set s.seats i x (right_all s (right_test_lem h)) hx))
 
 -- ---- what a call does
 

@@ -1,23 +1,22 @@
 -- `admission::admit_opened` meets its contract: room in the tables, both cleared, all nodes judged, and an answer for what was found.
 -- Assumes nothing.
-use Rattle.std.proofs.Common.{◌++◌, length, drop, inl, inr, rules}
-use Rattle.admission.proofs.Admitting.{space_refused, wiped_cleared, AllJudged, good_admits, wrong_refused}
+use Rattle.std.proofs.Common.{inl, inr, sym, ◌∙◌}
+use Rattle.admission.proofs.Admitting.{space_refused, wiped_cleared, AllJudged, judged_admits, judged_refused}
 use Rattle.admission.proofs.admit_opened.Goals as goal
-use Rattle.admission.proofs.admit_opened.Goals.{After-judge, then-depths-n-via-then-depths-n, then-depths-n-via-else-depths-n+then-sums-n}
+use Rattle.admission.proofs.admit_opened.Goals.{After-judge-judged, then-depths-n-via-then-depths-n, then-depths-n-via-else-depths-n+then-sums-n}
 
 -- ---- the nodes judged
 
-judging : (c : After-judge) → AllJudged c.args.fst.bytes.now c.args.fst.version c.args.fst.root c.args.depths.now c.args.sums.now
-    (c.fill.new.self ++ drop (length c.args.fst.bytes.now) c.args.depths.now) (c.fill-2.new.self ++ drop (length c.args.fst.bytes.now) c.args.sums.now)
-    c.judge.new.depths c.judge.new.sums c.judge.result
+judging : (c : After-judge-judged) → AllJudged c.args.fst.bytes.now c.args.fst.version c.args.fst.root c.args.depths.now c.args.sums.now
+    c.wipe.new.depths c.wipe.new.sums c.judge-judged.new.depths c.judge-judged.new.sums c.judge-judged.result
 judging c =
     record {
       open_file = c.requires;
       room_depths = c.if-depths-n.false;
       room_sums = c.if-sums-n.false;
-      depths_wiped = search rules;
-      sums_wiped = search rules;
-      judged = c.judge.ensures;
+      depths_wiped = c.wipe.ensures.0;
+      sums_wiped = c.wipe.ensures.1;
+      judged = c.judge-judged.ensures;
     }
 
 -- no room in the depths, or in the sums
@@ -29,13 +28,15 @@ returns-then-depths-n c =
     ]
 
 -- both tables are zeros over the file
-pub judge-requires : goal.judge-requires
-judge-requires c = wiped_cleared c.args.depths.now c.args.sums.now c.requires c.if-depths-n.false c.if-sums-n.false (search rules) (search rules)
+pub judge-judged-requires : goal.judge-judged-requires
+judge-judged-requires c = wiped_cleared c.args.depths.now c.args.sums.now c.requires c.if-depths-n.false c.if-sums-n.false c.wipe.ensures.0 c.wipe.ensures.1
 
 -- admitted
-pub returns-in-Ok : goal.returns-in-Ok
-returns-in-Ok c = good_admits (judging (goal.at.returns-in-Ok c).After-judge) c.in-Ok.is
+pub returns-else-is_err : goal.returns-else-is_err
+returns-else-is_err c = judged_admits (judging (goal.at.returns-else-is_err c).After-judge-judged) (sym c.is_err.ensures.value ∙ c.if-is_err.false)
 
 -- NODE, DEEP or SUM
-pub returns-in-Err : goal.returns-in-Err
-returns-in-Err c = wrong_refused (judging (goal.at.returns-in-Err c).After-judge) c.in-Err.found c.refused.ensures c.in-Err.is
+pub returns-then-is_err : goal.returns-then-is_err
+returns-then-is_err c =
+    judged_refused (judging (goal.at.returns-then-is_err c).After-judge-judged) c.wipe-then-is_err.ensures.0 c.wipe-then-is_err.ensures.1
+    (sym c.is_err.ensures.value ∙ c.if-is_err.true)

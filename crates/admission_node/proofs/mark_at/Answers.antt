@@ -17,8 +17,8 @@ mark_one-requires c =
     let read = j.readable _ refl in
     (read, read.single (ap is_any c.one_node.ensures.1), markable_node _ _ _ _ (judged_sound j _ refl) c.requires.0 c.requires.1)
 
-pub mark_one-requires-in_default : goal.mark_one-requires-in_default
-mark_one-requires-in_default c =
+pub mark_one-requires-in-OneTransNext : goal.mark_one-requires-in-OneTransNext
+mark_one-requires-in-OneTransNext c =
     let j = c.next_node.ensures.0 in
     let read = j.readable _ refl in
     (read, read.single (ap is_any c.next_node.ensures.1), markable_node _ _ _ _ (judged_sound j _ refl) c.requires.0 c.requires.1)

@@ -6,4 +6,4 @@ use Rattle.baxhiso_pack.proofs.PackResults.{pack_leaves}
 use Rattle.baxhiso_pack.proofs.fst_pack.Goals as goal
 
 pub returns : goal.returns
-returns c = pack_leaves c.args.len.now _ _ (result_back c.pack_told.result c.pack_told.type_inv ∙ c.pack_told.ensures.0) c.pack_told.ensures.1 _ c.pack-answer.ensures
+returns c = pack_leaves c.args.len.now _ _ (result_back c.length_told.result c.length_told.type_inv ∙ c.length_told.ensures.0) c.length_told.ensures.1 _ c.pack-answer.ensures

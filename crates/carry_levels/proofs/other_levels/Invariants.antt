@@ -5,4 +5,4 @@ use Rattle.carry_levels.specs.Settling.{WalkedTo}
 use Rattle.carry_levels.proofs.other_levels.Given as goal
 
 abbrev pub invariant-loop-k : goal.invariant-loop-k
-invariant-loop-k l = WalkedTo (fst_with l.old.bytes.now l.old.version l.old.root) l.new.bytes.now l.new.version l.new.root l.k l.stack.addrs l.stack.inps l.stack.outs l.moved l.below
+invariant-loop-k l = WalkedTo (fst_with l.old.bytes.now l.old.version l.old.root) l.new.bytes.now l.new.version l.new.root l.k l.reading.stack.addrs l.reading.stack.inps l.reading.stack.outs l.moved l.below

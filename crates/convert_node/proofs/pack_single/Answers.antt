@@ -21,7 +21,6 @@ pack_one-requires c =
     kept_packed c.requires.1 a.first a.moved.now _ _ _ arc.ensures.0 refl arc.ensures.1 in (
       c.requires.2.sizable.fits.first_low,
       target_le c.requires.2.sizable 0 listed _ _ refl arc.ensures.1,
-      c.requires.1.code.lt,
       omega (arith, ap (λ (l : List ℕ). length l) packs, c.requires.2.fits),
     )
 

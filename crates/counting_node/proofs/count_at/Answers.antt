@@ -18,8 +18,8 @@ count_one-requires c =
     (readable, readable.single (ap is_any c.one_node.ensures.1), targets_inside judged c.requires.0.inside c.requires.1)
 
 -- the same of one that leads to the node just below it
-pub count_one-requires-in_default : goal.count_one-requires-in_default
-count_one-requires-in_default c =
+pub count_one-requires-in-OneTransNext : goal.count_one-requires-in-OneTransNext
+count_one-requires-in-OneTransNext c =
     let judged = c.next_node.ensures.0 in
     let readable = judged.readable _ refl in
     (readable, readable.single (ap is_any c.next_node.ensures.1), targets_inside judged c.requires.0.inside c.requires.1)

@@ -153,6 +153,16 @@ form_any state high =
     let a : state < 192 = omega arith in
     rw (lt-leb 192 state a, lt-leb 128 state high)
 
+-- and back
+pub any_lt : (state : ℕ) → state_form state ≡ AnyTrans → state < 128
+any_lt state e = grind arith
+
+pub one_from : (state : ℕ) → state_form state ≡ OneTrans → 128 ≤ state
+one_from state e = grind arith
+
+pub next_from : (state : ℕ) → state_form state ≡ OneTransNext → 192 ≤ state
+next_from state e = grind arith
+
 -- only the form 01 is final
 pub not_final : (state : ℕ) → 128 ≤ state → is_final state ≡ false
 not_final state low = let a : 64 ≤ state = omega arith in rw (le-leb 64 state a, le-ltb state 128 low)

@@ -5,8 +5,8 @@ use Rattle.list.specs.Stands.{Stands}
 use Rattle.list.proofs.WayLaws.{left_in}
 use Rattle.list.proofs.lines.Given as goal
 
-abbrev pub invariant-loop-n : goal.invariant-loop-n
-invariant-loop-n g l = Stands l.file (plain_is l.plain).view × (length l.line ≡ 532)
+abbrev pub invariant-loop-listed : goal.invariant-loop-listed
+invariant-loop-listed g l = Stands l.file (plain_is l.plain).view × (length l.line ≡ 532)
 
-abbrev pub decreases-loop-n : goal.decreases-loop-n
-decreases-loop-n g l = left_in l.file (plain_is l.plain).view
+abbrev pub decreases-loop-listed : goal.decreases-loop-listed
+decreases-loop-listed g l = left_in l.file (plain_is l.plain).view

@@ -4,7 +4,7 @@ use Rattle.std.proofs.Common.{◌≡◌, ◌<◌, ◌≤◌, refl, length, take}
 use Rattle.listing.specs.Lined.{Wrote}
 use Rattle.listing.specs.Listing.{line_of, state}
 use Rattle.stream.specs.Plains.{plain_is}
-use Rattle.listing.proofs.LinedLaws.{lined_short, lined_wrote}
+use Rattle.listing.proofs.LinedLaws.{wrote_whole}
 use Rattle.listing.proofs.next_line.Goals as goal
 
 -- the line in the buffer's first bytes
@@ -14,10 +14,10 @@ returns-in-Some c =
     let q : Wrote w c.in-Some.line.now c.write_line.new.line c.write_line.result = c.write_line.ensures in
     let front : c.in-Some.line.now ≡ take 532 c.args.line.now = c.in-Some.ensures.cases.same in
     let room : 532 ≤ length c.args.line.now = c.in-Some.ensures.cases.enough in
-    lined_wrote w _ c.args.line.now c.write_line.new.line _ _ room (rw front at q) refl
+    (wrote_whole w c.args.line.now c.write_line.new.line _ _ room (rw front at q) refl, room)
 
 -- the buffer is too short for the longest line
 pub returns-in-None : goal.returns-in-None
 returns-in-None c =
     let short : length c.args.line.now < 532 = c.in-None.ensures.cases in
-    lined_short _ _ c.args.line.now _ short refl refl
+    (refl, refl, short)

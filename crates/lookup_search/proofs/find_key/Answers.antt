@@ -1,6 +1,7 @@
 -- The choice is that of a sound node: the key ends there, or goes on along the transition that fits.
-use Rattle.std.proofs.Common.{◌∙◌, sym, arith}
+use Rattle.std.proofs.Common.{◌∙◌, sym, ap, arith}
 use Rattle.std.proofs.lemmas.Result.{err_from_is_err_and}
+use Rattle.format.specs.declared.Transition.{Transition}
 use Rattle.format.specs.View.{fst_is}
 use Rattle.format.specs.Paths.{node_in}
 use Rattle.format.specs.Laws.LookupLaws.{at_fitting}
@@ -46,7 +47,7 @@ pub returns-then-too_deep-clause-path_after : goal.returns-then-too_deep-clause-
 returns-then-too_deep-clause-path_after c =
     let left = c.loop-choice.left in
     let n = fit_sound (node_in (fst_is c.args.fst) c.loop-choice.addr) left c.in_ok-choice.choice c.in_ok-choice.ensures in
-    let t = choice_followed n.0 left c.in-To.inp c.in-To.out c.in-To.target (sym c.in-To.is ∙ n.1.1) in
+    let t = choice_followed n.0 left c.in-To.next (sym c.in-To.is ∙ n.1.1) in
     sym (searching_deep c.loop-choice.invariant.rest n.0 n.1.0 t.on (omega (arith, c.if-too_deep.true)) t.place t.fits)
 
 -- the output of the transition is not above what is left
@@ -54,13 +55,13 @@ pub overflow_sub-left : goal.overflow_sub-left
 overflow_sub-left c =
     let left = c.loop-choice.left in
     let n = fit_sound (node_in (fst_is c.args.fst) c.loop-choice.addr) left c.in_ok-choice.choice c.in_ok-choice.ensures in
-    let t = choice_followed n.0 left c.in-To.inp c.in-To.out c.in-To.target (sym c.in-To.is ∙ n.1.1) in
-    omega (arith, t.is_out, (at_fitting n.0.transitions left t.place t.fits).fit t.place (omega arith))
+    let t = choice_followed n.0 left c.in-To.next (sym c.in-To.is ∙ n.1.1) in
+    omega (arith, ap (λ (x : Transition). x.out) t.is_it, (at_fitting n.0.transitions left t.place t.fits).fit t.place (omega arith))
 
 -- one byte more is found, and its output is taken off what is left
 pub loop-choice-preserved : goal.loop-choice-preserved
 loop-choice-preserved c =
     let left = c.loop-choice.left in
     let n = fit_sound (node_in (fst_is c.args.fst) c.loop-choice.addr) left c.in_ok-choice.choice c.in_ok-choice.ensures in
-    let t = choice_followed n.0 left c.in-To.inp c.in-To.out c.in-To.target (sym c.in-To.is ∙ n.1.1) in
-    search_step n.0 n.1.0 t.on c.if-too_deep.false t.place t.fits c.in-To.inp c.in-To.out c.in-To.target t.is_inp t.is_out t.is_target c.loop-choice.invariant
+    let t = choice_followed n.0 left c.in-To.next (sym c.in-To.is ∙ n.1.1) in
+    search_step n.0 n.1.0 t.on c.if-too_deep.false t.place t.fits c.in-To.next t.is_it c.loop-choice.invariant

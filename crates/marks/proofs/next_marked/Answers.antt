@@ -1,25 +1,15 @@
--- `marks::next_marked` meets its contract: opening refuses, the marks are wrong, or next answers. Assumes nothing.
-use mathlib.Core.Path.{refl, sym, ap, ◌∙◌}
-use mathlib.Core.Bool.{true, false}
-use lib.ListN.{length}
-use Rattle.format.specs.Limits.{STATE}
-use Rattle.fst.specs.Open.{opening_is}
-use Rattle.stream.specs.Plains.{plain_is}
+-- `marks::next_marked` meets its contract: what is judged first refuses, or next answers. Assumes nothing.
+use Rattle.std.proofs.Common.{sym, ◌∙◌, length}
 use Rattle.marks_held.specs.MarkViews.{marks_is}
-use Rattle.marks.proofs.MarkCases.{next_ways, next_refused}
+use Rattle.marks.proofs.MarkCases.{next_refused, next_goes}
 use Rattle.marks.proofs.next_marked.Goals as goal
-
-pub returns-then-not-marks_right : goal.returns-then-not-marks_right
-returns-then-not-marks_right c =
-    let a = c.args in
-    next_ways a.file.now (plain_is a.reading) (marks_is a.marks) _ (sym c.open.ensures ∙ ap opening_is c.in_default.is) false (sym c.marks_right.ensures ∙ c.if-not-marks_right.true) (length a.key.now) (next_refused a.reading STATE a.key.now)
 
 pub returns-in-Err : goal.returns-in-Err
 returns-in-Err c =
     let a = c.args in
-    next_ways a.file.now (plain_is a.reading) (marks_is a.marks) _ (sym c.open.ensures ∙ ap opening_is c.in-Err.is) _ refl (length a.key.now) (next_refused a.reading _ a.key.now)
+    next_refused a.file.now a.reading (marks_is a.marks) (length a.key.now) c.in-Err.why (sym c.in-Err.is ∙ c.judge_marks.ensures) a.key.now c.refused.result c.refused.ensures
 
-pub returns : goal.returns
-returns c =
+pub returns-in-Ok : goal.returns-in-Ok
+returns-in-Ok c =
     let a = c.args in
-    next_ways a.file.now (plain_is a.reading) (marks_is a.marks) _ (sym c.open.ensures ∙ ap opening_is c.in_default.is) true (sym c.marks_right.ensures ∙ c.if-not-marks_right.false) (length a.key.now) c.next.ensures
+    next_goes a.file.now a.reading (marks_is a.marks) (length a.key.now) (sym c.in-Ok.is ∙ c.judge_marks.ensures) c.next.ensures

@@ -5,7 +5,7 @@ use Rattle.node.proofs.input.Goals as goal
 
 -- any number of transitions: the input is stored
 pub returns-in-AnyTrans : goal.returns-in-AnyTrans
-returns-in-AnyTrans c = rw c.inputs.ensures (input_any c.args.file.now c.args.node c.requires.0 c.args.i c.requires.1 c.in-AnyTrans.is)
+returns-in-AnyTrans c = rw (c.inputs.ensures, c.parts.ensures) (input_any c.args.file.now c.args.node c.requires.0 c.args.i c.requires.1 c.in-AnyTrans.is)
 
 -- one transition: the input was read when the node was judged
 pub returns-in-OneTrans : goal.returns-in-OneTrans

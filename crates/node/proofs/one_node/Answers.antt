@@ -10,14 +10,14 @@ pub one_shape-one-requires : goal.one_shape-one-requires
 one_shape-one-requires c =
     let a = c.args in
     let low = sound_low a.fst.bytes.now a.fst.version a.fst.root a.addr c.requires.0 in
-    (omega (arith, low), c.requires.0.inside, c.requires.1, c.requires.2)
+    (omega (arith, low), c.requires.0.inside, c.requires.1)
 
-pub overflow_sub-first : goal.overflow_sub-first
-overflow_sub-first c =
+pub first-first-requires : goal.first-first-requires
+first-first-requires c =
     let a = c.args in
     let low = sound_low a.fst.bytes.now a.fst.version a.fst.root a.addr c.requires.0 in
     let shape = shape_sound a.fst.bytes.now a.fst.version a.fst.root a.addr _ c.one_shape-one.ensures.0 (λ z. omega (arith, low)) c.requires.0 in
-    omega (arith, shape.above)
+    (omega (arith, c.one_shape-one.ensures.1), omega (arith, shape.above))
 
 -- the node is that of the form 10
 pub returns : goal.returns
@@ -29,7 +29,8 @@ returns c =
     let low = sound_low s a.fst.version a.fst.root a.addr c.requires.0 in
     let is_h = c.one_shape-one.ensures.0 in
     let shape = shape_sound s a.fst.version a.fst.root a.addr _ is_h (λ z. omega (arith, low)) c.requires.0 in (
-      judged_yes s a.fst.version a.fst.root a.addr _ is_h (λ z. omega (arith, low)) 0 c.input_of-input.result first shape refl
-          (rw c.input_of-input.ensures) (sym (add-zero first)),
+      rw c.first-first.ensures
+          (judged_yes s a.fst.version a.fst.root a.addr _ is_h (λ z. omega (arith, low)) 0 c.input_of-input.result first shape refl
+          (rw c.input_of-input.ensures) (sym (add-zero first))),
       refl,
     )

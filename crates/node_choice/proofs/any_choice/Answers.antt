@@ -7,8 +7,8 @@ use Rattle.node_choice.proofs.any_choice.Goals as goal
 pub returns-then-count-eq0 : goal.returns-then-count-eq0
 returns-then-count-eq0 c = choice_none c.args.file.now _ c.requires c.args.left c.fitting-count.result c.if-count-eq0.true c.fitting-count.ensures.leading
 
-pub target_of-requires : goal.target_of-requires
-target_of-requires c =
+pub target_of-addr-requires : goal.target_of-addr-requires
+target_of-addr-requires c =
     delta_le c.args.file.now _ c.requires (c.fitting-count.result - 1) (omega arith) c.number_of-delta.result (rw c.deltas.ensures at c.number_of-delta.ensures)
 
 pub returns : goal.returns
@@ -17,5 +17,5 @@ returns c =
     let s = a.file.now in
     let k = c.fitting-count.result in
     let is_delta = rw c.deltas.ensures at c.number_of-delta.ensures in
-    choice_to s _ c.requires a.left k _ c.number_of-out.result c.target_of.result c.if-count-eq0.false c.fitting-count.ensures.leading
-    (rw c.inputs.ensures (input_any s _ c.requires (k - 1) (omega arith) refl)) c.number_of-out.ensures (rw (← is_delta) c.target_of.ensures)
+    choice_to s _ c.requires a.left k _ c.number_of-out.result c.target_of-addr.result c.if-count-eq0.false c.fitting-count.ensures.leading
+    (rw c.inputs.ensures (input_any s _ c.requires (k - 1) (omega arith) refl)) c.number_of-out.ensures (rw (← is_delta) c.target_of-addr.ensures)

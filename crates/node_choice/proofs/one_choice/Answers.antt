@@ -11,35 +11,35 @@ pub one_shape-one-requires : goal.one_shape-one-requires
 one_shape-one-requires c =
     let a = c.args in
     let form = sound_form a.fst.bytes.now a.fst.version a.fst.root a.addr c.requires.0 in
-    (omega (arith, form.low), form.inside, c.requires.1, c.requires.2)
+    (omega (arith, form.low), form.inside, c.requires.1)
 
-pub overflow_sub-first : goal.overflow_sub-first
-overflow_sub-first c = one_above _ c.args.fst.version _ _ c.requires.0 _ _ _ c.one_shape-one.ensures.0
+pub first-first-requires : goal.first-first-requires
+first-first-requires c = (omega (arith, c.one_shape-one.ensures.1), one_above _ c.args.fst.version _ _ c.requires.0 _ _ _ c.one_shape-one.ensures.0)
 
-pub number_of-out-requires : goal.number_of-out-requires
-number_of-out-requires c =
+pub output-out-requires : goal.output-out-requires
+output-out-requires c =
     let j = one_judged _ c.args.fst.version _ _ c.requires.0 _ _ _ c.one_shape-one.ensures.0 _ c.input_of-inp.ensures in
     let r = j.readable _ refl in
-    (omega (arith, r.room), r.osize_le, omega arith)
+    (omega (arith, r.room, c.first-first.ensures), r.osize_le)
 
 pub returns-then-left-out : goal.returns-then-left-out
 returns-then-left-out c =
     let a = c.args in
     let s = a.fst.bytes.now in
     let j = one_judged _ a.fst.version _ _ c.requires.0 _ _ _ c.one_shape-one.ensures.0 _ c.input_of-inp.ensures in
-    fit_on s a.fst.version a.fst.root a.addr a.left _ _ j refl (choice_none s _ (j.readable _ refl) a.left 0 refl (single_over c.number_of-out.result c.number_of-out.ensures c.if-left-out.true))
+    fit_on s a.fst.version a.fst.root a.addr a.left _ _ j refl (choice_none s _ (j.readable _ refl) a.left 0 refl (single_over c.output-out.result (rw c.first-first.ensures at c.output-out.ensures) c.if-left-out.true))
 
-pub number_of-delta-requires : goal.number_of-delta-requires
-number_of-delta-requires c =
+pub delta-delta-requires : goal.delta-delta-requires
+delta-delta-requires c =
     let j = one_judged _ c.args.fst.version _ _ c.requires.0 _ _ _ c.one_shape-one.ensures.0 _ c.input_of-inp.ensures in
     let r = j.readable _ refl in
-    (omega (arith, r.room), r.tsize_le, omega arith)
+    (omega (arith, r.room, c.first-first.ensures), r.tsize_le)
 
-pub target_of-requires : goal.target_of-requires
-target_of-requires c =
+pub target_of-addr-requires : goal.target_of-addr-requires
+target_of-addr-requires c =
     let j = one_judged _ c.args.fst.version _ _ c.requires.0 _ _ _ c.one_shape-one.ensures.0 _ c.input_of-inp.ensures in
     let one : 1 * c.one_shape-one.result.osize ≡ c.one_shape-one.result.osize = omega arith in
-    delta_le c.args.fst.bytes.now _ (j.readable _ refl) 0 (omega arith) c.number_of-delta.result (rw one c.number_of-delta.ensures)
+    rw c.first-first.ensures (delta_le c.args.fst.bytes.now _ (j.readable _ refl) 0 (omega arith) c.delta-delta.result (rw one (rw c.first-first.ensures at c.delta-delta.ensures)))
 
 pub returns : goal.returns
 returns c =
@@ -48,7 +48,8 @@ returns c =
     let j = one_judged _ a.fst.version _ _ c.requires.0 _ _ _ c.one_shape-one.ensures.0 _ c.input_of-inp.ensures in
     let r = j.readable _ refl in
     let one : 1 * c.one_shape-one.result.osize ≡ c.one_shape-one.result.osize = omega arith in
-    let fits = single_fits c.number_of-out.result (length_numbers_down s _ c.one_shape-one.result.osize 1) c.number_of-out.ensures c.if-left-out.false in
+    let delta = rw c.first-first.ensures at c.delta-delta.ensures in
+    let fits = single_fits c.output-out.result (length_numbers_down s _ c.one_shape-one.result.osize 1) (rw c.first-first.ensures at c.output-out.ensures) c.if-left-out.false in
     fit_on s a.fst.version a.fst.root a.addr a.left _ _ j refl
-    (choice_to s _ r a.left 1 c.input_of-inp.result c.number_of-out.result c.target_of.result (λ z. omega arith) fits (input_one s _ r 0 (omega arith) refl) c.number_of-out.ensures
-    (rw (one, ← c.number_of-delta.ensures) c.target_of.ensures))
+    (choice_to s _ r a.left 1 c.input_of-inp.result c.output-out.result c.target_of-addr.result (λ z. omega arith) fits (input_one s _ r 0 (omega arith) refl) (rw c.first-first.ensures at c.output-out.ensures)
+    (rw (one, ← delta) (rw c.first-first.ensures at c.target_of-addr.ensures)))

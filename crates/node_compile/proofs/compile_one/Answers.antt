@@ -19,9 +19,9 @@ returns-then-out-len c =
     fitted_same (kept (goal.at.returns-then-out-len c).After-of-kept)
     (fitted_space (one_bytes a.first k.idx k.input a.output a.target) a.out.now (omega (arith, c.one_len-len.ensures)))
 
--- the state byte keeps six bits, and the buffer has room
+-- the buffer has room
 pub pack_one-requires : goal.pack_one-requires
-pack_one-requires c = (c.requires.0, c.requires.1, c.of-kept.ensures.0.lt, omega (arith, c.one_len-len.ensures))
+pack_one-requires c = (c.requires.0, c.requires.1, omega (arith, c.one_len-len.ensures))
 
 -- the node is written
 pub returns : goal.returns

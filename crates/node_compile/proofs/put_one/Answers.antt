@@ -35,13 +35,10 @@ bounds-out-osize c =
 -- and for the state
 pub put_state-requires : goal.put_state-requires
 put_state-requires c =
-    let a = c.args in (
-      writing_room
-          (at_state a.kept.idx a.kept.input a.output a.delta a.out.now c.requires.0 a.osize c.requires.1 _ c.pack_uint_in.ensures a.tsize c.requires.2 _
-          c.pack_uint_in-2.ensures _ c.sizes_byte.ensures),
-      omega arith,
-      c.requires.3,
-    )
+    let a = c.args in
+    writing_room
+    (at_state a.kept.idx a.kept.input a.output a.delta a.out.now c.requires.0 a.osize c.requires.1 _ c.pack_uint_in.ensures a.tsize c.requires.2 _
+    c.pack_uint_in-2.ensures _ c.sizes_byte.ensures)
 
 -- the state is written last
 pub returns : goal.returns

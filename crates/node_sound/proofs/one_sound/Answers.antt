@@ -24,7 +24,7 @@ returns c =
     sound_iff s a.fst.version a.fst.root a.addr _ c.one_shape-one.ensures.0 (λ z. omega (arith, c.requires.0.low))
     (λ right.
     one_sound s a.fst.root a.addr one.tsize one.osize one.size c.requires.0 (omega arith) (c.sizes_right.ensures.yes c.if-not-sizes_right.false)
-    c.number_of-delta.result c.number_of-delta.ensures right)
+    c.delta-delta.result (rw c.first-first.ensures at c.delta-delta.ensures) right)
     (λ sound.
-    one_target s a.fst.root a.addr one.tsize one.osize one.size c.requires.0 sound c.number_of-delta.result c.number_of-delta.ensures)
-    c.target_right.ensures
+    one_target s a.fst.root a.addr one.tsize one.osize one.size c.requires.0 sound c.delta-delta.result (rw c.first-first.ensures at c.delta-delta.ensures))
+    (rw c.first-first.ensures at c.target_right.ensures)

@@ -12,10 +12,10 @@ pub one_shape-one-requires : goal.one_shape-one-requires
 one_shape-one-requires c =
     let a = c.args in
     let form = sound_form a.fst.bytes.now a.fst.version a.fst.root a.addr c.requires.0 in
-    (omega (arith, form.low), form.inside, c.requires.1, c.requires.2)
+    (omega (arith, form.low), form.inside, c.requires.1)
 
-pub overflow_sub-first : goal.overflow_sub-first
-overflow_sub-first c = one_above _ c.args.fst.version _ _ c.requires.0 _ _ _ c.one_shape-one.ensures.0
+pub first-first-requires : goal.first-first-requires
+first-first-requires c = (omega (arith, c.one_shape-one.ensures.1), one_above _ c.args.fst.version _ _ c.requires.0 _ _ _ c.one_shape-one.ensures.0)
 
 pub returns-then-input-b : goal.returns-then-input-b
 returns-then-input-b c =
@@ -25,19 +25,19 @@ returns-then-input-b c =
     let p = c.place_beside.result in
     step_yes s a.fst.version a.fst.root a.addr a.b _ (Err p) j (way_absent s _ (j.readable _ refl) a.b (Err p) c.place_beside.ensures p refl)
 
-pub number_of-out-requires : goal.number_of-out-requires
-number_of-out-requires c =
+pub output-out-requires : goal.output-out-requires
+output-out-requires c =
     let a = c.args in
     let j = one_judged _ a.fst.version _ _ c.requires.0 _ _ _ c.one_shape-one.ensures.0 _ c.input_of-input.ensures in
     let r = j.readable _ refl in
-    (omega (arith, r.room), r.osize_le, omega arith)
+    (omega (arith, r.room, c.first-first.ensures), r.osize_le)
 
-pub number_of-delta-requires : goal.number_of-delta-requires
-number_of-delta-requires c =
+pub delta-delta-requires : goal.delta-delta-requires
+delta-delta-requires c =
     let a = c.args in
     let j = one_judged _ a.fst.version _ _ c.requires.0 _ _ _ c.one_shape-one.ensures.0 _ c.input_of-input.ensures in
     let r = j.readable _ refl in
-    (omega (arith, r.room), r.tsize_le, omega arith)
+    (omega (arith, r.room, c.first-first.ensures), r.tsize_le)
 
 pub target_of-requires : goal.target_of-requires
 target_of-requires c =
@@ -45,7 +45,7 @@ target_of-requires c =
     let s = a.fst.bytes.now in
     let j = one_judged _ a.fst.version _ _ c.requires.0 _ _ _ c.one_shape-one.ensures.0 _ c.input_of-input.ensures in
     let one : 1 * c.one_shape-one.result.osize ≡ c.one_shape-one.result.osize = omega arith in
-    delta_le s _ (j.readable _ refl) 0 (omega arith) c.number_of-delta.result (rw one c.number_of-delta.ensures)
+    rw c.first-first.ensures (delta_le s _ (j.readable _ refl) 0 (omega arith) c.delta-delta.result (rw one (rw c.first-first.ensures at c.delta-delta.ensures)))
 
 pub returns : goal.returns
 returns c =
@@ -53,6 +53,7 @@ returns c =
     let s = a.fst.bytes.now in
     let j = one_judged _ a.fst.version _ _ c.requires.0 _ _ _ c.one_shape-one.ensures.0 _ c.input_of-input.ensures in
     let one : 1 * c.one_shape-one.result.osize ≡ c.one_shape-one.result.osize = omega arith in
-    step_yes s a.fst.version a.fst.root a.addr a.b _ (Ok (c.number_of-out.result, c.target_of.result)) j
-    (way_to s _ (j.readable _ refl) a.b (Ok 0) (single_here c.if-input-b.false) 0 c.number_of-out.result c.target_of.result refl c.number_of-out.ensures
-    (rw (one, ← c.number_of-delta.ensures) c.target_of.ensures))
+    let delta = rw c.first-first.ensures at c.delta-delta.ensures in
+    step_yes s a.fst.version a.fst.root a.addr a.b _ (Ok (c.output-out.result, c.target_of.result)) j
+    (way_to s _ (j.readable _ refl) a.b (Ok 0) (single_here c.if-input-b.false) 0 c.output-out.result c.target_of.result refl (rw c.first-first.ensures at c.output-out.ensures)
+    (rw (one, ← delta) (rw c.first-first.ensures at c.target_of.ensures)))

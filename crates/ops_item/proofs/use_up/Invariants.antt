@@ -2,5 +2,5 @@
 use Rattle.ops_item.proofs.CardLoops.{Using}
 use Rattle.ops_item.proofs.use_up.Given as goal
 
-abbrev pub invariant-loop-i : goal.invariant-loop-i
-invariant-loop-i l = Using l.keys l.initial.cards l.key l.less l.cards l.i
+abbrev pub invariant-loop-card : goal.invariant-loop-card
+invariant-loop-card l = Using l.keys l.initial.cards l.key l.meant l.cards l.card-index

@@ -1,35 +1,29 @@
 -- `ops_page::items` meets its contract: one law for each refusal before the starts, and one for the calls. Assumes nothing.
-use Rattle.std.proofs.Common.{◌≡◌, ◌⊎◌, ◌<◌, map, sym, ◌∙◌, length, inl, inr, arith}
+use Rattle.std.proofs.Common.{map, sym, ◌∙◌, length}
 use Rattle.ops_paging.proofs.ItemsLaws.{items_no_cards, items_no_room, items_from}
 use Rattle.stream_start.specs.Views.{bound_of}
 use Rattle.ops_decide.specs.Verdicts.{op_is}
 use Rattle.ops_page.specs.PageLaws.{paged_as, refused_by, room_of}
 use Rattle.ops_page.proofs.items.Goals as goal
-use Rattle.ops_page.proofs.items.Goals.{then-count-eq0-via-then-count-eq0, then-count-eq0-via-else-count-eq0+then-too_many}
 
-pub returns-then-count-eq0 : goal.returns-then-count-eq0
-returns-then-count-eq0 c =
+pub returns-then-not-is_count : goal.returns-then-not-is_count
+returns-then-not-is_count c =
     let a = c.args in
-    let none_or_many : (a.count ≡ 0) ⊎ (8 < a.count) =
-    elim c.then-count-eq0.branch [
-      | then-count-eq0-via-then-count-eq0 w ↦ inl w.if-count-eq0.true
-      | then-count-eq0-via-else-count-eq0+then-too_many w ↦ inr w.if-too_many.true
-    ] in
     refused_by _ a.rows.now a.counts.now a.numbers.now a.values.now (items_no_cards (op_is a.op) a.count (map (λ f. f.now) a.files) (bound_of a.lower) (bound_of a.upper) a.most
-    (length a.rows.now) (length a.counts.now) (length a.numbers.now) (length a.values.now) none_or_many) c.refused.ensures
+    (length a.rows.now) (length a.counts.now) (length a.numbers.now) (length a.values.now) (c.is_count.ensures.no c.if-not-is_count.true)) c.refused.ensures
 
 pub returns-then-not-has_room : goal.returns-then-not-has_room
 returns-then-not-has_room c =
     let a = c.args in
     refused_by _ a.rows.now a.counts.now a.numbers.now a.values.now (items_no_room (op_is a.op) a.count (map (λ f. f.now) a.files) (bound_of a.lower) (bound_of a.upper) a.most
-    (length a.rows.now) (length a.counts.now) (length a.numbers.now) (length a.values.now) (omega (arith, c.if-count-eq0.false)) c.if-too_many.false
+    (length a.rows.now) (length a.counts.now) (length a.numbers.now) (length a.values.now) (c.is_count.ensures.yes c.if-not-is_count.false).0 (c.is_count.ensures.yes c.if-not-is_count.false).1
     (sym c.has_room.ensures ∙ c.if-not-has_room.true)) c.refused-then-not-has_room.ensures
 
 pub items_from-requires : goal.items_from-requires
 items_from-requires c =
     let a = c.args in
     record {
-      count_nonzero = (omega (arith, c.if-count-eq0.false), c.if-too_many.false);
+      count_nonzero = c.is_count.ensures.yes c.if-not-is_count.false;
       has_room = room_of a.most a.rows.now a.counts.now a.numbers.now a.values.now (sym c.has_room.ensures ∙ c.if-not-has_room.false);
     }
 
@@ -37,5 +31,5 @@ pub returns : goal.returns
 returns c =
     let a = c.args in
     paged_as (sym (items_from (op_is a.op) a.count (map (λ f. f.now) a.files) (bound_of a.lower) (bound_of a.upper) a.most
-    (length a.rows.now) (length a.counts.now) (length a.numbers.now) (length a.values.now) (omega (arith, c.if-count-eq0.false)) c.if-too_many.false
+    (length a.rows.now) (length a.counts.now) (length a.numbers.now) (length a.values.now) (c.is_count.ensures.yes c.if-not-is_count.false).0 (c.is_count.ensures.yes c.if-not-is_count.false).1
     (sym c.has_room.ensures ∙ c.if-not-has_room.false))) c.items_from.ensures

@@ -1,23 +1,17 @@
--- A place is at most the count, and a node has at most 256 transitions. Assumes nothing.
-use Rattle.std.proofs.Common.{◌≡◌, arith}
-use Rattle.format.specs.Node.{sound}
-use Rattle.format.specs.Paths.{node_in, fst_with}
-use Rattle.format.specs.Laws.NodeFacts.{node_count}
-use Rattle.node.specs.Read.{meaning}
-use Rattle.node.specs.ReadLaws.{answer_sound, search_gone, gone_le, length_node_transitions}
+-- The place of the first greater input is at most the count, and a node has at most 256 transitions. Assumes nothing.
+use Rattle.std.proofs.Common.{sym, ap, ◌∙◌, arith}
+use Rattle.std.specs.Prelude.{Ok}
+use Rattle.format.specs.Paths.{fst_with}
+use Rattle.node_view.specs.View.{place_in}
+use Rattle.node_view.specs.declared.Node.{Node}
+use Rattle.oracle_node.proofs.NodeTold.{viewed, absent_small}
 use Rattle.oracle_node.proofs.oracle_find_input.Goals as goal
 
 pub overflow_add-result : goal.overflow_add-result
 overflow_add-result c =
-    let m = c.in-Ok.n in
-    let r = c.node_at.ensures.readable m c.in-Ok.is in
-    let s = c.args.file.now in
-    let f = fst_with s c.args.version c.args.root in
-    let is_m : node_in f c.args.addr ≡ sound (meaning s m) = answer_sound c.node_at.ensures m c.in-Ok.is in
-    let few = node_count f c.args.addr (meaning s m) is_m (λ i. (c.type_inv.file i).fits) in
+    let f = fst_with c.args.file.now c.args.version c.args.root in
     omega (
       arith,
-      gone_le s m r c.args.b c.in-Err.p (search_gone _ c.find_input-found.result c.find_input-found.ensures c.in-Err.p c.in-Err.is),
-      few,
-      length_node_transitions s m r,
+      absent_small f c.args.addr c.args.b c.in-Ok-Err.p (λ i. (c.type_inv.file i).fits)
+          (ap (λ (w : Node). place_in (viewed w) c.args.b) (sym c.new.ensures) ∙ sym c.find_input.ensures ∙ c.in-Ok-Err.is ∙ ap Ok c.in-Ok-Err.field-0-is),
     )

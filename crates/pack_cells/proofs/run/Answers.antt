@@ -1,11 +1,9 @@
 -- A turn takes the two cells of a row, a step is made, and two cells are put back.
 -- Assumes nothing.
-use Rattle.std.proofs.Common.{rules, refl, sym, ap, ◌∙◌, ◌+◌, ◌<◌, arith, length}
+use Rattle.std.proofs.Common.{rules, refl, sym, ap, ◌+◌, ◌<◌, arith, length}
 use Rattle.std.specs.Prelude.{Ok, Err}
 use Rattle.std.proofs.lemmas.List.{get_or_default}
 use Rattle.std.proofs.lemmas.Result.{err_from_is_err_and}
-use Rattle.pack_cells.specs.Pairs.{pairs_is}
-use Rattle.pack_cells.specs.PairsLaws.{pairs_empty}
 use Rattle.pack_close.specs.OpenNodes.{tables_in}
 use Rattle.pack_cells.proofs.Turns.{State, stands_fit, stands_judged, ended_judged, standing_as, within, asked, after}
 use Rattle.pack_cells.proofs.run.Goals as goal
@@ -14,18 +12,18 @@ use Rattle.pack_cells.proofs.run.Goals as goal
 pub returns-in_err-turn : goal.returns-in_err-turn
 returns-in_err-turn c =
     let p = err_from_is_err_and c.from_residual.result c.from_residual.ensures.1 in
-    let st = c.begin.ensures.0 c.args.output.now (pairs_is c.args.cells.now) c.requires.0 (ap pairs_is c.requires.1 ∙ pairs_empty (length c.args.cells.now)) in
+    let st = c.begin.ensures.0 c.args.output.now c.args.cells.now c.requires.0 c.requires.1 in
     rw (p.1, p.2) (st.ended (Err _) c.in_err-turn.was)
 
 pub loop-turn-init : goal.loop-turn-init
 loop-turn-init c =
-    let st = standing_as c.in_ok-turn.was (c.begin.ensures.0 c.args.output.now (pairs_is c.args.cells.now) c.requires.0 (ap pairs_is c.requires.1 ∙ pairs_empty (length c.args.cells.now))) in
+    let st = standing_as c.in_ok-turn.was (c.begin.ensures.0 c.args.output.now c.args.cells.now c.requires.0 c.requires.1) in
     stands_judged (stands_fit c.in_ok-turn.turn st) st
 
 -- every node is placed
 pub returns-in-Done : goal.returns-in-Done
 returns-in-Done c =
-    let fit = stands_fit c.in_ok-turn.turn (standing_as c.in_ok-turn.was (c.begin.ensures.0 c.args.output.now (pairs_is c.args.cells.now) c.requires.0 (ap pairs_is c.requires.1 ∙ pairs_empty (length c.args.cells.now)))) in
+    let fit = stands_fit c.in_ok-turn.turn (standing_as c.in_ok-turn.was (c.begin.ensures.0 c.args.output.now c.args.cells.now c.requires.0 c.requires.1)) in
     ended_judged (sym fit) (c.loop-turn.invariant.ended (Ok c.in-Done.root) (ap Ok c.in-Done.is))
 
 pub offset_bounds-cells-i : goal.offset_bounds-cells-i
@@ -66,7 +64,7 @@ returns-in_err-turn-2 c =
     let p = err_from_is_err_and c.from_residual-in_err-turn-2.result c.from_residual-in_err-turn-2.ensures.1 in
     let d = c.in-Next.due in
     let w = within _ c.loop-turn.invariant d (ap Ok c.in-Next.is) in
-    let fit = stands_fit c.in_ok-turn.turn (standing_as c.in_ok-turn.was (c.begin.ensures.0 c.args.output.now (pairs_is c.args.cells.now) c.requires.0 (ap pairs_is c.requires.1 ∙ pairs_empty (length c.args.cells.now)))) in
+    let fit = stands_fit c.in_ok-turn.turn (standing_as c.in_ok-turn.was (c.begin.ensures.0 c.args.output.now c.args.cells.now c.requires.0 c.requires.1)) in
     let left : State = record {
       out = c.step-next.new.output;
       cells = c.put_row.new.cells;

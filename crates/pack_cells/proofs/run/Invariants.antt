@@ -1,4 +1,4 @@
--- Between two turns packing stands over the cells as pairs.
+-- Between two turns packing stands over the cells.
 -- Assumes nothing.
 use Rattle.std.specs.Prelude.{Ok, length}
 use Rattle.pack_close.specs.OpenNodes.{tables_in}

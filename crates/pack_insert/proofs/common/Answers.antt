@@ -1,22 +1,16 @@
--- A byte more leads along, or the key leaves there.
+-- The key and the bytes along the open nodes part at the first place where they differ, or at the end of the shorter.
 -- Assumes nothing.
-use Rattle.std.proofs.Common.{◌≡◌, length, sym, inl, inr, arith}
-use Rattle.pack_insert.specs.OpenKeyLaws.{along_none, along_step, along_common}
+use Rattle.std.proofs.Common.{◌≡◌, ap, ◌∙◌, take, drop, zip, position, ◌+◌, ◌-◌, rules, tests, arith}
+use Rattle.std.proofs.lemmas.Iterator.{YieldsList-from_slice, YieldsList-from_zip}
+use Rattle.std.proofs.lemmas.Iterator.Search.{position_from_yields_List}
+use Rattle.pack_insert.specs.OpenKeyLaws.{parted, common_is}
 use Rattle.pack_insert.proofs.common.Goals as goal
-
-pub loop-m-init : goal.loop-m-init
-loop-m-init c = along_none _ _ _
-
-pub returns-then-m-k : goal.returns-then-m-k
-returns-then-m-k c = rw c.if-m-k.true at (along_common c.loop-m.invariant (inl c.if-m-k.true))
-
-pub returns-then-input-nodes : goal.returns-then-input-nodes
-returns-then-input-nodes c = along_common c.loop-m.invariant (inr (inr (λ z. c.if-input-nodes.true (sym z))))
-
-pub loop-m-preserved : goal.loop-m-preserved
-loop-m-preserved c = along_step c.loop-m.invariant (omega (arith, c.loop-m.invariant.low)) (omega arith) c.if-input-nodes.false
 
 pub returns : goal.returns
 returns c =
-    let e : c.loop-m.m ≡ length c.args.key.now = omega arith in
-    rw e at (along_common c.loop-m.invariant (inr (inl e)))
+    let a = c.args in
+    let found = position_from_yields_List parted c.position.new.self _ c.position.result c.position.ensures.ran
+    (YieldsList-from_zip (YieldsList-from_slice a.key.now cc) (YieldsList-from_slice (take (a.k + 1 - 1) (drop 1 a.nodes.now.led)) (cc (c.iter-2.ensures.rest, c.zip.ensures.second)))) (λ x b q k. search (rules, tests)) in
+    let deep : a.k + 1 - 1 ≡ a.k = omega arith in
+    let first = found ∙ ap (λ (n : _). position parted (zip a.key.now (take n (drop 1 a.nodes.now.led)))) deep in
+    rw c.unwrap_or.ensures (common_is a.key.now a.nodes.now.led a.k c.requires (omega arith) c.position.result first c.min.result c.min.ensures)

@@ -1,6 +1,7 @@
 -- The definition's four ways, by the choice.
 -- Assumes nothing.
-use Rattle.std.proofs.Common.{sym, ◌∙◌}
+use Rattle.std.proofs.Common.{◌+◌, sym, ◌∙◌, arith}
+use Rattle.std.proofs.lemmas.List.{get_or_default}
 use Rattle.node_compile.specs.Compile.{builder_is}
 use Rattle.pack_intern.specs.InterningLaws.{row_is, found_nothing, found_first, found_second, by_write}
 use Rattle.pack_intern.proofs.intern.Goals as goal
@@ -30,7 +31,8 @@ returns-in-First c =
     let b = builder_is a.node in
     found_first a.output.now a.first a.cells.now c.requires.0 b (sym c.packs_to_nothing.ensures ∙ c.if-packs_to_nothing.false) _
     (row_is a.output.now a.first a.cells.now c.requires.0 b c.hash-own_hash.result c.row_of-i.result c.hash-own_hash.ensures c.row_of-i.ensures.0)
-    c.row_of-i.ensures.1 c.choose.result c.choose.ensures c.in-First.is
+    c.row_of-i.ensures.1 (get_or_default a.cells.now c.row_of-i.result _ _ (omega (arith, c.row_of-i.ensures.1))) (get_or_default a.cells.now (c.row_of-i.result + 1) _ _ c.row_of-i.ensures.1)
+    c.choose.result c.choose.ensures c.in-First.is
 
 pub returns-in-Second : goal.returns-in-Second
 returns-in-Second c =
@@ -38,7 +40,8 @@ returns-in-Second c =
     let b = builder_is a.node in
     found_second a.output.now a.first a.cells.now c.requires.0 b (sym c.packs_to_nothing.ensures ∙ c.if-packs_to_nothing.false) _
     (row_is a.output.now a.first a.cells.now c.requires.0 b c.hash-own_hash.result c.row_of-i.result c.hash-own_hash.ensures c.row_of-i.ensures.0)
-    c.row_of-i.ensures.1 c.choose.result c.choose.ensures c.in-Second.is _ c.put_row.auto.cells c.put_row.ensures
+    c.row_of-i.ensures.1 (get_or_default a.cells.now c.row_of-i.result _ _ (omega (arith, c.row_of-i.ensures.1))) (get_or_default a.cells.now (c.row_of-i.result + 1) _ _ c.row_of-i.ensures.1)
+    c.choose.result c.choose.ensures c.in-Second.is _ c.promote.auto.cells c.promote.ensures
 
 pub returns-in-Write : goal.returns-in-Write
 returns-in-Write c =
@@ -46,4 +49,5 @@ returns-in-Write c =
     let b = builder_is a.node in
     by_write a.output.now a.first a.cells.now c.requires.0 b (sym c.packs_to_nothing.ensures ∙ c.if-packs_to_nothing.false) _
     (row_is a.output.now a.first a.cells.now c.requires.0 b c.hash-own_hash.result c.row_of-i.result c.hash-own_hash.ensures c.row_of-i.ensures.0)
-    c.row_of-i.ensures.1 c.choose.result c.choose.ensures c.in-Write.is _ _ _ c.write_node.ensures
+    c.row_of-i.ensures.1 (get_or_default a.cells.now c.row_of-i.result _ _ (omega (arith, c.row_of-i.ensures.1))) (get_or_default a.cells.now (c.row_of-i.result + 1) _ _ c.row_of-i.ensures.1)
+    c.choose.result c.choose.ensures c.in-Write.is _ _ _ c.write_node.ensures

@@ -2,6 +2,7 @@
 -- Assumes nothing.
 use Rattle.std.proofs.Common.{◌≡◌, ◌+◌, ◌≤◌, length, rules, arith}
 use Rattle.std.specs.Prelude.{Ok}
+use Rattle.std.proofs.lemmas.List.{get_or_default}
 use Rattle.node_compile.specs.Compile.{builder_is}
 use Rattle.pack_intern.specs.InterningLaws.{fitted_len, wrote, has_no_len}
 use Rattle.pack_intern.proofs.write_node.Goals as goal
@@ -21,7 +22,7 @@ returns c =
     let a = c.args in
     let e : c.compile_record.result ≡ Ok c.in_ok-len.len = grind arith in
     wrote a.output.now a.first a.cells.now c.requires.ready (builder_is a.node) a.i a.own_hash c.requires
-    _ c.compile_record.result c.in_ok-len.len c.compile_record.ensures e _ c.put_row.auto.cells c.put_row.ensures
+    _ c.compile_record.result c.in_ok-len.len c.compile_record.ensures e (get_or_default a.cells.now a.i _ _ (omega (arith, c.requires.low))) c.put_row.auto.cells c.put_row.ensures
 
 pub returns-in_err-len : goal.returns-in_err-len
 returns-in_err-len c =

@@ -6,16 +6,16 @@ use Rattle.format.specs.Limits.{SPACE}
 use Rattle.pack_step.specs.StandingLaws.{node_asked_of, root_in_pair, steps_placed, steps_full, steps_next, steps_no_room}
 use Rattle.pack_step.proofs.step.Goals as goal
 
-pub root_in_row-requires : goal.root_in_row-requires
-root_in_row-requires c = root_in_pair c.args.row.now c.requires.standing c.requires.taken c.if-way-eq0.true
+pub finish_row-requires : goal.finish_row-requires
+finish_row-requires c = root_in_pair c.args.row.now c.requires.standing c.requires.taken c.if-way-eq0.true
 
 pub returns-in_err-at : goal.returns-in_err-at
 returns-in_err-at c =
     let told : c.from_residual.result ≡ Err SPACE = grind arith in
-    rw told (steps_full c.if-way-eq0.true c.root_in_row.new.row c.root_in_row.ensures.0 c.root_in_row.auto.output c.in_err-at.ensures.ok_part)
+    rw told (steps_full c.if-way-eq0.true c.finish_row.new.cells c.finish_row.ensures.interned c.finish_row.auto.output c.in_err-at.ensures.ok_part)
 
 pub returns-then-way-eq0 : goal.returns-then-way-eq0
-returns-then-way-eq0 c = steps_placed c.if-way-eq0.true c.root_in_row.new.row c.root_in_row.ensures.0 c.root_in_row.auto.output c.in_ok-at.at c.in_ok-at.ensures.ok_part
+returns-then-way-eq0 c = steps_placed c.if-way-eq0.true c.finish_row.new.cells c.finish_row.ensures.interned c.finish_row.auto.output c.in_ok-at.at c.in_ok-at.ensures.ok_part
 
 pub node_in_row-made-requires : goal.node_in_row-made-requires
 node_in_row-made-requires c = let l : 0 < c.args.due.way.depth = omega (arith, c.if-way-eq0.false) in node_asked_of c.requires l

@@ -27,7 +27,7 @@ loop-k-init c =
 pub returns-in_err-n : goal.returns-in_err-n
 returns-in_err-n c =
     let told : c.from_residual.result ≡ Err c.in_err-n.field-0.0 = grind arith in
-    rw told (going_halted c.loop-k.invariant c.follow.ensures _ c.in_err-n.was)
+    rw told (going_halted c.loop-k.invariant c.loop-k-test.true c.follow.ensures _ c.in_err-n.was)
 
 -- the key of the new level passes the upper bound
 pub returns-then-exceeded : goal.returns-then-exceeded

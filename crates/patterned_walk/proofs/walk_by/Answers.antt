@@ -4,16 +4,17 @@ use Rattle.std.proofs.Common.{◌≡◌, refl, Ok, Err, Some, None, ap, ◌∙�
 use Rattle.std.proofs.lemmas.Result.{err_from_is_err_and}
 use Rattle.patterned_fit.specs.Positions.{held_is}
 use Rattle.patterned_fit.specs.PositionLaws.{positions_length}
-use Rattle.stream_start.specs.Views.{bound_of}
-use Rattle.patterned_walk.proofs.WalkingLaws.{walking_none, walking_end, walking_empty, walking_bad, top_low, top_fits, walking_found, walking_passed, walking_halted, walking_on, walking_less}
+use Rattle.stream_start.specs.Views.{view_is}
+use Rattle.patterned_walk.proofs.WalkingLaws.{walking_none, walking_end, walking_empty, walking_bad, top_low, top_fits, walking_done, walking_halted, walking_on, walking_less}
 use Rattle.patterned_walk.proofs.walk_by.Goals as goal
 
 -- no level is popped yet
 pub loop-n-init : goal.loop-n-init
 loop-n-init c =
     let a = c.args in
+    let r = a.reading.now in
     let s = a.stack.now in
-    walking_none a.fst.bytes.now a.fst.version a.fst.root (held_is a.pattern.now) (bound_of a.upper) s.addrs s.inps s.trans s.outs a.levels a.total
+    walking_none a.fst.bytes.now a.fst.version a.fst.root (held_is a.pattern.now) (view_is r).bound s.addrs s.inps s.trans s.outs r.levels r.total
     c.fit_of-fit.result c.requires.levels_le_max_levels.0 c.are_arrays.ensures c.fit_of-fit.ensures
 
 -- no level can go on
@@ -39,39 +40,32 @@ descend_by-requires-clause-inps_value c =
     top_fits c.loop-n.invariant (positions_length c.args.pattern.now.len c.args.pattern.now.positions) refl c.pop_by.ensures c.in-Some.top c.in-Some.m e
 
 -- the descent is refused
-pub returns-in_err-k : goal.returns-in_err-k
-returns-in_err-k c =
+pub returns-in_err-followed : goal.returns-in_err-followed
+returns-in_err-followed c =
     let e : c.pop_by.result ≡ Ok (Some (c.in-Some.top, c.in-Some.m)) = grind arith in
-    let told : c.from_residual-in_err-k.result ≡ Err c.in_err-k.field-0.0 = grind arith in
-    rw told (walking_halted c.loop-n.invariant (positions_length c.args.pattern.now.len c.args.pattern.now.positions) refl c.pop_by.ensures c.in-Some.top c.in-Some.m e c.descend_by.ensures _ c.in_err-k.was)
+    let told : c.from_residual-in_err-followed.result ≡ Err c.in_err-followed.field-0.0 = grind arith in
+    rw told (walking_halted c.loop-n.invariant (positions_length c.args.pattern.now.len c.args.pattern.now.positions) refl c.pop_by.ensures c.in-Some.top c.in-Some.m e (rw c.upper.ensures at c.descend_by.ensures) _ c.in_err-followed.was)
 
--- a key is found
-pub returns-in-Found : goal.returns-in-Found
-returns-in-Found c =
+-- a key is found, or the upper bound is passed
+pub returns-in-Done : goal.returns-in-Done
+returns-in-Done c =
     let e : c.pop_by.result ≡ Ok (Some (c.in-Some.top, c.in-Some.m)) = grind arith in
-    walking_found c.loop-n.invariant (positions_length c.args.pattern.now.len c.args.pattern.now.positions) refl c.pop_by.ensures c.in-Some.top c.in-Some.m e
-    c.descend_by.ensures c.in-Found.k c.in-Found.value c.in-Found.total (c.in_ok-k.was ∙ ap Ok c.in-Found.is)
-
--- the upper bound is passed
-pub returns-in-Passed : goal.returns-in-Passed
-returns-in-Passed c =
-    let e : c.pop_by.result ≡ Ok (Some (c.in-Some.top, c.in-Some.m)) = grind arith in
-    walking_passed c.loop-n.invariant (positions_length c.args.pattern.now.len c.args.pattern.now.positions) refl c.pop_by.ensures c.in-Some.top c.in-Some.m e
-    c.descend_by.ensures c.in-Passed.total (c.in_ok-k.was ∙ ap Ok c.in-Passed.is)
+    walking_done c.loop-n.invariant (positions_length c.args.pattern.now.len c.args.pattern.now.positions) refl c.pop_by.ensures c.in-Some.top c.in-Some.m e
+    (rw c.upper.ensures at c.descend_by.ensures) c.in-Done.followed (c.in_ok-followed.was ∙ ap Ok c.in-Done.is)
 
 -- the levels below one that cannot go on are left
 pub loop-n-preserved : goal.loop-n-preserved
 loop-n-preserved c =
     let e : c.pop_by.result ≡ Ok (Some (c.in-Some.top, c.in-Some.m)) = grind arith in
     walking_on c.loop-n.invariant (positions_length c.args.pattern.now.len c.args.pattern.now.positions) refl c.pop_by.ensures c.in-Some.top c.in-Some.m e
-    c.descend_by.ensures c.in-Stuck.k c.in-Stuck.total (c.in_ok-k.was ∙ ap Ok c.in-Stuck.is)
+    (rw c.upper.ensures at c.descend_by.ensures) c.in-Stuck.k c.in-Stuck.total (c.in_ok-followed.was ∙ ap Ok c.in-Stuck.is)
 
 -- a transition was followed, and a level popped
 pub loop-n-smaller : goal.loop-n-smaller
 loop-n-smaller c =
     let e : c.pop_by.result ≡ Ok (Some (c.in-Some.top, c.in-Some.m)) = grind arith in
     walking_less c.loop-n.invariant (positions_length c.args.pattern.now.len c.args.pattern.now.positions) refl c.pop_by.ensures c.in-Some.top c.in-Some.m e
-    c.descend_by.ensures c.in-Stuck.k c.in-Stuck.total (c.in_ok-k.was ∙ ap Ok c.in-Stuck.is)
+    (rw c.upper.ensures at c.descend_by.ensures) c.in-Stuck.k c.in-Stuck.total (c.in_ok-followed.was ∙ ap Ok c.in-Stuck.is)
 
 -- no level is left
 pub returns : goal.returns

@@ -12,4 +12,4 @@ pub node_of-requires : goal.node_of-requires
 node_of-requires c = sound_of (fst_with c.args.fst.bytes.now c.args.fst.version c.args.fst.root) c.args.addr c.requires.is c.if-addr-eq0.false
 
 pub returns : goal.returns
-returns c = λ m is. same_count (fst_with c.args.fst.bytes.now c.args.fst.version c.args.fst.root) c.args.addr is c.node_of.ensures
+returns c = λ m is. same_count (fst_with c.args.fst.bytes.now c.args.fst.version c.args.fst.root) c.args.addr is c.node_of.ensures.0

@@ -5,5 +5,5 @@ use Rattle.range_node.proofs.Reread.{met_inner}
 use Rattle.range_node.proofs.ending_of.Goals as goal
 
 -- one transition: not final
-pub returns-then-one_transition : goal.returns-then-one_transition
-returns-then-one_transition c = met_inner c.args.fst.bytes.now c.args.fst.version c.args.fst.root c.args.addr c.requires (omega arith)
+pub returns-in-OneTrans : goal.returns-in-OneTrans
+returns-in-OneTrans c = met_inner c.args.fst.bytes.now c.args.fst.version c.args.fst.root c.args.addr c.requires (grind arith)

@@ -1,8 +1,8 @@
 -- No byte is looked at yet; one more fits; one does not.
 -- Assumes nothing.
-use Rattle.std.proofs.Common.{◌+◌, take, drop, get_or, arith, sym, ◌∙◌}
+use Rattle.std.proofs.Common.{◌≡◌, ℕ, ◌+◌, ◌-◌, take, drop, get_or, arith, ap, sym, ◌∙◌}
 use Rattle.patterned_fit.specs.Positions.{positions_is}
-use Rattle.patterned_fit.proofs.CountOfLaws.{fitted_none, fitted_step, fitted_not, inputs_length, input_at}
+use Rattle.patterned_fit.proofs.CountOfLaws.{fitted_none, fitted_step, fitted_not, inputs_length}
 use Rattle.patterned_fit.proofs.Pattern.count_of.Goals as goal
 
 pub loop-i-init : goal.loop-i-init
@@ -12,12 +12,12 @@ pub returns-then-not-fits_place : goal.returns-then-not-fits_place
 returns-then-not-fits_place c =
     let a = c.args in
     let i = c.loop-i.i in
-    fitted_not c.loop-i.invariant (omega (arith, inputs_length a.k a.stack.now.inps (grind arith) c.requires.0)) (get_or a.stack.now.inps (i + 1) 0)
-    (input_at a.k i a.stack.now.inps (omega arith)) (sym c.fits_place.ensures ∙ c.if-not-fits_place.true)
+    fitted_not c.loop-i.invariant (omega (arith, inputs_length a.k a.stack.now.inps (grind arith) c.requires.0)) (get_or (take (a.k + 1 - 1) (drop 1 a.stack.now.inps)) i 0)
+    (let same : a.k + 1 - 1 ≡ a.k = omega arith in ap (λ (j : ℕ). get_or (take j (drop 1 a.stack.now.inps)) i 0) same) (sym c.fits_place.ensures ∙ c.if-not-fits_place.true)
 
 pub loop-i-preserved : goal.loop-i-preserved
 loop-i-preserved c =
     let a = c.args in
     let i = c.loop-i.i in
-    fitted_step c.loop-i.invariant (omega (arith, inputs_length a.k a.stack.now.inps (grind arith) c.requires.0)) (get_or a.stack.now.inps (i + 1) 0)
-    (input_at a.k i a.stack.now.inps (omega arith)) (sym c.fits_place.ensures ∙ c.if-not-fits_place.false)
+    fitted_step c.loop-i.invariant (omega (arith, inputs_length a.k a.stack.now.inps (grind arith) c.requires.0)) (get_or (take (a.k + 1 - 1) (drop 1 a.stack.now.inps)) i 0)
+    (let same : a.k + 1 - 1 ≡ a.k = omega arith in ap (λ (j : ℕ). get_or (take j (drop 1 a.stack.now.inps)) i 0) same) (sym c.fits_place.ensures ∙ c.if-not-fits_place.false)
