@@ -253,20 +253,22 @@ module _ {f : Fst} {d s₀ s : List ℕ} {next a limit : ℕ} (h : Laying f d s�
           let right = piece_ok h.below h.next_is n.0 n.1 bytes (omega (arith, ok.limit_le)) in
           omega (arith, p.each n.0 n.1, packed_le next (record_by (entry_in s) n.0) right.few right.outputs_len right.targets_len)
 
-module _ {f : Fst} {d s₀ s : List ℕ} {next limit : ℕ} (ok : Layable f d s₀ limit) where
-  laying_gap : (a k : ℕ) → Laying f d s₀ s next a → a + k ≤ length f.bytes → ((j : ℕ) → a ≤ j → j < a + k → get_or d j 0 ≡ 0) → Laying f d s₀ s next (a + k)
-  laying_gap a zero h room none = let e : a + 0 ≡ a = omega arith in rw e h
-  laying_gap a (suc k) h room none =
+-- what holds at a place, and past each place that is not marked, holds at the next marked address
+module _ (d : List ℕ) (n : ℕ) (P : ℕ → Type 0) (skip : (a : ℕ) → P a → a < n → get_or d a 0 ≡ 0 → P (a + 1)) where
+  over_gap : (a k : ℕ) → P a → a + k ≤ n → ((j : ℕ) → a ≤ j → j < a + k → get_or d j 0 ≡ 0) → P (a + k)
+  over_gap a zero h room none = let e : a + 0 ≡ a = omega arith in rw e h
+  over_gap a (suc k) h room none =
       let e : a + suc k ≡ a + k + 1 = omega arith in
-      let rest = laying_gap a k h (omega arith) (λ j p l. none j p (omega arith)) in
-      rw e (laying_skip rest ok (omega arith) (none (a + k) (omega arith) (omega arith)))
+      let rest = over_gap a k h (omega arith) (λ j p l. none j p (omega arith)) in
+      rw e (skip (a + k) rest (omega arith) (none (a + k) (omega arith) (omega arith)))
 
-  -- up to the next marked address
-  pub laying_to : {a b : ℕ} → Laying f d s₀ s next a → FirstMarked d a (length f.bytes) b → Laying f d s₀ s next b
-  laying_to {a} {b} h to =
+  to_marked : {a b : ℕ} → P a → FirstMarked d a n b → P b
+  to_marked {a} {b} h to =
       let e : a + (b - a) ≡ b = omega (arith, to.low) in
-      subst (λ (n : ℕ). Laying f d s₀ s next n) e
-      (laying_gap a (b - a) h (omega (arith, to.high)) (λ j p l. to.none j p (omega arith)))
+      subst P e (over_gap a (b - a) h (omega (arith, to.high)) (λ j p l. to.none j p (omega arith)))
+
+pub laying_to : {f : Fst} {d s₀ s : List ℕ} {next limit : ℕ} → Layable f d s₀ limit → {a b : ℕ} → Laying f d s₀ s next a → FirstMarked d a (length f.bytes) b → Laying f d s₀ s next b
+laying_to {f} {d} {s₀} {s} {next} ok h to = to_marked d (length f.bytes) (λ (n : ℕ). Laying f d s₀ s next n) (λ a rest inside none. laying_skip rest ok inside none) h to
 
 -- ---- the second pass
 
@@ -356,17 +358,5 @@ module _ {f : Fst} {d s out₀ out : List ℕ} {next a : ℕ} (h : Writes f d ou
           let len = ap (λ (l : List ℕ). length l) more ∙ length-append (laid_to f d a).nodes (packed next (record_by (entry_in s) n.0)) in
           omega (arith, h.is.next, (p.each n.0 n.1).count, len, ok.fits, laid_grows f d (a + 1) (length f.bytes) (omega arith))
 
-module _ {f : Fst} {d s out₀ out : List ℕ} {next : ℕ} (ok : Writable f d s out₀) where
-  writes_gap : (a k : ℕ) → Writes f d out₀ out next a → a + k ≤ length f.bytes → ((j : ℕ) → a ≤ j → j < a + k → get_or d j 0 ≡ 0) → Writes f d out₀ out next (a + k)
-  writes_gap a zero h room none = let e : a + 0 ≡ a = omega arith in rw e h
-  writes_gap a (suc k) h room none =
-      let e : a + suc k ≡ a + k + 1 = omega arith in
-      let rest = writes_gap a k h (omega arith) (λ j p l. none j p (omega arith)) in
-      rw e (writes_skip rest ok (omega arith) (none (a + k) (omega arith) (omega arith)))
-
-  -- up to the next marked address
-  pub writes_to : {a b : ℕ} → Writes f d out₀ out next a → FirstMarked d a (length f.bytes) b → Writes f d out₀ out next b
-  writes_to {a} {b} h to =
-      let e : a + (b - a) ≡ b = omega (arith, to.low) in
-      subst (λ (n : ℕ). Writes f d out₀ out next n) e
-      (writes_gap a (b - a) h (omega (arith, to.high)) (λ j p l. to.none j p (omega arith)))
+pub writes_to : {f : Fst} {d s out₀ out : List ℕ} {next : ℕ} → Writable f d s out₀ → {a b : ℕ} → Writes f d out₀ out next a → FirstMarked d a (length f.bytes) b → Writes f d out₀ out next b
+writes_to {f} {d} {s} {out₀} {out} {next} ok h to = to_marked d (length f.bytes) (λ (n : ℕ). Writes f d out₀ out next n) (λ a rest inside none. writes_skip rest ok inside none) h to
