@@ -14,14 +14,14 @@ ghost use Rattle.ops_round.specs.Cards.{cards_is};
 ghost use Rattle.ops_decide.specs.Verdicts.{op_is};
 ghost use Rattle.ops_page.specs.PagedItems.{HasRoom, PagedBy};
 
-use format::{MAX_KEY, Refusal};
+use format::Refusal;
 use ops_decide::{Op, Verdict, decide, is_count};
-use ops_keys::{KEYS, head_at};
+use ops_keys::{KEYS, Place, head_at};
+use ops_live::{Live, no_live};
+use ops_lives::{begin_all, step_all};
 use ops_put::{has_room, put_item};
-use ops_round::Card;
-use ops_seen::see;
-use ops_starts::starts;
-use ops_turn::step_cards;
+use ops_round::Slot;
+use ops_seen::Seen;
 use range_fill::{Ranged, Stop, refused};
 use std::ops::Bound;
 
@@ -31,7 +31,10 @@ fn fill(
     files: [&[u8]; 8],
     op: Op,
     count: usize,
-    cards: [Card; 8],
+    upper: Bound<&[u8]>,
+    all: &mut [Live; 8],
+    keys: &mut [u8; KEYS],
+    seen: &mut [Seen; 8],
     most: usize,
     rows: &mut [u8],
     counts: &mut [u8],
@@ -44,19 +47,16 @@ fn fill(
         rows.old rows.new counts.old counts.new
         numbers.old numbers.new values.old values.new result }
 {
-    let mut all = cards;
-    let mut keys = [0u8; KEYS];
-    let mut seen = see(count, cards, &mut keys);
     let mut done = 0;
     // by `while`: a turn is a round, and not each writes an item
     while done < most {
-        if let Err(why) = step_cards(files, count, &mut all, &mut keys, &mut seen, MAX_KEY) {
+        if let Err(why) = step_all(files, count, upper, all, keys, seen) {
             return Ranged {
                 count: done,
                 stop: Err(why),
             };
         }
-        let verdict = decide(op, &keys, &mut seen[..count]);
+        let verdict = decide(op, keys, &mut seen[..count]);
         match verdict {
             Verdict::NoMore => {
                 return Ranged {
@@ -65,7 +65,7 @@ fn fill(
                 };
             }
             Verdict::This(place, pairs) => {
-                let key = head_at(&keys, place);
+                let key = head_at(keys, place);
                 put_item(key, pairs, done, rows, counts, numbers, values);
                 done += 1;
                 continue;
@@ -100,9 +100,16 @@ fn items_from(
         rows.old rows.new counts.old counts.new
         numbers.old numbers.new values.old values.new result }
 {
-    match starts(files, count, lower, upper) {
+    let mut all = [no_live(); 8];
+    let mut keys = [0u8; KEYS];
+    let blank = Seen {
+        key: Place { at: 0, levels: 0 },
+        slot: Slot::Used,
+    };
+    let mut seen = [blank; 8];
+    match begin_all(files, count, lower, upper, &mut all, &mut keys, &mut seen) {
         Err(why) => refused(why),
-        Ok(cards) => fill(files, op, count, cards, most, rows, counts, numbers, values),
+        Ok(()) => fill(files, op, count, upper, &mut all, &mut keys, &mut seen, most, rows, counts, numbers, values),
     }
 }
 
