@@ -148,4 +148,6 @@ KeyPut l i ks₀ ks h = (f : List ℕ) (hi : S.Bound) (t : ℕ) → BytesPut (pl
 -- ---- the readings of a page
 
 pub record AllStand (fs : List (List ℕ)) (n : ℕ) (hi : S.Bound) (ls : List Live) (all : List Card) : Type 0 where
+  pub lives : length ls ≡ 8
+  pub eight : length all ≡ 8
   pub at : (i : ℕ) (d : Live) (e : Card) → i < n → StandsFor (get_or fs i []) hi (get_or ls i d) (get_or all i e).reading

@@ -97,7 +97,7 @@ impl Live {
                 self.end();
                 return Ok(None);
             }
-            self.empty = None;
+            self.empty = None; // handed out once
             return Ok(Some(value));
         }
         let fst = FstRef {

@@ -4,11 +4,11 @@
 --     starting_none, starting_on, starting_refused, starting_all     at the start, after a file, and each way out
 -- Assumes nothing.
 use mathlib.Core.Path.{◌≡◌, refl, sym, ap, ap₂, ◌∙◌, subst}
-use Rattle.std.specs.Prelude.{Ok, Err, Result, ⊤}
+use Rattle.std.specs.Prelude.{Ok, Err}
 use Rattle.format.specs.declared.Refusal.{Refusal}
 use mathlib.Core.Logic.{⊎_elim}
 use mathlib.Core.List.{List, [], ◌∷◌, ◌++◌, map, replicate, append_assoc, append-nil}
-use Prim.Native.Nat.{ℕ, suc, ◌+◌, ◌<◌, ◌≤◌}
+use Prim.Native.Nat.{ℕ, ◌+◌, ◌<◌, ◌≤◌}
 use native.Mathlib.Omega.{arith}
 use native.Mathlib.Numerals.{add-one}
 use denote.Ref.{Bor}
@@ -16,7 +16,6 @@ use lib.ListN.{get_or-map, length, take, drop, get_or, set, length-set, length-m
 use lib.Seq.{take-length, drop-cons, get_or-take, length-take-le, get_or-set_same, get_or-set_other}
 use Rattle.std.proofs.lemmas.List.{length-replicate}
 use Rattle.format.specs.Strings as S
-use Rattle.format.specs.Limits.{max_sum}
 use Rattle.reading.proofs.RunLaws.{lt_or}
 use Rattle.reading.specs.Reading as R
 use Rattle.plain.specs.Plain as Q
@@ -24,18 +23,17 @@ use Rattle.plain.specs.Plain.{plain_with}
 use Rattle.ops_spec.specs.Ops as O
 use Rattle.ops_paging.specs.ItemPaging.{Starts, wide_card, with_start, start_all}
 use Rattle.ops_paging.specs.ItemPaging as P
-use Rattle.stream.specs.Plains.{plain_is, no_plain}
+use Rattle.stream.specs.Plains.{no_plain}
 use Rattle.ops_round.specs.declared.Card.{Card}
 use Rattle.ops_round.specs.declared.Slot.TheVariants.{Used}
 use Rattle.ops_round.specs.Cards.{card_is, cards_is, used_card}
 use Rattle.ops_round.specs.CardsLaws.{cards_length, put_front}
 use Rattle.ops_keys.specs.declared.Place.{Place}
-use Rattle.ops_keys.specs.Heads.{KeyAt}
 use Rattle.ops_seen.specs.declared.Seen.{Seen}
 use Rattle.ops_seen.specs.Sights.{SeenAt}
 use Rattle.ops_seen.specs.SightsLaws.{key_kept}
 use Rattle.ops_live.specs.declared.Live.{Live}
-use Rattle.ops_live.specs.Lives.{view_from, plain_of, StandsFor, AllStand, BeginsTo, BeginsAs, KeyPut}
+use Rattle.ops_live.specs.Lives.{view_from, plain_of, StandsFor, AllStand, BeginsTo, KeyPut}
 use Rattle.ops_live.specs.LivesLaws.{view_is_lem}
 use Rattle.ops_starts.specs.StartedCards.{StartsBy}
 
@@ -71,7 +69,7 @@ starting_none fs n lo hi ls ks ss a b c =
       cards = replicate 8 (used_card no_plain);
       eight = length-replicate 8 (used_card no_plain);
       rest = sym (none_first (start_all lo hi (take n fs)));
-      stands = record { at = λ i d e h. absurd (omega arith) };
+      stands = record { lives = a; eight = length-replicate 8 (used_card no_plain); at = λ i d e h. absurd (omega arith) };
       seen = λ j d e h. absurd (omega arith);
       lives_len = a;
       seen_len = c;
@@ -110,7 +108,7 @@ module _ (fs : List (List ℕ)) (n : ℕ) (lo hi : S.Bound) (ls : List Live) (ks
       one_is = ap (λ (p : Q.Plain). O.card_is f p O.used) (ap₂ plain_with (view_is_lem f hi l 0) b.keys)
 
       stands_on : AllStand fs (i + 1) hi (set ls i l) (set T.cards i one)
-      stands_on = record { at = λ j d e less. ⊎_elim (λ (z : j < i). old j d e z) (λ (z : i ≤ j). new j d e (omega arith)) (lt_or j i) }
+      stands_on = record { lives = length-set ls i l ∙ T.lives_len; eight = length-set T.cards i one ∙ T.eight; at = λ j d e less. ⊎_elim (λ (z : j < i). old j d e z) (λ (z : i ≤ j). new j d e (omega arith)) (lt_or j i) }
         where
           old : (j : ℕ) (d : Live) (e : Card) → j < i → StandsFor (get_or fs j []) hi (get_or (set ls i l) j d) (get_or (set T.cards i one) j e).reading
           old j d e z =
@@ -178,7 +176,7 @@ module _ (fs : List (List ℕ)) (n : ℕ) (lo hi : S.Bound) (ls : List Live) (ks
       record {
         all = T.cards;
         begun = record {
-          stands = record { at = λ j d e less. T.stands.at j d e (omega arith) };
+          stands = record { lives = T.lives_len; eight = T.eight; at = λ j d e less. T.stands.at j d e (omega arith) };
           seen = record { at = λ j d e less. T.seen j d e (omega arith); eight = T.seen_len; given = T.eight; long = T.keys_len };
         };
         is = T.rest
