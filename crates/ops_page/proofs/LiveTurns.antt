@@ -7,7 +7,7 @@
 --     live_more                        as many items as asked for
 --     steps_fall, again_falls, item_falls     the measure
 -- Assumes nothing.
-use Rattle.std.specs.Prelude.{◌≡◌, refl, Bool, List, ◌++◌, ℕ, ◌+◌, ◌≤◌, ◌<◌, length, take, drop, Ok, Err, Result}
+use Rattle.std.specs.Prelude.{◌≡◌, Bool, List, ◌++◌, ℕ, ◌+◌, ◌≤◌, ◌<◌, length, take, drop, Ok, Err, Result}
 use Rattle.std.proofs.Common.{subst, arith}
 use Rattle.format.specs.declared.Refusal.{Refusal}
 use Rattle.format.specs.Strings as S

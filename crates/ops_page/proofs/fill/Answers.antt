@@ -1,9 +1,8 @@
 -- `ops_page::fill` meets its contract: one law for each way out of a round.
 -- Assumes nothing.
-use Rattle.std.proofs.Common.{◌≡◌, map, refl, arith, rules}
+use Rattle.std.proofs.Common.{map, refl, arith}
 use Rattle.stream_start.specs.Views.{bound_of}
 use Rattle.ops_decide.specs.Verdicts.{op_is}
-use Rattle.ops_lives.specs.LiveRounds.{Living}
 use Rattle.ops_page.proofs.LiveTurns.{live_none, live_refused, live_on, live_ready, live_place, live_pairs, live_room, live_end, live_again, live_item, live_more, steps_fall, again_falls, item_falls}
 use Rattle.ops_page.proofs.fill.Goals as goal
 
@@ -51,7 +50,7 @@ loop-done-smaller-in-This c =
     let steps = steps_fall c.loop-done.invariant c.requires.count_nonzero.0 c.requires.count_nonzero.1 refl c.step_lives.ensures _ c.in_default.is c.requires.began in
     let B = c.requires.began in
     let next = live_item (live_on c.loop-done.invariant c.requires.count_nonzero.0 c.requires.count_nonzero.1 refl c.step_lives.ensures _ c.in_default.is) c.requires.count_nonzero.0 c.requires.count_nonzero.1 (omega arith) d.new.cards d.result d.ensures c.in-This.place c.in-This.pairs c.in-This.is c.loop-done-test.true c.requires.has_room
-        c.head_at-key.result c.head_at-key.ensures.0 c.head_at-key.ensures.1 c.put_item.ensures in
+    c.head_at-key.result c.head_at-key.ensures.0 c.head_at-key.ensures.1 c.put_item.ensures in
     let round = item_falls (live_on c.loop-done.invariant c.requires.count_nonzero.0 c.requires.count_nonzero.1 refl c.step_lives.ensures _ c.in_default.is) c.requires.count_nonzero.0 c.requires.count_nonzero.1 (omega arith) d.new.cards d.result d.ensures c.in-This.place c.in-This.pairs c.in-This.is B (next.from B.cards B.begun).filling.turning.seen_len in
     omega arith
 

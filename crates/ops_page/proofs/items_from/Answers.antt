@@ -1,7 +1,6 @@
 -- `ops_page::items_from` meets its contract: a refused start, or the calls on the readings at their starts. Assumes nothing.
-use Rattle.std.proofs.Common.{◌≡◌, map, sym, ap, take, arith}
-use Rattle.ops_paging.specs.ItemPaging.{start_all, page_from}
-use Rattle.stream_start.specs.Views.{bound_of}
+use Rattle.std.proofs.Common.{sym, ap}
+use Rattle.ops_paging.specs.ItemPaging.{page_from}
 use Rattle.ops_decide.specs.Verdicts.{op_is}
 use Rattle.ops_page.specs.PageLaws.{paged_as, refused_by}
 use Rattle.ops_page.proofs.items_from.Goals as goal
