@@ -7,22 +7,22 @@
 // A node's transitions are gone through by their places: their inputs, outputs and deltas stand apart in the file, and there is no slice of transitions.
 #![tactic(auto)]
 
-ghost use Rattle.std.specs.Prelude.{◌≡◌, true, cond, min, ◌+◌, ◌≤◌, ◌<◌, ltb, length};
+ghost use Rattle.std.specs.Prelude.{◌≡◌, true, cond, min, max, ◌+◌, ◌≤◌, ◌<◌, ltb, length, get_or};
 ghost use Rattle.format.specs.Limits.{max_levels};
-ghost use Rattle.format.specs.Node.{SoundAt};
 ghost use Rattle.format.specs.View.{fst_is};
 ghost use Rattle.node.specs.Read.{transitions_in, Readable};
-ghost use Rattle.admission_node.specs.Entries.{Markable, MarksTargets, MarksAt, child_depth, child_sum, raised_by, Surveyable, Surveyed, SurveyableAt, SurveyedAt, FirstEntry, FirstMarked, entry_is, or_over};
+ghost use Rattle.admission_node.specs.Entries.{Markable, MarksTargets, Unpassed, Enters, child_depth, child_sum, raised_by, Surveyable, Surveyed, SurveyableAt, SurveyedAt, FirstEntry, FirstMarked, entry_is, or_over};
 
 use format::{FstRef, LEVELS, State};
-use node::Node;
+use node::{Node, Unsound};
+use node_sound::{any_parts, at_form, next_sound, one_sound};
 
 // The largest entry of an admitted file: 1 plus a path of 255.
 const DEEPEST: u16 = LEVELS as u16;
 
 // The marks of the pass down, until the pass up comes to their place: where a node leads that is not reached, where a reached one
-// does, a node passed that is not reached, and a node passed that is. They are numbers, since they stand in the depths' table, which the
-// caller lends as u16.
+// does, a node passed that is not reached, and a node passed that is; above the mark of a node passed stands its link (admission_walk). They are numbers,
+// since they stand in the depths' table, which the caller lends as u16.
 const LED: u16 = 1;
 
 pub const HIT: u16 = 2;
@@ -40,20 +40,23 @@ pub struct Survey {
 
 // ---- the entries
 
-// The entry of a target; address 0 has none and counts as a node with no path.
+// The entry of a target; address 0 has the entry 0 and counts as a node with no path. Its 1 is added, with no branch: many targets are 0, in no order.
+#[inline(always)]
 fn child_depth(depths: &[u16], t: usize) -> u16
-    requires { t < length depths.now }
+    requires { (t < length depths.now) × (get_or depths.now 0 0 ≡ 0)
+        × (child_depth depths.now t ≤ 257) }
     ensures { result ≡ child_depth depths.now t }
 {
-    if t == 0 { 1 } else { depths[t] }
+    depths[t] + u16::from(t == 0)
 }
 
-// The sum of a target; address 0 has output 0.
+// The sum of a target; address 0 has the entry 0 and output 0.
+#[inline(always)]
 fn child_sum(sums: &[u64], t: usize) -> u64
-    requires { t < length sums.now }
+    requires { (t < length sums.now) × (get_or sums.now 0 0 ≡ 0) }
     ensures { result ≡ child_sum sums.now t }
 {
-    if t == 0 { 0 } else { sums[t] }
+    sums[t]
 }
 
 // The larger of a total and w + s, or None where either passes the limit.
@@ -190,22 +193,39 @@ pub fn mark_of(x: u16) -> u16
     if x == HIT { HIT } else { LED }
 }
 
+// The entry of a target once it has at least the mark. A reached node's mark is the largest, and is stored without a look at what stands there: the
+// targets stand anywhere in the table, and waiting for their entries was a third of the time of an admission of words.
+#[inline(always)]
+fn marked(depths: &[u16], t: usize, mark: u16) -> u16
+    requires { (t < length depths.now) × (get_or depths.now t 0 ≤ 2) }
+    ensures { result ≡ max (get_or depths.now t 0) mark }
+{
+    if mark == HIT {
+        HIT
+    } else {
+        depths[t].max(mark)
+    }
+}
+
 // Raises the entries of a node's targets to the mark, address 0 included; answers the node's first byte.
+// This and the next stand inline in `enter`, so that what judging read of the node is not read again.
+#[inline(always)]
 fn mark_targets(file: &[u8], node: Node, mark: u16, depths: &mut [u16]) -> usize
     requires { Readable file.now node × Markable (length file.now) depths.old
-        (transitions_in file.now node) }
+        (transitions_in file.now node) × (mark ≤ 2) }
     ensures { MarksTargets (length file.now) mark
         (transitions_in file.now node) depths.old depths.new × (result ≡ node.first) }
 {
     let n = node.ntrans;
     for i in 0..n {
         let to = node::transition_addr(file, node, i);
-        depths[to] = depths[to].max(mark);
+        depths[to] = marked(depths, to, mark);
     }
     node.first
 }
 
 // The same of a node with one transition, which has a function of its own for the reason that `survey_one` has.
+#[inline(always)]
 fn mark_one(file: &[u8], node: Node, mark: u16, depths: &mut [u16]) -> usize
     requires { Readable file.now node × (node.ntrans ≡ 1) × Markable (length file.now) depths.old
         (transitions_in file.now node) }
@@ -213,20 +233,39 @@ fn mark_one(file: &[u8], node: Node, mark: u16, depths: &mut [u16]) -> usize
         (transitions_in file.now node) depths.old depths.new × (result ≡ node.first) }
 {
     let t = node::transition_addr(file, node, 0);
-    depths[t] = depths[t].max(mark);
+    depths[t] = marked(depths, t, mark);
     node.first
 }
 
-// The same of the sound node at a, whose form is asked here and not by `node_of`, as in `survey_at`.
-pub fn mark_at(fst: FstRef<'_>, a: usize, mark: u16, depths: &mut [u16]) -> usize
-    requires { SoundAt fst.bytes.now fst.version fst.root a
-        × (length fst.bytes.now ≤ length depths.old) }
-    ensures { MarksAt (fst_is fst.entry) a mark
+// Judges the node at a, and marks what it leads to where it is sound; answers its first byte. The form is asked once, for both.
+pub fn enter(fst: FstRef<'_>, a: usize, mark: u16, depths: &mut [u16]) -> Result<usize, Unsound>
+    requires { (length fst.bytes.now ≤ length depths.old)
+        × Unpassed (length fst.bytes.now) depths.old a × (mark ≤ 2) }
+    ensures { Enters (fst_is fst.entry) a mark
         depths.old depths.new result }
 {
+    if !at_form(fst, a) {
+        return Err(Unsound);
+    }
     match State::from(fst.bytes[a]) {
-        State::AnyTrans => mark_targets(fst.bytes, node::any_node(fst, a), mark, depths),
-        State::OneTrans => mark_one(fst.bytes, node::one_node(fst, a), mark, depths),
-        State::OneTransNext => mark_one(fst.bytes, node::next_node(fst, a), mark, depths),
+        State::AnyTrans => {
+            let sound = any_parts(fst, a).is_some();
+            if !sound {
+                return Err(Unsound);
+            }
+            Ok(mark_targets(fst.bytes, node::any_node(fst, a), mark, depths))
+        }
+        State::OneTrans => {
+            if !one_sound(fst, a) {
+                return Err(Unsound);
+            }
+            Ok(mark_one(fst.bytes, node::one_node(fst, a), mark, depths))
+        }
+        State::OneTransNext => {
+            if !next_sound(fst, a) {
+                return Err(Unsound);
+            }
+            Ok(mark_one(fst.bytes, node::next_node(fst, a), mark, depths))
+        }
     }
 }
