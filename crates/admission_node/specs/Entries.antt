@@ -5,6 +5,7 @@
 --     3    a node of the chain, passed, that is not reached
 --     4    a node of the chain, passed, that is reached
 -- Above the marks 3 and 4 stands the node's link, 8 times how far above it the next node of the chain stands, or 0 (admission_walk `Links`).
+--     Wide s m w              whether the numbers of a node can be read by 8 bytes at once
 --     Kept n d₀ d             the table d is as long as d₀, and the same from n on
 --     MarksTargets, MarksAt   the marks that one node gives to its targets
 --     Unpassed, Enters        no address below one is passed; a node judged and its targets marked
@@ -15,19 +16,26 @@
 --     total_as, raised_by, entry_is, or_over     sums that may pass the limit
 --     Surveyed, SurveyedAt    what a node's targets say of it; the same by its mark
 -- Assumes nothing.
-use Rattle.std.specs.Prelude.{◌≡◌, Bool, true, cond, ◌⊎◌, ℕ, ◌+◌, ◌≤◌, ◌<◌, max, leb, eqb, length, get_or, drop, Option, Some, None, Ok, Err, Result}
+use Rattle.std.specs.Prelude.{◌≡◌, Bool, true, cond, ◌⊎◌, ℕ, ◌+◌, ◌*◌, ◌≤◌, ◌<◌, max, leb, eqb, length, get_or, drop, Option, Some, None, Ok, Err, Result}
 use mathlib.Core.List.{List, Memᴰ}
 use Rattle.format.specs.declared.Transition.{Transition}
 use Rattle.format.specs.Limits.{max_path, max_sum}
-use Rattle.format.specs.Node.{Node, sound, SoundAt}
+use Rattle.format.specs.Node.{Node, sound, SoundAt, deltas_at}
 use Rattle.format.specs.Paths.{Fst, node_in}
 use Rattle.format.specs.Tables.{max_of}
+use Rattle.node.specs.declared.Node as Read
 use Rattle.node.specs.declared.Unsound.{Unsound}
 use Rattle.admission_node.specs.declared.Survey.{Survey}
 
 pub record Kept (n : ℕ) (d₀ d : List ℕ) : Type 0 where
   pub long : length d ≡ length d₀
   pub beyond : drop n d ≡ drop n d₀
+
+-- ---- the numbers of a node
+
+-- where w is true, 8 bytes of the file s follow the outputs and the deltas of the node m
+pub record Wide (s : List ℕ) (m : Read.Node) (w : Bool) : Type 0 where
+  pub room : w ≡ true → deltas_at m.outputs m.ntrans m.osize + m.ntrans * m.tsize + 8 ≤ length s
 
 -- ---- the marks
 

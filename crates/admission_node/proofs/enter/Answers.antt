@@ -13,11 +13,11 @@ returns-then-not-at_form c =
     (λ sound. c.at_form.ensures.no c.if-not-at_form.true (sound_form a.fst.bytes.now a.fst.version a.fst.root a.a sound), refl)
 
 -- the targets lie below the node
-pub mark_targets-requires : goal.mark_targets-requires
-mark_targets-requires c =
+pub mark_any-requires : goal.mark_any-requires
+mark_any-requires c =
     let j = c.any_node.ensures.0 in
     let sound = (judged_decides c.any_parts.result c.any_parts.ensures).yes (sym c.is_some-sound.ensures ∙ c.if-not-sound.false) in
-    (j.readable _ refl, markable_node _ _ _ _ (judged_sound j _ refl) sound c.requires.0 c.requires.1, c.requires.2)
+    (j.readable _ refl, c.any_node.ensures.1, markable_node _ _ _ _ (judged_sound j _ refl) sound c.requires.0 c.requires.1, c.requires.2)
 
 pub mark_one-requires : goal.mark_one-requires
 mark_one-requires c =
