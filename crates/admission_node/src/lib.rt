@@ -123,15 +123,19 @@ fn survey_node(file: &[u8], node: Node, wide: bool, depths: &[u16], sums: &[u64]
 {
     let n = node.ntrans;
     let mut best: u16 = 0;
-    let mut total = Some(node.final_output);
+    // a sum past the limit clears the flag, and what it leaves in `most` is not asked for: an `Option` here takes 7 instructions more for each transition
+    let mut most = node.final_output;
+    let mut fits = true;
     for i in 0..n {
         let t = target(file, node, i, wide);
         let d = child_depth(depths, t);
         let s = child_sum(sums, t);
         let w = number(file, node.outputs, node.osize, n, i, wide);
         best = best.max(d);
-        total = raised(total, w, s);
+        most = most.max(w.wrapping_add(s));
+        fits &= w <= u64::MAX - s;
     }
+    let total = if fits { Some(most) } else { None };
     Survey {
         depth: best + 1,
         total,
