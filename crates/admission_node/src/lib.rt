@@ -1,6 +1,6 @@
-// What admission does at one node: on the way down the node marks what it leads to, on the way up it is surveyed, that is, its longest path and
+// What admission does at one node: on the way down the node is judged and marks what it leads to, on the way up it is surveyed, that is, its longest path and
 // its largest sum come from the entries of its targets.
-// depths and sums are two slices and no struct: `mark_at` and admission_walk's `walk` take the depths alone, `survey_at` reads both, and
+// depths and sums are two slices and no struct: `enter` and admission_walk's `walk` take the depths alone, `survey_at` reads both, and
 // admission_fill's `fill` writes both. One value of both, made of the two that the C caller lends, would be taken apart for the first two.
 // What is asked of an address or a node, and of the tables, stands in the contract of each function that takes them. A type that says it would hold the
 // node, the file and the tables, and would be made anew at each node, since the passes write the tables between two nodes.
