@@ -1,5 +1,5 @@
 // The pass of admission in ascending order of addresses: it works out the longest path and the largest sum of each reached node from those of
-// its targets, which lie below it.
+// its targets, which lie below it. It goes from node to node by the links that the pass down left, once no mark is left elsewhere.
 // depths and sums are two slices and no struct, as admission_node says: the pass before this one takes the depths alone.
 #![tactic(auto)]
 

@@ -1,6 +1,6 @@
-// What admission does at one node: on the way down the node marks what it leads to, on the way up it is surveyed, that is, its longest path and
+// What admission does at one node: on the way down the node is judged and marks what it leads to, on the way up it is surveyed, that is, its longest path and
 // its largest sum come from the entries of its targets.
-// depths and sums are two slices and no struct: `mark_at` and admission_walk's `walk` take the depths alone, `survey_at` reads both, and
+// depths and sums are two slices and no struct: `enter` and admission_walk's `walk` take the depths alone, `survey_at` reads both, and
 // admission_fill's `fill` writes both. One value of both, made of the two that the C caller lends, would be taken apart for the first two.
 // What is asked of an address or a node, and of the tables, stands in the contract of each function that takes them. A type that says it would hold the
 // node, the file and the tables, and would be made anew at each node, since the passes write the tables between two nodes.
@@ -100,7 +100,7 @@ fn number(file: &[u8], at: usize, size: usize, n: usize, i: usize, wide: bool) -
 
 // The address that transition i of a node with any number of them leads to.
 #[inline(always)]
-fn target(file: &[u8], node: Node, i: usize, wide: bool) -> usize
+fn target_at(file: &[u8], node: Node, i: usize, wide: bool) -> usize
     requires { Readable file.now node × (node.state ≡ AnyTrans) × (i < node.ntrans)
         × Wide file.now node wide }
     ensures { result ≡ (transition_at (transitions_in file.now node) i).addr }
@@ -127,7 +127,7 @@ fn survey_node(file: &[u8], node: Node, wide: bool, depths: &[u16], sums: &[u64]
     let mut most = node.final_output;
     let mut fits = true;
     for i in 0..n {
-        let t = target(file, node, i, wide);
+        let t = target_at(file, node, i, wide);
         let d = child_depth(depths, t);
         let s = child_sum(sums, t);
         let w = number(file, node.outputs, node.osize, n, i, wide);
@@ -282,7 +282,7 @@ fn mark_targets(file: &[u8], node: Node, wide: bool, mark: u16, depths: &mut [u1
 {
     let n = node.ntrans;
     for i in 0..n {
-        let to = target(file, node, i, wide);
+        let to = target_at(file, node, i, wide);
         depths[to] = marked(depths, to, mark);
     }
     node.first

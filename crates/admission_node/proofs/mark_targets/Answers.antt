@@ -9,24 +9,24 @@ use Rattle.admission_node.proofs.mark_targets.Goals as goal
 pub offset_bounds-depths-to : goal.offset_bounds-depths-to
 offset_bounds-depths-to c =
     let in_list : c.loop-i.i < length (transitions_in c.args.file.now c.args.node) = omega (arith, length_node_transitions _ _ c.requires.0) in
-    omega (arith, mark_room c.requires.3 c.loop-i.i in_list _ c.target-to.ensures c.loop-i.invariant)
+    omega (arith, mark_room c.requires.3 c.loop-i.i in_list _ c.target_at-to.ensures c.loop-i.invariant)
 
 pub bounds-depths-to : goal.bounds-depths-to
 bounds-depths-to c =
     let in_list : c.loop-i.i < length (transitions_in c.args.file.now c.args.node) = omega (arith, length_node_transitions _ _ c.requires.0) in
-    mark_room c.requires.3 c.loop-i.i in_list _ c.target-to.ensures c.loop-i.invariant
+    mark_room c.requires.3 c.loop-i.i in_list _ c.target_at-to.ensures c.loop-i.invariant
 
 pub marked-requires : goal.marked-requires
 marked-requires c =
     let in_list : c.loop-i.i < length (transitions_in c.args.file.now c.args.node) = omega (arith, length_node_transitions _ _ c.requires.0) in
-    let to = c.target-to.ensures in
+    let to = c.target_at-to.ensures in
     (mark_room c.requires.3 c.loop-i.i in_list _ to c.loop-i.invariant, mark_fresh c.requires.3 c.loop-i.i in_list _ to c.loop-i.invariant c.requires.4)
 
 -- one transition more
 pub loop-i-preserved : goal.loop-i-preserved
 loop-i-preserved c =
     let in_list : c.loop-i.i < length (transitions_in c.args.file.now c.args.node) = omega (arith, length_node_transitions _ _ c.requires.0) in
-    marked_step c.requires.3 c.loop-i.i in_list _ c.target-to.ensures c.loop-i.invariant _ c.marked.ensures
+    marked_step c.requires.3 c.loop-i.i in_list _ c.target_at-to.ensures c.loop-i.invariant _ c.marked.ensures
 
 -- all transitions are passed
 pub returns : goal.returns

@@ -16,19 +16,19 @@ loop-i-init c = surveyed_none c.requires.3
 pub child_depth-d-requires : goal.child_depth-d-requires
 child_depth-d-requires c =
     let in_list : c.loop-i.i < length (transitions_in c.args.file.now c.args.node) = omega (arith, length_node_transitions _ _ c.requires.0) in
-    let t = c.target-t.ensures in
+    let t = c.target_at-t.ensures in
     (target_in_depths c.requires.3 c.loop-i.i in_list _ t, c.requires.3.no_depth, target_small c.requires.3 c.loop-i.i in_list _ t _ refl)
 
 -- the target lies within the sums
 pub child_sum-s-requires : goal.child_sum-s-requires
 child_sum-s-requires c =
-    (target_in_sums c.requires.3 c.loop-i.i (omega (arith, length_node_transitions _ _ c.requires.0)) _ c.target-t.ensures, c.requires.3.no_sum)
+    (target_in_sums c.requires.3 c.loop-i.i (omega (arith, length_node_transitions _ _ c.requires.0)) _ c.target_at-t.ensures, c.requires.3.no_sum)
 
 -- one transition more
 pub loop-i-preserved : goal.loop-i-preserved
 loop-i-preserved c =
     let in_list : c.loop-i.i < length (transitions_in c.args.file.now c.args.node) = omega (arith, length_node_transitions _ _ c.requires.0) in
-    surveyed_step c.requires.3 c.loop-i.i in_list _ c.target-t.ensures _ c.child_depth-d.ensures
+    surveyed_step c.requires.3 c.loop-i.i in_list _ c.target_at-t.ensures _ c.child_depth-d.ensures
     _ _ _ _ c.loop-i.invariant c.child_sum-s.ensures (c.number-w.ensures ∙ output_is c.args.file.now c.args.node c.requires.0 c.loop-i.i c.loop-i-test.true) c.max-best.ensures
     (rw c.max-most.ensures (raised_flag c.loop-i.fits c.loop-i.most _ _ (omega (arith, c.number-w.type_inv)) (omega (arith, c.child_sum-s.type_inv))))
 
