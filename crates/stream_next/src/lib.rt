@@ -65,7 +65,9 @@ fn walk(
     };
     let followed = descend(fst, top, node, total, stack, upper)?;
     if let Some((k, _)) = followed.found {
-        buffers::copy_front(&stack.inps[1..], k, key);
+        // out of a copy: between two lent buffers this is compiled to a call of `memmove`, and the library for C may call `memcpy` and `memset` alone
+        let inps = stack.inps;
+        buffers::copy_front(&inps[1..], k, key);
     }
     Ok(followed)
 }
