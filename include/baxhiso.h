@@ -126,15 +126,15 @@ static inline const char *fst_result_name(int result)
 #define FST_STACK_ADMIT    576
 #define FST_STACK_COUNT    896
 #define FST_STACK_START    12288
-#define FST_STACK_NEXT     45056
+#define FST_STACK_NEXT     12288
 #define FST_STACK_RANGE    6144
 #define FST_STACK_FIND     36864
 #define FST_STACK_CONVERT  8192
 #define FST_STACK_PACK     8192
 #define FST_STACK_CARRY    16384
 #define FST_STACK_SEAT     4608 /* fst_clear_seats and fst_raise take less */
-#define FST_STACK_DISPATCH 45056
-#define FST_STACK_ITEMS    106496
+#define FST_STACK_DISPATCH 20480
+#define FST_STACK_ITEMS    40960
 
 /* What stands for the checksum of a file that has none: larger than any stored checksum. */
 #define FST_NO_CHECKSUM UINT64_C(4294967296)

@@ -5,10 +5,10 @@
 -- Assumes nothing.
 use Rattle.std.specs.Prelude.{Ok, Err, Result, ⊤}
 use Rattle.format.specs.declared.Refusal.{Refusal}
-use mathlib.Core.Path.{◌≡◌, sym, ap, ◌∙◌, subst}
+use mathlib.Core.Path.{◌≡◌, refl, sym, ap, ◌∙◌, subst}
 use mathlib.Core.Logic.{◌⊎◌, inl, inr, ⊎_elim}
 use mathlib.Core.List.{List, [], Memᴰ}
-use Prim.Native.Nat.{ℕ, ◌≤◌, ◌<◌}
+use Prim.Native.Nat.{ℕ, ◌+◌, ◌/◌, ◌%◌, ◌≤◌, ◌<◌}
 use native.Mathlib.Decide.{ℕ_discrete}
 use native.Mathlib.Omega.{arith}
 use lib.ListN.{length, get_or, set}
@@ -24,8 +24,10 @@ use Rattle.format.specs.Laws.ChainLaws.{chain_sound, chain_low, chain_head, root
 use Rattle.format.specs.Tables.{longest, largest_sum, InTable}
 use Rattle.format.specs.Laws.TableLaws.{longest_zero, largest_zero, longest_bound, largest_bound, longest_attained, largest_attained}
 use Rattle.admission_node.specs.Entries.{Kept}
-use Rattle.admission_walk.specs.Walks.{Hit, Live, Source, ChainMarked}
-use Rattle.admission_fill.specs.Fills.{AllPassed, Fillable, LostOne, DeepOne, HeavyOne, GoodAll, FillRefused, FillCase, Filled}
+use Rattle.std.proofs.lemmas.List.{map-set}
+use Rattle.admission_walk.specs.Walks.{Hit, Live, Source, marks_in, Above, Linked, ChainMarked}
+use Rattle.admission_walk.specs.MarksLaws.{marks_long}
+use Rattle.admission_fill.specs.Fills.{AllPassed, Leads, Fillable, LostOne, DeepOne, HeavyOne, GoodAll, FillRefused, FillCase, Filled}
 use Rattle.admission.specs.Outcome.{Holds, LongPath, LargeSum, Cleared, GoodNodes, JudgeRefused, JudgeCase, Judges}
 use Rattle.admission_node.specs.KeptLaws.{at_set, kept_none, kept_then}
 
@@ -79,9 +81,9 @@ pub record Marks (f : Fst) (d l : List ℕ) : Type 0 where
       → Hit (get_or d t.addr 0)
   pub top : Hit (get_or d f.root 0)
 
-module _ {f : Fst} {d l : List ℕ} (ne : ¬ (f.root ≡ 0)) (w : ChainMarked f d l) (room : 0 < length d) where
-  same_at : (j : ℕ) → ¬ (j ≡ 0) → get_or (set d 0 0) j 0 ≡ get_or d j 0
-  same_at j nz = get_or-set_other d 0 j 0 0 nz
+module _ {f : Fst} {e l : List ℕ} (ne : ¬ (f.root ≡ 0)) (w : ChainMarked f e l) (room : 0 < length e) where
+  same_at : (j : ℕ) → ¬ (j ≡ 0) → get_or (set (marks_in e) 0 0) j 0 ≡ get_or (marks_in e) j 0
+  same_at j nz = get_or-set_other (marks_in e) 0 j 0 0 nz
 
   chain_nz : (j : ℕ) → Memᴰ j l → ¬ (j ≡ 0)
   chain_nz j mem z = omega (arith, chain_low w.chain j mem)
@@ -91,23 +93,34 @@ module _ {f : Fst} {d l : List ℕ} (ne : ¬ (f.root ≡ 0)) (w : ChainMarked f 
   sourced j away (inl r) = absurd (away (subst (λ x. Memᴰ x l) (sym r) (chain_head w.chain)))
   sourced j away (inr s) = s
 
-  pub marks_of : Marks f (set d 0 0) l
-  marks_of =
+  marks_zero : Marks f (set (marks_in e) 0 0) l
+  marks_zero =
       record {
         not_zero = ne;
         chain = w.chain;
-        zero = get_or-set_same d 0 0 0 room;
+        zero = get_or-set_same (marks_in e) 0 0 0 (omega (arith, room, marks_long e));
         on = λ j mem. subst (λ x. 3 ≤ x) (sym (same_at j (chain_nz j mem))) (w.marks.on j mem);
-        off = at_set (λ j x. j < length f.bytes → ¬ Memᴰ j l → x ≤ 2) d 0 0 room (λ _ _. omega arith) (λ j _. w.marks.off j);
-        high = at_set (λ j x. j < length f.bytes → x ≤ 4) d 0 0 room (λ _. omega arith) (λ j _. w.marks.high j);
-        reached = at_set (λ j x. j < length f.bytes → Hit x → Reached f j) d 0 0 room (λ _ hit. absurd (omega (arith, hit.low)))
+        off = at_set (λ j x. j < length f.bytes → ¬ Memᴰ j l → x ≤ 2) (marks_in e) 0 0 (omega (arith, room, marks_long e)) (λ _ _. omega arith) (λ j _. w.marks.off j);
+        high = at_set (λ j x. j < length f.bytes → x ≤ 4) (marks_in e) 0 0 (omega (arith, room, marks_long e)) (λ _. omega arith) (λ j _. w.marks.high j);
+        reached = at_set (λ j x. j < length f.bytes → Hit x → Reached f j) (marks_in e) 0 0 (omega (arith, room, marks_long e)) (λ _ hit. absurd (omega (arith, hit.low)))
             (λ j _. w.marks.reached j);
-        source = at_set (λ j x. j < length f.bytes → ¬ Memᴰ j l → 1 ≤ x → Source f l j) d 0 0 room (λ _ _ one. absurd (omega arith))
+        source = at_set (λ j x. j < length f.bytes → ¬ Memᴰ j l → 1 ≤ x → Source f l j) (marks_in e) 0 0 (omega (arith, room, marks_long e)) (λ _ _ one. absurd (omega arith))
             (λ j _ h away one. sourced j away (w.marks.source j h away one));
-        targets = λ j m t mem e mem_t nz. subst (λ x. 1 ≤ x) (sym (same_at t.addr nz)) (w.marks.targets j m t mem e mem_t);
-        hits = λ j m t mem live e mem_t nz.
-            subst Hit (sym (same_at t.addr nz)) (w.marks.hits j m t mem (sym (same_at j (chain_nz j mem)) ∙ live) e mem_t);
+        targets = λ j m t mem q mem_t nz. subst (λ x. 1 ≤ x) (sym (same_at t.addr nz)) (w.marks.targets j m t mem q mem_t);
+        hits = λ j m t mem live q mem_t nz.
+            subst Hit (sym (same_at t.addr nz)) (w.marks.hits j m t mem (sym (same_at j (chain_nz j mem)) ∙ live) q mem_t);
         top = subst Hit (sym (same_at f.root ne)) w.marks.top;
+      }
+
+  pub marks_of : Marks f (marks_in (set e 0 0)) l
+  marks_of = subst (λ x. Marks f x l) (sym (map-set (λ x. x % 8) e 0 0)) marks_zero
+
+  -- address 0 is none of the chain, and has no link
+  pub links_of : Linked (length f.bytes) (set e 0 0) l
+  links_of =
+      record {
+        off = at_set (λ j x. j < length f.bytes → ¬ Memᴰ j l → x ≤ 2) e 0 0 room (λ _ _. omega arith) (λ j _. w.links.off j);
+        link = at_set (λ j x. Memᴰ j l → (x / 8 ≡ 0) ⊎ Above l j (x / 8)) e 0 0 room (λ i. absurd (chain_nz 0 i refl)) (λ j _. w.links.link j);
       }
 
 module _ {f : Fst} {d l : List ℕ} (m : Marks f d l) where
@@ -252,10 +265,10 @@ module _ {f : Fst} {d l : List ℕ} (m : Marks f d l) where
   judge_case kd ks (Err r) (FillRefused.heavy is o) =
       JudgeRefused.heavy is l (chain_nodes o.passed) (low_shallow o.passed o.low) (large_sum o.passed o.one)
 
-  pub filled_judges : {d₀ s₀ e s : List ℕ} {v : Result ⊤ Refusal} → Kept (length f.bytes) d₀ d → Filled f d s₀ e s v → Judges f d₀ s₀ e s v
-  filled_judges {v = v} k r =
+  judges_by : {d₀ s₀ e₀ e s : List ℕ} {v : Result ⊤ Refusal} → d ≡ marks_in e₀ → Kept (length f.bytes) d₀ e₀ → Filled f e₀ s₀ e s v → Judges f d₀ s₀ e s v
+  judges_by {e = e} {s = s} {v = v} same k r =
       let kd = kept_then k r.depths_kept in
-      record { depths_kept = kd; sums_kept = r.sums_kept; found = judge_case kd r.sums_kept v r.found }
+      record { depths_kept = kd; sums_kept = r.sums_kept; found = judge_case kd r.sums_kept v (subst (λ x. FillCase f x e s v) (sym same) r.found) }
 
   -- a node of the chain that is sound by its meaning is sound by its bytes
   sound_live : (j : ℕ) → j < length f.bytes → Live d j → SoundAt f.bytes f.version f.root j
@@ -264,13 +277,26 @@ module _ {f : Fst} {d l : List ℕ} (m : Marks f d l) where
       ⊎_elim (λ z. absurd (omega (arith, chain_low m.chain j (live_in j h live), z.0))) (λ q. q.1)
       (node_at_cases f.bytes f.version f.root j p.0 p.1)
 
-  pub marks_fillable : {t : List ℕ} → length f.bytes ≤ length d → length f.bytes ≤ length t → ((j : ℕ) → j < length f.bytes → get_or t j 0 ≡ 0) → Fillable f d t
-  marks_fillable room_d room_t zeros =
+module _ {f : Fst} {d l : List ℕ} (m : Marks f (marks_in d) l) where
+  pub filled_judges : {d₀ s₀ e s : List ℕ} {v : Result ⊤ Refusal} → Kept (length f.bytes) d₀ d → Filled f d s₀ e s v → Judges f d₀ s₀ e s v
+  filled_judges k r = judges_by m refl k r
+
+  pub marks_fillable : {t : List ℕ} → get_or d 0 0 ≡ 0 → Linked (length f.bytes) d l → length f.bytes ≤ length d → length f.bytes ≤ length t
+      → ((j : ℕ) → j < length f.bytes → get_or t j 0 ≡ 0) → Fillable f d t
+  marks_fillable zero w room_d room_t zeros =
       record {
         room_depths = room_d;
         room_sums = room_t;
+        zero = zero;
         high = m.high;
-        sounds = sound_live;
-        hits = λ j n t h live e mem nz. m.hits j n t (live_in j h live) live e mem nz;
+        sounds = sound_live m;
+        hits = λ j n t h live e mem nz. m.hits j n t (live_in m j h live) live e mem nz;
+        off = λ j h low. w.off j h (λ i. omega (arith, m.on j i));
+        links = λ j h three. ⊎_elim (λ z. inl z) (λ up. inr (leads up)) (w.link j (in_chain m j h three));
         zeros = zeros;
       }
+    where
+      leads : {j k : ℕ} → Above l j k → Leads (length f.bytes) d j k
+      leads {j} {k} up =
+          let inside : j + k < length f.bytes = in_file m (j + k) up.on in
+          record { inside = inside; marked = m.on (j + k) up.on; none = λ i lo hi. omega (arith, m.off i (omega arith) (up.none i lo hi)) }

@@ -4,7 +4,7 @@ use mathlib.Core.Path.{◌≡◌}
 use mathlib.Core.List.{List}
 use Prim.Native.Nat.{ℕ, ◌+◌, ◌≤◌, ◌<◌}
 use native.Mathlib.Omega.{arith}
-use borrow.Author.Count.{below_more}
+use Rattle.std.proofs.Math.Decide.{dec_le}
 use lib.ListN.{length, get_or, set}
 use Rattle.admission_node.specs.KeptLaws.{at_set}
 
@@ -12,10 +12,13 @@ pub record Half (E : ℕ → ℕ → Type 0) (d₀ d : List ℕ) (a : ℕ) : Typ
   pub below : (j : ℕ) → j < a → E j (get_or d j 0)
   pub above : (j : ℕ) → a ≤ j → get_or d j 0 ≡ get_or d₀ j 0
 
--- an entry that is right as it stands
-pub half_skip : {E : ℕ → ℕ → Type 0} {d₀ d : List ℕ} {a : ℕ} → Half E d₀ d a → E a (get_or d a 0) → Half E d₀ d (a + 1)
-half_skip {E} {d = d} {a = a} h e =
-    record { below = below_more (λ j. E j (get_or d j 0)) a h.below e; above = λ j l. h.above j (omega arith) }
+-- entries that are right as they stand
+pub half_jump : {E : ℕ → ℕ → Type 0} {d₀ d : List ℕ} {a : ℕ} (b : ℕ) → a ≤ b → Half E d₀ d a → ((j : ℕ) → a ≤ j → j < b → E j (get_or d j 0)) → Half E d₀ d b
+half_jump {E} {d = d} {a = a} b le h e =
+    record {
+      below = λ j l. elim (dec_le a j) [ yes p ↦ e j p l | no p ↦ h.below j (omega arith) ];
+      above = λ j l. h.above j (omega arith);
+    }
 
 -- an entry that is stored
 pub half_store : {E : ℕ → ℕ → Type 0} {d₀ d : List ℕ} {a : ℕ} (v : ℕ) → a < length d → Half E d₀ d a → E a v → Half E d₀ (set d a v) (a + 1)

@@ -3,3 +3,4 @@ mod Surveying
 mod Marking
 mod JudgedNodes
 mod Marks
+mod Numbers

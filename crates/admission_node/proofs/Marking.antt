@@ -14,7 +14,7 @@ use Rattle.format.specs.Node.{Node, sound, SoundAt, transition_at}
 use Rattle.format.specs.Paths.{Fst, node_in}
 use Rattle.format.specs.Laws.NodeFacts.{node_target_lt}
 use Rattle.format.specs.Laws.TransitionLaws.{at_member}
-use Rattle.admission_node.specs.Entries.{Kept, TargetIn, Markable, MarksTargets}
+use Rattle.admission_node.specs.Entries.{Kept, TargetIn, Markable, Unpassed, MarksTargets}
 use Rattle.admission_node.specs.KeptLaws.{at_set, kept_none, kept_set}
 use Rattle.admission_node.proofs.Surveying.{each_more}
 
@@ -34,6 +34,17 @@ module _ {n mark : ℕ} {ts : List Transition} {d₀ d : List ℕ} (ok : Markabl
 
   pub mark_room : a < length d
   mark_room = omega (arith, mark_inside, ok.room, h.kept.long)
+
+  -- no mark is above 2
+  pub mark_fresh : mark ≤ 2 → get_or d a 0 ≤ 2
+  mark_fresh le = fresh_by (h.led a)
+    where
+      fresh_was : get_or d₀ a 0 ≤ 2
+      fresh_was = rw a_is (ok.fresh (transition_at ts i) (at_member ts i l))
+
+      fresh_by : (get_or d a 0 ≡ get_or d₀ a 0) ⊎ (TargetIn ts a × (get_or d a 0 ≡ max (get_or d₀ a 0) mark)) → get_or d a 0 ≤ 2
+      fresh_by (inl e) = omega (arith, fresh_was)
+      fresh_by (inr p) = omega (arith, fresh_was, p.1)
 
   module _ (x : ℕ) (x_is : x ≡ max (get_or d a 0) mark) where
     -- the target's own entry, whether it was raised before or not
@@ -71,14 +82,22 @@ marked_all {ts = ts} {i = i} h l =
 
 -- the targets of a sound node lie below it
 pub markable_node : (f : Fst) (a : ℕ) (m : Node) (d : List ℕ) → node_in f a ≡ sound m → SoundAt f.bytes f.version f.root a → length f.bytes ≤ length d
-    → Markable (length f.bytes) d m.transitions
-markable_node f a m d e h room = record { room = room; inside = λ t mem. omega (arith, node_target_lt f a m e t mem, h.inside) }
+    → Unpassed (length f.bytes) d a → Markable (length f.bytes) d m.transitions
+markable_node f a m d e h room fresh =
+    record {
+      room = room;
+      inside = λ t mem. omega (arith, node_target_lt f a m e t mem, h.inside);
+      fresh = λ t mem. fresh.low t.addr (node_target_lt f a m e t mem) (omega (arith, node_target_lt f a m e t mem, h.inside));
+    }
 
 -- ---- a node with one transition
 
 module _ {n : ℕ} {ts : List Transition} {d : List ℕ} (ok : Markable n d ts) (one : length ts ≡ 1) (a : ℕ) (a_is : a ≡ (transition_at ts 0).addr) where
   pub single_inside : a < length d
   single_inside = mark_room ok 0 (omega (arith, one)) a a_is (marked_none _ 0 _ _)
+
+  pub single_fresh : get_or d a 0 ≤ 2
+  single_fresh = mark_fresh ok 0 (omega (arith, one)) a a_is (marked_none _ 0 _ _) (omega arith)
 
   pub single_marked : (mark x : ℕ) → x ≡ max (get_or d a 0) mark → MarksTargets n mark ts d (set d a x)
   single_marked mark x x_is =

@@ -1,7 +1,10 @@
 -- One node, by the entries of its targets: what is known after the first i of its transitions.
 --     SurveyedTo ..       their largest depth and their largest sum
 -- Assumes nothing.
-use Rattle.std.specs.Prelude.{Option, Some}
+use Rattle.std.specs.Prelude.{Option, Some, None, cond, Bool, true, false, ◌&&◌, leb, ◌-◌, ◌%◌, ◌^◌}
+use Rattle.std.proofs.Common.{le-leb}
+use Rattle.std.proofs.Math.Decide.{dec_le}
+use Rattle.std.proofs.lemmas.Bool.{lt-leb}
 use mathlib.Core.Path.{◌≡◌, refl, sym, ap, ◌∙◌, subst}
 use mathlib.Core.Logic.{⊎_elim}
 use mathlib.Core.List.Memᴰ
@@ -12,7 +15,7 @@ use native.Mathlib.Omega.{arith}
 use lib.ListN.{length, take}
 use lib.Seq.{take-suc, take_all}
 use Rattle.format.specs.declared.Transition.{Transition}
-use Rattle.format.specs.Limits.{max_path}
+use Rattle.format.specs.Limits.{max_path, max_sum}
 use Rattle.format.specs.Node.{transition_at}
 use Rattle.format.specs.Laws.TransitionLaws.{at_member}
 use Rattle.format.specs.Tables.{max_of}
@@ -105,6 +108,20 @@ surveyed_all {d} {s} {out} {ts} {i} {best} {total} h l =
       depth = ap (λ u. u + 1) (h.best_is ∙ ap (deepest d) all);
       total = h.total_is ∙ ap (λ u. total_as (heaviest s out u)) all;
     }
+
+-- ---- a total by a flag
+
+-- one sum more, which is added past the limit or not
+pub raised_flag : (fits : Bool) (most w s : ℕ) → w ≤ max_sum → s ≤ max_sum
+    → cond (fits && leb w (max_sum - s)) (Some (max most ((w + s) % 2 ^ 64))) None ≡ raised_by (cond fits (Some most) None) (w + s)
+raised_flag false most w s lw ls = refl
+raised_flag true most w s lw ls =
+    elim (dec_le (w + s) max_sum) [
+      | yes p ↦
+          let same : (w + s) % 2 ^ 64 ≡ w + s = omega arith in
+          rw (le-leb w (max_sum - s) (omega arith), le-leb (w + s) max_sum p, same) refl
+      | no p ↦ rw (lt-leb w (max_sum - s) (omega arith), lt-leb (w + s) max_sum (omega arith)) refl
+    ]
 
 -- ---- a node with one transition
 

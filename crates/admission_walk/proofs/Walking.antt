@@ -19,7 +19,7 @@ use Rattle.format.specs.Admitted.{Chain, last, next}
 use Rattle.format.specs.Laws.ChainLaws.{ChainLast, ChainNext, chain_cases}
 use Rattle.format.specs.Laws.ReachedLaws.{reached_root, reached_by}
 use Rattle.admission_node.specs.Entries.{TargetIn, MarksTargets}
-use Rattle.admission_walk.specs.Walks.{Hit, Live, Source, Entered, Walkable, ChainMarked}
+use Rattle.admission_walk.specs.Walks.{Hit, Live, Source, Entered, Walkable}
 use Rattle.admission_node.specs.KeptLaws.{at_set}
 
 -- ---- one step of a chain, where the node is known
@@ -249,8 +249,8 @@ module _ {f : Fst} {d : List ℕ} {a : ℕ} {l : List ℕ} (w : Walking f d a l)
               top = hit_more f.root w.marks.top;
             }
 
-        pub walking_last : m.first ≡ first_node → ChainMarked f (set d₁ a (mark + 2)) (l ++ (a ∷ []))
-        walking_last done = record { chain = w.whole (a ∷ []) (last m e done); marks = entered_more }
+        pub walking_last : m.first ≡ first_node → Chain f f.root (l ++ (a ∷ [])) × Entered f (set d₁ a (mark + 2)) (l ++ (a ∷ []))
+        walking_last done = (w.whole (a ∷ []) (last m e done), entered_more)
 
         pub walking_next : (b : ℕ) → ¬ (m.first ≡ first_node) → b ≡ m.first - 1 → Walking f (set d₁ a (mark + 2)) b (l ++ (a ∷ []))
         walking_next b more b_is =

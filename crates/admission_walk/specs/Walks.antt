@@ -2,9 +2,12 @@
 -- reached nodes are found; here it is by marks in the depths (admission_node `Entries`).
 --     Hit x, Live d a         the mark of a reached address; the mark 4 at a
 --     Entered f d l           the marks once the nodes of l are passed
+--     marks_in d              the marks of a table, without the links
+--     Above l j k             of the nodes of l the next one above j stands k above it
+--     Linked n d l            the links of the nodes of l, and no link elsewhere
 --     Walked                  the pass's answer
 -- Assumes nothing.
-use Rattle.std.specs.Prelude.{Ok, Err, Result, ⊤, ◌≡◌, ◌⊎◌, ℕ, ◌≤◌, ◌<◌, length, get_or}
+use Rattle.std.specs.Prelude.{Ok, Err, Result, ⊤, ◌≡◌, ◌⊎◌, ℕ, ◌+◌, ◌/◌, ◌%◌, ◌≤◌, ◌<◌, length, get_or, map}
 use mathlib.Core.List.{List, Memᴰ}
 use Rattle.format.specs.declared.Transition.{Transition}
 use Rattle.format.specs.Node.{Node, sound}
@@ -42,6 +45,25 @@ pub record Entered (f : Fst) (d l : List ℕ) : Type 0 where
   pub hits : (j : ℕ) (m : Node) (t : Transition) → Memᴰ j l → Live d j → node_in f j ≡ sound m → Memᴰ t m.transitions → Hit (get_or d t.addr 0)
   pub top : Hit (get_or d f.root 0)
 
+-- ---- the links
+
+-- the marks 1 and 2 stand alone; above 3 and 4 stands the link
+abbrev pub marks_in : List ℕ → List ℕ
+marks_in d = map (λ x. x % 8) d
+
+-- a distance as a link, or 0 where it does not fit
+pub record LinkOf (gap r : ℕ) : Type 0 where
+  pub small : r < 8192
+  pub is : (r ≡ 0) ⊎ (r ≡ gap)
+
+pub record Above (l : List ℕ) (j k : ℕ) : Type 0 where
+  pub on : Memᴰ (j + k) l
+  pub none : (i : ℕ) → j < i → i < j + k → ¬ Memᴰ i l
+
+pub record Linked (n : ℕ) (d l : List ℕ) : Type 0 where
+  pub off : (j : ℕ) → j < n → ¬ Memᴰ j l → get_or d j 0 ≤ 2
+  pub link : (j : ℕ) → Memᴰ j l → (get_or d j 0 / 8 ≡ 0) ⊎ Above l j (get_or d j 0 / 8)
+
 -- ---- the walk down the chain
 
 pub record Walkable (f : Fst) (d : List ℕ) : Type 0 where
@@ -52,7 +74,8 @@ pub record Walkable (f : Fst) (d : List ℕ) : Type 0 where
 
 pub record ChainMarked (f : Fst) (d l : List ℕ) : Type 0 where
   pub chain : Chain f f.root l
-  pub marks : Entered f d l
+  pub marks : Entered f (marks_in d) l
+  pub links : Linked (length f.bytes) d l
 
 abbrev pub Walked : Fst → List ℕ → Result ⊤ Unsound → Type 0
 Walked f d (Ok tt) = (l : List ℕ) × ChainMarked f d l

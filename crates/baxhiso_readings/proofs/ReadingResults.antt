@@ -18,13 +18,13 @@ use Rattle.range_fill.specs.RangedRows.{RangedBy}
 use Rattle.format.specs.Strings as F
 use Rattle.stream_start.specs.Views.{bound_is}
 use Rattle.stream_step.specs.Stepped.{answer_as}
+use Rattle.stream_next.specs.Going.{step_of}
 use Rattle.stream.specs.declared.Plain.{Plain}
-use Rattle.stream_step.specs.declared.Step.{Step}
 use Rattle.stream.specs.Plains.{plain_is, begun_is, PlainStepped}
-use Rattle.stream_arrays.specs.Arrays.{kind_is, Held, PlainPut}
+use Rattle.stream_arrays.specs.Arrays.{kind_is, Held, PlainPut, held_plain}
 use Rattle.stream_arrays.specs.ArraysLaws.{plain_back}
 use Rattle.baxhiso.specs.Exports.{OK, code, done_of}
-use Rattle.baxhiso_readings.specs.Readings.{CountLeaves, StartLeaves, next_result, next_len, next_value, result_of, len_of, value_of, AnswerLeaves, NextLeaves}
+use Rattle.baxhiso_readings.specs.Readings.{CountLeaves, StartLeaves, next_result, next_len, next_value, result_of, len_of, value_of, NextLeaves}
 use Rattle.baxhiso_readings.specs.ReadingsLaws.{counted_not_0}
 
 -- ---- the table of keys
@@ -76,16 +76,17 @@ value_is (key k v) x = refl
 value_is end x = refl
 value_is (R.Answer.refused n) x = refl
 
-pub next_leaves : {w : P.PlainStep} {k₀ k : List ℕ} {len₀ len v₀ v : ℕ} {s : Step Plain} → PlainStepped w k₀ k s → (h : Held) (n : List ℕ)
-    → PlainPut s.reading h n → (r z : ℤ) → r ≡ z → AnswerLeaves s.answer len₀ len v₀ v z → NextLeaves w h n k₀ k len₀ len v₀ v r
-next_leaves {w} {k₀} {k} {len₀} {len} {v₀} {v} {s} st h n put r z same left =
+-- a refusal leaves the arrays, the buffer, the length and the value as they were
+pub next_refused : {w : P.PlainStep} {k₀ k : List ℕ} (p q : Plain) (m : Refusal) → PlainStepped w k₀ k (step_of p q (Err m)) → (h : Held) (n : List ℕ)
+    → held_plain h n ≡ plain_is p → (len v : ℕ) (r z : ℤ) → r ≡ z → z ≡ code m → NextLeaves w h n k₀ k len len v v r
+next_refused {w} {k₀} {k} p q m st h n held len v r z same is_z =
     let is = st.gave.answer in
     record {
-      result = same ∙ left.result ∙ ap result_of is ∙ result_is w.answer;
-      reading = plain_back put ∙ st.gave.plain;
+      result = same ∙ is_z ∙ ap result_of is ∙ result_is w.answer;
+      reading = held ∙ st.gave.plain;
       buffer = st.buffer;
-      len_is = left.len_is ∙ ap (λ a. len_of a len₀) is ∙ len_is w.answer len₀;
-      value_is = left.value_is ∙ ap (λ a. value_of a v₀) is ∙ value_is w.answer v₀;
+      len_is = ap (λ a. len_of a len) is ∙ len_is w.answer len;
+      value_is = ap (λ a. value_of a v) is ∙ value_is w.answer v;
     }
 
 -- ---- a range

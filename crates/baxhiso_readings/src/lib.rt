@@ -85,23 +85,18 @@ pub fn fst_next_arrays(
         trans.new outs.new) keys.new key.old key.new
         len.old len.new value.old value.new result }
 {
-    let h = *head;
-    let b = *bound;
-    let a = *addrs;
-    let i = *inps;
-    let t = *trans;
-    let o = *outs;
-    let n = *keys;
-    let reading = reading_of(h, b, a, i, t, o);
-    let plain = Plain {
-        reading,
-        keys: n[0],
+    let mut plain = Plain {
+        reading: reading_of(*head, *bound, *addrs, *inps, *trans, *outs),
+        keys: keys[0],
     };
-    let step = stream::next(file, plain, key);
-    let after = step.reading;
-    put_plain(after, head, bound, addrs, inps, trans, outs, keys);
-    let answer = step.answer;
-    answered(answer, len, value)
+    // on the one copy, which goes back into the arrays only where the call is not refused
+    match stream::turn(file, &mut plain, key) {
+        Err(why) => code(why),
+        Ok(found) => {
+            put_plain(plain, head, bound, addrs, inps, trans, outs, keys);
+            answered(Ok(found), len, value)
+        }
+    }
 }
 
 // ---- a range

@@ -35,8 +35,7 @@ use Rattle.ops_pairs.specs.declared.Pairs.{Pairs}
 use Rattle.ops_pairs.specs.PairsLaws.{the_values, the_files}
 use Rattle.ops_decide.specs.declared.Op.{Op}
 use Rattle.ops_decide.specs.Verdicts.{op_is}
-use Rattle.ops_rounds.specs.declared.Called.{Called}
-use Rattle.ops_rounds.specs.Turns.{ItemIs, CalledAs, CameBy, CalledBy}
+use Rattle.ops_rounds.specs.Turns.{Called, ItemIs, CalledAs, CameBy, CalledBy}
 use Rattle.ops.specs.declared.Cards.{Cards}
 use Rattle.ops.specs.declared.Step.{Step}
 use Rattle.ops.specs.Merges.{count_test, BegunAs, BegunBy, refused_step, held_item, MergedBy}

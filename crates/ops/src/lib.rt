@@ -90,13 +90,13 @@ pub fn next_item(files: [&[u8]; 8], cards: Cards, key: &mut [u8]) -> Step
     if !is_count(cards.count) {
         return refused(Refusal::Cards, cards);
     }
-    let held = cards.cards;
-    let called = match rounds(files, op, count, held, key.len()) {
+    // a copy, so that a refusal gives the cards back as they were
+    let mut after = cards.cards;
+    let called = match rounds(files, op, count, &mut after, key.len()) {
         Err(why) => return refused(why, cards),
         Ok(called) => called,
     };
-    let after = called.cards;
-    let Some((head, pairs)) = called.item else {
+    let Some((head, pairs)) = called else {
         return Step {
             answer: Ok(None),
             cards: Cards {

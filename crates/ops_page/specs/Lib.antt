@@ -1,2 +1,3 @@
 pub mod PagedItems
 pub mod PageLaws
+pub mod LivePages

@@ -5,7 +5,7 @@
 --     steps_less, item_less, round_less       the steps leave no more to do, and the measure falls
 --     filled_more, filled_end, filled_refused the ways out
 --     paged_as, refused_by                    by an equation between pages; a refusal before any item
---     room_of, page_began, page_refused       what has_room shows; a page by what its starts came to
+--     room_of                                 what has_room shows
 -- Assumes nothing.
 use Rattle.std.specs.Prelude.{◌≡◌, refl, Bool, true, false, cond, ◌&&◌, ◌||◌, List, [], ◌∷◌, ◌++◌, ℕ, ◌+◌, ◌-◌, ◌*◌, min, ◌≤◌, ◌<◌, ltb, leb, length, take, drop, set, replicate, Ok, Err, Result}
 use Rattle.std.proofs.Common.{sym, ap, ap₂, subst, ◌∙◌, arith, length-take, length-append, length-set, lt-ltb, le-leb}
@@ -23,7 +23,7 @@ use Rattle.ops_spec.specs.Ops as O
 use Rattle.ops_spec.specs.Ops.{Indexed, indexed, next_item, after_steps, step_all, by_verdict, decide}
 use Rattle.ops_spec.specs.OpsLists.{Item, item_is}
 use Rattle.ops_spec.specs.OpsFuelLaws.{rounds_by, rounds_by_lem, next_item_by}
-use Rattle.ops_paging.specs.ItemPaging.{ItemPage, item_page, refused_items, Starts, fold, room_test, page_from, lines_of, eight_of, eights_after, index_of, value_of}
+use Rattle.ops_paging.specs.ItemPaging.{ItemPage, item_page, refused_items, fold, room_test, lines_of, eight_of, eights_after, index_of, value_of}
 use Rattle.ops_paging.proofs.ItemFoldLaws.{Folded, folded_none, folded_item, folded_more, folded_end, folded_refused, lines_snoc, eights_none, eights_snoc}
 use Rattle.ops_keys.specs.declared.Head.{Head}
 use Rattle.ops_keys.specs.declared.Place.{Place}
@@ -43,7 +43,6 @@ use Rattle.ops_decide.specs.declared.Verdict.TheVariants.{This, NoMore, Another}
 use Rattle.ops_decide.specs.declared.Verdict.{Verdict}
 use Rattle.ops_decide.specs.Verdicts.{DecidedBy}
 use Rattle.ops_decide.specs.VerdictsLaws.{lent_length, lent_sees, lent_ready, ThisOf, AnotherOf, this_by, over_by, another_by}
-use Rattle.ops_starts.specs.StartedCards.{StartsBy}
 use Rattle.ops_put.specs.ItemPut.{HasPlace, ItemPut}
 use Rattle.range_fill.specs.declared.Stop.TheVariants.{End, More}
 use Rattle.range_fill.specs.declared.Ranged.{Ranged}
@@ -347,10 +346,3 @@ room_of most rows counts numbers values e =
     (decides_and (leb (8 * most) (length numbers)) (leb (8 * most) (length values)) (decides_le (8 * most) (length numbers)) (decides_le (8 * most) (length values))))
     ).yes e in
     record { row = d.0; count = d.1.0; number = d.1.1.0; value = d.1.1.1 }
-
-module _ (op : O.Op) (most : ℕ) (fs : List (List ℕ)) (n : ℕ) (m : Starts) (r : Result (List Card) Refusal) (by : StartsBy fs n m r) where
-  pub page_began : (cs : List Card) → r ≡ Ok cs → fold op (cards_is fs n cs) most ≡ page_from op most m
-  page_began cs e = sym (ap (page_from op most) (subst (StartsBy fs n m) e by))
-
-  pub page_refused : (c : Refusal) → r ≡ Err c → page_from op most m ≡ refused_items c
-  page_refused c e = ap (page_from op most) (subst (StartsBy fs n m) e by)

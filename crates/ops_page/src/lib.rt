@@ -4,34 +4,42 @@
 // struct would be made at the border only to be taken apart in ops_put `put_item`.
 // The two bounds are two values and no pair: C lends them one by one, and a start takes them so, since it walks along the lower one and keeps the upper one.
 // What `fill` and `items_from` ask of the count and of these four is what `items` tests before it calls them.
-// The cards in use are the first count of eight, passed whole by value: fixed memory.
+// The readings in use are the first count of eight: fixed memory. What is seen of them stands beside them, and the bytes of their keys.
 #![tactic(auto)]
 
-ghost use Rattle.std.specs.Prelude.{map, ◌≤◌, ◌<◌, length, take};
+ghost use Rattle.std.specs.Prelude.{List, map, ◌≤◌, ◌<◌, length, take};
 ghost use Rattle.ops_paging.specs.ItemPaging as P;
 ghost use Rattle.stream_start.specs.Views.{bound_of};
+ghost use Rattle.ops_round.specs.declared.Card.{Card};
 ghost use Rattle.ops_round.specs.Cards.{cards_is};
 ghost use Rattle.ops_decide.specs.Verdicts.{op_is};
+ghost use Rattle.ops_starts.specs.StartedCards.{Begun};
 ghost use Rattle.ops_page.specs.PagedItems.{HasRoom, PagedBy};
+ghost use Rattle.ops_page.specs.LivePages.{Beginning};
 
-use format::{MAX_KEY, Refusal};
+use format::Refusal;
 use ops_decide::{Op, Verdict, decide, is_count};
-use ops_keys::{KEYS, head_at};
+use ops_keys::{KEYS, Place, head_at};
+use ops_live::{Live, no_live};
+use ops_lives::step_lives;
 use ops_put::{has_room, put_item};
-use ops_round::Card;
-use ops_seen::see;
+use ops_round::Slot;
+use ops_seen::Seen;
 use ops_starts::starts;
-use ops_turn::step_cards;
 use range_fill::{Ranged, Stop, refused};
 use std::ops::Bound;
 
-// The items of cards, up to `most`: how many were written, and how it stopped, as a range says it. A refusal stands beside the items before it. Each turn
-// is a round, which steps the cards whose keys are used up and decides. The cards stay in one place, and what is seen of them stands beside them.
+// The items of readings that stand at their starts, up to `most`: how many were written, and how it stopped, as a range says it. A refusal stands beside the
+// items before it. Each turn is a round, which steps the readings whose keys are used up and decides. The readings stay in one place, where each step finds
+// its levels as the one before left them, and what is seen of them stands beside them.
 fn fill(
     files: [&[u8]; 8],
     op: Op,
     count: usize,
-    cards: [Card; 8],
+    upper: Bound<&[u8]>,
+    lives: &mut [Live; 8],
+    keys: &mut [u8; KEYS],
+    seen: &mut [Seen; 8],
     most: usize,
     rows: &mut [u8],
     counts: &mut [u8],
@@ -40,23 +48,23 @@ fn fill(
 ) -> Ranged
     requires count_nonzero { (0 < count) × (count ≤ 8) }
     requires has_room { HasRoom most rows.old counts.old numbers.old values.old }
-    ensures { PagedBy (P.fold (op_is op) (cards_is (map (λ f. f.now) files.entry) count cards) most)
+    requires began { Beginning (map (λ f. f.now) files) count (bound_of upper) lives.old keys.old seen.old }
+    ensures { (cards : List Card) → Begun (map (λ f. f.now) files.entry) count (bound_of upper.entry)
+        lives.old keys.old seen.old cards
+        → PagedBy (P.fold (op_is op) (cards_is (map (λ f. f.now) files.entry) count cards) most)
         rows.old rows.new counts.old counts.new
         numbers.old numbers.new values.old values.new result }
 {
-    let mut all = cards;
-    let mut keys = [0u8; KEYS];
-    let mut seen = see(count, cards, &mut keys);
     let mut done = 0;
     // by `while`: a turn is a round, and not each writes an item
     while done < most {
-        if let Err(why) = step_cards(files, count, &mut all, &mut keys, &mut seen, MAX_KEY) {
+        if let Err(why) = step_lives(files, count, upper, lives, keys, seen) {
             return Ranged {
                 count: done,
                 stop: Err(why),
             };
         }
-        let verdict = decide(op, &keys, &mut seen[..count]);
+        let verdict = decide(op, keys, &mut seen[..count]);
         match verdict {
             Verdict::NoMore => {
                 return Ranged {
@@ -65,7 +73,7 @@ fn fill(
                 };
             }
             Verdict::This(place, pairs) => {
-                let key = head_at(&keys, place);
+                let key = head_at(keys, place);
                 put_item(key, pairs, done, rows, counts, numbers, values);
                 done += 1;
                 continue;
@@ -79,7 +87,7 @@ fn fill(
     }
 }
 
-// The calls, where the count is one to eight and the buffers have room.
+// The starts and the calls, where the count is one to eight and the buffers have room.
 fn items_from(
     op: Op,
     count: usize,
@@ -100,9 +108,19 @@ fn items_from(
         rows.old rows.new counts.old counts.new
         numbers.old numbers.new values.old values.new result }
 {
-    match starts(files, count, lower, upper) {
+    let mut lives = [no_live(); 8];
+    let mut keys = [0u8; KEYS];
+    let blank = Seen {
+        key: Place { at: 0, levels: 0 },
+        slot: Slot::Used,
+    };
+    let mut seen = [blank; 8];
+    match starts(files, count, lower, upper, &mut lives, &mut keys, &mut seen) {
         Err(why) => refused(why),
-        Ok(cards) => fill(files, op, count, cards, most, rows, counts, numbers, values),
+        Ok(()) => fill(
+            files, op, count, upper, &mut lives, &mut keys, &mut seen, most, rows, counts, numbers,
+            values,
+        ),
     }
 }
 

@@ -1,4 +1,5 @@
 -- The rounds of a call, against `rounds` (crate ops_spec).
+--     Called, called_with cs r           an item, or none at the end, with the cards afterwards
 --     ItemIs fs n m k p cs               m is an item, with its key and its values as they are held
 --     CalledBy fs n cs m r               the rounds of a call with the cards cs whose definition answers m
 -- Assumes nothing.
@@ -13,7 +14,15 @@ use Rattle.ops_pairs.specs.declared.Pairs.{Pairs}
 use Rattle.ops_pairs.specs.Pairs.{PairsAre}
 use Rattle.ops_round.specs.declared.Card.{Card}
 use Rattle.ops_round.specs.Cards.{cards_is}
-use Rattle.ops_rounds.specs.declared.Called.{Called}
+
+-- what a call comes to, with the cards that it leaves
+pub record Called : Type 0 where
+  pub item : Option (Head × Pairs)
+  pub cards : List Card
+
+abbrev pub called_with : List Card → Result (Option (Head × Pairs)) Refusal → Result Called Refusal
+called_with cs (Ok i) = Ok (record { item = i; cards = cs })
+called_with cs (Err c) = Err c
 
 -- an item, with its values as they are held
 pub record ItemIs (fs : List (List ℕ)) (n : ℕ) (m : O.Merged) (k : Head) (p : Pairs) (cs : List Card) : Type 0 where

@@ -3,12 +3,12 @@
 --     seeing-.., dealing-..        at its start, after a card, and at its end
 -- Assumes nothing.
 use mathlib.Core.Path.{◌≡◌, refl, sym, ap, ◌∙◌, subst}
-use mathlib.Core.Logic.{⊎_elim, ◌⊎◌}
+use mathlib.Core.Logic.{⊎_elim}
 use mathlib.Core.List.{List, [], ◌∷◌}
 use Prim.Native.Nat.{ℕ, zero, suc, ◌+◌, ◌<◌, ◌≤◌}
 use native.Mathlib.Omega.{arith}
-use lib.ListN.{length, take, get_or, set, length-set}
-use lib.Seq.{get_or-set_same, get_or-set_other, get_or-take}
+use lib.ListN.{length, get_or, set, length-set}
+use lib.Seq.{get_or-set_same, get_or-set_other}
 use Rattle.reading.proofs.RunLaws.{lt_or}
 use Rattle.ops_round.specs.declared.Card.{Card}
 use Rattle.ops_seen.specs.declared.Seen.{Seen}
@@ -78,7 +78,7 @@ pub record Dealing (n : ℕ) (cs : List Card) (ss : List Seen) (all : List Card)
 pub dealing_none : (n : ℕ) (cs : List Card) (ss : List Seen) → length cs ≡ 8 → Dealing n cs ss cs 0
 dealing_none n cs ss len = record { within = omega arith; eight = len; done = λ j d e h. absurd (omega arith); rest = λ j d h. refl }
 
-dealing_on : (n : ℕ) (cs : List Card) (ss : List Seen) (all : List Card) (i : ℕ) (b : Card) (q : Seen) (r : Card) → n ≤ 8 → Dealing n cs ss all i → i < n
+pub dealing_on : (n : ℕ) (cs : List Card) (ss : List Seen) (all : List Card) (i : ℕ) (b : Card) (q : Seen) (r : Card) → n ≤ 8 → Dealing n cs ss all i → i < n
     → r ≡ dealt_card (get_or all i b) (get_or ss i q) → length ss ≡ 8 → Dealing n cs ss (set all i r) (i + 1)
 dealing_on n cs ss all i b q r small D h is held =
     let eight = D.eight in
@@ -100,12 +100,6 @@ dealing_on n cs ss all i b q r small D h is held =
         ∙ is
         ∙ ap (λ (c : Card). dealt_card c (get_or ss i q)) (default_any all i b d (omega arith) ∙ D.rest i d (omega arith))
         ∙ ap (dealt_card (get_or cs i d)) (default_any ss i q e (omega arith)))
-
--- the slot is read in the part in use
-pub dealing_used : (n : ℕ) (cs : List Card) (ss : List Seen) (all : List Card) (i : ℕ) (b : Card) (q : Seen) (r : Card) → n ≤ 8 → Dealing n cs ss all i → i < n
-    → r ≡ dealt_card (get_or all i b) (get_or (take n ss) i q) → length ss ≡ 8 → Dealing n cs ss (set all i r) (i + 1)
-dealing_used n cs ss all i b q r small D h is held =
-    dealing_on n cs ss all i b q r small D h (is ∙ ap (dealt_card (get_or all i b)) (get_or-take n ss i q h)) held
 
 pub dealing_all : (n : ℕ) (cs : List Card) (ss : List Seen) (all : List Card) (i : ℕ) → n ≤ i → Dealing n cs ss all i → AllDealt n cs ss all
 dealing_all n cs ss all i h D = record { at = λ j d e k. D.done j d e (omega arith); eight = D.eight }

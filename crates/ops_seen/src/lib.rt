@@ -4,7 +4,7 @@
 #![tactic(auto)]
 
 ghost use Rattle.std.specs.Prelude.{◌≡◌, ◌≤◌, ◌<◌};
-ghost use Rattle.ops_seen.specs.Sights.{dealt_card, SeenOf, AllSeen, AllDealt, UsedTest, LongTest};
+ghost use Rattle.ops_seen.specs.Sights.{SeenOf, AllSeen, AllDealt, UsedTest, LongTest};
 
 use format::LEVELS;
 use ops_keys::{KEYS, Place, put_bytes};
@@ -30,9 +30,9 @@ fn show(card: Card, i: usize, keys: &mut [u8; KEYS]) -> Seen
 }
 
 // What is seen of the first count cards.
-pub fn see(count: usize, cards: [Card; 8], keys: &mut [u8; KEYS]) -> [Seen; 8]
+pub fn see(count: usize, cards: &[Card; 8], keys: &mut [u8; KEYS]) -> [Seen; 8]
     requires { count ≤ 8 }
-    ensures { AllSeen count cards keys.new result }
+    ensures { AllSeen count cards.now keys.new result }
 {
     let blank = Seen {
         key: Place { at: 0, levels: 0 },
@@ -59,24 +59,13 @@ pub fn is_long(seen: Seen) -> bool
     matches!(seen.slot, Slot::Holds(_)) && LEVELS < seen.key.levels
 }
 
-// A card with the slot that is seen.
-fn dealt(card: Card, seen: Seen) -> Card
-    ensures { result ≡ dealt_card card seen }
-{
-    Card {
-        slot: seen.slot,
-        ..card
-    }
-}
-
-// The cards with the slots that are seen of the first count.
-pub fn deal(count: usize, cards: [Card; 8], seen: [Seen; 8]) -> [Card; 8]
+// Gives the first count cards the slots that are seen of them. The cards stay where they stand: a card is 4 KB.
+pub fn deal(count: usize, cards: &mut [Card; 8], seen: &[Seen; 8])
     requires { count ≤ 8 }
-    ensures { AllDealt count cards seen result }
+    ensures { AllDealt count cards.old seen.now cards.new }
 {
-    let mut all = cards;
-    for (i, sight) in seen[..count].iter().enumerate() {
-        all[i] = dealt(all[i], *sight);
+    // by index: two arrays zipped and cut at count would say the same in more words
+    for i in 0..count {
+        cards[i].slot = seen[i].slot;
     }
-    all
 }

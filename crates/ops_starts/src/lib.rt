@@ -1,28 +1,19 @@
-// The starts of a page of items: a card for each file, its reading between two bounds that all files share, still to be stepped.
+// The starts of a page of items: a reading for each file, between two bounds that all files share, still to be stepped.
 // The two bounds are two values and no pair: C lends them one by one, and a start takes them so, since it walks along the lower one and keeps the upper one.
-// The cards in use are the first count of eight, passed whole by value: fixed memory.
+// The readings in use are the first count of eight: fixed memory. What is seen of them stands beside them, and the bytes of their keys.
 #![tactic(auto)]
 
 ghost use Rattle.std.specs.Prelude.{◌≡◌, map, ◌≤◌, take};
 ghost use Rattle.ops_paging.specs.ItemPaging as P;
 ghost use Rattle.stream_start.specs.Views.{bound_of};
-ghost use Rattle.ops_starts.specs.StartedCards.{wide_is, StartsBy};
+ghost use Rattle.ops_starts.specs.StartedCards.{StartsBy};
 
 use format::Refusal;
-use ops_round::{Card, unstepped};
+use ops_keys::KEYS;
+use ops_live::Live;
+use ops_round::Slot;
+use ops_seen::Seen;
 use std::ops::Bound;
-use stream::Plain;
-use stream_start::Reading;
-
-// As many keys may come as a number can say: a page is lent no table of keys.
-const ANY: u64 = u64::MAX;
-
-// The card of a reading that is still to be stepped, with no table of keys.
-fn wide(reading: Reading) -> Card
-    ensures { result ≡ wide_is reading }
-{
-    unstepped(Plain { reading, keys: ANY })
-}
 
 // Starts a reading of each of the first count files. The first refusal in file order ends it: opening's refusals, BOUND, and those of the walk along the
 // lower bound.
@@ -31,16 +22,23 @@ pub fn starts(
     count: usize,
     lower: Bound<&[u8]>,
     upper: Bound<&[u8]>,
-) -> Result<[Card; 8], Refusal>
+    lives: &mut [Live; 8],
+    keys: &mut [u8; KEYS],
+    seen: &mut [Seen; 8],
+) -> Result<(), Refusal>
     requires { count ≤ 8 }
-    ensures { StartsBy (map (λ f. f.now) files.entry) count
+    ensures { StartsBy (map (λ f. f.now) files.entry) count (bound_of upper.entry)
         (P.start_all (bound_of lower.entry) (bound_of upper.entry)
-        (take count (map (λ f. f.now) files.entry))) result }
+        (take count (map (λ f. f.now) files.entry))) lives.new keys.new seen.new result }
 {
-    let mut cards = [wide(stream_start::no_reading()); 8];
-    for (i, file) in files[..count].iter().enumerate() {
-        let started = stream_start::start(*file, lower, upper);
-        cards[i] = wide(started?);
+    // by index: i is the number of the key's row too, and four arrays zipped, cut at count and numbered would say the same in more words
+    for i in 0..count {
+        lives[i].begin(files[i], lower, upper)?;
+        let key = lives[i].put_key(i, keys);
+        seen[i] = Seen {
+            key,
+            slot: Slot::Used,
+        };
     }
-    Ok(cards)
+    Ok(())
 }

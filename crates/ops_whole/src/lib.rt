@@ -4,7 +4,7 @@
 #![tactic(auto)]
 
 use format::Refusal;
-use ops::{Cards, Item};
+use ops::{Cards, Item, Step};
 use ops_decide::{Op, op_of};
 use stream::Plain;
 use stream_arrays::bound_with;
@@ -103,19 +103,22 @@ fn items(
     numbers: &mut [u64],
     followed: &mut [u64; 8],
 ) -> u64 {
-    let mut cards = first;
+    // the cards stay in what a call gave back: they are 33 KB, and are not copied out for the next call
+    let mut step = Step {
+        answer: Ok(None),
+        cards: first,
+    };
     for (n, (row, item)) in rows
         .chunks_exact_mut(ROW)
         .zip(numbers.chunks_exact_mut(ITEM))
         .enumerate()
     {
         let mut key = [0u8; 255];
-        let step = ops::next_item(files, cards, &mut key);
-        cards = step.cards;
+        step = ops::next_item(files, step.cards, &mut key);
         match step.answer {
             Err(why) => return REFUSED + u64::from(u8::from(why)),
             Ok(None) => {
-                *followed = totals(cards);
+                *followed = totals(step.cards);
                 return n as u64;
             }
             Ok(Some(found)) => put_item(found, &key, row, item),

@@ -1,11 +1,11 @@
 -- A call of next, and then the look at its answer: a law for each case.
---     gave_too_many                a key where the number says that none is to come
---     gave_key, gave_other         a key, or any other answer, from a reading that holds n keys to come
+--     stepped_by                   what a call gives once its answer is known
+--     gave_key                     a key from a reading that holds n keys to come
 --     key_room, room_same          a key comes only where the buffer has room for every key, and then the room does not matter
 --     some_left, none_left         a key lowers the number, which is not 0; a call where it is 0
 -- Assumes nothing.
 use mathlib.Core.Path.{◌≡◌, refl, sym, ap, ◌∙◌, subst}
-use Rattle.std.specs.Prelude.{Ok, Err, Some}
+use Rattle.std.specs.Prelude.{Ok, Some, Result, Option as Maybe}
 use Rattle.format.specs.declared.Refusal.{Refusal}
 use mathlib.Core.Bool.{Bool, true, false, cond}
 use mathlib.Core.Logic.{◌⊎◌, inl, inr}
@@ -27,8 +27,13 @@ use Rattle.stream_start.specs.Views.{view_is}
 use Rattle.stream_step.specs.declared.Step.{Step}
 use Rattle.stream_step.specs.Stepped.{answer_as, Stepped}
 use Rattle.stream_step.specs.SteppedLaws.{told, step_key}
+use Rattle.stream_next.specs.Going.{step_of}
 use Rattle.stream.specs.declared.Plain.{Plain}
 use Rattle.stream.specs.Plains.{plain_is, CallGave, PlainStepped}
+
+-- a call on a reading that stays where it is, once its answer is known
+pub stepped_by : {w : R.Step} {buf₀ buf : List ℕ} (r₀ r : Reading) {x y : Result (Maybe (ℕ × ℕ)) Refusal} → Stepped w buf₀ buf (step_of r₀ r x) → x ≡ y → Stepped w buf₀ buf (step_of r₀ r y)
+stepped_by {w} {buf₀} {buf} r₀ r h e = subst (λ z. Stepped w buf₀ buf (step_of r₀ r z)) e h
 
 gave_of : {w w' : P.PlainStep} {r : Step Plain} → w ≡ w' → r.answer ≡ answer_as w'.answer → plain_is r.reading ≡ w'.reading → CallGave w r
 gave_of {w} {w'} {r} e a p = subst (λ x. CallGave x r) (sym e) (record { answer = a; plain = p })
@@ -36,12 +41,6 @@ gave_of {w} {w'} {r} e a p = subst (λ x. CallGave x r) (sym e) (record { answer
 module _ {w : R.Step} {buf₀ buf : List ℕ} {o : Step Reading} (h : Stepped w buf₀ buf o) (r : Step Plain) (v : View) (n : ℕ) where
   counted_as : (a : R.Answer) → w.answer ≡ a → counted_step (plain_with v n) w ≡ counting (plain_with v n) w.reading a
   counted_as a e = ap (counting (plain_with v n) w.reading) e
-
-  pub gave_too_many : (m u : ℕ) → o.answer ≡ Ok (Some (m, u)) → n ≡ 0 → r.answer ≡ Err STATE → plain_is r.reading ≡ plain_with v n → CallGave (counted_step (plain_with v n) w) r
-  gave_too_many m u e z is same =
-      let q = step_key (told h) m u e in
-      let none : counting (plain_with v n) w.reading (key q.0 u) ≡ record { answer = R.Answer.refused STATE; reading = plain_with v n } = rw z in
-      gave_of (counted_as (key q.0 u) q.1 ∙ none) is same
 
   pub gave_key : (m u : ℕ) → o.answer ≡ Ok (Some (m, u)) → ¬ (n ≡ 0) → r.answer ≡ Ok (Some (m, u)) → plain_is r.reading ≡ plain_with (view_is o.reading) (n - 1)
       → PlainStepped (counted_step (plain_with v n) w) buf₀ buf r
@@ -54,25 +53,6 @@ module _ {w : R.Step} {buf₀ buf : List ℕ} {o : Step Reading} (h : Stepped w 
         gave = gave_of c (is ∙ ap (λ l. Ok (Some (l, u))) (sym q.2)) (same ∙ ap (λ (x : View). plain_with x (n - 1)) h.reading);
         buffer = h.buffer ∙ ap (λ a. written a buf₀) q.1 ∙ ap (λ (x : P.PlainStep). written x.answer buf₀) (sym c);
       }
-
-  -- any other answer stands, and the number with it
-  pub gave_other : ((q : ℕ × ℕ) → ¬ (o.answer ≡ Ok (Some q))) → r.answer ≡ o.answer → plain_is r.reading ≡ plain_with (view_is o.reading) n
-      → PlainStepped (counted_step (plain_with v n) w) buf₀ buf r
-  gave_other none is same = by w.answer refl
-    where
-      stands : (a : R.Answer) → w.answer ≡ a → counting (plain_with v n) w.reading a ≡ record { answer = a; reading = plain_with w.reading n }
-          → PlainStepped (counted_step (plain_with v n) w) buf₀ buf r
-      stands a e q =
-          let c = counted_as a e ∙ q in
-          record {
-            gave = gave_of c (is ∙ h.answer ∙ ap answer_as e) (same ∙ ap (λ (x : View). plain_with x n) h.reading);
-            buffer = h.buffer ∙ ap (λ x. written x buf₀) e ∙ ap (λ (x : P.PlainStep). written x.answer buf₀) (sym c);
-          }
-
-      by : (a : R.Answer) → w.answer ≡ a → PlainStepped (counted_step (plain_with v n) w) buf₀ buf r
-      by (key k u) e = absurd (none (length k, u) (h.answer ∙ ap answer_as e))
-      by end e = stands end e refl
-      by (R.Answer.refused m) e = stands (R.Answer.refused m) e refl
 
 -- ---- the room
 
@@ -102,12 +82,12 @@ some_left s v space h m u e n (inl x) z = let q = step_key (told h) m u e in let
 some_left s v space h m u e n (inr ne) z = ne z
 
 -- a call with no key left, by one with room for every key
-pub none_left : (s : List ℕ) (v : View) (n space : ℕ) (buf : List ℕ) (r : Step Plain) → n ≡ 0 → 255 ≤ space → CallGave (next_plain s (plain_with v 0) max_path) r
+pub none_left : (s : List ℕ) (v : View) (n space : ℕ) (buf : List ℕ) (r : Step Plain) → n ≡ 0 → 255 ≤ space → CallGave (next_plain s (plain_with v n) max_path) r
     → PlainStepped (next_plain s (plain_with v n) space) buf buf r
 none_left s v n space buf r z room g =
     let same = room_same s v space room in
     record {
-      gave = rw (z, same) g;
+      gave = rw same g;
       buffer = rw (z, same) (unwritten (R.next s v max_path).answer (R.next s v max_path).reading);
     }
   where

@@ -9,9 +9,9 @@ ghost use Rattle.format.specs.View.{fst_is};
 ghost use Rattle.reading.specs.Reading as R;
 ghost use Rattle.plain.specs.Numbers as N;
 ghost use Rattle.plain.specs.Plain as P;
-ghost use Rattle.plain.specs.Plain.{plain_with};
-ghost use Rattle.stream_start.specs.Views.{view_is, bound_of};
+ghost use Rattle.stream_start.specs.Views.{bound_of};
 ghost use Rattle.stream_number.specs.Totals.{TableLent};
+ghost use Rattle.stream_next.specs.Going.{step_of};
 ghost use Rattle.stream.specs.Plains.{plain_is, begun_is, no_plain, CallGave, PlainStepped};
 
 use format::{FstRef, MAX_KEY, Refusal};
@@ -81,46 +81,50 @@ pub fn start(
 
 // ---- next
 
-// The next key where the number says that none is to come: a key that came would be too many. It is written beside the caller's buffer, so that
-// the buffer stays as it is.
-fn next_of_none(file: &[u8], reading: Reading) -> Step<Plain>
-    ensures { CallGave (P.next_plain file.now (plain_with (view_is reading) 0) max_path) result }
+// A call where the number says that none is to come: a key that came would be too many. It is written beside the caller's buffer, so that the buffer
+// stays as it is.
+fn turn_of_none(file: &[u8], plain: &mut Plain) -> Result<Option<(usize, u64)>, Refusal>
+    requires { plain.old.keys ≡ 0 }
+    ensures { CallGave (P.next_plain file.now (plain_is plain.old) max_path)
+        (step_of plain.old plain.new result) }
 {
     let mut key = [0u8; MAX_KEY];
-    let step = stream_next::next(file, reading, &mut key);
-    match step.answer {
-        Ok(Some(_)) => Step::refused(Plain { reading, keys: 0 }, Refusal::State),
-        answer => Step {
-            answer,
-            reading: Plain {
-                reading: step.reading,
-                keys: 0,
-            },
-        },
+    match stream_next::turn(file, &mut plain.reading, &mut key)? {
+        Some(_) => Err(Refusal::State),
+        None => Ok(None),
     }
+}
+
+// One call of next on a plain reading that stays where it is: the key's length and its value, or none at the end. After a refusal the reading carries no
+// meaning, so a caller that goes on after one keeps a copy, as `next` does.
+pub fn turn(file: &[u8], plain: &mut Plain, key: &mut [u8]) -> Result<Option<(usize, u64)>, Refusal>
+    ensures { PlainStepped (P.next_plain file.now (plain_is plain.old) (length key.old))
+        key.old key.new (step_of plain.old plain.new result) }
+{
+    if plain.keys == 0 && MAX_KEY <= key.len() {
+        return turn_of_none(file, plain);
+    }
+    let found = stream_next::turn(file, &mut plain.reading, key)?;
+    if let Some(_) = found {
+        plain.keys -= 1;
+    }
+    Ok(found)
 }
 
 // The next key between the bounds, with the answers of stream_next::next, and STATE, as the last thing judged, for a key where the number says that
 // none is to come. A key lowers the number by one; "end" and a refusal leave it. The buffer is written only where a key is handed out.
+// It stands inline in each caller, as stream_next::next does.
+#[inline(always)]
 pub fn next(file: &[u8], plain: Plain, key: &mut [u8]) -> Step<Plain>
     ensures { PlainStepped (P.next_plain file.now (plain_is plain)
         (length key.old)) key.old key.new result }
 {
-    let reading = plain.reading;
-    let keys = plain.keys;
-    if keys == 0 && MAX_KEY <= key.len() {
-        return next_of_none(file, reading);
-    }
-    let step = stream_next::next(file, reading, key);
-    let left = match step.answer {
-        Ok(Some(_)) => keys - 1,
-        _ => keys,
-    };
-    Step {
-        answer: step.answer,
-        reading: Plain {
-            reading: step.reading,
-            keys: left,
+    let mut after = plain;
+    match turn(file, &mut after, key) {
+        Err(why) => Step::refused(plain, why),
+        Ok(found) => Step {
+            answer: Ok(found),
+            reading: after,
         },
     }
 }

@@ -1,13 +1,13 @@
 -- The cases of `next`, each by what leads to it: the answer, the reading and the buffer.
 --     pending-..          the pending empty key
---     pops_is             what the pops answer
 --     walk-..             what the walk comes to
+--     left_by, left_is    the reading that is left after it
 --     next-..             the refusals before the walk, and the walk
 -- Assumes nothing.
 use mathlib.Core.Path.{◌≡◌, refl, sym, ◌∙◌, ap, subst}
 use mathlib.Core.Bool.{true, false, cond}
 use mathlib.Core.Option.{Option, some}
-use Rattle.std.specs.Prelude.{None, Ok, Err, Some, Result, Option as Maybe}
+use Rattle.std.specs.Prelude.{None, Ok, Err, Some, Result, ◌+◌}
 use Rattle.format.specs.declared.Refusal.{Refusal}
 use mathlib.Core.List.{List, []}
 use Prim.Native.Nat.{ℕ, ◌<◌, ◌≤◌}
@@ -15,58 +15,70 @@ use borrow.Author.Tests.{lt-leb, le-leb}
 use lib.Dec.{leb}
 use lib.ListN.{length}
 use Rattle.format.specs.Limits.{max_path, SPACE}
-use Rattle.format.specs.Paths.{Fst, fst_with}
+use Rattle.format.specs.Paths.{Fst}
 use Rattle.reading.specs.Reading as R
-use Rattle.reading.specs.Reading.{passes_test, pop, refuse}
+use Rattle.reading.specs.Reading.{View, passes_test, refuse}
 use Rattle.stream_start.specs.declared.Reading.{Reading}
-use Rattle.stream_start.specs.Views.{stack_is, view_is, empty_is}
-use Rattle.node.specs.declared.Node.{Node}
-use Rattle.node.specs.declared.Unsound.{Unsound}
+use Rattle.stream_start.specs.Views.{stack_is, stack_of, view_is, empty_is}
 use Rattle.stream_levels.specs.declared.Stack.{Stack}
-use Rattle.stream_pop.specs.Pops.{pop_seen, Pops}
 use Rattle.stream_step.specs.declared.Step.{Step}
 use Rattle.stream_step.specs.Judged.{judging}
 use Rattle.stream_step.specs.JudgedLaws.{on_judged, judged_way}
 use Rattle.stream_step.specs.Stepped.{Stepped}
-use Rattle.stream_step.specs.Steps.{placed_at, ended_at, found_at}
 use Rattle.stream_descend.specs.declared.Followed.{Followed}
 use Rattle.stream_next.specs.Going.{GoneBy}
 
 -- ---- the pending empty key
 
 module _ (f : Fst) (r : Reading) (v : ℕ) (buf : List ℕ) where
-  pub pending_passed : passes_test (view_is r).bound [] ≡ true → (x : Step Reading) → Stepped (ended_at (view_is r) r.total) buf buf x
-      → Stepped (R.walk f (view_is r) (some v)) buf buf x
-  pending_passed p x h = rw p h
+  pub pending_passed : passes_test (view_is r).bound [] ≡ true → (q : Reading) → view_is q ≡ R.moved (view_is r) [] r.total
+      → Stepped (R.walk f (view_is r) (some v)) buf buf (record { answer = Ok None; reading = q })
+  pending_passed p q e = rw p (record { answer = refl; reading = e; buffer = refl })
 
-  pub pending_key : passes_test (view_is r).bound [] ≡ false → (q : Reading) → q ≡ placed_at r r.levels r.total
+  pub pending_key : passes_test (view_is r).bound [] ≡ false → (q : Reading) → view_is q ≡ R.moved (view_is r) (view_is r).levels r.total
       → Stepped (R.walk f (view_is r) (some v)) buf buf (record { answer = Ok (Some (0, v)); reading = q })
-  pending_key p q e = rw p (record { answer = refl; reading = ap view_is e; buffer = refl })
-
--- ---- the pops
-
-pub pops_is : {s : List ℕ} {v root : ℕ} {xs ps : List ℕ} {levels : ℕ} {p p' : Result (Maybe (ℕ × Node)) Unsound} → Pops s v root xs ps levels p → p ≡ p' → (is os : List ℕ)
-    → pop (fst_with s v root) (stack_is levels xs is ps os) ≡ pop_seen s xs is ps os p'
-pops_is {s} {xs = xs} {ps = ps} h e is os = sym (h.seen is os) ∙ ap (pop_seen s xs is ps os) e
+  pending_key p q e = rw p (record { answer = refl; reading = e; buffer = refl })
 
 -- ---- what the walk comes to, as the reading that is handed back
 
-module _ {w : R.Step} (r : Reading) (stack : Stack) {buf₀ buf : List ℕ} {g : Result Followed Refusal}
-    (h : GoneBy w (view_is r) buf₀ buf stack.addrs stack.inps stack.trans stack.outs g) where
-  as_gone : {d : Result Followed Refusal} → g ≡ d → GoneBy w (view_is r) buf₀ buf stack.addrs stack.inps stack.trans stack.outs d
-  as_gone e = subst (GoneBy w (view_is r) buf₀ buf stack.addrs stack.inps stack.trans stack.outs) e h
+module _ {w : R.Step} {v : View} {xs is ps os buf₀ buf : List ℕ} {g : Result Followed Refusal} (h : GoneBy w v buf₀ buf xs is ps os g) where
+  as_gone : {d : Result Followed Refusal} → g ≡ d → GoneBy w v buf₀ buf xs is ps os d
+  as_gone e = subst (GoneBy w v buf₀ buf xs is ps os) e h
 
-  pub gone_low : (k v t : ℕ) → g ≡ Ok (record { found = Some (k, v); total = t }) → k < 256
-  gone_low k v t e = (as_gone e).low
+  pub gone_low : (k u t : ℕ) → g ≡ Ok (record { found = Some (k, u); total = t }) → k < 256
+  gone_low k u t e = (as_gone e).low
 
-  pub walk_refused : (n : Refusal) → g ≡ Err n → (x : Step Reading) → (x.answer ≡ Err n) × (x.reading ≡ r) → Stepped w buf₀ buf x
-  walk_refused n e x o = let q = as_gone e in record { answer = o.0 ∙ q.answer; reading = ap view_is o.1 ∙ q.reading; buffer = q.buffer }
+  pub walk_refused : (n : Refusal) → g ≡ Err n → (r : Reading) → view_is r ≡ v → Stepped w buf₀ buf (record { answer = Err n; reading = r })
+  walk_refused n e r same = let q = as_gone e in record { answer = q.answer; reading = same ∙ q.reading; buffer = q.buffer }
 
-  pub walk_ended : (t : ℕ) → g ≡ Ok (record { found = None; total = t }) → {b : List ℕ} (x : Step Reading) → Stepped (ended_at (view_is r) t) b b x → Stepped w buf₀ buf x
-  walk_ended t e x o = let q = as_gone e in record { answer = o.answer ∙ q.answer; reading = o.reading ∙ q.reading; buffer = q.buffer }
+  pub walk_ended : (t : ℕ) → g ≡ Ok (record { found = None; total = t }) → (r : Reading) → view_is r ≡ R.moved v [] t
+      → Stepped w buf₀ buf (record { answer = Ok None; reading = r })
+  walk_ended t e r same = let q = as_gone e in record { answer = q.answer; reading = same ∙ q.reading; buffer = q.buffer }
 
-  pub walk_key : (k v t : ℕ) → g ≡ Ok (record { found = Some (k, v); total = t }) → Stepped w buf₀ buf (found_at r stack k v t)
-  walk_key k v t e = let q = as_gone e in record { answer = q.answer; reading = q.reading; buffer = q.buffer }
+  pub walk_key : (k u t : ℕ) → g ≡ Ok (record { found = Some (k, u); total = t }) → (r : Reading) → view_is r ≡ R.moved v (stack_is (k + 1) xs is ps os) t
+      → Stepped w buf₀ buf (record { answer = Ok (Some (k, u)); reading = r })
+  walk_key k u t e r same = let q = as_gone e in record { answer = q.answer; reading = same ∙ q.reading; buffer = q.buffer }
+
+-- the reading with k levels of this stack and the total t, which has nothing pending
+abbrev pub left_by : Reading → Stack → ℕ → ℕ → Reading
+left_by r q k t = record {
+  len = r.len;
+  kind = r.kind;
+  bound_len = r.bound_len;
+  bound = r.bound;
+  empty_output = r.empty_output;
+  total = t;
+  levels = k;
+  stack = q;
+}
+
+pub left_is : (r : Reading) (q : Stack) (k t : ℕ) → r.empty_output ≡ None → view_is (left_by r q k t) ≡ R.moved (view_is r) (stack_of k q) t
+left_is r q k t e = rw e refl
+
+-- no level is left, or those up to the level where a key ends
+pub left_none : (r : Reading) (q : Stack) (t : ℕ) → r.empty_output ≡ None → view_is (left_by r q 0 t) ≡ R.moved (view_is r) [] t
+unfolding stack_is
+left_none r q t e = left_is r q 0 t e
 
 -- ---- what comes before the walk
 
@@ -76,16 +88,16 @@ module _ (s : List ℕ) (r : Reading) (buf₀ : List ℕ) where
   unfolding R.next
   next_judged = judged_way s (view_is r) (λ f. cond (leb max_path (length buf₀)) (R.walk f (view_is r) (view_is r).empty) (refuse (view_is r) SPACE)) (λ n. refuse (view_is r) n)
 
-  refused_by : (n : Refusal) → R.next s (view_is r) (length buf₀) ≡ refuse (view_is r) n → (x : Step Reading) → (x.answer ≡ Err n) × (x.reading ≡ r)
-      → Stepped (R.next s (view_is r) (length buf₀)) buf₀ buf₀ x
-  refused_by n e x h = rw e (record { answer = h.0; reading = ap view_is h.1; buffer = refl })
+  refused_by : (n : Refusal) → R.next s (view_is r) (length buf₀) ≡ refuse (view_is r) n
+      → Stepped (R.next s (view_is r) (length buf₀)) buf₀ buf₀ (record { answer = Err n; reading = r })
+  refused_by n e = rw e (record { answer = refl; reading = refl; buffer = refl })
 
-  pub next_refused : (n : Refusal) → Err n ≡ judging s (view_is r) → (x : Step Reading) → (x.answer ≡ Err n) × (x.reading ≡ r)
-      → Stepped (R.next s (view_is r) (length buf₀)) buf₀ buf₀ x
+  pub next_refused : (n : Refusal) → Err n ≡ judging s (view_is r)
+      → Stepped (R.next s (view_is r) (length buf₀)) buf₀ buf₀ (record { answer = Err n; reading = r })
   next_refused n e = refused_by n (rw (sym e) at next_judged)
 
   module _ (f : Fst) (right : Ok f ≡ judging s (view_is r)) where
-    pub next_space : length buf₀ < max_path → (x : Step Reading) → (x.answer ≡ Err SPACE) × (x.reading ≡ r) → Stepped (R.next s (view_is r) (length buf₀)) buf₀ buf₀ x
+    pub next_space : length buf₀ < max_path → Stepped (R.next s (view_is r) (length buf₀)) buf₀ buf₀ (record { answer = Err SPACE; reading = r })
     next_space g = refused_by SPACE (rw (sym right, lt-leb max_path (length buf₀) g) at next_judged)
 
     module _ (g : max_path ≤ length buf₀) {e : Option ℕ} (is : empty_is r.empty_output ≡ e) where

@@ -1,4 +1,5 @@
 -- The walk of a next over levels in arrays, by what leads to each answer.
+--     pops_is                            what the pops answer
 --     gone_empty, gone_bad               what the pops lead to
 --     gone_halted, gone_passed, gone_found     what the descent leads to
 --     ended_is, found_is                 what a walk comes to, by what it found
@@ -17,14 +18,22 @@ use Rattle.format.specs.Limits.{max_levels, NODE}
 use Rattle.format.specs.Paths.{Fst, fst_with}
 use Rattle.format.specs.Strings as S
 use Rattle.node.specs.declared.Node.{Node}
+use Rattle.node.specs.declared.Unsound.{Unsound}
 use Rattle.node.specs.Read.{meaning}
 use Rattle.reading.specs.Reading as R
 use Rattle.reading.specs.Reading.{View, Level, Went, found, passed, top, used_up, bad, pop, moved, after_descend}
 use Rattle.stream_start.specs.Views.{level_at, stack_is}
 use Rattle.stream_start.specs.StackLaws.{stack_length, stack_more, key_stack}
+use Rattle.stream_pop.specs.Pops.{pop_seen, Pops}
 use Rattle.stream_descend.specs.declared.Followed.{Followed}
 use Rattle.stream_descend.specs.Descent.{down_seen, down_at, down_from, Descends}
 use Rattle.stream_next.specs.Going.{view_with, GoneBy}
+
+-- ---- the pops
+
+pub pops_is : {s : List ℕ} {v root : ℕ} {xs ps : List ℕ} {levels : ℕ} {p p' : Result (Maybe (ℕ × Node)) Unsound} → Pops s v root xs ps levels p → p ≡ p' → (is os : List ℕ)
+    → pop (fst_with s v root) (stack_is levels xs is ps os) ≡ pop_seen s xs is ps os p'
+pops_is {s} {xs = xs} {ps = ps} h e is os = sym (h.seen is os) ∙ ap (pop_seen s xs is ps os) e
 
 -- ---- the descent
 

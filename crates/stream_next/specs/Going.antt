@@ -1,6 +1,6 @@
 -- What the walk of a next comes to, over levels in arrays, against `R.walk` where nothing is pending.
 --     view_with len hi n e t levels       a reading by its parts
---     view_on r q                         what a reading says over another stack
+--     step_of r₀ r x                      the step of a call on a reading that stays where it is: r₀ before and r after it
 --     gone_answer g                       the answer that a call gives for it
 --     after_found r .., gone_view r .. g    the reading after it, its levels in the arrays
 --     GoneBy w r buf₀ buf .. g           the answer, the arrays and the buffer of a walk from r whose definition answers w
@@ -12,9 +12,8 @@ use Rattle.format.specs.Limits.{max_levels}
 use Rattle.format.specs.Strings as S
 use Rattle.reading.specs.Reading as R
 use Rattle.reading.specs.Reading.{View, Level, moved, written}
-use Rattle.stream_levels.specs.declared.Stack.{Stack}
-use Rattle.stream_start.specs.declared.Reading.{Reading}
-use Rattle.stream_start.specs.Views.{stack_is, stack_of, view_is}
+use Rattle.stream_start.specs.Views.{stack_is}
+use Rattle.stream_step.specs.declared.Step.{Step}
 use Rattle.stream_step.specs.Stepped.{answer_as}
 use Rattle.stream_descend.specs.declared.Followed.{Followed}
 use Rattle.stream_descend.specs.Descent.{down_at}
@@ -22,8 +21,9 @@ use Rattle.stream_descend.specs.Descent.{down_at}
 abbrev pub view_with : ℕ → S.Bound → ℕ → Option ℕ → ℕ → List Level → View
 view_with len hi n e t levels = record { len = len; bound = hi; bound_len = n; empty = e; total = t; levels = levels }
 
-abbrev pub view_on : Reading → Stack → View
-view_on r q = view_with r.len (view_is r).bound r.bound_len (view_is r).empty r.total (stack_of r.levels q)
+abbrev pub step_of : {T : Type 0} → T → T → Result (Maybe (ℕ × ℕ)) Refusal → Step T
+step_of r₀ r (Ok x) = record { answer = Ok x; reading = r }
+step_of r₀ r (Err n) = record { answer = Err n; reading = r₀ }
 
 abbrev pub gone_answer : Result Followed Refusal → Result (Maybe (ℕ × ℕ)) Refusal
 gone_answer (Ok g) = Ok g.found

@@ -1,7 +1,7 @@
 -- `ops::next_item` meets its contract: a law of MergeCases for each answer.
 -- Assumes nothing.
-use Rattle.std.specs.Prelude.{None, Some}
-use Rattle.std.proofs.Common.{◌≡◌, map, length, arith}
+use Rattle.std.proofs.Common.{map, length, ap, arith}
+use Rattle.ops_rounds.specs.Turns.{called_with}
 use Rattle.ops.proofs.MergeCases.{count_wrong, merged_cards, merged_refused, merged_end, item_room, item_fits, merged_item}
 use Rattle.ops.proofs.next_item.Goals as goal
 
@@ -15,31 +15,31 @@ pub returns-in-Err : goal.returns-in-Err
 returns-in-Err c =
     let a = c.args in
     let d = c.rounds in
-    merged_refused (map (λ f. f.now) a.files) a.cards (length a.key.now) a.key.now (c.is_count.ensures.yes c.if-not-is_count.false).0 (c.is_count.ensures.yes c.if-not-is_count.false).1 d.result d.ensures _ c.in-Err.is
-    c.refused-in-Err.result c.refused-in-Err.ensures
+    merged_refused (map (λ f. f.now) a.files) a.cards (length a.key.now) a.key.now (c.is_count.ensures.yes c.if-not-is_count.false).0 (c.is_count.ensures.yes c.if-not-is_count.false).1 _ d.ensures _
+    (ap (called_with d.new.cards) c.in-Err.is) c.refused-in-Err.result c.refused-in-Err.ensures
 
 pub returns-in_default : goal.returns-in_default
 returns-in_default c =
     let a = c.args in
-    let e : c.in-Ok.called.item ≡ None = grind arith in
-    merged_end (map (λ f. f.now) a.files) a.cards (length a.key.now) a.key.now (c.is_count.ensures.yes c.if-not-is_count.false).0 (c.is_count.ensures.yes c.if-not-is_count.false).1 c.rounds.result c.rounds.ensures
-    c.in-Ok.called c.in-Ok.is e
+    let d = c.rounds in
+    merged_end (map (λ f. f.now) a.files) a.cards (length a.key.now) a.key.now (c.is_count.ensures.yes c.if-not-is_count.false).0 (c.is_count.ensures.yes c.if-not-is_count.false).1 _ d.ensures
+    (record { item = c.in-Ok.called; cards = d.new.cards }) (ap (called_with d.new.cards) c.in-Ok.is) c.in_default.is
 
 pub put_key-len-requires : goal.put_key-len-requires
 put_key-len-requires c =
     let a = c.args in
-    let e : c.in-Ok.called.item ≡ Some (c.in-Some.head, c.in-Some.pairs) = grind arith in
+    let d = c.rounds in
     let counted = c.is_count.ensures.yes c.if-not-is_count.false in
-    let room = item_room (map (λ f. f.now) a.files) a.cards (length a.key.now) a.key.now counted.0 counted.1 c.rounds.result c.rounds.ensures c.in-Ok.called c.in-Ok.is
-    c.in-Some.head c.in-Some.pairs e in
-    let fits = item_fits (map (λ f. f.now) a.files) a.cards (length a.key.now) a.key.now counted.0 counted.1 c.rounds.result c.rounds.ensures c.in-Ok.called c.in-Ok.is
-    c.in-Some.head c.in-Some.pairs e in
+    let room = item_room (map (λ f. f.now) a.files) a.cards (length a.key.now) a.key.now counted.0 counted.1 _ d.ensures
+    (record { item = c.in-Ok.called; cards = d.new.cards }) (ap (called_with d.new.cards) c.in-Ok.is) c.in-Some.head c.in-Some.pairs c.in-Some.is in
+    let fits = item_fits (map (λ f. f.now) a.files) a.cards (length a.key.now) a.key.now counted.0 counted.1 _ d.ensures
+    (record { item = c.in-Ok.called; cards = d.new.cards }) (ap (called_with d.new.cards) c.in-Ok.is) c.in-Some.head c.in-Some.pairs c.in-Some.is in
     (fits, omega arith)
 
 pub returns : goal.returns
 returns c =
     let a = c.args in
+    let d = c.rounds in
     let k = c.put_key-len in
-    let e : c.in-Ok.called.item ≡ Some (c.in-Some.head, c.in-Some.pairs) = grind arith in
-    merged_item (map (λ f. f.now) a.files) a.cards (length a.key.now) a.key.now (c.is_count.ensures.yes c.if-not-is_count.false).0 (c.is_count.ensures.yes c.if-not-is_count.false).1 c.rounds.result c.rounds.ensures
-    c.in-Ok.called c.in-Ok.is c.in-Some.head c.in-Some.pairs e k.result k.ensures.0 _ k.ensures.1
+    merged_item (map (λ f. f.now) a.files) a.cards (length a.key.now) a.key.now (c.is_count.ensures.yes c.if-not-is_count.false).0 (c.is_count.ensures.yes c.if-not-is_count.false).1 _ d.ensures
+    (record { item = c.in-Ok.called; cards = d.new.cards }) (ap (called_with d.new.cards) c.in-Ok.is) c.in-Some.head c.in-Some.pairs c.in-Some.is k.result k.ensures.0 _ k.ensures.1

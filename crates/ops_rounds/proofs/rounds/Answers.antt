@@ -9,7 +9,7 @@ use Rattle.ops_rounds.proofs.rounds.Goals as goal
 pub loop-stepped-init : goal.loop-stepped-init
 loop-stepped-init c =
     let a = c.args in
-    rounds_none (map (λ f. f.now) a.files) (op_is a.op) a.count a.space a.cards _ c.see-seen.result c.requires.1 c.see-seen.ensures
+    rounds_none (map (λ f. f.now) a.files) (op_is a.op) a.count a.space a.cards.now _ c.see-seen.result c.requires.1 c.see-seen.ensures
 
 pub step_cards-requires : goal.step_cards-requires
 step_cards-requires c = c.requires.1
@@ -30,7 +30,7 @@ pub returns-in-NoMore : goal.returns-in-NoMore
 returns-in-NoMore c =
     let d = c.decide-verdict in
     let room = sym c.has_room.ensures ∙ c.if-not-has_room.false in
-    called_end (rounds_on c.loop-stepped.invariant c.step_cards.ensures _ c.in_ok-stepped.was) c.requires.0 c.requires.1 (omega arith) room d.new.cards d.result d.ensures c.in-NoMore.is c.deal-last.result c.deal-last.ensures
+    called_end (rounds_on c.loop-stepped.invariant c.step_cards.ensures _ c.in_ok-stepped.was) c.requires.0 c.requires.1 (omega arith) room d.new.cards d.result d.ensures c.in-NoMore.is _ c.deal.ensures
 
 pub head_at-key-requires : goal.head_at-key-requires
 head_at-key-requires c =
@@ -43,7 +43,7 @@ returns-in-This c =
     let d = c.decide-verdict in
     let room = sym c.has_room.ensures ∙ c.if-not-has_room.false in
     called_item (rounds_on c.loop-stepped.invariant c.step_cards.ensures _ c.in_ok-stepped.was) c.requires.0 c.requires.1 (omega arith) room d.new.cards d.result d.ensures c.in-This.place c.in-This.pairs c.in-This.is
-    c.head_at-key.result c.head_at-key.ensures.0 c.head_at-key.ensures.1 c.deal-after.result c.deal-after.ensures
+    c.head_at-key.result c.head_at-key.ensures.0 c.head_at-key.ensures.1 _ c.deal-in-This.ensures
 
 pub loop-stepped-smaller : goal.loop-stepped-smaller
 loop-stepped-smaller c =

@@ -1,22 +1,19 @@
 -- `ops_seen::deal` meets its contract: one card more is dealt.
 -- Assumes nothing.
-use Rattle.std.proofs.Common.{◌≡◌, length, rules, arith}
-use lib.Seq.{length-take-le}
-use Rattle.ops_seen.proofs.SeeLoops.{dealing_used, dealing_all}
+use Rattle.std.proofs.Common.{refl, rules}
+use Rattle.ops_seen.proofs.SeeLoops.{dealing_none, dealing_on, dealing_all}
 use Rattle.ops_seen.proofs.deal.Goals as goal
+
+pub loop-i-init : goal.loop-i-init
+loop-i-init c = dealing_none c.args.count c.args.cards.now c.args.seen.now (search rules)
 
 pub loop-i-preserved : goal.loop-i-preserved
 loop-i-preserved c =
     let l = c.loop-i in
     let a = c.args in
-    let held : length a.seen ≡ 8 = search rules in
-    let used = length-take-le a.count a.seen (omega (arith, held, c.requires)) in
-    dealing_used a.count a.cards a.seen l.all l.i _ _ c.dealt.result c.requires l.invariant (omega (arith, used)) c.dealt.ensures held
+    dealing_on a.count a.cards.now a.seen.now l.cards l.i _ _ _ c.requires l.invariant c.loop-i-test.true refl (search rules)
 
 pub returns : goal.returns
 returns c =
     let l = c.loop-i in
-    let a = c.args in
-    let held : length a.seen ≡ 8 = search rules in
-    let used = length-take-le a.count a.seen (omega (arith, held, c.requires)) in
-    dealing_all a.count a.cards a.seen l.all l.i (omega (arith, used)) l.invariant
+    dealing_all c.args.count c.args.cards.now c.args.seen.now l.cards l.i c.loop-i-test.false l.invariant

@@ -3,4 +3,4 @@ use Rattle.ops_seen.proofs.SeeLoops.{Dealing}
 use Rattle.ops_seen.proofs.deal.Given as goal
 
 abbrev pub invariant-loop-i : goal.invariant-loop-i
-invariant-loop-i l = Dealing l.count l.initial.all l.fn.seen l.all l.i
+invariant-loop-i l = Dealing l.count l.initial.cards l.seen l.cards l.i

@@ -5,4 +5,4 @@ use Rattle.ops_starts.proofs.StartLoop.{Starting}
 use Rattle.ops_starts.proofs.starts.Given as goal
 
 abbrev pub invariant-loop-i : goal.invariant-loop-i
-invariant-loop-i l = Starting (map (λ f. f.now) l.fn.files) l.count (bound_of l.lower) (bound_of l.upper) l.cards l.i
+invariant-loop-i l = Starting (map (λ f. f.now) l.files) l.count (bound_of l.lower) (bound_of l.upper) l.lives l.keys l.seen l.i

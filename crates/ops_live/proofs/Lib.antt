@@ -1,0 +1,4 @@
+mod KeyLaws
+mod StartCases
+mod TurnCases
+mod StepCases

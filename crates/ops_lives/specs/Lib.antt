@@ -1,0 +1,2 @@
+pub mod LiveRounds
+pub mod LiveLoads
