@@ -32,6 +32,7 @@ length_by_own first idx idx' rare out target e = go (eqb target (last_addr first
   where
     same : (form : ℕ) → length (state_for form idx rare) ≡ length (state_for form idx' rare)
     same form = length_state_by form idx rare ∙ ap (λ (b : Bool). cond b 2 1) e ∙ sym (length_state_by form idx' rare)
+
     go : (t : Bool) → length (cond t (state_for 192 idx rare) (one_for idx rare out (delta_of first target)))
         ≡ length (cond t (state_for 192 idx' rare) (one_for idx' rare out (delta_of first target)))
     go true = same 192
