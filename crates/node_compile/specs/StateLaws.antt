@@ -1,5 +1,6 @@
 -- Laws of `state_for` and `one_for` of `Parts`.
 --     length_state, length_one                 how many bytes; what is kept of the input decides, and not the input
+--     length_state_by                          whether it is 0 decides
 --     state_is_lem, next_for_is, one_for_is    they are the packer's bytes of the input
 -- Assumes nothing.
 use Rattle.std.specs.Prelude.{◌≡◌, refl, Bool, true, false, cond, List, [], ◌∷◌, ◌++◌, ℕ, ◌+◌, eqb, length}
@@ -15,6 +16,13 @@ pub length_state : (form idx rare form' rare' : ℕ) → length (state_for form 
 length_state form idx rare form' rare' = go (eqb idx 0)
   where
     go : (t : Bool) → length (cond t (rare ∷ (form ∷ [])) ((form + idx) ∷ [])) ≡ length (cond t (rare' ∷ (form' ∷ [])) ((form' + idx) ∷ []))
+    go true = refl
+    go false = refl
+
+pub length_state_by : (form idx rare : ℕ) → length (state_for form idx rare) ≡ cond (eqb idx 0) 2 1
+length_state_by form idx rare = go (eqb idx 0)
+  where
+    go : (t : Bool) → length (cond t (rare ∷ (form ∷ [])) ((form + idx) ∷ [])) ≡ cond t 2 1
     go true = refl
     go false = refl
 

@@ -235,7 +235,7 @@ pub fn one_shape(fst: FstRef<'_>, addr: usize) -> One
 // ---- the conditions of document 01
 
 // Sizes are at most 8, and a delta has at least 1 byte if there is a transition.
-fn sizes_right(n: usize, tsize: usize, osize: usize) -> bool
+pub fn sizes_right(n: usize, tsize: usize, osize: usize) -> bool
     ensures { Decides result ((tsize ≤ 8) × (osize ≤ 8) × (0 < n → 0 < tsize)) }
 {
     tsize <= 8 && osize <= 8 && (n == 0 || 0 < tsize)
@@ -243,7 +243,7 @@ fn sizes_right(n: usize, tsize: usize, osize: usize) -> bool
 
 // Whether a node is final, has a transition, or is the root.
 #[tactic(auto, unfolding(format::specs::Node::Useful))]
-fn useful(is_final: bool, n: usize, addr: usize, root: usize) -> bool
+pub fn useful(is_final: bool, n: usize, addr: usize, root: usize) -> bool
     ensures { Decides result (Useful is_final n addr root) }
 {
     is_final || 0 < n || addr == root
@@ -253,7 +253,7 @@ fn useful(is_final: bool, n: usize, addr: usize, root: usize) -> bool
 // time of a node with any number of transitions.
 // It stands inline in `any_parts`, since a call would write the parts to memory first.
 #[inline(always)]
-fn parts_right(file: &[u8], parts: Parts) -> bool
+pub fn parts_right(file: &[u8], parts: Parts) -> bool
     requires { (inputs_from parts + parts.ntrans + parts.index_len ≤ length file.now)
         × (parts.tsize ≤ 8) × (first_node ≤ parts.first)
         × (¬ (parts.index_len ≡ 0) → parts.index_len ≡ 256) }

@@ -53,9 +53,11 @@ fn cards_in(
     all
 }
 
-// Puts one card into its row. Where no key is held, the value's place stays as it was.
+// Puts one card into its row. Where no key is held, the value's place is 0 if the call looked at the card and used its key up or came to its reading's end,
+// and else stays as it was.
 fn put_card(
     one: Card,
+    looked: bool,
     i: usize,
     slots: &mut [u8; 8],
     values: &mut [u64; 8],
@@ -70,12 +72,23 @@ fn put_card(
     requires { i < 8 }
 {
     match one.slot {
-        Slot::Used => slots[i] = 0,
+        Slot::Used => {
+            slots[i] = 0;
+            if looked {
+                values[i] = 0;
+            }
+        }
         Slot::Holds(value) => {
             slots[i] = 1;
             values[i] = value;
         }
-        Slot::Ended => slots[i] = 2,
+        Slot::Ended => {
+            // a reading that had ended before is not stepped
+            if looked && slots[i] < 2 {
+                values[i] = 0;
+            }
+            slots[i] = 2;
+        }
     }
     put_plain(
         one.reading,
@@ -90,9 +103,10 @@ fn put_card(
     );
 }
 
-// Puts the cards into the arrays.
+// Puts the cards into the arrays, of which the call looked at so many.
 fn put_cards(
     all: [Card; 8],
+    looked: usize,
     slots: &mut [u8; 8],
     values: &mut [u64; 8],
     heads: &mut [[u64; 7]; 8],
@@ -105,7 +119,18 @@ fn put_cards(
 ) {
     for (i, one) in all.iter().enumerate() {
         put_card(
-            *one, i, slots, values, heads, bounds, addrs, inps, trans, outs, keys,
+            *one,
+            i < looked,
+            i,
+            slots,
+            values,
+            heads,
+            bounds,
+            addrs,
+            inps,
+            trans,
+            outs,
+            keys,
         );
     }
 }
@@ -164,8 +189,11 @@ pub fn made_item<'a>(
     };
     let files = [a, b, c, d, e, f, g, h];
     let step = ops::next_item(files, held, key);
+    // a refused call gives all cards back as they were
+    let looked = if step.answer.is_err() { 0 } else { count };
     put_cards(
         step.cards.cards,
+        looked,
         slots,
         values,
         heads,

@@ -18,7 +18,7 @@ pub struct Seen {
 }
 
 // What is seen of card number i, its key put among the eight.
-fn show(card: Card, i: usize, keys: &mut [u8; KEYS]) -> Seen
+pub fn show(card: Card, i: usize, keys: &mut [u8; KEYS]) -> Seen
     requires { i < 8 }
     ensures { SeenOf card i keys.old keys.new result }
 {

@@ -13,9 +13,9 @@ use stream::Plain;
 
 // A card after its step, with what is seen of it.
 #[derive(Clone, Copy)]
-struct SeenStep {
-    card: Card,
-    seen: Seen,
+pub struct SeenStep {
+    pub card: Card,
+    pub seen: Seen,
 }
 
 // What an answer makes of a card's slot.
@@ -30,7 +30,7 @@ fn slot_after(came: Option<(usize, u64)>) -> Slot
 
 // The step of card number i, whose key is used up, for a caller whose buffer has so many bytes. The bytes of its key are put among the eight; a refusal
 // leaves these as they were.
-fn step_seen(
+pub fn step_seen(
     file: &[u8],
     reading: Plain,
     i: usize,

@@ -79,7 +79,11 @@ fn called_plain(lent: Lent<'_>, operation: Operation<'_>, held: Held, key: &mut 
                 return no_operation(held);
             }
             let step = marks::next_marked(lent.file, held.plain, held.marks, &mut key[less..]);
-            let plain = step.reading;
+            let mut plain = step.reading;
+            // no level is left at the end, and a made state may count again those that were there before it
+            if let Ok(None) = step.answer {
+                plain.reading.stack = held.plain.reading.stack;
+            }
             stepped(step.answer, Held { plain, ..held })
         }
         Operation::Mark(name) => marked(marks::mark(lent.file, held.plain, held.marks, name), held),

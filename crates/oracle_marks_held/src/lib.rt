@@ -84,18 +84,21 @@ pub enum MarkChange {
     Reading(ReadingChange),
 }
 
-// What it has otherwise of what is held: how many marks there are, the mark at a place, the reading itself, or how many positions its pattern has.
+// What it has otherwise of what is held: how many marks there are, the mark at a place, the reading itself, how many positions its pattern has, or nothing,
+// where the number that the comparison gives is none of these.
 #[derive(Clone, Copy)]
 pub enum Change {
     Count(usize),
     Mark(usize, MarkChange),
     Reading(ReadingChange),
     Positions(usize),
+    Unknown,
 }
 
-// The change of a number, a place and a value, which the comparison gives (crate oracle_marks_run); none for a number that is no change.
+// The change of a number, a place and a value, which the comparison gives (crate oracle_marks_run); none for 0.
 pub fn change_of(number: u64, place: usize, value: usize) -> Option<Change> {
     match number {
+        0 => None,
         1 => Some(Change::Count(value)),
         2 => Some(Change::Mark(place, MarkChange::NameLen(value))),
         3 => Some(Change::Mark(place, MarkChange::NameOf(value))),
@@ -106,7 +109,7 @@ pub fn change_of(number: u64, place: usize, value: usize) -> Option<Change> {
         8 => Some(Change::Reading(ReadingChange::BoundLen(value))),
         9 => Some(Change::Reading(ReadingChange::FileLen(value))),
         10 => Some(Change::Positions(value)),
-        _ => None,
+        _ => Some(Change::Unknown),
     }
 }
 
@@ -155,6 +158,7 @@ pub fn changed(held: Held, change: Change) -> Held {
         Change::Mark(place, change) => made.marks = changed_marks(held.marks, place, change),
         Change::Reading(change) => made.plain = changed_plain(held.plain, change),
         Change::Positions(n) => made.pattern.len = n,
+        Change::Unknown => {}
     }
     made
 }

@@ -10,13 +10,14 @@
 //     3  go back, with that name
 // The readings are plain where `by` is 0, else by the pattern of `positions` and `rest`.
 //
-// Where the change is one of these, the operation meets a made state, and afterwards all is as it was before it:
+// Where the change is not 0, the operation meets a made state, and afterwards all is as it was before it:
 //     1  this many marks
 //     2  the mark at the place has a name of this length
 //     3  the mark at the place has the name of the mark at the place that the value says
 //     4, 5, 6     the mark at the place has this many levels, a bound of this length, a file of this length
 //     7, 8, 9     the same of the reading itself
 //     10  the pattern has this many positions
+// Any other number changes nothing in the state that is met.
 //
 // An answer is six numbers: a key's length, or 1000 for the end, 1002 for what was done, 2000 plus a refusal, 3000 plus the refusal of a start, or 4000
 // for an operation that is none; the value; and then the reading's total, number of keys to come and levels, and how many marks there are. The key stands
@@ -37,31 +38,40 @@ fn operation_of<'l>(op: [u64; 10], bytes: &'l [u8]) -> Option<Operation<'l>> {
     let from = op[4] as usize;
     let middle = op[5] as usize;
     let to = op[6] as usize;
+    // a name's three places stand in order too, though the middle one is not used
+    let name = if from <= middle && middle <= to {
+        bytes.get(from..to)
+    } else {
+        None
+    };
     match op[0] {
         0 => Some(Operation::Start(
             bound_with(op[2], bytes.get(from..middle)?),
             bound_with(op[3], bytes.get(middle..to)?),
         )),
         1 => Some(Operation::Next(op[2] as usize)),
-        2 => Some(Operation::Mark(bytes.get(from..to)?)),
-        3 => Some(Operation::Back(bytes.get(from..to)?)),
+        2 => Some(Operation::Mark(name?)),
+        3 => Some(Operation::Back(name?)),
         _ => None,
     }
 }
 
-// One operation, with the file that it names, and on a made state where it says so.
+// One operation, with the file that it names, and on a made state where it says so, also where it is none.
 fn ran(lent: Lent<'_>, op: [u64; 10], held: Held, key: &mut [u8]) -> Ran {
-    let Some(operation) = operation_of(op, lent.bytes) else {
-        return no_operation(held);
+    let change = change_of(op[7], op[8] as usize, op[9] as usize);
+    let met = match change {
+        None => held,
+        Some(change) => changed(held, change),
     };
-    match change_of(op[7], op[8] as usize, op[9] as usize) {
-        None => called(lent, operation, held, key),
-        Some(change) => {
-            let made = called(lent, operation, changed(held, change), key);
-            let told = made.told;
-            Ran { told, held }
-        }
+    let after = match operation_of(op, lent.bytes) {
+        None => no_operation(met),
+        Some(operation) => called(lent, operation, met, key),
+    };
+    if change.is_none() {
+        return after;
     }
+    let told = after.told;
+    Ran { told, held }
 }
 
 // Runs the operations one after the other from no reading and no marks, as far as there is room for answers and rows; how many were run.

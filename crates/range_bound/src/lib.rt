@@ -15,7 +15,7 @@ use stream_levels::Stack;
 // Where a key lies whose bytes before the last agree with the bound: below it, with all that it begins; along it; or past it, with all that it begins.
 // No `Ordering`: a key along the bound need not be equal to it, and a byte equal to the bound's last one is past it where the bound is excluded.
 #[derive(Clone, Copy)]
-enum Side {
+pub enum Side {
     Below,
     Along,
     Past,

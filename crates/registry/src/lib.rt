@@ -62,7 +62,7 @@ fn same_transitions(file: &[u8], stored: Node, node: BuilderNode<'_>) -> bool
 
 // Whether the node that is stored at addr among the nodes so far is the record. The file is 16 bytes and the nodes,
 // so its last byte is the last node's.
-fn same_node(file: &[u8], addr: usize, node: BuilderNode<'_>) -> bool
+pub fn same_node(file: &[u8], addr: usize, node: BuilderNode<'_>) -> bool
     requires { Paired (builder_is node) }
     ensures { result ≡ same_node (node_at file.now 2 (length file.now - 1) addr)
         (builder_is node.entry) }

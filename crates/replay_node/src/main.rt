@@ -4,7 +4,8 @@
 // too.
 #![tactic(auto)]
 
-ghost use Rattle.std.specs.Prelude.{◌+◌, ◌≤◌, IfSome};
+ghost use Rattle.std.specs.Prelude.{◌+◌, ◌≤◌, ◌<◌, IfSome};
+ghost use Rattle.node.specs.Read.{Readable};
 
 use format::FstRef;
 use node_record::BuilderNode;
@@ -123,50 +124,54 @@ fn packs_alike(node: &Listed<'_>, entry: Entry<'_>) -> bool {
 // ---- reading
 
 // Whether transition i is that of the list's node, and its input is found there.
-fn transition_alike(listed: &Listed<'_>, node: Node<'_>, i: usize) -> bool {
-    let Some(t) = node.transition(i) else {
-        return false;
-    };
+fn transition_alike(listed: &Listed<'_>, file: &[u8], read: node::Node, i: usize) -> bool
+    requires { Readable file.now read × (i < read.ntrans) }
+{
+    let t = node::transition(file, read, i);
     listed.inputs.get(i) == Some(&t.inp)
         && listed.outputs.get(i) == Some(&t.out)
         && listed.targets.get(i) == Some(&t.addr)
-        && node.find_input(t.inp).ok() == Some(Ok(i))
+        && node::find_input(file, read, t.inp) == Ok(i)
 }
 
 // How many inputs are passed with b, where n stand below it: n and one more where b is found at place n, n where it is absent and the
 // first greater input stands there, and None where the search says another place.
-fn passed(node: Node<'_>, b: u8, n: usize) -> Option<usize>
-    requires { n ≤ 256 }
+fn passed(file: &[u8], read: node::Node, b: u8, n: usize) -> Option<usize>
+    requires { Readable file.now read × (n ≤ 256) }
     ensures { IfSome result (λ m. m ≤ n + 1) }
 {
-    match node.find_input(b).ok()? {
+    match node::find_input(file, read, b) {
         Ok(k) => (k == n).then_some(n + 1),
         Err(p) => (p == n).then_some(n),
     }
 }
 
 // How many bytes are found among the inputs, where each is found at its place, and each absent one before the first greater.
-fn all_found(node: Node<'_>) -> Option<usize> {
+fn all_found(file: &[u8], read: node::Node) -> Option<usize>
+    requires { Readable file.now read }
+{
     let mut n = 0;
     for b in 0..=u8::MAX {
-        n = passed(node, b, n)?;
+        n = passed(file, read, b, n)?;
     }
     Some(n)
 }
 
-// Whether what stands at addr is sound and the list's node, or not sound where that is recorded.
+// Whether what stands at addr is sound and the list's node, or not sound where that is recorded. It is judged once, and read by its numbers: a question to the
+// view would judge it again.
 fn node_alike(listed: &Listed<'_>, node: Node<'_>, sound: u64) -> bool {
     let Ok(read) = node.judged() else {
         return sound == 0;
     };
+    let file = node.fst.bytes;
     let n = listed.inputs.len();
     sound == 1
         && read.ntrans == n
         && read.first == listed.first
         && read.is_final == listed.is_final
         && read.final_output == listed.final_output
-        && all_found(node) == Some(n)
-        && (0..n).all(|i| transition_alike(listed, node, i))
+        && all_found(file, read) == Some(n)
+        && (0..n).all(|i| transition_alike(listed, file, read, i))
 }
 
 // Whether recorded bytes, laid into a file of zeros that ends with them, are read as recorded in

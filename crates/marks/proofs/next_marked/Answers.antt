@@ -7,7 +7,7 @@ use Rattle.marks.proofs.next_marked.Goals as goal
 pub returns-in-Err : goal.returns-in-Err
 returns-in-Err c =
     let a = c.args in
-    next_refused a.file.now a.reading (marks_is a.marks) (length a.key.now) c.in-Err.why (sym c.in-Err.is ∙ c.judge_marks.ensures) a.key.now c.refused.result c.refused.ensures
+    next_refused a.file.now a.reading (marks_is a.marks) (length a.key.now) c.in-Err.why (sym c.in-Err.is ∙ c.judge_marks.ensures) a.key.now _ (search c.refused.ensures)
 
 pub returns-in-Ok : goal.returns-in-Ok
 returns-in-Ok c =
